@@ -1,0 +1,36 @@
+# make        the proved program, as bin/fribidi
+# make ucd    the seven table files of Unicode 15.0, from Debian's package unicode-data, into ucd/
+# make demo   both, and the command on the sample text
+# make test   the gate: every proof from nothing, the must-fail edits, the tests and the stored run
+# make bench  the time of the command beside that of Debian's fribidi
+
+UNICODE = /usr/share/unicode
+
+.PHONY: all program ucd demo test bench
+
+all: program
+
+# rt proves and builds the crates where they have changed, and runs the program, which stays in out/.
+program:
+	cd crates/fribidi && rt run -- --help > /dev/null
+	mkdir -p bin
+	cp crates/fribidi/out/fribidi bin/fribidi
+
+ucd:
+	@[ -f $(UNICODE)/extracted/DerivedBidiClass.txt ] || { apt-get update -q && apt-get install -qy unicode-data; }
+	@grep -q 'DerivedBidiClass-15\.0\.0' $(UNICODE)/extracted/DerivedBidiClass.txt \
+		|| { echo 'the package unicode-data is not that of Unicode 15.0'; exit 1; }
+	mkdir -p ucd
+	cd $(UNICODE) && cp extracted/DerivedBidiClass.txt BidiBrackets.txt BidiMirroring.txt LineBreak.txt \
+		extracted/DerivedGeneralCategory.txt EastAsianWidth.txt emoji/emoji-data.txt $(CURDIR)/ucd/
+
+demo: program ucd
+	@cat demo/sample.txt
+	@echo
+	bin/fribidi --ucd ucd --novisual --basedir demo/sample.txt
+
+test:
+	rt ci
+
+bench: program ucd
+	bench/compare

@@ -1,0 +1,4 @@
+mod Isolates
+mod LeastLemmas
+mod PiecesLemmas
+mod WorkedRows

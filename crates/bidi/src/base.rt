@@ -1,0 +1,74 @@
+//! The base level of a paragraph (UAX #9, P2, P3 and HL1).
+ghost use Rattle.std.specs.Prelude.{◌≡◌, ◌+◌, ◌-◌, ◌<◌, map, if◌then◌else◌};
+ghost use Rattle.ucd.specs.Tables.{class_of};
+ghost use Rattle.bidi.specs.Base.{base_level_of, first_strong_level, strong_level};
+ghost use Rattle.bidi.specs.Classes.{is_initiator, is_pdi, is_strong};
+
+use ucd::{BidiClass, Tables};
+
+/// How the base level of a paragraph is found.
+#[derive(Clone, Copy, Debug, PartialEq, Eq)]
+pub enum Base {
+    /// Level 1, whatever the text.
+    Rtl,
+    /// Level 0, whatever the text.
+    Ltr,
+    /// By the first strong character, and level 1 where there is none.
+    WeakRtl,
+    /// By the first strong character, and level 0 where there is none.
+    WeakLtr,
+}
+
+/// The base level of one paragraph, 0 or 1.
+pub fn base_level(tables: &Tables, text: &[char], base: Base) -> u8
+    ensures { result ≡ base_level_of (map (class_of tables.now) text.now) base }
+{
+    match base {
+        Base::Rtl => 1,
+        Base::Ltr => 0,
+        Base::WeakRtl => first_strong_level(tables, text).unwrap_or(1),
+        Base::WeakLtr => first_strong_level(tables, text).unwrap_or(0),
+    }
+}
+
+// The level that the first strong character outside all isolates gives, if there is one.
+fn first_strong_level(tables: &Tables, text: &[char]) -> Option<u8>
+    ensures { result ≡ first_strong_level (map (class_of tables.now) text.now) }
+{
+    // How many isolates are open: a character stands outside all of them where none is.
+    let mut depth = 0;
+    for c in text {
+        let class = tables.bidi_class(*c);
+        let level = strong_level(class);
+        if depth == 0 && level.is_some() {
+            return level;
+        }
+        depth = depth_after(class, depth);
+    }
+    None
+}
+
+// The level that a strong character gives.
+fn strong_level(class: BidiClass) -> Option<u8>
+    ensures { result ≡ (if is_strong class then Some (strong_level class) else None) }
+{
+    match class {
+        BidiClass::L => Some(0),
+        BidiClass::R | BidiClass::AL => Some(1),
+        _ => None,
+    }
+}
+
+// How many isolates are open behind a character of this class, where `depth` are open before it.
+// A PDI with none open closes none.
+fn depth_after(class: BidiClass, depth: usize) -> usize
+    requires { depth < usize.MAX }
+    ensures { result ≡ (if is_initiator class then depth + 1 else
+        (if is_pdi class then depth - 1 else depth)) }
+{
+    match class {
+        BidiClass::LRI | BidiClass::RLI | BidiClass::FSI => depth + 1,
+        BidiClass::PDI => depth.saturating_sub(1),
+        _ => depth,
+    }
+}

@@ -1,0 +1,116 @@
+//! The command `fribidi`: its words, its files and its streams. What they mean is in `tool`.
+#![tactic(auto)]
+
+ghost use Rattle.std.specs.Prelude.{◌≡◌, true};
+
+use std::alloc::{AllocError, Global};
+use std::fs::File;
+use std::io::{ErrorKind, Read, Stdout};
+use std::process::ExitCode;
+use std::{env, fs, io};
+use tool::device::{FromRead, ToWrite};
+use tool::{LineFault, ProgramFault, RunFault, Settings, run_text, settings};
+use ucd::{FILE_NAMES, Tables, UcdFiles};
+
+fn main(rt: HostRuntime) -> ExitCode {
+    match run(&rt) {
+        Ok(()) => ExitCode::SUCCESS,
+        Err(fault) => {
+            // Where even the message can't be written, the status is all that is left to tell.
+            let _ = report(&rt, &fault);
+            ExitCode::from(fault.status())
+        }
+    }
+}
+
+// Help goes to standard output, and each other message to standard error.
+fn report(rt: &HostRuntime, fault: &ProgramFault) -> io::Result<()> {
+    match fault {
+        ProgramFault::Line(LineFault::Words(error)) => error.print(rt),
+        _ => eprintln!(rt; "{fault}"),
+    }
+}
+
+fn run(rt: &HostRuntime) -> Result<(), ProgramFault> {
+    let alloc = rt.alloc();
+    let Ok(words) = words(rt) else {
+        return Err(ProgramFault::Line(LineFault::NoMemory));
+    };
+    let Ok(words) = texts(alloc, &words) else {
+        return Err(ProgramFault::Line(LineFault::NoMemory));
+    };
+    let settings = settings(alloc, &words).map_err(ProgramFault::Line)?;
+    let tables = tables(rt, settings.ucd)?;
+    let mut output = ToWrite::new(rt.stdout());
+    if settings.files.is_empty() {
+        return write_text(rt, rt.stdin(), &mut output, &tables, &settings);
+    }
+    for file in &settings.files {
+        let Ok(file) = File::open(rt, *file) else {
+            return Err(ProgramFault::Run(RunFault::Read));
+        };
+        write_text(rt, file, &mut output, &tables, &settings)?;
+    }
+    Ok(())
+}
+
+// The words behind the program's name.
+fn words(rt: &HostRuntime) -> io::Result<Vec<String>> {
+    let mut words = env::args(rt)?;
+    let _ = words.next();
+    Ok(words.collect(rt.alloc())?)
+}
+
+fn texts<'a>(alloc: Global, words: &'a [String]) -> Result<Vec<&'a str>, AllocError> {
+    words.iter().map(|word| word.as_str()).collect(alloc)
+}
+
+// Reads the table files of a folder, all of them before the first is parsed.
+fn tables(rt: &HostRuntime, folder: &str) -> Result<Tables, ProgramFault> {
+    let bidi_class = table_file(rt, folder, FILE_NAMES[0])?;
+    let files = UcdFiles {
+        bidi_class: &bidi_class,
+        bidi_brackets: &[],
+        bidi_mirroring: &[],
+        line_break: &[],
+        general_category: &[],
+        east_asian_width: &[],
+        emoji_data: &[],
+    };
+    Tables::read(rt.alloc(), &files).map_err(ProgramFault::Table)
+}
+
+fn table_file(rt: &HostRuntime, folder: &str, name: &'static str) -> Result<Vec<u8>, ProgramFault> {
+    let Ok(path) = format!(in rt.alloc(); "{folder}/{name}") else {
+        return Err(ProgramFault::Run(RunFault::Memory));
+    };
+    match fs::read(rt, path.as_str()) {
+        Ok(bytes) => Ok(bytes),
+        Err(error) if error.kind() == ErrorKind::OutOfMemory => {
+            Err(ProgramFault::Run(RunFault::Memory))
+        }
+        Err(_) => Err(ProgramFault::TableFile(name)),
+    }
+}
+
+// Writes what one text asks for.
+fn write_text<R: Read + Drop>(
+    rt: &HostRuntime,
+    text: R,
+    output: &mut ToWrite<Stdout>,
+    tables: &Tables,
+    settings: &Settings<'_>,
+) -> Result<(), ProgramFault>
+    requires { settings.now.print.novisual ≡ true }
+{
+    let mut reader = FromRead::new(text);
+    run_text(
+        rt.alloc(),
+        &mut reader,
+        output,
+        tables,
+        settings.base,
+        &settings.print,
+    )
+    .map_err(ProgramFault::Run)
+}

@@ -1,0 +1,4 @@
+pub mod CommandLineLemmas
+pub mod Devices
+pub mod Front
+pub mod Lines

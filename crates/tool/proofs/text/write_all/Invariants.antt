@@ -1,0 +1,15 @@
+use Rattle.std.proofs.Common.{◌≡◌, ◌-◌, ◌≤◌, length, take}
+use Rattle.tool.specs.TextRun.{Took}
+use Rattle.tool.proofs.text.write_all.Given as goal
+
+abbrev pub invariant-loop-written : goal.invariant-loop-written
+invariant-loop-written g l =
+    let state = g.W.Sink.state in
+    record {
+      within : l.written ≤ length l.bytes;
+      took : Took (state l.fn.writer) (state l.writer) (take l.written l.bytes);
+      failures : (state l.writer).failures ≡ (state l.fn.writer).failures;
+    }
+
+abbrev pub decreases-loop-written : goal.decreases-loop-written
+decreases-loop-written g l = length l.bytes - l.written

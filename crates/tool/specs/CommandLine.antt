@@ -1,0 +1,71 @@
+-- The command line as `clap` is told of it, and what its words ask for.
+use Rattle.std.specs.Prelude.{◌≡◌, Bool, true, false, List, [], map, codes, Option, Some, None, is_some, unwrap_or}
+use Rattle.bidi.specs.declared.base.Base.{Base}
+use Rattle.bidi.specs.declared.base.Base.TheVariants as base
+use Rattle.clap.specs.Words.{App, IsAmong, Row, Rule, Text, all_of, fault_of, first_of, found_of, kind_of, matches_of, new_app, new_rule, rows_of, with_rule}
+use Rattle.clap.specs.Simple.{on_top}
+use Rattle.clap.specs.Takes.{is_given}
+use Rattle.clap.specs.declared.builder.action.ArgAction.TheVariants.{Append, Set, SetTrue}
+use Rattle.clap.specs.declared.parser.matches.ArgMatches.{ArgMatches}
+use Rattle.tool.specs.declared.options.LineFault.{LineFault}
+use Rattle.tool.specs.declared.options.LineFault.TheVariants.{Words, Directions, NoMemory}
+use Rattle.tool.specs.declared.options.Settings.{Settings}
+
+-- an option without a value, named by its long name
+abbrev pub flag_rule : Text → Rule
+flag_rule name = record (new_rule name) { long = Some name; action = Some SetTrue }
+
+abbrev pub ucd_rule : Rule
+ucd_rule = record (new_rule (codes "ucd")) { long = Some (codes "ucd"); value_names = 1; required = true; action = Some Set }
+
+abbrev pub novisual_rule : Rule
+novisual_rule = record (flag_rule (codes "novisual")) { required = true }
+
+-- any number of texts
+abbrev pub files_rule : Rule
+files_rule = record (new_rule (codes "files")) { value_names = 1; action = Some Append }
+
+-- the command line: the words behind the program's name, with these options, and texts
+abbrev pub start : App
+start = on_top (λ s. record s { no_binary_name = true }) (new_app (codes "fribidi"))
+
+unfoldable pub program : App
+program =
+    with_rule (with_rule (with_rule (with_rule (with_rule (with_rule (with_rule (with_rule start
+    ucd_rule) novisual_rule) (flag_rule (codes "basedir"))) (flag_rule (codes "rtl"))) (flag_rule (codes "ltr")))
+    (flag_rule (codes "wrtl"))) (flag_rule (codes "wltr"))) files_rule
+
+-- how base levels are found: by the one option that is set, or by the first strong character
+abbrev pub base_by : Bool → Bool → Bool → Bool → Option Base
+base_by true false false false = Some base.Rtl
+base_by false true false false = Some base.Ltr
+base_by false false true false = Some base.WeakRtl
+base_by false false false true = Some base.WeakLtr
+base_by false false false false = Some base.WeakLtr
+base_by rtl ltr weak_rtl weak_ltr = None
+
+abbrev pub base_of : List Row → Option Base
+base_of rows =
+    base_by (is_given (codes "rtl") rows) (is_given (codes "ltr") rows) (is_given (codes "wrtl") rows) (is_given (codes "wltr") rows)
+
+-- the settings are what the matches of the words hold, and nothing is wrong with the words
+pub record AreSettings (words : List Text) (settings : Settings) : Type 0 where
+  pub taken : fault_of program words ≡ []
+  pub ucd : first_of (codes "ucd") (matches_of program words) ≡ Some settings.ucd.now
+  pub base : base_of (matches_of program words) ≡ Some settings.base
+  pub novisual : settings.print.novisual ≡ is_given (codes "novisual") (matches_of program words)
+  pub basedir : settings.print.basedir ≡ is_given (codes "basedir") (matches_of program words)
+  pub files : map (λ file. file.now) settings.files.items ≡ unwrap_or (all_of (codes "files") (matches_of program words)) []
+
+-- the matches are those of words with which nothing is wrong, so that what is required is there
+pub record AreMatches (words : List Text) (matches : ArgMatches) : Type 0 where
+  pub taken : fault_of program words ≡ []
+  pub rows : rows_of (found_of matches) ≡ matches_of program words
+  pub ucd : is_some (first_of (codes "ucd") (rows_of (found_of matches))) ≡ true
+  pub novisual : is_given (codes "novisual") (rows_of (found_of matches)) ≡ true
+
+-- `clap` refuses the words, for this kind of error; or it takes them, and more than one direction is set
+abbrev pub IsLineFault : List Text → LineFault → Type 0
+IsLineFault words (Words error) = IsAmong (kind_of error) (fault_of program words)
+IsLineFault words Directions = (fault_of program words ≡ []) × (base_of (matches_of program words) ≡ None)
+IsLineFault words NoMemory = Unit {0}

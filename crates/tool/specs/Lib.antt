@@ -1,0 +1,5 @@
+pub mod CommandLine
+pub mod Device
+pub mod Program
+pub mod TextRun
+pub mod Wrapped

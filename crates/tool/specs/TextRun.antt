@@ -1,0 +1,106 @@
+-- What is written for a text, and how its run ends.
+use Rattle.std.specs.Prelude.{◌≡◌, ℕ, ◌+◌, ◌-◌, ◌<◌, ◌==◌, nat_lt, nat_le, ◌&&◌, not, Bool, true, false, List, [], ◌∷◌, ◌++◌, length, take, drop, map, codes, take_while, Option, Some, None, IfSome, is_some, is_none, Result, Ok, Err, if◌then◌else◌}
+use Rattle.std.specs.List.{flat_map, list_all}
+use Rattle.std.specs.Str.{chars}
+use Rattle.std.specs.Str.Lossy.{utf8_valid_len, utf8_error_len}
+use Rattle.std.specs.Io.KnownBytes.{Appends, Consumes}
+use Rattle.ucd.specs.declared.bidi_class.BidiClass.{BidiClass}
+use Rattle.bidi.specs.declared.base.Base.{Base}
+use Rattle.bidi.specs.Base.{base_level_of}
+use Rattle.bidi.specs.Cuts.{cut, paragraphs}
+use Rattle.tool.specs.declared.faults.RunFault.{RunFault}
+use Rattle.tool.specs.declared.faults.RunFault.TheVariants as fault
+use Rattle.tool.specs.declared.text.Ending.{Ending}
+use Rattle.tool.specs.declared.text.Ending.TheVariants.{AtEnd, AtFailure}
+use Rattle.tool.specs.declared.print.Print.{Print}
+use Rattle.tool.specs.Device.{Device, Failed}
+
+-- the characters in front of the first byte that is not UTF-8
+abbrev pub front_of : List ℕ → List ℕ
+front_of bytes = chars (take (utf8_valid_len bytes) bytes)
+
+-- whether the bytes behind the front can begin no character, whatever follows them
+abbrev pub is_bad : List ℕ → Bool
+is_bad bytes = is_some (utf8_error_len (drop (utf8_valid_len bytes) bytes))
+
+-- What is wrong with an input: bytes that are not UTF-8, which a beginning of a character is too where the input ended, or a read that failed.
+abbrev pub input_fault : Ending → List ℕ → Option RunFault
+input_fault AtEnd bytes =
+    if utf8_valid_len bytes == length bytes then None else Some (fault.NotUtf8 (utf8_valid_len bytes))
+input_fault AtFailure bytes = if is_bad bytes then Some (fault.NotUtf8 (utf8_valid_len bytes)) else Some fault.Read
+
+-- a paragraph's length is limited
+abbrev pub is_within : List ℕ → Bool
+is_within paragraph = nat_le (length paragraph) 1048576
+
+abbrev pub are_within : List (List ℕ) → Bool
+are_within pars = list_all is_within pars
+
+-- The paragraphs that are written: those in front of the first that is too long; else all, or all but the last where the input isn't whole.
+abbrev pub written_of : List (List ℕ) → Bool → List (List ℕ)
+written_of pars is_whole =
+    if are_within pars then (if is_whole then pars else take (length pars - 1) pars) else take_while is_within pars
+
+-- the fault that ends the run
+abbrev pub ending_of : List (List ℕ) → Option RunFault → Option RunFault
+ending_of pars wrong = if are_within pars then wrong else Some fault.ParagraphTooLong
+
+-- the paragraphs of the front of an input
+abbrev pub front_paragraphs : (ℕ → BidiClass) → List ℕ → List (List ℕ)
+front_paragraphs class_of bytes = paragraphs (cut class_of) (front_of bytes)
+
+-- what is printed for a paragraph
+abbrev pub direction_line : ℕ → List ℕ
+direction_line level = if level == 0 then codes "LTR\n" else codes "RTL\n"
+
+module _ (class_of : ℕ → BidiClass) (base : Base) (print : Print) where
+  abbrev pub line_of : List ℕ → List ℕ
+  line_of paragraph = if print.basedir then direction_line (base_level_of (map class_of paragraph) base) else []
+
+  -- what is printed for paragraphs, in order
+  abbrev pub page : List (List ℕ) → List ℕ
+  page pars = flat_map line_of pars
+
+-- the lines of paragraphs as they are written, and whether one of them is too long
+abbrev pub IsLinesOf : (ℕ → BidiClass) → Base → Print → List (List ℕ) → Bool → List ℕ → Bool → Type 0
+IsLinesOf class_of base print pars is_whole lines is_long =
+    (lines ≡ page class_of base print (written_of pars is_whole)) × (is_long ≡ not (are_within pars))
+
+-- the bytes that are written for an input, and how its run ends
+abbrev pub IsOutputOf : (ℕ → BidiClass) → Base → Print → List ℕ → Ending → List ℕ → Option RunFault → Type 0
+IsOutputOf class_of base print bytes ending lines end =
+    let pars = front_paragraphs class_of bytes in
+    let wrong = input_fault ending bytes in
+    (lines ≡ page class_of base print (written_of pars (is_none wrong))) × (end ≡ ending_of pars wrong)
+
+-- what a source gave between two states: all that it had, or, where it failed, the bytes that passed
+abbrev pub Gave : Device → Device → Ending → List ℕ → Type 0
+Gave old new AtEnd bytes = IfSome old.bytes (λ all. all ≡ bytes) × (new.failures ≡ old.failures)
+Gave old new AtFailure bytes = Consumes old.bytes new.bytes bytes × Failed old new
+
+-- a sink took these bytes and no others
+pub record Took (old new : Device) (given : List ℕ) : Type 0 where
+  pub bytes : Appends old.bytes new.bytes given
+  pub passed : new.passed ≡ old.passed + length given
+
+-- The run ended so: without a fault or with the input's, the whole page of the written paragraphs was taken; at a failed write,
+-- a beginning of it, whose length is told; where memory ran out, the page of some of these paragraphs, from the first on.
+abbrev pub EndsWith : (List (List ℕ) → List ℕ) → List (List ℕ) → Option RunFault → Device → Device → Option RunFault → Type 0
+EndsWith page_of written wrong old new (Some (fault.Write n)) =
+    (n < length (page_of written)) × Took old new (take n (page_of written)) × Failed old new
+EndsWith page_of written wrong old new (Some fault.Memory) =
+    (k : ℕ) × Took old new (page_of (take k written)) × (new.failures ≡ old.failures)
+EndsWith page_of written wrong old new end =
+    (end ≡ wrong) × Took old new (page_of written) × (new.failures ≡ old.failures)
+
+abbrev pub fault_of : Result (Unit {0}) RunFault → Option RunFault
+fault_of (Ok done) = None
+fault_of (Err wrong) = Some wrong
+
+-- The run of a text: what the reader gave has a front, whose paragraphs are written as far as they go.
+abbrev pub IsTextRun : (ℕ → BidiClass) → Base → Print → Device → Device → Device → Device → Result (Unit {0}) RunFault → Type 0
+IsTextRun class_of base print reader_old reader_new writer_old writer_new result =
+    (ending : Ending) × (bytes : List ℕ) × Gave reader_old reader_new ending bytes
+    × (let pars = front_paragraphs class_of bytes in
+    let wrong = input_fault ending bytes in
+    EndsWith (page class_of base print) (written_of pars (is_none wrong)) (ending_of pars wrong) writer_old writer_new (fault_of result))

@@ -1,0 +1,142 @@
+//! The command line: its words, read with `clap`, and what they ask for.
+ghost use Rattle.std.specs.Prelude.{◌≡◌, map, true, false, IfOk, IfErr};
+ghost use Rattle.clap.specs.Words.{app_of, found_of, rows_of, rule_of};
+ghost use Rattle.clap.specs.Takes.{is_given};
+ghost use Rattle.tool.specs.CommandLine.{program, ucd_rule, files_rule, flag_rule, base_by};
+ghost use Rattle.tool.specs.CommandLine.{AreMatches, AreSettings, IsLineFault};
+
+use crate::options::{LineFault, Settings as Options};
+use crate::print::Print;
+use bidi::Base;
+use clap::error::ErrorKind;
+use clap::parser::ValueSource;
+use clap::{Arg, ArgAction, ArgMatches, Command};
+use std::alloc::{AllocError, Global};
+
+// The options and the texts that the program takes.
+fn command<'a>(alloc: Global) -> Result<Command<'a>, AllocError>
+    ensures { IfOk result (λ command. app_of command ≡ program) }
+{
+    Command::new(alloc, "fribidi")
+        .no_binary_name(true)
+        .about("Prints the base direction of each paragraph")
+        .arg(ucd(alloc))?
+        .arg(flag(alloc, "novisual", "print no visual lines").required(true))?
+        .arg(flag(alloc, "basedir", "print the direction of each paragraph"))?
+        .arg(flag(alloc, "rtl", "from right to left"))?
+        .arg(flag(alloc, "ltr", "from left to right"))?
+        .arg(flag(
+            alloc,
+            "wrtl",
+            "where no character is strong, from right to left",
+        ))?
+        .arg(flag(
+            alloc,
+            "wltr",
+            "where no character is strong, from left to right",
+        ))?
+        .arg(files(alloc))
+}
+
+// The folder of the table files.
+fn ucd<'a>(alloc: Global) -> Arg<'a>
+    ensures rule { rule_of result ≡ ucd_rule }
+    ensures local { result.global ≡ false }
+{
+    Arg::new(alloc, "ucd")
+        .long("ucd")
+        .value_name("DIR")
+        .required(true)
+        .action(ArgAction::Set)
+        .help("the folder of the Unicode table files")
+}
+
+// The texts.
+fn files<'a>(alloc: Global) -> Arg<'a>
+    ensures rule { rule_of result ≡ files_rule }
+    ensures local { result.global ≡ false }
+{
+    Arg::new(alloc, "files")
+        .value_name("FILE")
+        .action(ArgAction::Append)
+        .help("the texts; standard input where there is none")
+}
+
+// An option without a value.
+fn flag<'a>(alloc: Global, name: &'a str, help: &'a str) -> Arg<'a>
+    ensures rule { rule_of result ≡ flag_rule name.now }
+    ensures local { result.global ≡ false }
+{
+    Arg::new(alloc, name)
+        .long(name)
+        .action(ArgAction::SetTrue)
+        .help(help)
+}
+
+// Whether the words have the option.
+fn is_set(matches: &ArgMatches<'_>, name: &str) -> bool
+    ensures { result ≡ is_given name.now (rows_of (found_of matches.now)) }
+{
+    matches.contains_id(name) && matches.value_source(name) != Some(ValueSource::DefaultValue)
+}
+
+// How base levels are found, unless more than one of the options is set.
+fn base_of(rtl: bool, ltr: bool, weak_rtl: bool, weak_ltr: bool) -> Option<Base>
+    ensures { result ≡ base_by rtl ltr weak_rtl weak_ltr }
+{
+    match (rtl, ltr, weak_rtl, weak_ltr) {
+        (true, false, false, false) => Some(Base::Rtl),
+        (false, true, false, false) => Some(Base::Ltr),
+        (false, false, true, false) => Some(Base::WeakRtl),
+        (false, false, false, true) | (false, false, false, false) => Some(Base::WeakLtr),
+        _ => None,
+    }
+}
+
+// The matches of the words.
+fn parse<'a>(alloc: Global, words: &'a [&'a str]) -> Result<ArgMatches<'a>, LineFault>
+    ensures ok { IfOk result (AreMatches (map (λ word. word.now) words.entry.now)) }
+    ensures err { IfErr result (IsLineFault (map (λ word. word.now) words.entry.now)) }
+{
+    let Ok(command) = command(alloc) else {
+        return Err(LineFault::NoMemory);
+    };
+    match command.try_get_matches_from(words) {
+        Ok(matches) => Ok(matches),
+        Err(error) if error.kind() == ErrorKind::OutOfMemory => Err(LineFault::NoMemory),
+        Err(error) => Err(LineFault::Words(error)),
+    }
+}
+
+/// Reads the words behind the program's name.
+pub fn settings<'a>(alloc: Global, words: &'a [&'a str]) -> Result<Options<'a>, LineFault>
+    ensures ok { IfOk result (AreSettings (map (λ word. word.now) words.entry.now)) }
+    ensures novisual { IfOk result (λ settings. settings.print.novisual ≡ true) }
+    ensures err { IfErr result (IsLineFault (map (λ word. word.now) words.entry.now)) }
+{
+    let matches = parse(alloc, words)?;
+    let Some(base) = base_of(
+        is_set(&matches, "rtl"),
+        is_set(&matches, "ltr"),
+        is_set(&matches, "wrtl"),
+        is_set(&matches, "wltr"),
+    ) else {
+        return Err(LineFault::Directions);
+    };
+    let print = Print {
+        novisual: is_set(&matches, "novisual"),
+        basedir: is_set(&matches, "basedir"),
+    };
+    let Some(ucd) = matches.get_str("ucd") else {
+        unreachable!()
+    };
+    let Ok(files) = Vec::from_slice(alloc, matches.get_strs("files").unwrap_or(&[])) else {
+        return Err(LineFault::NoMemory);
+    };
+    Ok(Options {
+        ucd,
+        base,
+        print,
+        files,
+    })
+}

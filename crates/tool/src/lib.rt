@@ -1,0 +1,20 @@
+//! The command: words of the command line in, a text in, lines out.
+#![tactic(auto)]
+
+mod command_line;
+pub mod device;
+mod faults;
+mod options;
+mod print;
+mod program;
+mod text;
+
+pub use command_line::settings;
+pub use faults::RunFault;
+pub use options::{LineFault, Settings};
+pub use print::Print;
+pub use program::ProgramFault;
+pub use text::{PARAGRAPH_LIMIT, run_text};
+
+#[cfg(test)]
+mod tests;

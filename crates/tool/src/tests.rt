@@ -1,0 +1,402 @@
+//! Worked rows: texts and what is written for them, command lines and messages.
+use crate::device::{FromRead, ToWrite};
+use crate::{LineFault, Print, ProgramFault, RunFault, run_text, settings};
+use bidi::Base;
+use std::alloc::Global;
+use std::io;
+use std::io::{ErrorKind, Read, Write};
+use std::test::Fail;
+use ucd::{Tables, UcdFiles};
+
+/// The lines of DerivedBidiClass.txt for the characters of the rows.
+const BIDI_CLASSES: &[u8] = b"0009;S
+000A;B
+000B;S
+000C;WS
+000D;B
+0020;WS
+0021..0022;ON
+0023..0025;ET
+0026..002A;ON
+002B;ES
+002C;CS
+002D;ES
+002E..002F;CS
+0030..0039;EN
+003A;CS
+003B..0040;ON
+0041..005A;L
+005B..0060;ON
+0061..007A;L
+007B..007E;ON
+0085;B
+00A0;CS
+0300..036F;NSM
+05D0..05EA;R
+0620..064A;AL
+0660..0669;AN
+2003;WS
+200B..200D;BN
+200E;L
+200F;R
+2028;WS
+2029;B
+202A;LRE
+202B;RLE
+202C;PDF
+202D;LRO
+202E;RLO
+2066;LRI
+2067;RLI
+2068;FSI
+2069;PDI
+2329..232A;ON
+3008..3009;ON
+";
+
+// Gives so many bytes a call, and fails behind the last of them if it is to.
+#[derive(Drop)]
+struct Pieces<'a> {
+    bytes: &'a [u8],
+    size: usize,
+    fails: bool,
+}
+
+impl Read for Pieces<'_> {
+    fn read(&mut self, buf: &mut [u8]) -> io::Result<usize> {
+        if self.bytes.is_empty() && self.fails {
+            return Err(io::Error::from(ErrorKind::Other));
+        }
+        let len = self.size.min(self.bytes.len()).min(buf.len());
+        let (front, rest) = self.bytes.split_at(len);
+        buf[..len].copy_from_slice(front);
+        self.bytes = rest;
+        Ok(len)
+    }
+}
+
+// Takes so many bytes in all, and then fails.
+#[derive(Drop)]
+struct Short<'a> {
+    taken: &'a mut Vec<u8>,
+    room: usize,
+}
+
+impl Write for Short<'_> {
+    fn write(&mut self, buf: &[u8]) -> io::Result<usize> {
+        let len = self.room.min(buf.len());
+        if len == 0 {
+            return Err(io::Error::from(ErrorKind::Other));
+        }
+        self.taken.extend_from_slice(&buf[..len])?;
+        self.room -= len;
+        Ok(len)
+    }
+
+    fn flush(&mut self) -> io::Result<()> {
+        Ok(())
+    }
+}
+
+fn files(bidi_class: &[u8]) -> UcdFiles<'_> {
+    UcdFiles {
+        bidi_class,
+        bidi_brackets: b"",
+        bidi_mirroring: b"",
+        line_break: b"",
+        general_category: b"",
+        east_asian_width: b"",
+        emoji_data: b"",
+    }
+}
+
+const DIRECTIONS: Print = Print {
+    novisual: true,
+    basedir: true,
+};
+
+// The lines that are written for a text, and how its run ends.
+fn lines_of(
+    alloc: Global,
+    tables: &Tables,
+    base: Base,
+    pieces: Pieces<'_>,
+    room: usize,
+) -> (Vec<u8>, Result<(), RunFault>) {
+    let mut taken = Vec::new(alloc);
+    let mut reader = FromRead::new(pieces);
+    let mut writer = ToWrite::new(Short {
+        taken: &mut taken,
+        room,
+    });
+    let result = run_text(alloc, &mut reader, &mut writer, tables, base, &DIRECTIONS);
+    drop(writer);
+    (taken, result)
+}
+
+#[test]
+fn directions_of_texts(rt: HostRuntime) -> Result<(), Fail> {
+    let alloc = rt.alloc();
+    let tables = Tables::read(alloc, &files(BIDI_CLASSES))?;
+    let weak = Base::WeakLtr;
+    let rows: [(&str, &[u8], Base, &[u8], Result<(), RunFault>); 14] = [
+        ("nothing", b"", weak, b"", Ok(())),
+        ("latin", b"abc\n", weak, b"LTR\n", Ok(())),
+        ("two", b"\xd7\x90\na", weak, b"RTL\nLTR\n", Ok(())),
+        ("no strong", b"1", Base::WeakRtl, b"RTL\n", Ok(())),
+        (
+            "isolate",
+            b"\xe2\x81\xa7a\xe2\x81\xa9\xd7\x90",
+            weak,
+            b"RTL\n",
+            Ok(()),
+        ),
+        (
+            "open isolate",
+            b"\xe2\x81\xa7a\nb",
+            Base::WeakRtl,
+            b"RTL\nLTR\n",
+            Ok(()),
+        ),
+        ("forced", b"\xd7\x90\na", Base::Ltr, b"LTR\nLTR\n", Ok(())),
+        (
+            "forced back",
+            b"\xd7\x90\na",
+            Base::Rtl,
+            b"RTL\nRTL\n",
+            Ok(()),
+        ),
+        ("joined", b"\r\n", weak, b"LTR\n", Ok(())),
+        ("apart", b"\n\r", weak, b"LTR\nLTR\n", Ok(())),
+        (
+            "bad byte",
+            b"a\nb\xff",
+            weak,
+            b"LTR\n",
+            Err(RunFault::NotUtf8(3)),
+        ),
+        (
+            "bad early",
+            b"a\n\xff",
+            weak,
+            b"",
+            Err(RunFault::NotUtf8(2)),
+        ),
+        (
+            "cut off",
+            b"a\nb\xe4\xb8",
+            weak,
+            b"LTR\n",
+            Err(RunFault::NotUtf8(3)),
+        ),
+        ("arabic", b"1 \xd8\xa7", weak, b"RTL\n", Ok(())),
+    ];
+    for (name, bytes, base, lines, end) in rows {
+        for size in [1, 2, 3, 65_536] {
+            let pieces = Pieces {
+                bytes,
+                size,
+                fails: false,
+            };
+            let (taken, result) = lines_of(alloc, &tables, base, pieces, 1000);
+            assert_eq!(rt; taken.as_slice(), lines, "{name} by {size}");
+            assert_eq!(rt; result, end, "{name} by {size}");
+        }
+    }
+    Ok(())
+}
+
+// A read that fails behind each beginning of a text, and a write that fails behind each number of bytes.
+#[test]
+fn devices_that_fail(rt: HostRuntime) -> Result<(), Fail> {
+    let alloc = rt.alloc();
+    let tables = Tables::read(alloc, &files(BIDI_CLASSES))?;
+    let text = b"a\nb\xe4\xb8\x80\n\n\xff";
+    let written: [&[u8]; 10] = [
+        b"",
+        b"",
+        b"",
+        b"LTR\n",
+        b"LTR\n",
+        b"LTR\n",
+        b"LTR\n",
+        b"LTR\n",
+        b"LTR\nLTR\n",
+        b"LTR\nLTR\n",
+    ];
+    for (at, lines) in written.iter().enumerate() {
+        let pieces = Pieces {
+            bytes: &text[..at.min(text.len())],
+            size: 2,
+            fails: true,
+        };
+        let (taken, result) = lines_of(alloc, &tables, Base::WeakLtr, pieces, 1000);
+        assert_eq!(rt; taken.as_slice(), *lines, "behind {at}");
+        let end = if at == 9 {
+            RunFault::NotUtf8(8)
+        } else {
+            RunFault::Read
+        };
+        assert_eq!(rt; result, Err(end), "behind {at}");
+    }
+    for room in 0..8usize {
+        let pieces = Pieces {
+            bytes: b"a\n\xd7\x90",
+            size: 3,
+            fails: false,
+        };
+        let (taken, result) = lines_of(alloc, &tables, Base::WeakLtr, pieces, room);
+        assert_eq!(rt; taken.as_slice(), &b"LTR\nRTL\n"[..room], "room for {room}");
+        assert_eq!(rt;
+            result,
+            Err(RunFault::Write(room as u64)),
+            "room for {room}"
+        );
+    }
+    Ok(())
+}
+
+#[test]
+fn long_paragraphs(rt: HostRuntime) -> Result<(), Fail> {
+    let alloc = rt.alloc();
+    let tables = Tables::read(alloc, &files(BIDI_CLASSES))?;
+    for (letters, lines, end) in [
+        (1_048_576usize, b"LTR\nLTR\n".as_slice(), Ok(())),
+        (
+            1_048_577,
+            b"LTR\n".as_slice(),
+            Err(RunFault::ParagraphTooLong),
+        ),
+    ] {
+        let mut text = vec![in alloc; b'a'; letters]?;
+        text.insert(0, b'\n')?;
+        let pieces = Pieces {
+            bytes: &text,
+            size: 65_536,
+            fails: false,
+        };
+        let (taken, result) = lines_of(alloc, &tables, Base::WeakLtr, pieces, 1000);
+        assert_eq!(rt; taken.as_slice(), lines, "{letters}");
+        assert_eq!(rt; result, end, "{letters}");
+    }
+    Ok(())
+}
+
+// What the program says of a table file, and its status.
+#[test]
+fn faults_of_tables(rt: HostRuntime) -> Result<(), Fail> {
+    let alloc = rt.alloc();
+    let rows: [(&[u8], &str); 14] = [
+        (b"0041..0030;L", "fribidi: DerivedBidiClass.txt:1: cause 3"),
+        (
+            b"0041;L\n0041;R",
+            "fribidi: DerivedBidiClass.txt:2: cause 6",
+        ),
+        (b"0041;Q", "fribidi: DerivedBidiClass.txt:1: cause 5"),
+        (b"41;L", "fribidi: DerivedBidiClass.txt:1: cause 2"),
+        (b"110000;L", "fribidi: DerivedBidiClass.txt:1: cause 2"),
+        (b"41;L;x", "fribidi: DerivedBidiClass.txt:1: cause 4"),
+        (b"0041..0030;Q", "fribidi: DerivedBidiClass.txt:1: cause 3"),
+        (b"\x80#", "fribidi: DerivedBidiClass.txt:1: cause 1"),
+        (
+            b"0041..005A;L\n0050;R",
+            "fribidi: DerivedBidiClass.txt:2: cause 6",
+        ),
+        (b"#\x80", ""),
+        (b"D800..E000;R\nD800;L", ""),
+        (b"0041;R\r", ""),
+        (b" \t0041 ; R\t# x\n\n", ""),
+        (
+            b"D800..E000;R\nE000;L",
+            "fribidi: DerivedBidiClass.txt:2: cause 6",
+        ),
+    ];
+    for (file, message) in rows {
+        match Tables::read(alloc, &files(file)) {
+            Ok(_) => assert_eq!(rt; "", message),
+            Err(fault) => {
+                let fault = ProgramFault::Table(fault);
+                assert_eq!(rt; fault.to_string(alloc)?.as_str(), message);
+                assert_eq!(rt; fault.status(), 1);
+            }
+        }
+    }
+    Ok(())
+}
+
+#[test]
+fn messages_of_runs(rt: HostRuntime) -> Result<(), Fail> {
+    let alloc = rt.alloc();
+    let rows = [
+        (ProgramFault::Run(RunFault::Read), "fribidi: cannot read"),
+        (
+            ProgramFault::Run(RunFault::Write(7)),
+            "fribidi: cannot write after 7 bytes",
+        ),
+        (
+            ProgramFault::Run(RunFault::NotUtf8(3)),
+            "fribidi: not UTF-8 at byte 3",
+        ),
+        (
+            ProgramFault::Run(RunFault::ParagraphTooLong),
+            "fribidi: paragraph too long",
+        ),
+        (
+            ProgramFault::Run(RunFault::Memory),
+            "fribidi: out of memory",
+        ),
+        (
+            ProgramFault::Line(LineFault::NoMemory),
+            "fribidi: out of memory",
+        ),
+        (
+            ProgramFault::TableFile("LineBreak.txt"),
+            "fribidi: cannot read LineBreak.txt",
+        ),
+    ];
+    for (fault, message) in rows {
+        assert_eq!(rt; fault.to_string(alloc)?.as_str(), message);
+        assert_eq!(rt; fault.status(), 1);
+    }
+    Ok(())
+}
+
+#[test]
+fn command_lines(rt: HostRuntime) -> Result<(), Fail> {
+    let alloc = rt.alloc();
+    let found = settings(alloc, &["--ucd", "D", "--novisual"])?;
+    assert_eq!(rt; found.ucd, "D");
+    assert_eq!(rt; found.base, Base::WeakLtr);
+    assert!(rt; found.print.novisual && !found.print.basedir && found.files.is_empty());
+    for (word, base) in [
+        ("--rtl", Base::Rtl),
+        ("--ltr", Base::Ltr),
+        ("--wrtl", Base::WeakRtl),
+        ("--wltr", Base::WeakLtr),
+    ] {
+        let words = ["-", "--basedir", word, "--novisual", "--ucd=E", "b"];
+        let found = settings(alloc, &words)?;
+        assert_eq!(rt; found.base, base);
+        assert!(rt; found.print.basedir && found.ucd == "E");
+        assert_eq!(rt; found.files.as_slice(), ["-", "b"].as_slice());
+    }
+    let two = ["--ucd", "D", "--novisual", "--rtl", "--ltr"];
+    let fault = ProgramFault::Line(settings(alloc, &two).expect_err(&rt, "two directions"));
+    assert_eq!(rt;
+        fault.to_string(alloc)?.as_str(),
+        "fribidi: more than one base direction"
+    );
+    assert_eq!(rt; fault.status(), 2);
+    let wrong: [(&[&str], u8); 5] = [
+        (&["--novisual"], 2),
+        (&["--ucd", "D"], 2),
+        (&["--ucd", "D", "--novisual", "--levels"], 2),
+        (&["--ucd", "D", "--novisual", "--ucd", "E"], 2),
+        (&["--help"], 0),
+    ];
+    for (words, status) in wrong {
+        let fault = ProgramFault::Line(settings(alloc, words).expect_err(&rt, "refused"));
+        assert_eq!(rt; fault.status(), status);
+    }
+    Ok(())
+}

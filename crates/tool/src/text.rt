@@ -1,0 +1,201 @@
+//! The run of a text: its bytes are read and checked, its paragraphs found, and a line written for
+//! each. What is written and how the run ends is one function of what the source gives.
+ghost use Rattle.std.specs.Prelude.{◌≡◌, ◌<◌, ◌++◌, true, take, length, IfOk, IfErr, OnOk, OnErr, vec_len};
+ghost use Rattle.std.specs.Str.{chars};
+ghost use Rattle.std.specs.Str.Lossy.{utf8_valid_len};
+ghost use Rattle.ucd.specs.Tables.{class_of};
+ghost use Rattle.bidi.specs.Cuts.{cut, paragraphs};
+ghost use Rattle.tool.specs.Device.{Failed};
+ghost use Rattle.tool.specs.TextRun.{Gave, Took, input_fault, line_of, IsLinesOf, IsOutputOf, IsTextRun};
+
+use crate::device::{Sink, Source};
+use crate::faults::RunFault;
+use crate::print::Print;
+use bidi::{Base, base_level, first_cut};
+use std::alloc::{AllocError, Global};
+use ucd::Tables;
+
+/// How many characters a paragraph may have.
+pub const PARAGRAPH_LIMIT: usize = 1_048_576;
+
+/// How many bytes are asked of a source at a time.
+const PIECE: usize = 65_536;
+
+/// How an input ended: the source had no more, or it failed.
+#[derive(Clone, Copy, Debug, PartialEq, Eq)]
+pub enum Ending {
+    AtEnd,
+    AtFailure,
+}
+
+// Room for so many bytes.
+fn room(alloc: Global, len: usize) -> Result<Vec<u8>, AllocError>
+    ensures { IfOk result (λ piece. vec_len piece ≡ len) }
+{
+    vec![in alloc; 0; len]
+}
+
+// Everything that the source gives.
+fn read_all<R: Source>(alloc: Global, reader: &mut R) -> Result<(Vec<u8>, Ending), AllocError>
+    ensures all { IfOk result (λ input. Gave (R.state reader.old) (R.state reader.new) input.1 input.0.items) }
+    ensures err { OnErr result ((R.state reader.new).failures ≡ (R.state reader.old).failures) }
+{
+    let mut bytes = Vec::new(alloc);
+    let mut piece = room(alloc, PIECE)?;
+    loop {
+        match reader.read(&mut piece) {
+            Ok(0) => return Ok((bytes, Ending::AtEnd)),
+            Ok(n) => bytes.extend_from_slice(&piece[..n])?,
+            Err(_) => return Ok((bytes, Ending::AtFailure)),
+        }
+    }
+}
+
+// Writes all the bytes, or says how many were written before the sink failed.
+fn write_all<W: Sink>(writer: &mut W, bytes: &[u8]) -> Result<(), usize>
+    ensures ok { OnOk result (Took (W.state writer.old) (W.state writer.new) bytes.now × ((W.state writer.new).failures ≡ (W.state writer.old).failures)) }
+    ensures err { IfErr result (λ n. (n < length bytes.now) × Took (W.state writer.old) (W.state writer.new) (take n bytes.now) × Failed (W.state writer.old) (W.state writer.new)) }
+{
+    let mut written = 0;
+    while written < bytes.len() {
+        match writer.write(&bytes[written..]) {
+            Ok(0) => return Err(written),
+            Ok(n) => written += n,
+            Err(_) => return Err(written),
+        }
+    }
+    Ok(())
+}
+
+// The text in front of the first byte that is not UTF-8, and what is wrong with the input, if anything.
+fn front(bytes: &[u8], ending: Ending) -> (&str, Option<RunFault>)
+    ensures text { result.0.now ≡ take (utf8_valid_len bytes.now) bytes.now }
+    ensures wrong { result.1 ≡ input_fault ending bytes.now }
+{
+    let error = match simdutf8::compat::from_utf8(bytes) {
+        Ok(text) => {
+            return match ending {
+                Ending::AtEnd => (text, None),
+                Ending::AtFailure => (text, Some(RunFault::Read)),
+            };
+        }
+        Err(error) => error,
+    };
+    let at = error.valid_up_to();
+    let is_bad = ending == Ending::AtEnd || error.error_len().is_some();
+    let wrong = if is_bad {
+        RunFault::NotUtf8(at as u64)
+    } else {
+        RunFault::Read
+    };
+    match simdutf8::compat::from_utf8(&bytes[..at]) {
+        Ok(text) => (text, Some(wrong)),
+        Err(_) => unreachable!(),
+    }
+}
+
+// Adds the line of one paragraph.
+fn push_line(
+    lines: &mut Vec<u8>,
+    tables: &Tables,
+    base: Base,
+    print: &Print,
+    paragraph: &[char],
+) -> Result<(), AllocError>
+    ensures ok { OnOk result (lines.new.items ≡ lines.old.items ++ line_of (class_of tables.now) base print.now paragraph.now) }
+{
+    if !print.basedir {
+        return Ok(());
+    }
+    if base_level(tables, paragraph, base) == 0 {
+        lines.extend_from_slice(b"LTR\n")
+    } else {
+        lines.extend_from_slice(b"RTL\n")
+    }
+}
+
+// The lines of a text's paragraphs up to the first that is too long, and whether one is. The last
+// paragraph is left out where the text is not whole.
+fn lines_of(
+    alloc: Global,
+    tables: &Tables,
+    base: Base,
+    print: &Print,
+    text: &[char],
+    is_whole: bool,
+) -> Result<(Vec<u8>, bool), AllocError>
+    ensures { IfOk result (λ r. IsLinesOf (class_of tables.now) base print.now (paragraphs (cut (class_of tables.now)) text.now) is_whole r.0.items r.1) }
+{
+    let mut lines = Vec::new(alloc);
+    let mut rest = text;
+    while let Some(end) = first_cut(tables, rest) {
+        if end > PARAGRAPH_LIMIT {
+            return Ok((lines, true));
+        }
+        let (paragraph, behind) = rest.split_at(end);
+        push_line(&mut lines, tables, base, print, paragraph)?;
+        rest = behind;
+    }
+    if rest.len() > PARAGRAPH_LIMIT {
+        return Ok((lines, true));
+    }
+    if is_whole && !rest.is_empty() {
+        push_line(&mut lines, tables, base, print, rest)?;
+    }
+    Ok((lines, false))
+}
+
+// The characters of a text.
+fn characters(alloc: Global, text: &str) -> Result<Vec<char>, AllocError>
+    ensures { IfOk result (λ characters. characters.items ≡ chars text.now) }
+{
+    text.chars().collect(alloc)
+}
+
+// What is written for an input, and how the run then ends.
+fn output_of(
+    alloc: Global,
+    tables: &Tables,
+    base: Base,
+    print: &Print,
+    bytes: &[u8],
+    ending: Ending,
+) -> Result<(Vec<u8>, Option<RunFault>), AllocError>
+    ensures { IfOk result (λ r. IsOutputOf (class_of tables.now) base print.now bytes.now ending r.0.items r.1) }
+{
+    let (text, wrong) = front(bytes, ending);
+    let characters = characters(alloc, text)?;
+    let (lines, is_long) = lines_of(alloc, tables, base, print, &characters, wrong.is_none())?;
+    if is_long {
+        Ok((lines, Some(RunFault::ParagraphTooLong)))
+    } else {
+        Ok((lines, wrong))
+    }
+}
+
+/// Writes the lines of a text's paragraphs.
+pub fn run_text<R: Source, W: Sink>(
+    alloc: Global,
+    reader: &mut R,
+    writer: &mut W,
+    tables: &Tables,
+    base: Base,
+    print: &Print,
+) -> Result<(), RunFault>
+    requires { print.now.novisual ≡ true }
+    ensures { IsTextRun (class_of tables.now) base print.now (R.state reader.old) (R.state reader.new) (W.state writer.old) (W.state writer.new) result }
+{
+    let Ok((bytes, ending)) = read_all(alloc, reader) else {
+        return Err(RunFault::Memory);
+    };
+    let Ok((lines, end)) = output_of(alloc, tables, base, print, &bytes, ending) else {
+        return Err(RunFault::Memory);
+    };
+    if let Err(written) = write_all(writer, &lines) {
+        return Err(RunFault::Write(written as u64));
+    }
+    match end {
+        None => Ok(()),
+        Some(fault) => Err(fault),
+    }
+}

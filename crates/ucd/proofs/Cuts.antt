@@ -1,0 +1,44 @@
+-- Where a list is cut at its first mark.
+use Rattle.std.proofs.Common.{◌≡◌, ℕ, ◌+◌, ◌-◌, ◌<◌, List, [], ◌∷◌, length, get_or, take, drop, false, Some, None, refl, sym, arith}
+use Rattle.std.specs.List.{slice_split, before_first, position_or_len, All}
+use Rattle.std.proofs.lemmas.Bool.{eq-eqb, ne_eqb}
+use Rattle.std.proofs.lemmas.List.{take_all, take_rest}
+use Rattle.std.proofs.lemmas.List.Elements.{All-from_get_or}
+use Rattle.std.proofs.lemmas.List.Folds.{list_any_at, list_any_none}
+use Rattle.std.proofs.lemmas.List.Sums.{position_or_len_is}
+use Rattle.std.proofs.lemmas.List.Splits.{slice_split_first, slice_split_none}
+use Rattle.ucd.specs.Grammar.{is_mark, rest_after}
+
+-- no byte below a place is the mark
+abbrev pub NoMarkBelow : ℕ → List ℕ → ℕ → Type 0
+NoMarkBelow mark bytes at = (k : ℕ) → k < at → get_or bytes k 0 ≡ mark → ⊥
+
+-- the first mark stands at a place
+module _ (mark : ℕ) (bytes : List ℕ) (at : ℕ) (below : NoMarkBelow mark bytes at) (within : at < length bytes) (here : get_or bytes at 0 ≡ mark) where
+  first_place : position_or_len (is_mark mark) bytes ≡ at
+  first_place = position_or_len_is (is_mark mark) bytes at 0 (omega arith) (λ k lt. ne_eqb _ _ (below k lt)) (λ _. eq-eqb _ _ here)
+
+  pub front_at : take at bytes ≡ before_first (is_mark mark) bytes
+  front_at = rw first_place refl
+
+  pub rest_at : Some (take (length bytes - (at + 1)) (drop (at + 1) bytes)) ≡ rest_after mark bytes
+  rest_at = rw (list_any_at (is_mark mark) bytes at 0 within (eq-eqb _ _ here), take_rest bytes (at + 1), first_place) refl
+
+  pub parts_at : slice_split (is_mark mark) bytes ≡ take at bytes ∷ slice_split (is_mark mark) (take (length bytes - (at + 1)) (drop (at + 1) bytes))
+  parts_at =
+      let lt : position_or_len (is_mark mark) bytes < length bytes = omega (arith, first_place) in
+      rw (slice_split_first (is_mark mark) bytes 0 lt, take_rest bytes (at + 1), first_place) refl
+
+-- there is no mark
+module _ (mark : ℕ) (bytes : List ℕ) (none : NoMarkBelow mark bytes (length bytes)) where
+  all_fail : All (λ x. is_mark mark x ≡ false) bytes
+  all_fail = All-from_get_or (λ x. is_mark mark x ≡ false) bytes 0 (λ k lt. ne_eqb _ _ (none k lt))
+
+  pub front_all : bytes ≡ before_first (is_mark mark) bytes
+  front_all = rw (position_or_len_is (is_mark mark) bytes (length bytes) 0 (omega arith) (λ k lt. ne_eqb _ _ (none k lt)) (λ lt. absurd (omega arith))) (sym (take_all _ bytes (omega arith)))
+
+  pub rest_none : None ≡ rest_after mark bytes
+  rest_none = rw (list_any_none (is_mark mark) bytes all_fail) refl
+
+  pub parts_one : slice_split (is_mark mark) bytes ≡ bytes ∷ []
+  parts_one = slice_split_none (is_mark mark) bytes all_fail

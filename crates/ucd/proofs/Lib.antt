@@ -1,0 +1,5 @@
+pub mod Cuts
+pub mod Trims
+pub mod Parts
+pub mod Ranges
+pub mod FileLines

@@ -1,0 +1,82 @@
+-- What the lines of a file name together, and which line is at fault.
+use Rattle.std.specs.Prelude.{◌≡◌, ℕ, ◌-◌, ◌<◌, ◌⊎◌, ◌&&◌, List, [], ◌∷◌, length, slice_index_or, Option, Some, None, IsSome, Result, Ok, Err, if◌then◌else◌}
+use Rattle.std.specs.Char.{IsScalar}
+use lib.Utf8.{scalar}
+use Rattle.ucd.specs.declared.fault.Cause.{Cause}
+use Rattle.ucd.specs.declared.fault.Cause.TheVariants as cause
+use Rattle.ucd.specs.declared.grammar.Entry.{Entry}
+use Rattle.ucd.specs.Grammar.{Form, reading_of}
+use Rattle.ucd.specs.declared.file.LineFault.{LineFault}
+use Rattle.ucd.specs.Entries.{covers, value_at, AddsCharacters, IsTaken}
+
+module _ {V : Type 0} (form : Form V) where
+  -- the value that a line gives to a code point: a surrogate is no character, and gets none
+  abbrev pub given_by : Result (Option (Entry V)) Cause → ℕ → Option V
+  given_by (Ok (Some e)) c = if scalar c && covers e c then Some e.value else None
+  given_by (Ok None) c = None
+  given_by (Err e) c = None
+
+  abbrev pub given : List ℕ → ℕ → Option V
+  given line c = given_by (reading_of form line) c
+
+  -- the value that the first line which names the character gives to it
+  abbrev pub or_else : Option V → Option V → Option V
+  or_else (Some v) other = Some v
+  or_else None other = other
+
+  abbrev pub value_in : List (List ℕ) → ℕ → Option V
+  value_in [] c = None
+  value_in (line ∷ lines) c = or_else (given line c) (value_in lines c)
+
+  abbrev pub line_at : List (List ℕ) → ℕ → List ℕ
+  line_at lines k = slice_index_or lines k []
+
+  -- line k names a character that an earlier line names
+  abbrev pub NamesAgain : List (List ℕ) → ℕ → Type 0
+  NamesAgain lines k = (j : ℕ) × (c : ℕ) × (j < k) × IsSome (given (line_at lines j) c) × IsSome (given (line_at lines k) c)
+
+  -- line k is refused, and for this cause
+  abbrev pub HasFault : List (List ℕ) → ℕ → Cause → Type 0
+  HasFault lines k why = (reading_of form (line_at lines k) ≡ Err why) ⊎ ((why ≡ cause.NamedBefore) × NamesAgain lines k)
+
+  -- no line is refused
+  abbrev pub IsGood : List (List ℕ) → Type 0
+  IsGood lines = (k : ℕ) (why : Cause) → k < length lines → ¬ (HasFault lines k why)
+
+  -- line k is the first that is refused
+  pub record IsFirstFault (lines : List (List ℕ)) (k : ℕ) (why : Cause) : Type 0 where
+    pub in_range : k < length lines
+    pub fault : HasFault lines k why
+    pub earlier : (j : ℕ) (other : Cause) → j < k → ¬ (HasFault lines j other)
+
+  -- what a line adds to the entries so far: nothing, or its entry
+  abbrev pub AddsReading : Result (Option (Entry V)) Cause → List (Entry V) → List (Entry V) → Type 0
+  AddsReading (Ok None) old new = new ≡ old
+  AddsReading (Ok (Some e)) old new = AddsCharacters old new e
+  AddsReading (Err why) old new = ⊥
+
+  abbrev pub AddsLine : List (Entry V) → List (Entry V) → List ℕ → Type 0
+  AddsLine old new line = AddsReading (reading_of form line) old new
+
+  -- why a line cannot be added
+  abbrev pub IsReadingCause : Result (Option (Entry V)) Cause → List (Entry V) → Cause → Type 0
+  IsReadingCause (Ok None) es why = ⊥
+  IsReadingCause (Ok (Some e)) es cause.NamedBefore = IsTaken es e
+  IsReadingCause (Ok (Some e)) es why = why ≡ cause.Memory
+  IsReadingCause (Err other) es why = why ≡ other
+
+  abbrev pub IsLineCause : List (Entry V) → List ℕ → Cause → Type 0
+  IsLineCause es line why = IsReadingCause (reading_of form line) es why
+
+  -- the entries say what the lines say, none of which is refused
+  pub record HoldsFile (lines : List (List ℕ)) (es : List (Entry V)) : Type 0 where
+    pub good : IsGood lines
+    pub values : (c : ℕ) → IsScalar c → value_at es c ≡ value_in lines c
+
+  -- a line, counted from 1, is the first that is refused; where memory ran out, none need be
+  abbrev pub IsFaultFor : List (List ℕ) → ℕ → Cause → Type 0
+  IsFaultFor lines line cause.Memory = Unit {0}
+  IsFaultFor lines line why = (0 < line) × IsFirstFault lines (line - 1) why
+
+  abbrev pub IsLineFault : List (List ℕ) → LineFault → Type 0
+  IsLineFault lines fault = IsFaultFor lines fault.line fault.cause

@@ -1,0 +1,103 @@
+-- The grammar of a table file of the Unicode Character Database (UAX #44, section 4.2), as docs/PROFILE.md has it.
+use Rattle.std.specs.Prelude.{ℕ, ◌+◌, ◌*◌, ◌-◌, nat_lt, nat_le, ◌==◌, ◌&&◌, not, Bool, true, List, [], ◌∷◌, length, map, fold, take, drop, Option, Some, None, Result, Ok, Err, if◌then◌else◌}
+use Rattle.std.specs.List.{slice_split, before_first, after_first, prefix_len, suffix_len, list_all, list_any}
+use Rattle.std.specs.Char.{is_ascii, is_ascii_hexdigit, digit_value}
+use Rattle.ucd.specs.declared.fault.Cause.{Cause}
+use Rattle.ucd.specs.declared.fault.Cause.TheVariants as cause
+use Rattle.ucd.specs.declared.grammar.Entry.{Entry}
+
+-- the byte that parts lines, fields or the ends of a range
+abbrev pub is_mark : ℕ → ℕ → Bool
+is_mark mark b = b == mark
+
+-- A line ends at U+000A, and the last line may lack it: behind a last U+000A stands a line with nothing in it.
+abbrev pub lines_of : List ℕ → List (List ℕ)
+lines_of file = slice_split (is_mark 10) file
+
+-- the bytes without those at both ends that pass the test
+abbrev pub trimmed : (ℕ → Bool) → List ℕ → List ℕ
+trimmed p bytes = let rest = drop (prefix_len p bytes) bytes in take (length rest - suffix_len p rest) rest
+
+-- white space between fields is spaces and tabs, and at the ends of a line also U+000D
+abbrev pub is_one_of : List ℕ → ℕ → Bool
+is_one_of bytes b = list_any (λ byte. byte == b) bytes
+
+abbrev pub spaces : List ℕ
+spaces = 32 ∷ 9 ∷ []
+
+abbrev pub blanks : List ℕ
+blanks = 32 ∷ 9 ∷ 13 ∷ []
+
+-- of a line, what stands in front of the first `#`, and that without the white space at its ends
+abbrev pub before_comment : List ℕ → List ℕ
+before_comment line = before_first (is_mark 35) line
+
+abbrev pub content_of : List ℕ → List ℕ
+content_of line = trimmed (is_one_of blanks) (before_comment line)
+
+-- the fields, which `;` parts
+abbrev pub fields_of : List ℕ → List (List ℕ)
+fields_of content = map (trimmed (is_one_of spaces)) (slice_split (is_mark 59) content)
+
+-- the number that hexadecimal digits write
+abbrev pub hex_value : List ℕ → ℕ
+hex_value digits = fold (λ n d. 16 * n + digit_value d) 0 digits
+
+-- a code point: 4 to 6 hexadecimal digits, at most 10FFFF
+abbrev pub is_code_point : List ℕ → Bool
+is_code_point digits = nat_le 4 (length digits) && (nat_le (length digits) 6 && (list_all is_ascii_hexdigit digits && nat_le (hex_value digits) 0x10FFFF))
+
+abbrev pub code_point : List ℕ → Option ℕ
+code_point digits = if is_code_point digits then Some (hex_value digits) else None
+
+-- the first and the last code point of a field, by cases on its parts between dots: `X`, or `X..Y` where the file has ranges
+abbrev pub both : Option ℕ → Option ℕ → Option (ℕ × ℕ)
+both (Some x) (Some y) = Some (x, y)
+both (Some x) None = None
+both None y = None
+
+abbrev pub points_by : Bool → List (List ℕ) → Option (ℕ × ℕ)
+points_by has_ranges (x ∷ []) = both (code_point x) (code_point x)
+points_by true (x ∷ [] ∷ y ∷ []) = both (code_point x) (code_point y)
+points_by has_ranges parts = None
+
+abbrev pub points_of : Bool → List ℕ → Option (ℕ × ℕ)
+points_of has_ranges field = points_by has_ranges (slice_split (is_mark 46) field)
+
+-- The form of a file's lines: whether the first field may be a range, whether there is a third field, and what
+-- the second and the third (empty where there is none) say: no value of the file, nothing, or a value.
+pub record Form (V : Type 0) : Type 0 where
+  pub has_ranges : Bool
+  pub has_third : Bool
+  pub value : List ℕ → List ℕ → Option (Option V)
+
+-- What a line is: it names nothing, or it gives a value to the characters of a range, or it is refused by the first test that holds.
+module _ {V : Type 0} (form : Form V) where
+  abbrev pub by_value : ℕ → ℕ → Option (Option V) → Result (Option (Entry V)) Cause
+  by_value first last None = Err cause.Value
+  by_value first last (Some None) = Ok None
+  by_value first last (Some (Some v)) = Ok (Some (record { first = first; last = last; value = v }))
+
+  abbrev pub by_points : Option (ℕ × ℕ) → Option (Option V) → Result (Option (Entry V)) Cause
+  by_points None value = Err cause.CodePoint
+  by_points (Some (first, last)) value = if nat_lt last first then Err cause.Reversed else by_value first last value
+
+  abbrev pub by_fields : List (List ℕ) → Result (Option (Entry V)) Cause
+  by_fields (points ∷ second ∷ []) =
+      if form.has_third then Err cause.FieldCount else by_points (points_of form.has_ranges points) (form.value second [])
+  by_fields (points ∷ second ∷ third ∷ []) =
+      if form.has_third then by_points (points_of form.has_ranges points) (form.value second third) else Err cause.FieldCount
+  by_fields fields = Err cause.FieldCount
+
+  abbrev pub reading_of : List ℕ → Result (Option (Entry V)) Cause
+  reading_of line =
+      if not (list_all is_ascii (before_comment line)) then Err cause.NotAscii
+      else (if length (content_of line) == 0 then Ok None else by_fields (fields_of (content_of line)))
+
+-- what stands behind the first mark, if there is one, and the parts that a first part and the rest have
+abbrev pub rest_after : ℕ → List ℕ → Option (List ℕ)
+rest_after mark bytes = if list_any (is_mark mark) bytes then Some (after_first (is_mark mark) bytes) else None
+
+abbrev pub parts_of : ℕ → List ℕ → Option (List ℕ) → List (List ℕ)
+parts_of mark front None = front ∷ []
+parts_of mark front (Some rest) = front ∷ slice_split (is_mark mark) rest

@@ -1,0 +1,46 @@
+//! A table file, read line by line.
+ghost use Rattle.std.specs.Prelude.{IfOk, IfErr, OnOk};
+ghost use Rattle.ucd.specs.Grammar.{lines_of};
+ghost use Rattle.ucd.specs.Files.{AddsLine, IsLineCause, HoldsFile, IsLineFault};
+
+use crate::fault::Cause;
+use crate::grammar::{Property, cut, read_line};
+use crate::range_table::RangeTable;
+use std::alloc::Global;
+
+/// A line at fault, counted from 1, and why. The line says nothing where memory ran out.
+#[derive(Clone, Copy, Debug, PartialEq, Eq)]
+pub struct LineFault {
+    pub line: usize,
+    pub cause: Cause,
+}
+
+// Adds what one line says.
+fn add_line<V: Property>(table: &mut RangeTable<V>, line: &[u8]) -> Result<(), Cause>
+    ensures ok { OnOk result (AddsLine V.form table.old table.new line.now) }
+    ensures err { IfErr result (IsLineCause V.form table.old line.now) }
+{
+    match read_line::<V>(line)? {
+        None => Ok(()),
+        Some(entry) => table.add(entry),
+    }
+}
+
+/// What a file says, if no line of it is at fault.
+pub fn read_file<V: Property>(alloc: Global, file: &[u8]) -> Result<RangeTable<V>, LineFault>
+    ensures ok { IfOk result (HoldsFile V.form (lines_of file.now)) }
+    ensures err { IfErr result (IsLineFault V.form (lines_of file.now)) }
+{
+    let mut table = RangeTable::new(alloc);
+    let mut line = 0;
+    let mut rest = Some(file);
+    while let Some(text) = rest {
+        let (front, behind) = cut(text, b'\n');
+        line += 1;
+        if let Err(cause) = add_line(&mut table, front) {
+            return Err(LineFault { line, cause });
+        }
+        rest = behind;
+    }
+    Ok(table)
+}

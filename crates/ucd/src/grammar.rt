@@ -1,0 +1,173 @@
+//! One line of a table file: a comment, or code points and what the file says of them.
+ghost use Rattle.std.specs.Prelude.{◌≡◌, ◌<◌, ◌≤◌, length, IfSome, option_map, if◌then◌else◌};
+ghost use Rattle.std.specs.List.{slice_split, before_first, list_all};
+ghost use Rattle.std.specs.Char.{is_ascii_hexdigit};
+ghost use Rattle.ucd.specs.Grammar.{is_mark, is_one_of, trimmed, fields_of, hex_value, code_point, points_of, by_points, by_fields, reading_of, rest_after, parts_of};
+
+use crate::fault::Cause;
+
+/// The code points from `first` to `last`, and what the file says of them.
+#[derive(Clone, Copy, Debug, PartialEq, Eq)]
+pub struct Entry<V> {
+    pub first: u32,
+    pub last: u32,
+    pub value: V,
+}
+
+/// What a file says of a character, and how its lines say it.
+pub trait Property: Copy + Drop {
+    ghost use Rattle.ucd.specs.Grammar.{Form};
+
+    ghost form: { Form Self };
+
+    /// Whether the first field may be a range.
+    fn has_ranges() -> bool
+        ensures { result ≡ form.has_ranges };
+
+    /// Whether a line has a third field.
+    fn has_third() -> bool
+        ensures { result ≡ form.has_third };
+
+    /// What the second and the third field say: `None` where the file has no such value, and
+    /// `Some(None)` where the line names nothing.
+    fn read_value(second: &[u8], third: &[u8]) -> Option<Option<Self>>
+        ensures { result ≡ form.value second.now third.now };
+}
+
+/// The bytes in front of the first `mark`, and those behind it if there is one.
+pub(crate) fn cut(bytes: &[u8], mark: u8) -> (&[u8], Option<&[u8]>)
+    ensures front { result.0.now ≡ before_first (is_mark mark) bytes.now }
+    ensures rest { option_map (λ rest. rest.now) result.1 ≡ rest_after mark bytes.now }
+    ensures parts { slice_split (is_mark mark) bytes.now ≡ parts_of mark result.0.now (option_map (λ rest. rest.now) result.1) }
+    ensures shorter { IfSome result.1 (λ rest. length rest.now < length bytes.now) }
+{
+    for (at, byte) in bytes.iter().enumerate() {
+        if *byte == mark {
+            return (&bytes[..at], Some(&bytes[at + 1..]));
+        }
+    }
+    (bytes, None)
+}
+
+// The bytes without those at both ends that are one of `white`.
+fn trimmed<'a>(bytes: &'a [u8], white: &[u8]) -> &'a [u8]
+    ensures { result.now ≡ trimmed (is_one_of white.now) bytes.now }
+{
+    let mut start = 0;
+    while start < bytes.len() && white.contains(&bytes[start]) {
+        start += 1;
+    }
+    let rest = &bytes[start..];
+    let mut end = rest.len();
+    while end > 0 && white.contains(&rest[end - 1]) {
+        end -= 1;
+    }
+    &rest[..end]
+}
+
+// The number that up to six hexadecimal digits write, if they are digits.
+fn hex_number(digits: &[u8]) -> Option<u32>
+    requires { length digits.now ≤ 6 }
+    ensures { result ≡ (if list_all is_ascii_hexdigit digits.now then Some (hex_value digits.now) else None) }
+{
+    let mut number = 0;
+    for digit in digits {
+        let value = match *digit {
+            b'0'..=b'9' => *digit - b'0',
+            b'A'..=b'F' => *digit - b'A' + 10,
+            b'a'..=b'f' => *digit - b'a' + 10,
+            _ => return None,
+        };
+        number = 16 * number + u32::from(value);
+    }
+    Some(number)
+}
+
+fn code_point(digits: &[u8]) -> Option<u32>
+    ensures { result ≡ code_point digits.now }
+{
+    if digits.len() < 4 || digits.len() > 6 {
+        return None;
+    }
+    hex_number(digits).filter(|&number| number <= 0x10FFFF)
+}
+
+// The first and the last code point of a field, `X` or `X..Y`.
+fn points(field: &[u8], has_ranges: bool) -> Option<(u32, u32)>
+    ensures { result ≡ points_of has_ranges field.now }
+{
+    let (front, rest) = cut(field, b'.');
+    let Some(rest) = rest else {
+        let point = code_point(front)?;
+        return Some((point, point));
+    };
+    let (between, last) = cut(rest, b'.');
+    let last = last?;
+    if !has_ranges || !between.is_empty() {
+        return None;
+    }
+    Some((code_point(front)?, code_point(last)?))
+}
+
+fn entry_of<V: Property>(
+    points: Option<(u32, u32)>,
+    value: Option<Option<V>>,
+) -> Result<Option<Entry<V>>, Cause>
+    ensures { result ≡ by_points V.form points value }
+{
+    let Some((first, last)) = points else {
+        return Err(Cause::CodePoint);
+    };
+    if last < first {
+        return Err(Cause::Reversed);
+    }
+    match value {
+        None => Err(Cause::Value),
+        Some(None) => Ok(None),
+        Some(Some(value)) => Ok(Some(Entry { first, last, value })),
+    }
+}
+
+// What a line says whose content is not empty.
+fn read_fields<V: Property>(content: &[u8]) -> Result<Option<Entry<V>>, Cause>
+    ensures { result ≡ by_fields V.form (fields_of content.now) }
+{
+    let (field, rest) = cut(content, b';');
+    let Some(rest) = rest else {
+        return Err(Cause::FieldCount);
+    };
+    let (second, rest) = cut(rest, b';');
+    let third = match rest {
+        None if !V::has_third() => b"".as_slice(),
+        Some(rest) if V::has_third() => {
+            let (third, more) = cut(rest, b';');
+            if more.is_some() {
+                return Err(Cause::FieldCount);
+            }
+            third
+        }
+        _ => return Err(Cause::FieldCount),
+    };
+    let field = trimmed(field, SPACES);
+    let value = V::read_value(trimmed(second, SPACES), trimmed(third, SPACES));
+    entry_of(points(field, V::has_ranges()), value)
+}
+
+const SPACES: &[u8] = b" \t";
+
+const BLANKS: &[u8] = b" \t\r";
+
+/// What one line of the file says: nothing, or an entry.
+pub fn read_line<V: Property>(line: &[u8]) -> Result<Option<Entry<V>>, Cause>
+    ensures { result ≡ reading_of V.form line.now }
+{
+    let (line, _) = cut(line, b'#');
+    if !line.is_ascii() {
+        return Err(Cause::NotAscii);
+    }
+    let content = trimmed(line, BLANKS);
+    if content.is_empty() {
+        return Ok(None);
+    }
+    read_fields(content)
+}

@@ -1,0 +1,16 @@
+//! Reads table files of the Unicode Character Database and answers what they say of a character.
+//!
+//! A file is checked line by line against its grammar. What is refused is named by file, line and
+//! cause; what is accepted becomes a table of code point ranges in order, which a look-up searches.
+#![tactic(auto)]
+
+mod bidi_class;
+mod fault;
+mod file;
+mod grammar;
+mod range_table;
+mod tables;
+
+pub use bidi_class::BidiClass;
+pub use fault::{Cause, FILE_NAMES, TableFault};
+pub use tables::{Tables, UcdFiles};
