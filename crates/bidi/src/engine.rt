@@ -24,7 +24,8 @@ impl Model for BaseEngine {
 
 impl BaseEngine {
     ghost use Rattle.bidi.specs.Cuts.{first_cut, SplitsAt};
-    ghost use Rattle.bidi.specs.Engine.{tables_of, option_of, analysed_of, cut_of, level_of, counted, SameRules};
+    ghost use Rattle.bidi.specs.Engine.{tables_of, option_of, analysed_of, counted};
+    ghost use Rattle.bidi.specs.Engine.{cut_of, level_of, SameRules};
 
     pub fn new(tables: Tables, base: Base) -> BaseEngine
         ensures tables { tables_of result ≡ tables }

@@ -33,9 +33,7 @@ fn report(rt: &HostRuntime, fault: &ProgramFault) -> io::Result<()> {
 
 fn run(rt: &HostRuntime) -> Result<(), ProgramFault> {
     let alloc = rt.alloc();
-    let Ok(words) = words(rt) else {
-        return Err(ProgramFault::Line(LineFault::NoMemory));
-    };
+    let words = words(rt).map_err(word_fault)?;
     let Ok(words) = texts(alloc, &words) else {
         return Err(ProgramFault::Line(LineFault::NoMemory));
     };
@@ -59,6 +57,15 @@ fn words(rt: &HostRuntime) -> io::Result<Vec<String>> {
     let mut words = env::args(rt)?;
     let _ = words.next();
     Ok(words.collect(rt.alloc())?)
+}
+
+// Words that are no text can't be read.
+fn word_fault(error: io::Error) -> ProgramFault {
+    if error.kind() == ErrorKind::OutOfMemory {
+        ProgramFault::Line(LineFault::NoMemory)
+    } else {
+        ProgramFault::Run(RunFault::Read)
+    }
 }
 
 fn texts<'a>(alloc: Global, words: &'a [String]) -> Result<Vec<&'a str>, AllocError> {

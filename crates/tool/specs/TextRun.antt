@@ -83,15 +83,19 @@ pub record Took (old new : Device) (given : List ℕ) : Type 0 where
   pub bytes : Appends old.bytes new.bytes given
   pub passed : new.passed ≡ old.passed + length given
 
+-- all of the bytes were taken, or the sink failed behind n of them
+abbrev pub Wrote : List ℕ → Device → Device → Type 0
+Wrote given old new = Took old new given × (new.failures ≡ old.failures)
+
+abbrev pub StoppedAt : ℕ → List ℕ → Device → Device → Type 0
+StoppedAt n given old new = (n < length given) × Took old new (take n given) × Failed old new
+
 -- The run ended so: without a fault or with the input's, the whole page of the written paragraphs was taken; at a failed write,
 -- a beginning of it, whose length is told; where memory ran out, the page of some of these paragraphs, from the first on.
 abbrev pub EndsWith : (List (List ℕ) → List ℕ) → List (List ℕ) → Option RunFault → Device → Device → Option RunFault → Type 0
-EndsWith page_of written wrong old new (Some (fault.Write n)) =
-    (n < length (page_of written)) × Took old new (take n (page_of written)) × Failed old new
-EndsWith page_of written wrong old new (Some fault.Memory) =
-    (k : ℕ) × Took old new (page_of (take k written)) × (new.failures ≡ old.failures)
-EndsWith page_of written wrong old new end =
-    (end ≡ wrong) × Took old new (page_of written) × (new.failures ≡ old.failures)
+EndsWith page_of written wrong old new (Some (fault.Write n)) = StoppedAt n (page_of written) old new
+EndsWith page_of written wrong old new (Some fault.Memory) = (k : ℕ) × Wrote (page_of (take k written)) old new
+EndsWith page_of written wrong old new end = (end ≡ wrong) × Wrote (page_of written) old new
 
 abbrev pub fault_of : Result (Unit {0}) RunFault → Option RunFault
 fault_of (Ok done) = None

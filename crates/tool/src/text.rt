@@ -1,12 +1,12 @@
 //! The run of a text: its bytes are read and checked, its paragraphs found, and a line written for
 //! each. What is written and how the run ends is one function of what the source gives.
-ghost use Rattle.std.specs.Prelude.{◌≡◌, ◌<◌, ◌++◌, true, take, length, IfOk, IfErr, OnOk, OnErr, vec_len};
+ghost use Rattle.std.specs.Prelude.{◌≡◌, ◌++◌, true, take, IfOk, IfErr, OnOk, OnErr, vec_len};
 ghost use Rattle.std.specs.Str.{chars};
 ghost use Rattle.std.specs.Str.Lossy.{utf8_valid_len};
 ghost use Rattle.ucd.specs.Tables.{class_of};
 ghost use Rattle.bidi.specs.Cuts.{cut, paragraphs};
-ghost use Rattle.tool.specs.Device.{Failed};
-ghost use Rattle.tool.specs.TextRun.{Gave, Took, input_fault, line_of, IsLinesOf, IsOutputOf, IsTextRun};
+ghost use Rattle.tool.specs.TextRun.{Gave, Wrote, StoppedAt, input_fault, line_of};
+ghost use Rattle.tool.specs.TextRun.{IsLinesOf, IsOutputOf, IsTextRun};
 
 use crate::device::{Sink, Source};
 use crate::faults::RunFault;
@@ -37,7 +37,8 @@ fn room(alloc: Global, len: usize) -> Result<Vec<u8>, AllocError>
 
 // Everything that the source gives.
 fn read_all<R: Source>(alloc: Global, reader: &mut R) -> Result<(Vec<u8>, Ending), AllocError>
-    ensures all { IfOk result (λ input. Gave (R.state reader.old) (R.state reader.new) input.1 input.0.items) }
+    ensures all { IfOk result (λ input.
+        Gave (R.state reader.old) (R.state reader.new) input.1 input.0.items) }
     ensures err { OnErr result ((R.state reader.new).failures ≡ (R.state reader.old).failures) }
 {
     let mut bytes = Vec::new(alloc);
@@ -53,8 +54,9 @@ fn read_all<R: Source>(alloc: Global, reader: &mut R) -> Result<(Vec<u8>, Ending
 
 // Writes all the bytes, or says how many were written before the sink failed.
 fn write_all<W: Sink>(writer: &mut W, bytes: &[u8]) -> Result<(), usize>
-    ensures ok { OnOk result (Took (W.state writer.old) (W.state writer.new) bytes.now × ((W.state writer.new).failures ≡ (W.state writer.old).failures)) }
-    ensures err { IfErr result (λ n. (n < length bytes.now) × Took (W.state writer.old) (W.state writer.new) (take n bytes.now) × Failed (W.state writer.old) (W.state writer.new)) }
+    ensures ok { OnOk result (Wrote bytes.now (W.state writer.old) (W.state writer.new)) }
+    ensures err { IfErr result (λ n.
+        StoppedAt n bytes.now (W.state writer.old) (W.state writer.new)) }
 {
     let mut written = 0;
     while written < bytes.len() {
@@ -102,7 +104,8 @@ fn push_line(
     print: &Print,
     paragraph: &[char],
 ) -> Result<(), AllocError>
-    ensures ok { OnOk result (lines.new.items ≡ lines.old.items ++ line_of (class_of tables.now) base print.now paragraph.now) }
+    ensures ok { OnOk result (lines.new.items
+        ≡ lines.old.items ++ line_of (class_of tables.now) base print.now paragraph.now) }
 {
     if !print.basedir {
         return Ok(());
@@ -124,7 +127,8 @@ fn lines_of(
     text: &[char],
     is_whole: bool,
 ) -> Result<(Vec<u8>, bool), AllocError>
-    ensures { IfOk result (λ r. IsLinesOf (class_of tables.now) base print.now (paragraphs (cut (class_of tables.now)) text.now) is_whole r.0.items r.1) }
+    ensures { IfOk result (λ r. IsLinesOf (class_of tables.now) base print.now
+        (paragraphs (cut (class_of tables.now)) text.now) is_whole r.0.items r.1) }
 {
     let mut lines = Vec::new(alloc);
     let mut rest = text;
@@ -161,7 +165,8 @@ fn output_of(
     bytes: &[u8],
     ending: Ending,
 ) -> Result<(Vec<u8>, Option<RunFault>), AllocError>
-    ensures { IfOk result (λ r. IsOutputOf (class_of tables.now) base print.now bytes.now ending r.0.items r.1) }
+    ensures { IfOk result (λ r.
+        IsOutputOf (class_of tables.now) base print.now bytes.now ending r.0.items r.1) }
 {
     let (text, wrong) = front(bytes, ending);
     let characters = characters(alloc, text)?;
@@ -183,7 +188,8 @@ pub fn run_text<R: Source, W: Sink>(
     print: &Print,
 ) -> Result<(), RunFault>
     requires { print.now.novisual ≡ true }
-    ensures { IsTextRun (class_of tables.now) base print.now (R.state reader.old) (R.state reader.new) (W.state writer.old) (W.state writer.new) result }
+    ensures { IsTextRun (class_of tables.now) base print.now
+        (R.state reader.old) (R.state reader.new) (W.state writer.old) (W.state writer.new) result }
 {
     let Ok((bytes, ending)) = read_all(alloc, reader) else {
         return Err(RunFault::Memory);

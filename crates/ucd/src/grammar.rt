@@ -2,7 +2,8 @@
 ghost use Rattle.std.specs.Prelude.{◌≡◌, ◌<◌, ◌≤◌, length, IfSome, option_map, if◌then◌else◌};
 ghost use Rattle.std.specs.List.{slice_split, before_first, list_all};
 ghost use Rattle.std.specs.Char.{is_ascii_hexdigit};
-ghost use Rattle.ucd.specs.Grammar.{is_mark, is_one_of, trimmed, fields_of, hex_value, code_point, points_of, by_points, by_fields, reading_of, rest_after, parts_of};
+ghost use Rattle.ucd.specs.Grammar.{is_mark, is_one_of, trimmed, fields_of, hex_value, code_point};
+ghost use Rattle.ucd.specs.Grammar.{points_of, by_points, by_fields, reading_of, rest_after, parts_of};
 
 use crate::fault::Cause;
 
@@ -38,7 +39,8 @@ pub trait Property: Copy + Drop {
 pub(crate) fn cut(bytes: &[u8], mark: u8) -> (&[u8], Option<&[u8]>)
     ensures front { result.0.now ≡ before_first (is_mark mark) bytes.now }
     ensures rest { option_map (λ rest. rest.now) result.1 ≡ rest_after mark bytes.now }
-    ensures parts { slice_split (is_mark mark) bytes.now ≡ parts_of mark result.0.now (option_map (λ rest. rest.now) result.1) }
+    ensures parts { slice_split (is_mark mark) bytes.now
+        ≡ parts_of mark result.0.now (option_map (λ rest. rest.now) result.1) }
     ensures shorter { IfSome result.1 (λ rest. length rest.now < length bytes.now) }
 {
     for (at, byte) in bytes.iter().enumerate() {

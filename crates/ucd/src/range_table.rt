@@ -1,7 +1,8 @@
 //! A table of code point ranges in order, each with a value.
 ghost use Rattle.std.specs.Prelude.{◌≡◌, ◌≤◌, ℕ, List, [], IfOk, IfErr, OnOk, ◌⊎◌, IsErrOf};
 ghost use Rattle.ucd.specs.declared.grammar.Entry.{Entry};
-ghost use Rattle.ucd.specs.Entries.{AreInOrder, IsMetAt, IsGapFor, value_at, AddsEntry, AddsCharacters, IsMet, IsTaken};
+ghost use Rattle.ucd.specs.Entries.{AreInOrder, IsMetAt, IsGapFor, value_at};
+ghost use Rattle.ucd.specs.Entries.{AddsEntry, AddsCharacters, IsMet, IsTaken};
 
 use crate::fault::Cause;
 use crate::grammar::Entry;
