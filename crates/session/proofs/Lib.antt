@@ -1,0 +1,7 @@
+mod ChangeLemmas
+mod RegionLemmas
+mod RunLemmas
+mod ScanLemmas
+mod SessionLemmas
+mod SpliceLemmas
+mod TouchedLemmas

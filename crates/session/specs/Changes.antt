@@ -1,0 +1,66 @@
+-- What a change makes of a text, and which changes are refused.
+use Rattle.std.specs.Prelude.{ℕ, ◌+◌, nat_lt, nat_le, Bool, List, [], ◌∷◌, ◌++◌, length, take, drop, Option, Some, None, is_none, if◌then◌else◌}
+use Rattle.std.specs.List.{list_all}
+use Rattle.std.specs.Str.{chars}
+use Rattle.bidi.specs.Cuts.{paragraphs}
+use Rattle.session.specs.declared.edits.Edit.{Edit}
+use Rattle.session.specs.declared.edits.Edit.TheVariants.{Insert, Delete}
+use Rattle.session.specs.declared.edits.EditFault.{EditFault}
+use Rattle.session.specs.declared.edits.EditFault.TheVariants.{OutOfRange, TextTooLong, ParagraphTooLong}
+
+-- `count` characters from `pos` on are taken out, and a piece is put in their place
+pub record Change : Type 0 where
+  pub pos : ℕ
+  pub count : ℕ
+  pub piece : List ℕ
+
+abbrev pub changed : List ℕ → Change → List ℕ
+changed text change = take change.pos text ++ (change.piece ++ drop (change.pos + change.count) text)
+
+abbrev pub changing : ℕ → ℕ → List ℕ → Change
+changing pos count piece = record { pos = pos; count = count; piece = piece }
+
+-- an insert takes nothing out, and a delete puts nothing in
+abbrev pub insertion : ℕ → List ℕ → Change
+insertion pos piece = record { pos = pos; count = 0; piece = piece }
+
+abbrev pub deletion : ℕ → ℕ → Change
+deletion pos count = record { pos = pos; count = count; piece = [] }
+
+abbrev pub change_of : Edit → Change
+change_of (Insert pos text) = insertion pos (chars text.now)
+change_of (Delete pos count) = deletion pos count
+
+-- the limits of a text and of its paragraphs
+abbrev pub text_limit : ℕ
+text_limit = 16777216
+
+abbrev pub paragraph_limit : ℕ
+paragraph_limit = 1048576
+
+abbrev pub are_within : List (List ℕ) → Bool
+are_within pars = list_all (λ p. nat_le (length p) paragraph_limit) pars
+
+-- whether no paragraph of a text is too long
+abbrev pub is_within_limit : (ℕ → ℕ → Bool) → List ℕ → Bool
+is_within_limit is_cut text = are_within (paragraphs is_cut text)
+
+-- why a text can't be kept
+abbrev pub text_refusal : (ℕ → ℕ → Bool) → List ℕ → Option EditFault
+text_refusal is_cut text =
+    if nat_lt text_limit (length text) then Some TextTooLong
+    else (if is_within_limit is_cut text then None else Some ParagraphTooLong)
+
+-- why a change is refused: it reaches past the end of the text, or makes a text that can't be kept
+abbrev pub refusal : (ℕ → ℕ → Bool) → List ℕ → Change → Option EditFault
+refusal is_cut text change =
+    if nat_lt (length text) (change.pos + change.count) then Some OutOfRange
+    else text_refusal is_cut (changed text change)
+
+-- the text after changes, of which those that are refused change nothing
+abbrev pub after_one : (ℕ → ℕ → Bool) → List ℕ → Change → List ℕ
+after_one is_cut text change = if is_none (refusal is_cut text change) then changed text change else text
+
+abbrev pub after_all : (ℕ → ℕ → Bool) → List ℕ → List Change → List ℕ
+after_all is_cut text [] = text
+after_all is_cut text (change ∷ changes) = after_all is_cut (after_one is_cut text change) changes

@@ -1,0 +1,43 @@
+//! Edits of a text, their damage and why they are refused.
+use thiserror::Error;
+
+/// How many characters a text may have.
+pub const TEXT_LIMIT: usize = 16_777_216;
+
+/// How many characters a paragraph may have.
+pub const PARAGRAPH_LIMIT: usize = 1_048_576;
+
+/// A change of a text. Positions count characters (Unicode scalar values).
+#[derive(Clone, Copy, Debug)]
+pub enum Edit<'a> {
+    /// Puts a text in front of the character at a position, or at the end.
+    Insert(usize, &'a str),
+    /// Takes so many characters out, from a position on.
+    Delete(usize, usize),
+}
+
+/// Which paragraphs an edit has replaced: `old_pars` of them, from `first_par` on, by `new_pars`
+/// others. Paragraphs count from 0.
+#[derive(Clone, Copy, Debug, PartialEq, Eq)]
+pub struct ParDamage {
+    pub first_par: usize,
+    pub old_pars: usize,
+    pub new_pars: usize,
+}
+
+/// Why an edit is refused, in the order in which the reasons are tested.
+#[derive(Clone, Copy, Debug, PartialEq, Eq, Error)]
+pub enum EditFault {
+    /// The edit reaches past the end of the text.
+    #[error("out of range")]
+    OutOfRange,
+    /// The new text would have more than 16,777,216 characters.
+    #[error("text too long")]
+    TextTooLong,
+    /// A paragraph of the new text would have more than 1,048,576 characters.
+    #[error("paragraph too long")]
+    ParagraphTooLong,
+    /// Memory ran out, and none of the others holds.
+    #[error("out of memory")]
+    NoMemory,
+}

@@ -1,0 +1,14 @@
+//! Editing sessions: a text under inserts and deletes, and what is kept of its paragraphs.
+#![tactic(auto)]
+
+mod base_session;
+mod edits;
+mod region;
+mod scan;
+mod touched;
+
+pub use base_session::BaseSession;
+pub use edits::{Edit, EditFault, PARAGRAPH_LIMIT, ParDamage, TEXT_LIMIT};
+
+#[cfg(test)]
+mod tests;

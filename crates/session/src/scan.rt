@@ -1,0 +1,75 @@
+//! Whether a text has a paragraph that is too long, found without memory, one character after another.
+ghost use Rattle.std.specs.Prelude.{◌≡◌, ℕ, Bool, List, [], ◌∷◌, ◌++◌};
+ghost use Rattle.std.specs.Str.{chars};
+ghost use Rattle.bidi.specs.Engine.{cut_of};
+
+use crate::edits::PARAGRAPH_LIMIT;
+use bidi::BaseEngine;
+
+/// What is known of the characters so far.
+#[derive(Clone, Copy, Debug)]
+pub struct Scan {
+    last: Option<char>,
+    // The length of the paragraph at hand, up to the limit.
+    len: usize,
+    is_long: bool,
+}
+
+impl Scan {
+    ghost use Rattle.session.specs.Scans.{HasScanned, is_long_scan};
+
+    /// Of no character yet.
+    pub fn new() -> Scan
+        ensures { (is_cut : ℕ → ℕ → Bool) → HasScanned is_cut [] result }
+    {
+        Scan {
+            last: None,
+            len: 0,
+            is_long: false,
+        }
+    }
+
+    /// One more character.
+    pub fn take(&mut self, engine: &BaseEngine, c: char)
+        ensures { (text : List ℕ) → HasScanned (cut_of engine.now) text self.old
+            → HasScanned (cut_of engine.now) (text ++ c ∷ []) self.new }
+    {
+        let starts_paragraph = self.last.is_some_and(|last| engine.is_cut(last, c));
+        if starts_paragraph {
+            self.len = 0;
+        }
+        if self.len < PARAGRAPH_LIMIT {
+            self.len += 1;
+        } else {
+            self.is_long = true;
+        }
+        self.last = Some(c);
+    }
+
+    /// Characters one after another.
+    pub fn take_all(&mut self, engine: &BaseEngine, part: &[char])
+        ensures { (text : List ℕ) → HasScanned (cut_of engine.now) text self.old
+            → HasScanned (cut_of engine.now) (text ++ part.now) self.new }
+    {
+        for c in part {
+            self.take(engine, *c);
+        }
+    }
+
+    /// The characters of a text.
+    pub fn take_text(&mut self, engine: &BaseEngine, part: &str)
+        ensures { (text : List ℕ) → HasScanned (cut_of engine.now) text self.old
+            → HasScanned (cut_of engine.now) (text ++ chars part.now) self.new }
+    {
+        for c in part.chars() {
+            self.take(engine, c);
+        }
+    }
+
+    /// Whether one of the paragraphs so far is too long.
+    pub fn is_long(&self) -> bool
+        ensures { result ≡ is_long_scan self.now }
+    {
+        self.is_long
+    }
+}
