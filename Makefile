@@ -18,11 +18,11 @@ program:
 
 ucd:
 	@[ -f $(UNICODE)/extracted/DerivedBidiClass.txt ] || { apt-get update -q && apt-get install -qy unicode-data; }
-	@grep -q 'DerivedBidiClass-15\.0\.0' $(UNICODE)/extracted/DerivedBidiClass.txt \
-		|| { echo 'the package unicode-data is not that of Unicode 15.0'; exit 1; }
 	mkdir -p ucd
 	cd $(UNICODE) && cp extracted/DerivedBidiClass.txt BidiBrackets.txt BidiMirroring.txt LineBreak.txt \
 		extracted/DerivedGeneralCategory.txt EastAsianWidth.txt emoji/emoji-data.txt $(CURDIR)/ucd/
+	@for file in ucd/*.txt; do head -n 12 $$file | grep -q '15\.0' \
+		|| { echo "$$file is not of Unicode 15.0"; exit 1; }; done
 
 demo: program ucd
 	@cat demo/sample.txt

@@ -1,5 +1,5 @@
 -- What an engine shows: its tables, its option and how many characters it analysed; and the rules that it goes by.
-use Rattle.std.specs.Prelude.{◌≡◌, ℕ, ◌+◌, ◌-◌, ◌^◌, min, Bool, List, map}
+use Rattle.std.specs.Prelude.{◌≡◌, ℕ, ◌+◌, ◌-◌, ◌^◌, ◌≤◌, min, Bool, List, map}
 use Rattle.ucd.specs.Tables.{class_of}
 use Rattle.ucd.specs.declared.tables.Tables.{Tables}
 use Rattle.bidi.specs.Base.{base_level_of}
@@ -26,6 +26,11 @@ level_of engine paragraph = base_level_of (map (class_of (tables_of engine)) par
 -- a count after n more, which stays at the greatest number of 64 bits once there
 abbrev pub counted : ℕ → ℕ → ℕ
 counted count n = min (count + n) (2 ^ 64 - 1)
+
+-- the count rises, by at most n
+pub record RisesBy (n : ℕ) (old new : BaseEngine) : Type 0 where
+  pub least : analysed_of old ≤ analysed_of new
+  pub most : analysed_of new ≤ analysed_of old + n
 
 -- an engine keeps its tables and its option
 pub record SameRules (old new : BaseEngine) : Type 0 where

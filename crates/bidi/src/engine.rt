@@ -25,7 +25,7 @@ impl Model for BaseEngine {
 impl BaseEngine {
     ghost use Rattle.bidi.specs.Cuts.{first_cut, SplitsAt};
     ghost use Rattle.bidi.specs.Engine.{tables_of, option_of, analysed_of, counted};
-    ghost use Rattle.bidi.specs.Engine.{cut_of, level_of, SameRules};
+    ghost use Rattle.bidi.specs.Engine.{cut_of, level_of, RisesBy, SameRules};
 
     pub fn new(tables: Tables, base: Base) -> BaseEngine
         ensures tables { tables_of result ≡ tables }
@@ -65,6 +65,7 @@ impl BaseEngine {
     pub fn base_of(&mut self, text: &[char]) -> u8
         ensures level { result ≡ level_of self.old text.now }
         ensures rules { SameRules self.old self.new }
+        ensures rises { RisesBy (length text.now) self.old self.new }
         ensures analysed { analysed_of self.new ≡ counted (analysed_of self.old) (length text.now) }
     {
         self.analysed = self.analysed.saturating_add(text.len() as u64);

@@ -4,7 +4,7 @@ use Rattle.std.specs.List.{concat, slice_range, splice}
 use Rattle.std.proofs.lemmas.List.{append_assoc, length-append, length-map, length-drop, length-take-le, map-append, take-map, drop-map, take_at, drop_at}
 use Rattle.std.proofs.lemmas.Bool.{cond-true, cond-false, lt-ltb, le-ltb, ltb-false}
 use Rattle.bidi.specs.Cuts.{paragraphs}
-use Rattle.bidi.specs.Engine.{analysed_of, cut_of, level_of, SameRules}
+use Rattle.bidi.specs.Engine.{cut_of, level_of, RisesBy, SameRules}
 use Rattle.bidi.specs.Pieces.{ParagraphsArePieces}
 use Rattle.bidi.specs.declared.engine.BaseEngine.{BaseEngine}
 use Rattle.session.specs.Changes.{Change, changed, changing, refusal, text_refusal, text_limit, are_within, is_within_limit}
@@ -107,12 +107,15 @@ IsLaidOut-same old new kept same laid =
       allowed = ap (λ is_cut. text_refusal is_cut (text_of kept)) cuts ∙ laid.allowed;
     }
 
+pub RisesBy-self : (n : ℕ) (engine : BaseEngine) → RisesBy n engine engine
+RisesBy-self n engine = record { least = omega arith; most = omega arith }
+
 -- a refusal, with the engine as it was or as far as it went
 pub counts-at_most : (fault : EditFault) (n : ℕ) (engine : BaseEngine) → CountsAtMost fault n engine engine
 counts-at_most OutOfRange n engine = refl
 counts-at_most TextTooLong n engine = refl
 counts-at_most ParagraphTooLong n engine = refl
-counts-at_most NoMemory n engine = omega arith
+counts-at_most NoMemory n engine = RisesBy-self n engine
 
 pub Refuses-unchanged : (change : Change) (state : State) (fault : EditFault) → IsLaidOut state → IsAnswerFor (refusal (cut_of state.engine) (text_of state.kept) change) fault → Refuses change state state fault
 Refuses-unchanged change state fault laid reason = record {
@@ -129,7 +132,7 @@ text_refusal-none engine whole short few =
     text_refusal-short (cut_of engine) whole short ∙ cond-true (is_within_limit (cut_of engine) whole) None (Some ParagraphTooLong) few
 
 pub Opens-from_scratch : ParagraphsArePieces → (engine new_engine : BaseEngine) (whole : List ℕ) (paragraphs : List Paragraph) → length whole ≤ text_limit → is_within_limit (cut_of engine) whole ≡ true
-    → views_of paragraphs ≡ from_scratch (cut_of engine) (level_of engine) whole → SameRules engine new_engine → analysed_of new_engine ≤ analysed_of engine + length whole
+    → views_of paragraphs ≡ from_scratch (cut_of engine) (level_of engine) whole → SameRules engine new_engine → RisesBy (length whole) engine new_engine
     → Opens engine whole (record { engine = new_engine; kept = views_of paragraphs })
 Opens-from_scratch law engine new_engine whole paragraphs short few laid same counted =
     let allowed = text_refusal-none engine whole short few in
@@ -156,7 +159,7 @@ OpensNot-long_paragraph engine whole short long = record {
 }
 
 pub OpensNot-no_memory : (engine new_engine : BaseEngine) (whole : List ℕ) → length whole ≤ text_limit → is_within_limit (cut_of engine) whole ≡ true
-    → SameRules engine new_engine → analysed_of new_engine ≤ analysed_of engine + length whole → OpensNot engine whole (new_engine, NoMemory)
+    → SameRules engine new_engine → RisesBy (length whole) engine new_engine → OpensNot engine whole (new_engine, NoMemory)
 OpensNot-no_memory engine new_engine whole short few same counted = record { reason = text_refusal-none engine whole short few; rules = same; analysed = counted }
 
 -- what holds of a change that lies inside the text
@@ -214,14 +217,14 @@ module _ (law : ParagraphsArePieces) (engine : BaseEngine) (old : List Paragraph
 
   -- memory ran out, before or behind the analysis of the region
   pub Refuses-no_memory : (new_engine : BaseEngine) → length (text_of (views_of old)) - count + length piece ≤ text_limit → is_within_limit (cut_of engine) region ≡ true
-      → SameRules engine new_engine → analysed_of new_engine ≤ analysed_of engine + length region
+      → SameRules engine new_engine → RisesBy (length region) engine new_engine
       → Refuses (changing pos count piece) (record { engine = engine; kept = views_of old }) (record { engine = new_engine; kept = views_of old }) NoMemory
   Refuses-no_memory new_engine short few same counted = record {
     reason = refusal-by_region short ∙ cond-true (is_within_limit (cut_of engine) region) None (Some ParagraphTooLong) few;
     kept = refl;
     laid_out = IsLaidOut-same engine new_engine (views_of old) same laid;
     rules = same;
-    analysed = omega (arith, length-region);
+    analysed = record { least = counted.least; most = omega (arith, length-region) };
   }
 
   -- the region's new paragraphs stand in place of the touched ones
@@ -265,7 +268,7 @@ module _ (law : ParagraphsArePieces) (engine : BaseEngine) (old : List Paragraph
         }
 
     pub Makes-after : (new_engine : BaseEngine) → length (text_of (views_of old)) - count + length piece ≤ text_limit → is_within_limit (cut_of engine) region ≡ true
-        → SameRules engine new_engine → analysed_of new_engine ≤ analysed_of engine + length region
+        → SameRules engine new_engine → RisesBy (length region) engine new_engine
         → Makes (changing pos count piece) (record { engine = engine; kept = views_of old }) (record { engine = new_engine; kept = views_of (splice old touched.first touched.end new) })
         (record { first_par = touched.first; old_pars = touched.end - touched.first; new_pars = length new })
     Makes-after new_engine short few same counted =
@@ -281,5 +284,5 @@ module _ (law : ParagraphsArePieces) (engine : BaseEngine) (old : List Paragraph
           });
           rules = same;
           damage = IsDamage-after;
-          analysed = omega (arith, length-region);
+          analysed = record { least = counted.least; most = omega (arith, length-region) };
         }

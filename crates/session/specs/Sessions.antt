@@ -1,7 +1,7 @@
 -- What a session shows, and what its calls do.
 use Rattle.std.specs.Prelude.{◌≡◌, ℕ, ◌+◌, ◌-◌, ◌<◌, ◌≤◌, List, [], length, map, Option, Some, None}
 use Rattle.std.specs.List.{concat}
-use Rattle.bidi.specs.Engine.{analysed_of, cut_of, level_of, SameRules}
+use Rattle.bidi.specs.Engine.{analysed_of, cut_of, level_of, RisesBy, SameRules}
 use Rattle.bidi.specs.declared.engine.BaseEngine.{BaseEngine}
 use Rattle.session.specs.Changes.{Change, changed, refusal, text_refusal}
 use Rattle.session.specs.Kept.{from_scratch, pars_of, text_of}
@@ -58,7 +58,7 @@ IsAnswerFor reason fault = reason ≡ Some fault
 
 -- the count of analysed characters is as before where there was a reason to refuse, and else rises by at most n
 abbrev pub CountsAtMost : EditFault → ℕ → BaseEngine → BaseEngine → Type 0
-CountsAtMost NoMemory n old new = analysed_of new ≤ analysed_of old + n
+CountsAtMost NoMemory n old new = RisesBy n old new
 CountsAtMost fault n old new = analysed_of new ≡ analysed_of old
 
 -- a session was opened on a text
@@ -67,7 +67,7 @@ pub record Opens (engine : BaseEngine) (whole : List ℕ) (state : State) : Type
   pub text : text_of state.kept ≡ whole
   pub laid_out : IsLaidOut state
   pub rules : SameRules engine state.engine
-  pub analysed : analysed_of state.engine ≤ analysed_of engine + length whole
+  pub analysed : RisesBy (length whole) engine state.engine
 
 -- it was not, and the engine came back
 pub record OpensNot (engine : BaseEngine) (text : List ℕ) (back : BaseEngine × EditFault) : Type 0 where
@@ -82,7 +82,7 @@ pub record Makes (change : Change) (old new : State) (answer : ParDamage) : Type
   pub laid_out : IsLaidOut new
   pub rules : SameRules old.engine new.engine
   pub damage : IsDamage (pars_of old.kept) change old.kept new.kept answer
-  pub analysed : analysed_of new.engine ≤ analysed_of old.engine + fresh (pars_of old.kept) change
+  pub analysed : RisesBy (fresh (pars_of old.kept) change) old.engine new.engine
 
 -- a change was refused, and all is as before
 pub record Refuses (change : Change) (old new : State) (fault : EditFault) : Type 0 where

@@ -2,7 +2,7 @@
 ghost use Rattle.std.specs.Prelude.{◌≡◌, ◌+◌, ◌≤◌, ◌++◌, not, ℕ, List, length, take, drop};
 ghost use Rattle.std.specs.Prelude.{IfOk, OnOk};
 ghost use Rattle.std.specs.Str.{chars};
-ghost use Rattle.bidi.specs.Engine.{analysed_of, cut_of, level_of, SameRules};
+ghost use Rattle.bidi.specs.Engine.{cut_of, level_of, RisesBy, SameRules};
 ghost use Rattle.session.specs.Changes.{changed, is_within_limit};
 ghost use Rattle.session.specs.Kept.{from_scratch};
 ghost use Rattle.session.specs.Sessions.{text_of_all, view_of, views_of, region_change};
@@ -133,7 +133,7 @@ fn lay_out_one(
 ) -> Result<Paragraph, AllocError>
     ensures ok { IfOk result (λ p. view_of p ≡ (text.now, level_of engine.old text.now)) }
     ensures rules { SameRules engine.old engine.new }
-    ensures analysed { analysed_of engine.new ≤ analysed_of engine.old + length text.now }
+    ensures analysed { RisesBy (length text.now) engine.old engine.new }
 {
     let base = engine.base_of(text);
     Ok(Paragraph {
@@ -151,7 +151,7 @@ pub fn lay_out(
     ensures ok { IfOk result (λ ps. views_of ps.items
         ≡ from_scratch (cut_of engine.old) (level_of engine.old) text.now) }
     ensures rules { SameRules engine.old engine.new }
-    ensures analysed { analysed_of engine.new ≤ analysed_of engine.old + length text.now }
+    ensures analysed { RisesBy (length text.now) engine.old engine.new }
 {
     let mut paragraphs = Vec::new(alloc);
     let mut rest = text;

@@ -1,17 +1,18 @@
 -- What is known of a device, and what a call does to it.
-use Rattle.std.specs.Prelude.{◌≡◌, ℕ, ◌+◌, ◌-◌, ◌^◌, ◌<◌, ◌≤◌, ◌⊎◌, ◌==◌, min, List, take, Option, Result, MatchResult, MatchBool}
+use Rattle.std.specs.Prelude.{◌≡◌, ℕ, ◌+◌, ◌-◌, ◌^◌, ◌≤◌, ◌==◌, min, List, take, Option, Result, MatchResult, MatchBool}
 use Rattle.std.specs.Io.KnownBytes.{Keeps, Appends, Consumes, IsAtEnd}
 
--- The bytes that a source still has or a sink holds, where it tells them; how many bytes passed in all; and how
--- many calls failed, which stays at the greatest number of 64 bits once there.
+-- The bytes that a source still has or a sink holds, where it tells them; how many bytes passed in all; how many
+-- calls failed, which stays at the greatest number of 64 bits once there; and how many bytes had passed when one last failed.
 pub record Device : Type 0 where
   pub bytes : Option (List ℕ)
   pub passed : ℕ
   pub failures : ℕ
+  pub failed_at : ℕ
 
 -- a device of which nothing passed yet
 abbrev pub fresh_device : Option (List ℕ) → Device
-fresh_device bytes = record { bytes = bytes; passed = 0; failures = 0 }
+fresh_device bytes = record { bytes = bytes; passed = 0; failures = 0; failed_at = 0 }
 
 abbrev pub greatest : ℕ
 greatest = 2 ^ 64 - 1
@@ -21,12 +22,14 @@ pub record Passes (old new : Device) (n : ℕ) : Type 0 where
   pub passed : new.passed ≡ old.passed + n
   pub bounded : new.passed ≤ greatest
   pub failures : new.failures ≡ old.failures
+  pub failed_at : new.failed_at ≡ old.failed_at
 
 -- no byte passed, and a call failed
 pub record Fails (old new : Device) : Type 0 where
   pub bytes : Keeps old.bytes new.bytes
   pub passed : new.passed ≡ old.passed
   pub failures : new.failures ≡ min (old.failures + 1) greatest
+  pub failed_at : new.failed_at ≡ old.passed
 
 -- a read gave the bytes at the front of a buffer, and none only where the source has none left
 pub record Gives (old new : Device) (n : ℕ) (buffer : List ℕ) : Type 0 where
@@ -46,6 +49,7 @@ abbrev pub Writes : {E : Type 0} → Device → Device → Result ℕ E → List
 Writes old new result given =
     MatchResult result (λ n. MatchBool (n == 0) (Fails old new) (Takes old new n given)) (λ _. Fails old new)
 
--- between two states the device failed: its count of failures rose, or stands at the greatest number
-abbrev pub Failed : Device → Device → Type 0
-Failed old new = (old.failures < new.failures) ⊎ (new.failures ≡ greatest)
+-- Between two states one call failed, and no bytes passed behind it. So the count of failures rose, or stands at the greatest number.
+pub record FailedLast (old new : Device) : Type 0 where
+  pub failures : new.failures ≡ min (old.failures + 1) greatest
+  pub last : new.failed_at ≡ new.passed

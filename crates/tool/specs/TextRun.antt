@@ -1,9 +1,9 @@
 -- What is written for a text, and how its run ends.
-use Rattle.std.specs.Prelude.{◌≡◌, ℕ, ◌+◌, ◌-◌, ◌<◌, ◌==◌, nat_lt, nat_le, ◌&&◌, not, Bool, true, false, List, [], ◌∷◌, ◌++◌, length, take, drop, map, codes, take_while, Option, Some, None, IfSome, is_some, is_none, Result, Ok, Err, if◌then◌else◌}
+use Rattle.std.specs.Prelude.{◌≡◌, ℕ, ◌+◌, ◌-◌, ◌<◌, ◌==◌, nat_lt, nat_le, ◌&&◌, not, Bool, true, false, List, [], ◌∷◌, ◌++◌, length, take, drop, map, codes, take_while, Option, Some, None, IfSome, ⊤, is_some, is_none, Result, Ok, Err, if◌then◌else◌}
 use Rattle.std.specs.List.{flat_map, list_all}
 use Rattle.std.specs.Str.{chars}
 use Rattle.std.specs.Str.Lossy.{utf8_valid_len, utf8_error_len}
-use Rattle.std.specs.Io.KnownBytes.{Appends, Consumes}
+use Rattle.std.specs.Io.KnownBytes.{Appends, Consumes, IsAtEnd}
 use Rattle.ucd.specs.declared.bidi_class.BidiClass.{BidiClass}
 use Rattle.bidi.specs.declared.base.Base.{Base}
 use Rattle.bidi.specs.Base.{base_level_of}
@@ -13,7 +13,7 @@ use Rattle.tool.specs.declared.faults.RunFault.TheVariants as fault
 use Rattle.tool.specs.declared.text.Ending.{Ending}
 use Rattle.tool.specs.declared.text.Ending.TheVariants.{AtEnd, AtFailure}
 use Rattle.tool.specs.declared.print.Print.{Print}
-use Rattle.tool.specs.Device.{Device, Failed}
+use Rattle.tool.specs.Device.{Device, FailedLast}
 
 -- the characters in front of the first byte that is not UTF-8
 abbrev pub front_of : List ℕ → List ℕ
@@ -73,10 +73,10 @@ IsOutputOf class_of base print bytes ending lines end =
     let wrong = input_fault ending bytes in
     (lines ≡ page class_of base print (written_of pars (is_none wrong))) × (end ≡ ending_of pars wrong)
 
--- what a source gave between two states: all that it had, or, where it failed, the bytes that passed
+-- what a source gave between two states: all that it had, or, where it failed, the bytes that passed before
 abbrev pub Gave : Device → Device → Ending → List ℕ → Type 0
 Gave old new AtEnd bytes = IfSome old.bytes (λ all. all ≡ bytes) × (new.failures ≡ old.failures)
-Gave old new AtFailure bytes = Consumes old.bytes new.bytes bytes × Failed old new
+Gave old new AtFailure bytes = Consumes old.bytes new.bytes bytes × (new.passed ≡ old.passed + length bytes) × FailedLast old new
 
 -- a sink took these bytes and no others
 pub record Took (old new : Device) (given : List ℕ) : Type 0 where
@@ -88,7 +88,7 @@ abbrev pub Wrote : List ℕ → Device → Device → Type 0
 Wrote given old new = Took old new given × (new.failures ≡ old.failures)
 
 abbrev pub StoppedAt : ℕ → List ℕ → Device → Device → Type 0
-StoppedAt n given old new = (n < length given) × Took old new (take n given) × Failed old new
+StoppedAt n given old new = (n < length given) × Took old new (take n given) × FailedLast old new
 
 -- The run ended so: without a fault or with the input's, the whole page of the written paragraphs was taken; at a failed write,
 -- a beginning of it, whose length is told; where memory ran out, the page of some of these paragraphs, from the first on.
@@ -101,10 +101,16 @@ abbrev pub fault_of : Result (Unit {0}) RunFault → Option RunFault
 fault_of (Ok done) = None
 fault_of (Err wrong) = Some wrong
 
+-- a run without a fault has read all
+abbrev pub HasReadAll : Option RunFault → Device → Device → List ℕ → Type 0
+HasReadAll None old new bytes = IsAtEnd new.bytes × (new.passed ≡ old.passed + length bytes)
+HasReadAll (Some wrong) old new bytes = ⊤
+
 -- The run of a text: what the reader gave has a front, whose paragraphs are written as far as they go.
 abbrev pub IsTextRun : (ℕ → BidiClass) → Base → Print → Device → Device → Device → Device → Result (Unit {0}) RunFault → Type 0
 IsTextRun class_of base print reader_old reader_new writer_old writer_new result =
     (ending : Ending) × (bytes : List ℕ) × Gave reader_old reader_new ending bytes
+    × HasReadAll (fault_of result) reader_old reader_new bytes
     × (let pars = front_paragraphs class_of bytes in
     let wrong = input_fault ending bytes in
     EndsWith (page class_of base print) (written_of pars (is_none wrong)) (ending_of pars wrong) writer_old writer_new (fault_of result))

@@ -1,11 +1,13 @@
 -- What is known of a device over a reader or a writer of std, by what is known of that.
 use Rattle.std.specs.Prelude.{ℕ, List, Option}
 use Rattle.tool.specs.Device.{Device}
-use Rattle.tool.specs.declared.device.FromRead.{FromRead}
-use Rattle.tool.specs.declared.device.ToWrite.{ToWrite}
+use Rattle.tool.specs.declared.device.from_read.FromRead.{FromRead}
+use Rattle.tool.specs.declared.device.to_write.ToWrite.{ToWrite}
 
 abbrev pub source_state : {R : Type 0} → (R → Option (List ℕ)) → FromRead R → Device
-source_state remaining source = record { bytes = remaining source.inner; passed = source.passed; failures = source.failures }
+source_state remaining source =
+    record { bytes = remaining source.inner; passed = source.passed; failures = source.failures; failed_at = source.failed_at }
 
 abbrev pub sink_state : {W : Type 0} → (W → Option (List ℕ)) → ToWrite W → Device
-sink_state contents sink = record { bytes = contents sink.inner; passed = sink.passed; failures = sink.failures }
+sink_state contents sink =
+    record { bytes = contents sink.inner; passed = sink.passed; failures = sink.failures; failed_at = sink.failed_at }

@@ -6,7 +6,7 @@ use std::alloc::Global;
 use std::io;
 use std::io::{ErrorKind, Read, Write};
 use std::test::Fail;
-use ucd::{Tables, UcdFiles};
+use ucd::{BidiClass, Cause, TableFault, Tables, UcdFiles};
 
 /// The lines of DerivedBidiClass.txt for the characters of the rows.
 const BIDI_CLASSES: &[u8] = b"0009;S
@@ -75,6 +75,37 @@ impl Read for Pieces<'_> {
     }
 }
 
+// Gives some bytes, fails once, and would give more.
+#[derive(Drop)]
+struct FailsOnce<'a> {
+    before: &'a [u8],
+    behind: &'a [u8],
+    has_failed: bool,
+}
+
+impl Read for FailsOnce<'_> {
+    fn read(&mut self, buf: &mut [u8]) -> io::Result<usize> {
+        if self.before.is_empty() && !self.has_failed {
+            self.has_failed = true;
+            return Err(io::Error::from(ErrorKind::Interrupted));
+        }
+        let bytes = if self.has_failed {
+            self.behind
+        } else {
+            self.before
+        };
+        let len = bytes.len().min(buf.len());
+        let (front, rest) = bytes.split_at(len);
+        buf[..len].copy_from_slice(front);
+        if self.has_failed {
+            self.behind = rest;
+        } else {
+            self.before = rest;
+        }
+        Ok(len)
+    }
+}
+
 // Takes so many bytes in all, and then fails.
 #[derive(Drop)]
 struct Short<'a> {
@@ -116,15 +147,15 @@ const DIRECTIONS: Print = Print {
 };
 
 // The lines that are written for a text, and how its run ends.
-fn lines_of(
+fn lines_of<R: Read + Drop>(
     alloc: Global,
     tables: &Tables,
     base: Base,
-    pieces: Pieces<'_>,
+    text: R,
     room: usize,
 ) -> (Vec<u8>, Result<(), RunFault>) {
     let mut taken = Vec::new(alloc);
-    let mut reader = FromRead::new(pieces);
+    let mut reader = FromRead::new(text);
     let mut writer = ToWrite::new(Short {
         taken: &mut taken,
         room,
@@ -239,6 +270,14 @@ fn devices_that_fail(rt: HostRuntime) -> Result<(), Fail> {
         };
         assert_eq!(rt; result, Err(end), "behind {at}");
     }
+    let once = FailsOnce {
+        before: b"a\nb",
+        behind: b"\ncd",
+        has_failed: false,
+    };
+    let (taken, result) = lines_of(alloc, &tables, Base::WeakLtr, once, 1000);
+    assert_eq!(rt; taken.as_slice(), b"LTR\n".as_slice());
+    assert_eq!(rt; result, Err(RunFault::Read));
     for room in 0..8usize {
         let pieces = Pieces {
             bytes: b"a\n\xd7\x90",
@@ -279,6 +318,27 @@ fn long_paragraphs(rt: HostRuntime) -> Result<(), Fail> {
         assert_eq!(rt; taken.as_slice(), lines, "{letters}");
         assert_eq!(rt; result, end, "{letters}");
     }
+    Ok(())
+}
+
+#[test]
+fn classes_of_files(rt: HostRuntime) -> Result<(), Fail> {
+    let alloc = rt.alloc();
+    let tables = Tables::read(alloc, &files(b"D800..E000;R\nD800;L\n0041;AL\r"))?;
+    assert_eq!(rt; tables.bidi_class('\u{E000}'), BidiClass::R);
+    assert_eq!(rt; tables.bidi_class('\u{D7FF}'), BidiClass::L);
+    assert_eq!(rt; tables.bidi_class('\u{E001}'), BidiClass::L);
+    assert_eq!(rt; tables.bidi_class('A'), BidiClass::AL);
+    let mut taken = Vec::new(alloc);
+    let mut reader = FromRead::new(b"a\nb".as_slice());
+    let mut writer = ToWrite::new(&mut taken);
+    let print = Print {
+        novisual: true,
+        basedir: false,
+    };
+    run_text(alloc, &mut reader, &mut writer, &tables, Base::Rtl, &print)?;
+    drop(writer);
+    assert!(rt; taken.is_empty());
     Ok(())
 }
 
@@ -324,10 +384,17 @@ fn faults_of_tables(rt: HostRuntime) -> Result<(), Fail> {
     Ok(())
 }
 
+const MEMORY: TableFault = TableFault {
+    file: 0,
+    line: 0,
+    cause: Cause::Memory,
+};
+
 #[test]
 fn messages_of_runs(rt: HostRuntime) -> Result<(), Fail> {
     let alloc = rt.alloc();
     let rows = [
+        (ProgramFault::Table(MEMORY), "fribidi: out of memory"),
         (ProgramFault::Run(RunFault::Read), "fribidi: cannot read"),
         (
             ProgramFault::Run(RunFault::Write(7)),

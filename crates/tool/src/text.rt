@@ -1,6 +1,7 @@
 //! The run of a text: its bytes are read and checked, its paragraphs found, and a line written for
 //! each. What is written and how the run ends is one function of what the source gives.
-ghost use Rattle.std.specs.Prelude.{◌≡◌, ◌++◌, true, take, IfOk, IfErr, OnOk, OnErr, vec_len};
+ghost use Rattle.std.specs.Prelude.{◌≡◌, ◌+◌, ◌++◌, true, take, length, IfOk, IfErr, OnOk, OnErr, vec_len};
+ghost use Rattle.std.specs.Io.KnownBytes.{IsAtEnd};
 ghost use Rattle.std.specs.Str.{chars};
 ghost use Rattle.std.specs.Str.Lossy.{utf8_valid_len};
 ghost use Rattle.ucd.specs.Tables.{class_of};
@@ -39,6 +40,9 @@ fn room(alloc: Global, len: usize) -> Result<Vec<u8>, AllocError>
 fn read_all<R: Source>(alloc: Global, reader: &mut R) -> Result<(Vec<u8>, Ending), AllocError>
     ensures all { IfOk result (λ input.
         Gave (R.state reader.old) (R.state reader.new) input.1 input.0.items) }
+    ensures passed { IfOk result (λ input.
+        (R.state reader.new).passed ≡ (R.state reader.old).passed + length input.0.items) }
+    ensures end { IfOk result (λ input. input.1 ≡ Ending.AtEnd → IsAtEnd (R.state reader.new).bytes) }
     ensures err { OnErr result ((R.state reader.new).failures ≡ (R.state reader.old).failures) }
 {
     let mut bytes = Vec::new(alloc);

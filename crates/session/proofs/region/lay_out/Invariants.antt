@@ -11,7 +11,8 @@ invariant-loop-end l =
     record {
       laid_out : views_of l.paragraphs.items ++ keep l.rest ≡ keep l.text;
       rules : SameRules l.fn.engine l.engine;
-      analysed : analysed_of l.engine + length l.rest ≤ analysed_of l.fn.engine + length l.text;
+      least : analysed_of l.fn.engine ≤ analysed_of l.engine;
+      most : analysed_of l.engine + length l.rest ≤ analysed_of l.fn.engine + length l.text;
     }
 
 abbrev pub decreases-loop-end : goal.decreases-loop-end

@@ -1,4 +1,4 @@
-use Rattle.std.proofs.Common.{◌≡◌, ◌-◌, ◌<◌, vec_len}
+use Rattle.std.proofs.Common.{◌≡◌, ◌+◌, ◌-◌, ◌<◌, length, vec_len}
 use Rattle.std.specs.Io.KnownBytes.{Consumes}
 use Rattle.tool.specs.Device.{greatest}
 use Rattle.tool.proofs.text.read_all.Given as goal
@@ -8,6 +8,7 @@ invariant-loop-bytes g l =
     let state = g.R.Source.state in
     record {
       given : Consumes (state l.fn.reader).bytes (state l.reader).bytes l.bytes.items;
+      passed : (state l.reader).passed ≡ (state l.fn.reader).passed + length l.bytes.items;
       failures : (state l.reader).failures ≡ (state l.fn.reader).failures;
       room : 0 < vec_len l.piece;
     }

@@ -18,7 +18,7 @@ use Rattle.session.specs.Sessions.{views_of, text_of_all}
 use Rattle.session.specs.Views.{state_of}
 use Rattle.session.specs.declared.edits.EditFault.TheVariants.{TextTooLong}
 use Rattle.session.specs.declared.region.Paragraph.{Paragraph}
-use Rattle.session.proofs.SessionLemmas.{text-views, allowed-length, Refuses-unchanged, refusal-too_long, range_of_region, Refuses-long_paragraph, Refuses-no_memory, SameRules-self, length-after, Makes-after}
+use Rattle.session.proofs.SessionLemmas.{text-views, allowed-length, Refuses-unchanged, refusal-too_long, range_of_region, Refuses-long_paragraph, Refuses-no_memory, SameRules-self, RisesBy-self, length-after, Makes-after}
 use Rattle.session.proofs.base_session.BaseSession.change.Goals as goal
 
 -- what the splice says of its outcome
@@ -86,7 +86,7 @@ returns-in_default-clause-err c =
     let short : length (text_of (views_of ps)) - c.args.count + length (chars c.args.piece.now) ≤ text_limit = omega (arith, c.self.invariant.len) in
     let few = not-false _ (sym (rw c.deref-2.ensures.value at c.has_long.ensures) ∙ c.if-has_long.false) in
     rw (← c.self.view_is)
-    (Refuses-no_memory c.paragraphs_are_pieces.ensures c.self.inside.engine ps c.args.pos c.args.count (chars c.args.piece.now) c.by-touched.result c.self.invariant.laid_out within t c.self.inside.engine short few (SameRules-self c.self.inside.engine) (omega arith))
+    (Refuses-no_memory c.paragraphs_are_pieces.ensures c.self.inside.engine ps c.args.pos c.args.count (chars c.args.piece.now) c.by-touched.result c.self.invariant.laid_out within t c.self.inside.engine short few (SameRules-self c.self.inside.engine) (RisesBy-self _ c.self.inside.engine))
 
 pub returns-in_default-lay_out-clause-err : goal.returns-in_default-lay_out-clause-err
 returns-in_default-lay_out-clause-err c =

@@ -5,7 +5,7 @@ use Rattle.std.proofs.lemmas.List.{append-nil}
 use Rattle.std.proofs.lemmas.Iterator.{YieldsList-from_chars}
 use Rattle.std.proofs.lemmas.Iterator.Consumers.{count_from_yields_List}
 use Rattle.session.specs.Changes.{text_limit}
-use Rattle.session.proofs.SessionLemmas.{SameRules-self, Opens-from_scratch, OpensNot-too_long, OpensNot-long_paragraph, OpensNot-no_memory}
+use Rattle.session.proofs.SessionLemmas.{SameRules-self, RisesBy-self, Opens-from_scratch, OpensNot-too_long, OpensNot-long_paragraph, OpensNot-no_memory}
 use Rattle.session.proofs.base_session.BaseSession.open.Goals as goal
 
 pub returns-then-len-gt-TEXT_LIMIT-clause-err : goal.returns-then-len-gt-TEXT_LIMIT-clause-err
@@ -24,7 +24,7 @@ returns-in_default-clause-err c =
     let n : c.count-len.result ≡ length (chars c.args.text.now) = count_from_yields_List c.chars.result c.count-len.result c.count-len.ensures.ran (YieldsList-from_chars c.args.text.now c.utf8.text cc) in
     let short : length (chars c.args.text.now) ≤ text_limit = omega arith in
     let few = not-false _ (sym (rw append-nil at c.has_long.ensures) ∙ c.if-has_long.false) in
-    OpensNot-no_memory c.args.engine c.args.engine (chars c.args.text.now) short few (SameRules-self c.args.engine) (omega arith)
+    OpensNot-no_memory c.args.engine c.args.engine (chars c.args.text.now) short few (SameRules-self c.args.engine) (RisesBy-self _ c.args.engine)
 
 pub returns-in_default-lay_out-clause-err : goal.returns-in_default-lay_out-clause-err
 returns-in_default-lay_out-clause-err c =

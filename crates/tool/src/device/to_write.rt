@@ -1,0 +1,68 @@
+//! A sink over a writer of std.
+ghost use Rattle.std.specs.Prelude.{◌≡◌};
+
+use super::{Sink, room};
+use std::io;
+use std::io::ErrorKind;
+
+/// A sink over a writer of std. It tells the bytes that the writer tells, passes at most 2^64 - 1
+/// bytes and fails behind them.
+#[derive(Drop)]
+pub struct ToWrite<W> {
+    inner: W,
+    passed: u64,
+    failures: u64,
+    failed_at: u64,
+}
+
+impl<W: io::Write> ToWrite<W> {
+    ghost use Rattle.tool.specs.Device.{Fails, fresh_device};
+    ghost use Rattle.tool.specs.Wrapped.{sink_state};
+
+    pub fn new(inner: W) -> ToWrite<W>
+        ensures { sink_state W.contents result ≡ fresh_device (W.contents inner) }
+    {
+        ToWrite {
+            inner,
+            passed: 0,
+            failures: 0,
+            failed_at: 0,
+        }
+    }
+
+    // One more call failed.
+    fn count_failure(&mut self)
+        ensures { Fails (sink_state W.contents self.old) (sink_state W.contents self.new) }
+    {
+        self.failures = self.failures.saturating_add(1);
+        self.failed_at = self.passed;
+    }
+}
+
+impl<W: io::Write> Sink for ToWrite<W> {
+    ghost use Rattle.tool.specs.Wrapped.{sink_state};
+
+    ghost state = { sink_state W.contents };
+
+    fn write(&mut self, bytes: &[u8]) -> Result<usize, ErrorKind> {
+        let len = room(self.passed, bytes.len());
+        if len == 0 {
+            self.count_failure();
+            return Err(ErrorKind::QuotaExceeded);
+        }
+        match self.inner.write(&bytes[..len]) {
+            Ok(0) => {
+                self.count_failure();
+                Ok(0)
+            }
+            Ok(n) => {
+                self.passed += n as u64;
+                Ok(n)
+            }
+            Err(error) => {
+                self.count_failure();
+                Err(error.kind())
+            }
+        }
+    }
+}
