@@ -1,4 +1,5 @@
 mod Isolates
 mod LeastLemmas
 mod PiecesLemmas
+mod WorkedLevels
 mod WorkedRows

@@ -2,6 +2,12 @@ pub mod Base
 pub mod Classes
 pub mod Cuts
 pub mod Engine
+pub mod Explicit
 pub mod Least
+pub mod Levels
+pub mod Neighbours
+pub mod Neutral
 pub mod Pieces
 pub mod Rules
+pub mod Sequences
+pub mod Weak

@@ -1,0 +1,89 @@
+-- Explicit levels and types of a paragraph's characters (UAX #9, X1 to X8), by the openers that are open at each.
+use Rattle.std.specs.Prelude.{ℕ, ◌+◌, ◌-◌, ◌%◌, ◌==◌, nat_lt, Bool, true, false, ◌||◌, not, List, [], ◌∷◌, length, take, drop, fold, map, slice_range, Option, Some, None, unwrap_or, if◌then◌else◌}
+use Rattle.std.specs.List.{list_any, prefix_len, range_with_len}
+use Rattle.ucd.specs.declared.bidi_class.BidiClass.{BidiClass}
+use Rattle.ucd.specs.declared.bidi_class.BidiClass.TheVariants.{L, R, RLE, LRE, RLO, LRO, PDF, RLI, LRI, FSI, PDI}
+use Rattle.bidi.specs.Classes.{class_at, is_initiator, is_pdi, is_separator}
+use Rattle.bidi.specs.Base.{match_of, first_strong_level}
+
+-- the classes between the initiator at k and its match, or behind it where it has none
+abbrev pub span_of : List BidiClass → ℕ → List BidiClass
+span_of classes k = slice_range classes (k + 1) (unwrap_or (match_of classes k) (length classes))
+
+-- X5c: an FSI acts as RLI where P2 and P3 give level 1 over its span, and else as LRI
+abbrev pub directed_at : List BidiClass → ℕ → BidiClass → BidiClass
+directed_at classes k FSI = if unwrap_or (first_strong_level (span_of classes k)) 0 == 1 then RLI else LRI
+directed_at classes k class = class
+
+-- the classes of a paragraph, each FSI as the initiator that it acts as
+abbrev pub directed : List BidiClass → List BidiClass
+directed classes = map (λ k. directed_at classes k (class_at classes k)) (range_with_len 0 (length classes))
+
+-- The openers that are open, the innermost first: an embedding, an override or an isolate initiator opens itself.
+-- PDF closes the innermost one if it is no isolate, and PDI the innermost isolate with all that was opened inside it.
+abbrev pub close_embedding : List BidiClass → List BidiClass
+close_embedding [] = []
+close_embedding (opener ∷ outer) = if is_initiator opener then opener ∷ outer else outer
+
+abbrev pub close_isolate : List BidiClass → List BidiClass
+close_isolate openers =
+    if list_any is_initiator openers then drop (prefix_len (λ opener. not (is_initiator opener)) openers + 1) openers else openers
+
+abbrev pub open_after : List BidiClass → BidiClass → List BidiClass
+open_after openers RLE = RLE ∷ openers
+open_after openers LRE = LRE ∷ openers
+open_after openers RLO = RLO ∷ openers
+open_after openers LRO = LRO ∷ openers
+open_after openers RLI = RLI ∷ openers
+open_after openers LRI = LRI ∷ openers
+open_after openers PDF = close_embedding openers
+open_after openers PDI = close_isolate openers
+open_after openers class = openers
+
+-- the open chain: the openers that are open in front of index k
+abbrev pub open_chain : List BidiClass → ℕ → List BidiClass
+open_chain classes k = fold open_after [] (take k classes)
+
+-- X2 to X5b: the least odd level above a level, or the least even one
+abbrev pub opens_odd : BidiClass → Bool
+opens_odd RLE = true
+opens_odd RLO = true
+opens_odd RLI = true
+opens_odd class = false
+
+abbrev pub level_above : BidiClass → ℕ → ℕ
+level_above opener level = if opens_odd opener then level + 1 + level % 2 else level + 2 - level % 2
+
+-- the class that an override gives to what stands inside it
+abbrev pub override_of : BidiClass → Option BidiClass
+override_of RLO = Some R
+override_of LRO = Some L
+override_of opener = None
+
+-- What holds inside openers: the level and the override of the innermost one that isn't void, and whether the innermost is void.
+-- The first opener whose level would pass 125 is void, and so are all inside it.
+pub record Inside : Type 0 where
+  pub level : ℕ
+  pub override : Option BidiClass
+  pub is_void : Bool
+
+abbrev pub enter : Inside → BidiClass → Inside
+enter outer opener =
+    if outer.is_void || nat_lt 125 (level_above opener outer.level) then record outer { is_void = true }
+    else record { level = level_above opener outer.level; override = override_of opener; is_void = false }
+
+abbrev pub inside : ℕ → List BidiClass → Inside
+inside base [] = record { level = base; override = None; is_void = false }
+inside base (opener ∷ outer) = enter (inside base outer) opener
+
+-- the openers that a character stands in: a PDI stands behind those that it closes
+abbrev pub inside_at : ℕ → List BidiClass → ℕ → Inside
+inside_at base classes k = inside base (open_chain classes (if is_pdi (class_at classes k) then k + 1 else k))
+
+-- a separator has the paragraph level and keeps its type
+abbrev pub level_at : ℕ → List BidiClass → ℕ → ℕ
+level_at base classes k = if is_separator (class_at classes k) then base else (inside_at base classes k).level
+
+abbrev pub type_at : ℕ → List BidiClass → ℕ → BidiClass
+type_at base classes k =
+    if is_separator (class_at classes k) then class_at classes k else unwrap_or (inside_at base classes k).override (class_at classes k)

@@ -1,0 +1,98 @@
+-- The weak rules (UAX #9, W1 to W7): each makes a list of types of a list of types, and decides every item by the list that it is given.
+use Rattle.std.specs.Prelude.{Bool, true, false, ◌||◌, not, List, [], ◌∷◌, map, if◌then◌else◌}
+use Rattle.ucd.specs.declared.bidi_class.BidiClass.{BidiClass}
+use Rattle.ucd.specs.declared.bidi_class.BidiClass.TheVariants.{L, R, AL, EN, ES, ET, AN, CS, NSM, ON, LRI, RLI, FSI, PDI}
+use Rattle.bidi.specs.Classes.{is_strong}
+use Rattle.bidi.specs.Neighbours.{each_by, nearest}
+
+abbrev pub is_mark : BidiClass → Bool
+is_mark NSM = true
+is_mark type = false
+
+abbrev pub is_terminator : BidiClass → Bool
+is_terminator ET = true
+is_terminator type = false
+
+abbrev pub is_number : BidiClass → Bool
+is_number EN = true
+is_number type = false
+
+abbrev pub is_arabic : BidiClass → Bool
+is_arabic AL = true
+is_arabic type = false
+
+abbrev pub is_left : BidiClass → Bool
+is_left L = true
+is_left type = false
+
+-- W1: a mark takes the type in front of it, which is that of the nearest character that is no mark; behind an isolate's ends it is ON
+abbrev pub mark_behind : BidiClass → BidiClass
+mark_behind LRI = ON
+mark_behind RLI = ON
+mark_behind FSI = ON
+mark_behind PDI = ON
+mark_behind type = type
+
+abbrev pub w1_at : BidiClass → List BidiClass → BidiClass → List BidiClass → BidiClass
+w1_at sos before NSM behind = mark_behind (nearest (λ type. not (is_mark type)) sos before)
+w1_at sos before type behind = type
+
+abbrev pub w1 : BidiClass → List BidiClass → List BidiClass
+w1 sos types = each_by (w1_at sos) [] types
+
+-- W2: a European number whose nearest strong type before it is AL becomes an Arabic number
+abbrev pub w2_at : BidiClass → List BidiClass → BidiClass → List BidiClass → BidiClass
+w2_at sos before EN behind = if is_arabic (nearest is_strong sos before) then AN else EN
+w2_at sos before type behind = type
+
+abbrev pub w2 : BidiClass → List BidiClass → List BidiClass
+w2 sos types = each_by (w2_at sos) [] types
+
+-- W3: AL becomes R
+abbrev pub w3_type : BidiClass → BidiClass
+w3_type AL = R
+w3_type type = type
+
+abbrev pub w3 : List BidiClass → List BidiClass
+w3 types = map w3_type types
+
+-- W4: a single separator between two numbers of one kind becomes such a number
+abbrev pub w4_at : List BidiClass → BidiClass → List BidiClass → BidiClass
+w4_at (EN ∷ before) ES (EN ∷ behind) = EN
+w4_at (EN ∷ before) CS (EN ∷ behind) = EN
+w4_at (AN ∷ before) CS (AN ∷ behind) = AN
+w4_at before type behind = type
+
+abbrev pub w4 : List BidiClass → List BidiClass
+w4 types = each_by w4_at [] types
+
+-- W5: European terminators in a row, next to a European number on either side, become European numbers
+abbrev pub w5_at : List BidiClass → BidiClass → List BidiClass → BidiClass
+w5_at before ET behind =
+    if is_number (nearest (λ type. not (is_terminator type)) ON before) || is_number (nearest (λ type. not (is_terminator type)) ON behind) then EN else ET
+w5_at before type behind = type
+
+abbrev pub w5 : List BidiClass → List BidiClass
+w5 types = each_by w5_at [] types
+
+-- W6: all other separators and terminators become ON
+abbrev pub w6_type : BidiClass → BidiClass
+w6_type ES = ON
+w6_type ET = ON
+w6_type CS = ON
+w6_type type = type
+
+abbrev pub w6 : List BidiClass → List BidiClass
+w6 types = map w6_type types
+
+-- W7: a European number whose nearest strong type before it is L becomes L
+abbrev pub w7_at : BidiClass → List BidiClass → BidiClass → List BidiClass → BidiClass
+w7_at sos before EN behind = if is_left (nearest is_strong sos before) then L else EN
+w7_at sos before type behind = type
+
+abbrev pub w7 : BidiClass → List BidiClass → List BidiClass
+w7 sos types = each_by (w7_at sos) [] types
+
+-- the rules in their order
+abbrev pub weak : BidiClass → List BidiClass → List BidiClass
+weak sos types = w7 sos (w6 (w5 (w4 (w3 (w2 sos (w1 sos types))))))
