@@ -1,6 +1,6 @@
 -- What `least` answers: the first number that passes, if one of the range does.
-use Rattle.std.proofs.Common.{◌≡◌, ℕ, zero, suc, ◌+◌, ◌<◌, ◌≤◌, Bool, true, false, Some, None, refl, ap, ◌∙◌, inl, inr, arith}
-use Rattle.std.proofs.lemmas.Bool.{cond-true, cond-false, cases_Bool, cases_eq, cases_lt, lt-ltb, le-ltb, both_ways}
+use Rattle.std.proofs.Common.{◌≡◌, ℕ, zero, suc, ◌+◌, ◌<◌, ◌≤◌, Bool, true, false, Some, None, unwrap_or, is_none, ◌==◌, refl, sym, ap, ◌∙◌, inl, inr, arith}
+use Rattle.std.proofs.lemmas.Bool.{cond-true, cond-false, cases_Bool, cases_eq, cases_lt, eq-eqb, ne_eqb, lt-ltb, le-ltb, both_ways}
 use Rattle.bidi.specs.Least.{least}
 use Rattle.bidi.specs.Base.{is_before}
 
@@ -46,4 +46,44 @@ least_misses p low (suc count) k fails =
             | inl above ↦ lt-ltb k low above
             | inr within ↦ absurd (both_ways (p low) (fails low (omega arith) within) passed)
           ]
+    ]
+
+-- no number below the least one passes, nor below the end of the range where there is none
+pub least_before : (p : ℕ → Bool) (low count end m : ℕ) → low + count ≡ end → low ≤ m → m < unwrap_or (least p low count) end → p m ≡ false
+least_before p low zero end m e from to = absurd (omega arith)
+least_before p low (suc count) end m e from to =
+    elim (cases_Bool (p low)) [
+      | inl passed ↦ absurd (omega (arith, rw (cond-true (p low) (Some low) (least p (suc low) count) passed) at to))
+      | inr failed ↦ elim (cases_eq low m) [
+        | inl same ↦ rw (← same) failed
+        | inr ne ↦ least_before p (suc low) count end m (omega arith) (omega arith) (rw (cond-false (p low) (Some low) (least p (suc low) count) failed) at to)
+      ]
+    ]
+
+-- the least number passes and stands in the range, where there is one
+pub least_passes : (p : ℕ → Bool) (low count end : ℕ) → low + count ≡ end → unwrap_or (least p low count) end < end
+    → (low ≤ unwrap_or (least p low count) end) × (p (unwrap_or (least p low count) end) ≡ true)
+least_passes p low zero end e inside = absurd (omega arith)
+least_passes p low (suc count) end e inside =
+    elim (cases_Bool (p low)) [
+      | inl passed ↦ rw (cond-true (p low) (Some low) (least p (suc low) count) passed) (omega arith, passed)
+      | inr failed ↦ let rest = least_passes p (suc low) count end (omega arith) (rw (cond-false (p low) (Some low) (least p (suc low) count) failed) at inside) in
+          rw (cond-false (p low) (Some low) (least p (suc low) count) failed) (omega (arith, rest.0), rest.1)
+    ]
+
+pub least_within : (p : ℕ → Bool) (low count end : ℕ) → low + count ≡ end → unwrap_or (least p low count) end ≤ end
+least_within p low zero end e = omega arith
+least_within p low (suc count) end e =
+    elim (cases_Bool (p low)) [
+      | inl passed ↦ rw (cond-true (p low) (Some low) (least p (suc low) count) passed) (omega arith)
+      | inr failed ↦ rw (cond-false (p low) (Some low) (least p (suc low) count) failed) (least_within p (suc low) count end (omega arith))
+    ]
+
+-- whether there is none
+pub least_is_none : (p : ℕ → Bool) (low count end : ℕ) → low + count ≡ end → is_none (least p low count) ≡ (unwrap_or (least p low count) end == end)
+least_is_none p low zero end e = sym (eq-eqb end end refl)
+least_is_none p low (suc count) end e =
+    elim (cases_Bool (p low)) [
+      | inl passed ↦ rw (cond-true (p low) (Some low) (least p (suc low) count) passed) (sym (ne_eqb low end (omega arith)))
+      | inr failed ↦ rw (cond-false (p low) (Some low) (least p (suc low) count) failed) (least_is_none p (suc low) count end (omega arith))
     ]

@@ -1,5 +1,12 @@
-mod Isolates
+mod ExplicitLemmas
+mod IsolateLemmas
+mod JumpLemmas
 mod LeastLemmas
+mod LevelLemmas
+mod MatchLemmas
+mod NeighbourLemmas
+mod OpenersLemmas
 mod PiecesLemmas
+mod RunLemmas
 mod WorkedLevels
 mod WorkedRows

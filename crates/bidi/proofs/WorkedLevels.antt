@@ -1,8 +1,7 @@
 -- Rows of levels, worked.
-use Rattle.std.proofs.Common.{◌≡◌, ℕ, ◌++◌, List, [], ◌∷◌, refl}
+use Rattle.std.proofs.Common.{◌≡◌, ◌++◌, [], ◌∷◌, refl}
 use Rattle.std.specs.List.{repeat}
-use Rattle.ucd.specs.declared.bidi_class.BidiClass.{BidiClass}
-use Rattle.ucd.specs.declared.bidi_class.BidiClass.TheVariants.{L, R, AL, EN, ES, ET, AN, CS, NSM, BN, B, S, WS, ON, LRE, LRO, RLE, RLO, PDF, LRI, RLI, FSI, PDI}
+use Rattle.ucd.specs.declared.bidi_class.BidiClass.TheVariants.{L, R, AL, EN, ES, ET, B, WS, RLE, RLO, PDF, LRI, RLI, FSI, PDI}
 use Rattle.bidi.specs.Levels.{paragraph_levels}
 
 row_letter : paragraph_levels (R ∷ B ∷ []) 1 ≡ 1 ∷ 1 ∷ []

@@ -11,6 +11,10 @@ abbrev pub span_of : List BidiClass → ℕ → List BidiClass
 span_of classes k = slice_range classes (k + 1) (unwrap_or (match_of classes k) (length classes))
 
 -- X5c: an FSI acts as RLI where P2 and P3 give level 1 over its span, and else as LRI
+abbrev pub is_first_strong : BidiClass → Bool
+is_first_strong FSI = true
+is_first_strong class = false
+
 abbrev pub directed_at : List BidiClass → ℕ → BidiClass → BidiClass
 directed_at classes k FSI = if unwrap_or (first_strong_level (span_of classes k)) 0 == 1 then RLI else LRI
 directed_at classes k class = class

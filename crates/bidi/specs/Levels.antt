@@ -1,5 +1,5 @@
 -- The levels of a paragraph's characters before L1 (UAX #9, X1 to I2).
-use Rattle.std.specs.Prelude.{ℕ, ◌+◌, List, [], ◌∷◌, length, map, fold, slice_index, slice_set, slice_index_or, if◌then◌else◌}
+use Rattle.std.specs.Prelude.{ℕ, List, [], ◌∷◌, map, fold, slice_index, slice_set, if◌then◌else◌}
 use Rattle.ucd.specs.Tables.{class_of}
 use Rattle.ucd.specs.declared.tables.Tables.{Tables}
 use Rattle.ucd.specs.declared.bidi_class.BidiClass.{BidiClass}
@@ -24,7 +24,7 @@ put levels places values = levels
 module _ (base : ℕ) (classes : List BidiClass) (levels : List ℕ) (types : List BidiClass) where
   abbrev pub levels_in : List ℕ → List ℕ
   levels_in sequence = sequence_levels (slice_index levels (first_of sequence))
-      (sos base classes levels sequence) (eos base classes levels sequence) (map (class_at types) sequence)
+      (sos base levels sequence) (eos base classes levels sequence) (map (class_at types) sequence)
 
   abbrev pub resolved : List ℕ
   resolved = fold (λ done sequence. put done sequence (levels_in sequence)) levels (sequences classes levels)

@@ -3,11 +3,15 @@ pub mod Classes
 pub mod Cuts
 pub mod Engine
 pub mod Explicit
+pub mod Isolates
 pub mod Least
 pub mod Levels
 pub mod Neighbours
 pub mod Neutral
+pub mod Openers
 pub mod Pieces
 pub mod Rules
+pub mod Runs
 pub mod Sequences
+pub mod Stayed
 pub mod Weak

@@ -1,5 +1,5 @@
 -- The neutral and implicit rules (UAX #9, N1, N2, I1 and I2).
-use Rattle.std.specs.Prelude.{ℕ, ◌+◌, ◌%◌, ◌==◌, Bool, true, false, not, List, [], ◌∷◌, map, if◌then◌else◌}
+use Rattle.std.specs.Prelude.{ℕ, ◌+◌, ◌%◌, ◌==◌, Bool, true, false, not, List, [], if◌then◌else◌}
 use Rattle.ucd.specs.declared.bidi_class.BidiClass.{BidiClass}
 use Rattle.ucd.specs.declared.bidi_class.BidiClass.TheVariants.{L, R, EN, AN, B, S, WS, ON, LRI, RLI, FSI, PDI}
 use Rattle.bidi.specs.Neighbours.{each_by, nearest}

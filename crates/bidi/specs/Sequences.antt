@@ -1,6 +1,6 @@
 -- Level runs and isolating run sequences (UAX #9, X9, X10, BD7 and BD13). A character is named by its index in the list that
 -- X9 leaves, which has all initiators and PDIs of the paragraph, so that matches are the paragraph's.
-use Rattle.std.specs.Prelude.{ℕ, ◌+◌, ◌-◌, ◌%◌, ◌==◌, max, Bool, true, false, ◌&&◌, not, List, [], ◌∷◌, ◌++◌, length, map, filter, slice_index, Option, Some, None, is_none, if◌then◌else◌}
+use Rattle.std.specs.Prelude.{ℕ, ◌+◌, ◌-◌, ◌%◌, ◌==◌, max, Bool, true, false, ◌&&◌, not, List, [], ◌∷◌, ◌++◌, length, filter, slice_index, Option, Some, None, is_none, if◌then◌else◌}
 use Rattle.std.specs.List.{list_any, range_with_len}
 use Rattle.ucd.specs.declared.bidi_class.BidiClass.{BidiClass}
 use Rattle.ucd.specs.declared.bidi_class.BidiClass.TheVariants.{L, R, RLE, LRE, RLO, LRO, PDF, BN}
@@ -35,12 +35,12 @@ first_of run = slice_index run 0
 abbrev pub last_of : List ℕ → ℕ
 last_of run = slice_index run (length run - 1)
 
+abbrev pub is_match : Option ℕ → ℕ → Bool
+is_match (Some j) k = j == k
+is_match None k = false
+
 module _ (classes : List BidiClass) where
   -- BD13: a run continues in the one that begins with the match of its last character
-  abbrev pub is_match : Option ℕ → ℕ → Bool
-  is_match (Some j) k = j == k
-  is_match None k = false
-
   abbrev pub continues_in : List ℕ → List ℕ → Bool
   continues_in run next = is_initiator (class_at classes (last_of run)) && is_match (match_of classes (last_of run)) (first_of next)
 
@@ -64,18 +64,19 @@ abbrev pub direction : ℕ → BidiClass
 direction level = if level % 2 == 1 then R else L
 
 -- X10: sos and eos, by the higher of the levels on both sides of an end of a sequence
-module _ (base : ℕ) (classes : List BidiClass) (levels : List ℕ) where
+module _ (base : ℕ) (levels : List ℕ) where
   abbrev pub level_before : ℕ → ℕ
   level_before k = if k == 0 then base else slice_index levels (k - 1)
 
+  abbrev pub sos : List ℕ → BidiClass
+  sos sequence = direction (max (slice_index levels (first_of sequence)) (level_before (first_of sequence)))
+
+module _ (base : ℕ) (classes : List BidiClass) (levels : List ℕ) where
   -- behind an initiator without a match stands the paragraph level
   abbrev pub level_behind : ℕ → ℕ
   level_behind k =
       if is_initiator (class_at classes k) && is_none (match_of classes k) then base
       else (if k + 1 == length levels then base else slice_index levels (k + 1))
-
-  abbrev pub sos : List ℕ → BidiClass
-  sos sequence = direction (max (slice_index levels (first_of sequence)) (level_before (first_of sequence)))
 
   abbrev pub eos : List ℕ → BidiClass
   eos sequence = direction (max (slice_index levels (last_of sequence)) (level_behind (last_of sequence)))

@@ -48,8 +48,8 @@ fn first_strong_level(tables: &Tables, text: &[char]) -> Option<u8>
     None
 }
 
-// The level that a strong character gives.
-fn strong_level(class: BidiClass) -> Option<u8>
+/// The level that a strong character gives.
+pub(crate) fn strong_level(class: BidiClass) -> Option<u8>
     ensures { result ≡ (if is_strong class then Some (strong_level class) else None) }
 {
     match class {

@@ -1,10 +1,22 @@
-//! The Unicode Bidirectional Algorithm (UAX #9): where paragraphs end, and the level of each.
+//! The Unicode Bidirectional Algorithm (UAX #9): where paragraphs end, the base level of each, and
+//! the levels of their characters.
 #![tactic(auto)]
 
 mod base;
+mod classes;
 mod cuts;
 mod engine;
+mod explicit;
+mod isolates;
+mod levels;
+mod neutral;
+mod sequences;
+mod weak;
 
 pub use base::{Base, base_level};
 pub use cuts::{first_cut, is_cut, paragraphs_are_pieces};
 pub use engine::BaseEngine;
+pub use levels::resolve;
+
+#[cfg(test)]
+mod tests;

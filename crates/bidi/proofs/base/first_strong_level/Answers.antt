@@ -7,7 +7,7 @@ use Rattle.ucd.specs.declared.tables.Tables.{Tables}
 use Rattle.ucd.specs.Tables.{class_of}
 use Rattle.bidi.specs.Classes.{class_at, is_initiator, is_pdi, is_strong}
 use Rattle.bidi.specs.Base.{strong_level, first_strong_level}
-use Rattle.bidi.proofs.Isolates.{Reached, Reached-next, Reached-strong, Reached-end}
+use Rattle.bidi.proofs.IsolateLemmas.{Reached, Reached-next, Reached-strong, Reached-end}
 use Rattle.bidi.proofs.base.first_strong_level.Goals as goal
 use Rattle.bidi.proofs.base.first_strong_level.Goals.{else-depth-eq0-via-then-depth-eq0+else-is_some, else-depth-eq0-via-else-depth-eq0}
 

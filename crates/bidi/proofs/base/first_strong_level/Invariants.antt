@@ -1,6 +1,6 @@
 use Rattle.std.proofs.Common.{map}
 use Rattle.ucd.specs.Tables.{class_of}
-use Rattle.bidi.proofs.Isolates.{Reached}
+use Rattle.bidi.proofs.IsolateLemmas.{Reached}
 use Rattle.bidi.proofs.base.first_strong_level.Given as goal
 
 abbrev pub invariant-loop-c : goal.invariant-loop-c

@@ -1,7 +1,7 @@
 -- How deep in isolates a place lies, told by counts of initiators and PDIs before each place.
 use Rattle.std.proofs.Common.{◌≡◌, ℕ, zero, suc, ◌+◌, ◌-◌, ◌<◌, ◌≤◌, nat_lt, Bool, true, false, cond, ◌&&◌, not, List, ◌++◌, length, take, drop, count_by, slice_range, Some, None, option_map, refl, sym, ap, ◌∙◌, inl, inr, arith, add-one, zero-add, below_more}
 use Rattle.std.specs.List.{list_all, range_with_len}
-use Rattle.std.proofs.lemmas.Bool.{cases_Bool, cases_eq, cases_lt, lt-ltb, eq-eqb, ne_eqb, and_from, and_left, and_right, not_from_true, not_from_false, cond_both, true_from_ne_false, true≢false}
+use Rattle.std.proofs.lemmas.Bool.{cases_Bool, cases_eq, cases_lt, lt-ltb, eq-eqb, eqb-true, ne_eqb, and_from, and_left, and_right, not_from_true, not_from_false, cond_both, true_from_ne_false, true≢false}
 use Rattle.std.proofs.lemmas.List.{take-append-drop, take-take, drop-take}
 use Rattle.std.proofs.lemmas.List.Sums.{sum_by-append, sum_by_more}
 use Rattle.std.proofs.lemmas.List.Folds.{list_all_at}
@@ -21,12 +21,12 @@ pub record Lowest (o s : ℕ → ℕ) (k d : ℕ) : Type 0 where
   pub above : (m : ℕ) → place < m → m ≤ k → o place + s m < o m + s place
 
 -- no place up to k is lower than the last lowest one
-Lowest-all : (o s : ℕ → ℕ) (k d : ℕ) (low : Lowest o s k d) (m : ℕ) → m ≤ k → o low.place + s m ≤ o m + s low.place
+pub Lowest-all : (o s : ℕ → ℕ) (k d : ℕ) (low : Lowest o s k d) (m : ℕ) → m ≤ k → o low.place + s m ≤ o m + s low.place
 Lowest-all o s k d low m h =
     elim (cases_lt low.place m) [ inl up ↦ omega (arith, low.above m up h) | inr down ↦ low.lowest m down ]
 
 -- the next place is the last lowest one, where none before it is lower
-Lowest-fresh : (o s : ℕ → ℕ) (k : ℕ) → ((m : ℕ) → m ≤ k → o (k + 1) + s m ≤ o m + s (k + 1)) → Lowest o s (k + 1) 0
+pub Lowest-fresh : (o s : ℕ → ℕ) (k : ℕ) → ((m : ℕ) → m ≤ k → o (k + 1) + s m ≤ o m + s (k + 1)) → Lowest o s (k + 1) 0
 Lowest-fresh o s k none = record {
   place = k + 1;
   reached = omega arith;
@@ -46,11 +46,11 @@ Lowest-kept o s k d e low next some = record {
 }
 
 -- at depth 0 the place itself is the last lowest one
-Lowest-here : (o s : ℕ → ℕ) (k : ℕ) (low : Lowest o s k 0) (m : ℕ) → m ≤ k → o k + s m ≤ o m + s k
+pub Lowest-here : (o s : ℕ → ℕ) (k : ℕ) (low : Lowest o s k 0) (m : ℕ) → m ≤ k → o k + s m ≤ o m + s k
 Lowest-here o s k low m h = omega (arith, Lowest-all o s k 0 low m h, low.depth)
 
 -- from a place to one that is not higher, behind a step up, some step comes back to the height
-returns_to : (o s : ℕ → ℕ) (i k : ℕ) (steps : (m : ℕ) → m < k → (o m ≤ o (m + 1)) × (s (m + 1) ≤ s m + 1)) → i < k
+pub returns_to : (o s : ℕ → ℕ) (i k : ℕ) (steps : (m : ℕ) → m < k → (o m ≤ o (m + 1)) × (s (m + 1) ≤ s m + 1)) → i < k
     → o i + s (i + 1) < o (i + 1) + s i → o k + s i ≤ o i + s k
     → (j : ℕ) × (i < j) × (j < k) × (o (j + 1) + s i ≡ o i + s (j + 1))
 returns_to o s i zero steps before up down = absurd (omega arith)
@@ -64,7 +64,7 @@ returns_to o s i (suc k) steps before up down =
     ]
 
 -- at a greater depth it stands before the place
-Lowest-below : (o s : ℕ → ℕ) (k d : ℕ) (low : Lowest o s k d) → 0 < d → low.place < k
+pub Lowest-below : (o s : ℕ → ℕ) (k d : ℕ) (low : Lowest o s k d) → 0 < d → low.place < k
 Lowest-below o s k d low deep =
     elim (cases_eq low.place k) [ inl e ↦ absurd (omega (arith, rw e at low.depth)) | inr ne ↦ omega (arith, low.reached) ]
 
@@ -92,38 +92,38 @@ opened classes k = count_by is_initiator (take k classes)
 pub closed : List BidiClass → ℕ → ℕ
 closed classes k = count_by is_pdi (take k classes)
 
-opened-next : (classes : List BidiClass) (k : ℕ) → k < length classes → opened classes (k + 1) ≡ opened classes k + cond (is_initiator (class_at classes k)) 1 0
+pub opened-next : (classes : List BidiClass) (k : ℕ) → k < length classes → opened classes (k + 1) ≡ opened classes k + cond (is_initiator (class_at classes k)) 1 0
 unfolding opened
 opened-next classes k h = sum_by_more (λ x. cond (is_initiator x) 1 0) classes k ON h
 
-closed-next : (classes : List BidiClass) (k : ℕ) → k < length classes → closed classes (k + 1) ≡ closed classes k + cond (is_pdi (class_at classes k)) 1 0
+pub closed-next : (classes : List BidiClass) (k : ℕ) → k < length classes → closed classes (k + 1) ≡ closed classes k + cond (is_pdi (class_at classes k)) 1 0
 unfolding closed
 closed-next classes k h = sum_by_more (λ x. cond (is_pdi x) 1 0) classes k ON h
 
 -- no initiator is a PDI, and neither is strong
-opens_or_shuts : (class : BidiClass) → (is_initiator class && is_pdi class) ≡ false
+pub opens_or_shuts : (class : BidiClass) → (is_initiator class && is_pdi class) ≡ false
 opens_or_shuts PDI = refl
 opens_or_shuts LRI = refl
 opens_or_shuts RLI = refl
 opens_or_shuts FSI = refl
 opens_or_shuts _ = refl
 
-opens_shuts_none : (class : BidiClass) → is_initiator class ≡ true → is_pdi class ≡ false
+pub opens_shuts_none : (class : BidiClass) → is_initiator class ≡ true → is_pdi class ≡ false
 opens_shuts_none PDI h = sym h
 opens_shuts_none _ h = refl
 
-strong_opens_none : (class : BidiClass) → is_strong class ≡ true → is_initiator class ≡ false
+pub strong_opens_none : (class : BidiClass) → is_strong class ≡ true → is_initiator class ≡ false
 strong_opens_none LRI h = sym h
 strong_opens_none RLI h = sym h
 strong_opens_none FSI h = sym h
 strong_opens_none _ h = refl
 
-strong_shuts_none : (class : BidiClass) → is_strong class ≡ true → is_pdi class ≡ false
+pub strong_shuts_none : (class : BidiClass) → is_strong class ≡ true → is_pdi class ≡ false
 strong_shuts_none PDI h = sym h
 strong_shuts_none _ h = refl
 
 -- a count over a part, from the counts before its ends
-count-slice_range : (p : BidiClass → Bool) (xs : List BidiClass) (i j : ℕ) → i ≤ j
+pub count-slice_range : (p : BidiClass → Bool) (xs : List BidiClass) (i j : ℕ) → i ≤ j
     → count_by p (take j xs) ≡ count_by p (take i xs) + count_by p (slice_range xs i j)
 count-slice_range p xs i j h =
     let e : i + (j - i) ≡ j = omega arith in
@@ -133,15 +133,22 @@ count-slice_range p xs i j h =
     ∙ take-append-drop i (take j xs) in
     ap (count_by p) (sym whole) ∙ sum_by-append (λ x. cond (p x) 1 0) (take i xs) (take (j - i) (drop i xs))
 
-balanced : (classes : List BidiClass) (i j : ℕ) → i ≤ j + 1 → opened classes (j + 1) + closed classes i ≡ opened classes i + closed classes (j + 1) → is_balanced classes i j ≡ true
+pub balanced : (classes : List BidiClass) (i j : ℕ) → i ≤ j + 1 → opened classes (j + 1) + closed classes i ≡ opened classes i + closed classes (j + 1) → is_balanced classes i j ≡ true
 unfolding opened closed
 balanced classes i j h e =
     eq-eqb _ _ (omega (arith, e, count-slice_range is_initiator classes i (j + 1) h, count-slice_range is_pdi classes i (j + 1) h))
 
-unbalanced : (classes : List BidiClass) (i j : ℕ) → i ≤ j + 1 → opened classes i + closed classes (j + 1) < opened classes (j + 1) + closed classes i → is_balanced classes i j ≡ false
+pub unbalanced : (classes : List BidiClass) (i j : ℕ) → i ≤ j + 1 → opened classes i + closed classes (j + 1) < opened classes (j + 1) + closed classes i → is_balanced classes i j ≡ false
 unfolding opened closed
 unbalanced classes i j h l =
     ne_eqb _ _ (λ e. omega (arith, e, l, count-slice_range is_initiator classes i (j + 1) h, count-slice_range is_pdi classes i (j + 1) h))
+
+-- a balanced part ends at the height at which it begins
+pub level_at_match : (s : List BidiClass) (j k : ℕ) → j ≤ k + 1 → is_balanced s j k ≡ true → opened s (k + 1) + closed s j ≡ opened s j + closed s (k + 1)
+unfolding opened closed
+level_at_match s j k order here =
+    let e : count_by is_initiator (slice_range s j (k + 1)) ≡ count_by is_pdi (slice_range s j (k + 1)) = eqb-true _ _ here in
+    omega (arith, e, count-slice_range is_initiator s j (k + 1) order, count-slice_range is_pdi s j (k + 1) order)
 
 -- a test that holds of each number of a range
 list_all-range : (p : ℕ → Bool) (low count : ℕ) → ((i : ℕ) → low ≤ i → i < low + count → p i ≡ true) → list_all p (range_with_len low count) ≡ true
@@ -151,7 +158,7 @@ list_all-range p low (suc count) each =
     (list_all-range p (low + 1) count (λ i above below. each i (omega arith) (omega arith)))
 
 -- the heights step down by one at most
-steps : (classes : List BidiClass) (k : ℕ) → k < length classes → (opened classes k ≤ opened classes (k + 1)) × (closed classes (k + 1) ≤ closed classes k + 1)
+pub steps : (classes : List BidiClass) (k : ℕ) → k < length classes → (opened classes k ≤ opened classes (k + 1)) × (closed classes (k + 1) ≤ closed classes k + 1)
 steps classes k h = (
   omega (arith, opened-next classes k h),
   omega (arith, closed-next classes k h, cond_both (is_pdi (class_at classes k)) 1 0 (λ n. n ≤ 1) (λ e. omega arith) (λ e. omega arith)),

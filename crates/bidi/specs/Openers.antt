@@ -1,0 +1,77 @@
+-- How the walk of X1 to X8 keeps the openers that are open: an entry of a stack for each that isn't void, over one for the paragraph, and counts.
+use Rattle.std.specs.Prelude.{◌≡◌, ℕ, ◌+◌, ◌==◌, ◌≤◌, ◌<◌, ◌^◌, Bool, true, false, ◌&&◌, not, List, [], ◌∷◌, ◌++◌, length, if◌then◌else◌}
+use Rattle.std.specs.List.{list_any}
+use Rattle.ucd.specs.declared.bidi_class.BidiClass.{BidiClass}
+use Rattle.bidi.specs.declared.explicit.Openers.{Openers}
+use Rattle.bidi.specs.declared.explicit.Status.{Status}
+use Rattle.bidi.specs.Classes.{is_initiator}
+use Rattle.bidi.specs.Explicit.{Inside, inside}
+
+-- what holds inside an opener, or in the paragraph outside of all
+abbrev pub entry_of : Inside → Bool → Status
+entry_of inside is_isolate = record { level = inside.level; overriding = inside.override; is_isolate = is_isolate }
+
+module _ (base : ℕ) where
+  -- the entry of the innermost opener that isn't void
+  abbrev pub innermost : List BidiClass → Status
+  innermost [] = entry_of (inside base []) false
+  innermost (opener ∷ outer) =
+      if (inside base (opener ∷ outer)).is_void then innermost outer else entry_of (inside base (opener ∷ outer)) (is_initiator opener)
+
+  -- the entries, the outermost first
+  abbrev pub statuses : List BidiClass → List Status
+  statuses [] = innermost [] ∷ []
+  statuses (opener ∷ outer) =
+      if (inside base (opener ∷ outer)).is_void then statuses outer else statuses outer ++ innermost (opener ∷ outer) ∷ []
+
+  -- how many isolates aren't void, and how many are
+  abbrev pub isolates : List BidiClass → ℕ
+  isolates [] = 0
+  isolates (opener ∷ outer) =
+      if is_initiator opener && not (inside base (opener ∷ outer)).is_void then isolates outer + 1 else isolates outer
+
+  abbrev pub overflowed_isolates : List BidiClass → ℕ
+  overflowed_isolates [] = 0
+  overflowed_isolates (opener ∷ outer) =
+      if is_initiator opener && (inside base (opener ∷ outer)).is_void then overflowed_isolates outer + 1 else overflowed_isolates outer
+
+  -- how many embeddings are void, of those outside of all void isolates
+  abbrev pub overflowed_embeddings : List BidiClass → ℕ
+  overflowed_embeddings [] = 0
+  overflowed_embeddings (opener ∷ outer) =
+      if not (is_initiator opener) && ((inside base (opener ∷ outer)).is_void && overflowed_isolates outer == 0) then overflowed_embeddings outer + 1
+      else overflowed_embeddings outer
+
+  -- these are kept for a chain of openers
+  pub record Holds (openers : Openers) (chain : List BidiClass) : Type 0 where
+    pub statuses_are : openers.statuses.items ≡ statuses chain
+    pub isolates_are : openers.isolates ≡ isolates chain
+    pub overflowed_isolates_are : openers.overflowed_isolates ≡ overflowed_isolates chain
+    pub overflowed_embeddings_are : openers.overflowed_embeddings ≡ overflowed_embeddings chain
+
+-- of whatever chain the openers are, this is its innermost entry
+abbrev pub IsInnermost : Openers → Status → Type 0
+IsInnermost openers status = (base : ℕ) (chain : List BidiClass) → Holds base openers chain → status ≡ innermost base chain
+
+-- what is kept follows a step of the chain
+abbrev pub Follows : Openers → Openers → (List BidiClass → List BidiClass) → Type 0
+Follows old new step = (base : ℕ) (chain : List BidiClass) → Holds base old chain → Holds base new (step chain)
+
+-- the chain is one of a paragraph
+pub record AreOpeners (openers : Openers) : Type 0 where
+  pub base : ℕ
+  pub chain : List BidiClass
+  pub low : base ≤ 1
+  pub short : length chain < 2 ^ 63
+  pub holds : Holds base openers chain
+
+-- the entries in front of the last isolate
+pub record AreBeforeIsolate (front entries : List Status) : Type 0 where
+  pub isolate : Status
+  pub inner : List Status
+  pub split : entries ≡ front ++ isolate ∷ inner
+  pub opens : isolate.is_isolate ≡ true
+  pub none : list_any (λ status. status.is_isolate) inner ≡ false
+
+abbrev pub ClosesIsolate : List Status → List Status → Type 0
+ClosesIsolate old new = (front : List Status) → AreBeforeIsolate front old → new ≡ front

@@ -1,0 +1,35 @@
+//! Kinds of bidirectional classes.
+ghost use Rattle.std.specs.Prelude.{◌≡◌};
+ghost use Rattle.bidi.specs.Classes.{is_initiator, is_pdi};
+ghost use Rattle.bidi.specs.Sequences.{is_removed};
+
+use ucd::BidiClass;
+
+/// Whether a class is that of an isolate initiator (BD8).
+pub(crate) fn is_initiator(class: BidiClass) -> bool
+    ensures { result ≡ is_initiator class }
+{
+    matches!(class, BidiClass::LRI | BidiClass::RLI | BidiClass::FSI)
+}
+
+/// Whether a class is PDI.
+pub(crate) fn is_pdi(class: BidiClass) -> bool
+    ensures { result ≡ is_pdi class }
+{
+    matches!(class, BidiClass::PDI)
+}
+
+/// Whether X9 takes the characters of a class out.
+pub(crate) fn is_removed(class: BidiClass) -> bool
+    ensures { result ≡ is_removed class }
+{
+    matches!(
+        class,
+        BidiClass::RLE
+            | BidiClass::LRE
+            | BidiClass::RLO
+            | BidiClass::LRO
+            | BidiClass::PDF
+            | BidiClass::BN
+    )
+}

@@ -1,0 +1,248 @@
+//! Explicit levels and types (UAX #9, X1 to X9), in one walk with a stack of the openers that are open.
+ghost use Rattle.std.specs.Prelude.{◌≡◌, ◌≤◌, ◌∷◌, [], ◌++◌, OnOk, IfOk, unwrap_or, if◌then◌else◌};
+ghost use Rattle.bidi.specs.Classes.{is_pdi, is_separator};
+ghost use Rattle.bidi.specs.Explicit.{level_above, override_of, close_embedding, close_isolate, open_after};
+ghost use Rattle.bidi.specs.Openers.{Holds, IsInnermost, Follows, AreOpeners, ClosesIsolate};
+ghost use Rattle.bidi.specs.Stayed.{IsStayed};
+
+use crate::classes::{is_initiator, is_pdi, is_removed};
+use arrayvec::ArrayVec;
+use std::alloc::{AllocError, Global};
+use ucd::BidiClass;
+
+/// The greatest explicit level (BD2).
+const MAX_DEPTH: u8 = 125;
+
+/// How many entries the stack of X1 has at most: one for each explicit level, and two more.
+const MAX_ENTRIES: usize = 127;
+
+/// What X9 leaves of a paragraph: of each character that stays, in order, its class, its explicit
+/// level and its explicit type.
+#[derive(Debug, Drop)]
+pub(crate) struct Stayed {
+    pub classes: Vec<BidiClass>,
+    pub levels: Vec<u8>,
+    pub types: Vec<BidiClass>,
+}
+
+impl Stayed {
+    fn new(alloc: Global) -> Stayed
+        ensures classes { result.classes.items ≡ [] }
+        ensures levels { result.levels.items ≡ [] }
+        ensures types { result.types.items ≡ [] }
+    {
+        Stayed {
+            classes: Vec::new(alloc),
+            levels: Vec::new(alloc),
+            types: Vec::new(alloc),
+        }
+    }
+
+    fn push(&mut self, class: BidiClass, level: u8, explicit: BidiClass) -> Result<(), AllocError>
+        ensures classes { OnOk result (self.new.classes.items ≡ self.old.classes.items ++ class ∷ []) }
+        ensures levels { OnOk result (self.new.levels.items ≡ self.old.levels.items ++ level ∷ []) }
+        ensures types { OnOk result (self.new.types.items ≡ self.old.types.items ++ explicit ∷ []) }
+    {
+        self.classes.push(class)?;
+        self.levels.push(level)?;
+        self.types.push(explicit)?;
+        Ok(())
+    }
+}
+
+// What holds inside an opener: its level, the type that an override gives, and whether the opener
+// is an isolate initiator.
+#[derive(Clone, Copy, Debug, Default, PartialEq, Eq)]
+struct Status {
+    level: u8,
+    overriding: Option<BidiClass>,
+    is_isolate: bool,
+}
+
+// The openers that are open: those with a level of their own on a stack, over the paragraph's
+// status; and how many have none, as X2 to X5c count them. Embeddings are counted only up to the
+// first isolate without a level.
+#[derive(Drop)]
+struct Openers {
+    statuses: ArrayVec<Status, MAX_ENTRIES>,
+    isolates: usize,
+    overflowed_isolates: usize,
+    overflowed_embeddings: usize,
+}
+
+impl Openers {
+    fn new(base: u8) -> Openers
+        ensures { Holds base result [] }
+    {
+        let mut statuses = ArrayVec::new();
+        statuses.push(Status {
+            level: base,
+            overriding: None,
+            is_isolate: false,
+        });
+        Openers {
+            statuses,
+            isolates: 0,
+            overflowed_isolates: 0,
+            overflowed_embeddings: 0,
+        }
+    }
+
+    // What holds inside the openers.
+    fn status(&self) -> Status
+        requires { AreOpeners self.now }
+        ensures { IsInnermost self.now result }
+    {
+        let statuses = self.statuses.as_slice();
+        statuses[statuses.len() - 1]
+    }
+
+    // Opens an embedding, an override or an isolate.
+    fn open(&mut self, opener: BidiClass)
+        requires { AreOpeners self.old }
+        ensures { Follows self.old self.new (λ chain. opener ∷ chain) }
+    {
+        let level = level_above(opener, self.status().level);
+        let is_isolate = is_initiator(opener);
+        if level <= MAX_DEPTH && self.overflowed_isolates == 0 && self.overflowed_embeddings == 0 {
+            self.statuses.push(Status {
+                level,
+                overriding: override_of(opener),
+                is_isolate,
+            });
+            if is_isolate {
+                self.isolates += 1;
+            }
+        } else if is_isolate {
+            self.overflowed_isolates += 1;
+        } else if self.overflowed_isolates == 0 {
+            self.overflowed_embeddings += 1;
+        }
+    }
+
+    // Closes the innermost opener, if it is no isolate (X7).
+    fn close_embedding(&mut self)
+        requires { AreOpeners self.old }
+        ensures { Follows self.old self.new close_embedding }
+    {
+        if self.overflowed_isolates > 0 {
+            return;
+        }
+        if self.overflowed_embeddings > 0 {
+            self.overflowed_embeddings -= 1;
+        } else if self.statuses.len() > 1 && !self.status().is_isolate {
+            self.statuses.pop();
+        }
+    }
+
+    // Closes the innermost isolate with all that was opened inside it, if there is one (X6a).
+    fn close_isolate(&mut self)
+        requires { AreOpeners self.old }
+        ensures { Follows self.old self.new close_isolate }
+    {
+        if self.overflowed_isolates > 0 {
+            self.overflowed_isolates -= 1;
+        } else if self.isolates > 0 {
+            self.overflowed_embeddings = 0;
+            self.isolates -= 1;
+            pop_isolate(&mut self.statuses);
+        }
+    }
+
+    // What a character does before it is passed: a PDI stands outside of what it closes.
+    fn reach(&mut self, class: BidiClass)
+        requires { AreOpeners self.old }
+        ensures { Follows self.old self.new (λ chain. if is_pdi class then close_isolate chain else chain) }
+    {
+        if is_pdi(class) {
+            self.close_isolate();
+        }
+    }
+
+    // What another character does: an initiator stands outside of what it opens.
+    fn pass(&mut self, class: BidiClass)
+        requires { AreOpeners self.old }
+        ensures { Follows self.old self.new (λ chain. if is_pdi class then chain else open_after chain class) }
+    {
+        match class {
+            BidiClass::RLE
+            | BidiClass::LRE
+            | BidiClass::RLO
+            | BidiClass::LRO
+            | BidiClass::RLI
+            | BidiClass::LRI => self.open(class),
+            BidiClass::PDF => self.close_embedding(),
+            _ => {}
+        }
+    }
+}
+
+// Takes the innermost isolate off the stack, and all above it.
+fn pop_isolate(statuses: &mut ArrayVec<Status, MAX_ENTRIES>)
+    ensures { ClosesIsolate statuses.old.items statuses.new.items }
+{
+    while let Some(status) = statuses.pop() {
+        if status.is_isolate {
+            return;
+        }
+    }
+}
+
+// The least odd or even level above a level, as the opener asks (X2 to X5b).
+fn level_above(opener: BidiClass, level: u8) -> u8
+    requires { level ≤ 125 }
+    ensures { result ≡ level_above opener level }
+{
+    match opener {
+        BidiClass::RLE | BidiClass::RLO | BidiClass::RLI => level + 1 + level % 2,
+        _ => level + 2 - level % 2,
+    }
+}
+
+// The type that an override gives to the characters inside it (X4 and X5).
+fn override_of(opener: BidiClass) -> Option<BidiClass>
+    ensures { result ≡ override_of opener }
+{
+    match opener {
+        BidiClass::RLO => Some(BidiClass::R),
+        BidiClass::LRO => Some(BidiClass::L),
+        _ => None,
+    }
+}
+
+// Adds the level and the type of a character that stays.
+fn push_character(
+    stayed: &mut Stayed,
+    status: Status,
+    class: BidiClass,
+    base: u8,
+) -> Result<(), AllocError>
+    ensures classes { OnOk result (stayed.new.classes.items ≡ stayed.old.classes.items ++ class ∷ []) }
+    ensures levels { OnOk result (stayed.new.levels.items
+        ≡ stayed.old.levels.items ++ (if is_separator class then base else status.level) ∷ []) }
+    ensures types { OnOk result (stayed.new.types.items
+        ≡ stayed.old.types.items ++ (if is_separator class then class else unwrap_or status.overriding class) ∷ []) }
+{
+    match class {
+        BidiClass::B => stayed.push(class, base, class),
+        _ => stayed.push(class, status.level, status.overriding.unwrap_or(class)),
+    }
+}
+
+/// The characters of a paragraph that stay, by its classes without FSI.
+pub(crate) fn explicit(alloc: Global, classes: &[BidiClass], base: u8) -> Result<Stayed, AllocError>
+    requires { base ≤ 1 }
+    ensures { IfOk result (IsStayed classes.now base) }
+{
+    let mut stayed = Stayed::new(alloc);
+    let mut openers = Openers::new(base);
+    for class in classes {
+        let class = *class;
+        openers.reach(class);
+        if !is_removed(class) {
+            push_character(&mut stayed, openers.status(), class, base)?;
+        }
+        openers.pass(class);
+    }
+    Ok(stayed)
+}

@@ -1,0 +1,123 @@
+//! Isolate initiators: their matching PDIs (UAX #9, BD9), and the direction of those by the first
+//! strong character (X5c).
+ghost use Rattle.std.specs.Prelude.{◌≡◌, ◌+◌, ◌-◌, ◌<◌, ◌==◌, true, IfOk, length, take, slice_index, slice_set, if◌then◌else◌};
+ghost use Rattle.std.specs.List.{list_any};
+ghost use Rattle.bidi.specs.Base.{first_strong_level};
+ghost use Rattle.bidi.specs.Classes.{class_at, is_initiator};
+ghost use Rattle.bidi.specs.Explicit.{directed, directed_at, is_first_strong, span_of};
+ghost use Rattle.bidi.specs.Isolates.{matches_of};
+
+use crate::base::strong_level;
+use crate::classes::{is_initiator, is_pdi};
+use std::alloc::{AllocError, Global};
+use ucd::BidiClass;
+
+/// For each index the match of the initiator there, or the length where there is no initiator or
+/// it has no match.
+pub(crate) fn matches(alloc: Global, classes: &[BidiClass]) -> Result<Vec<usize>, AllocError>
+    ensures matches { IfOk result (λ found. found.items ≡ matches_of classes.now) }
+    ensures length { IfOk result (λ found. length found.items ≡ length classes.now) }
+{
+    let mut found = vec![in alloc; classes.len(); classes.len()]?;
+    let mut pending = Vec::new(alloc);
+    for at in 0..classes.len() {
+        let class = classes[at];
+        if is_initiator(class) {
+            pending.push(at)?;
+        } else if is_pdi(class) {
+            close(&mut found, &mut pending, at);
+        }
+    }
+    Ok(found)
+}
+
+// Gives its match to the initiator that was opened last, and takes it off.
+fn close(found: &mut [usize], pending: &mut Vec<usize>, at: usize)
+    requires { 0 < length pending.old.items → slice_index pending.old.items (length pending.old.items - 1) < length found.old }
+    ensures rest { pending.new.items ≡ take (length pending.old.items - 1) pending.old.items }
+    ensures found { found.new ≡ (if length pending.old.items == 0 then found.old
+        else slice_set found.old (slice_index pending.old.items (length pending.old.items - 1)) at) }
+{
+    if let Some(initiator) = pending.pop() {
+        found[initiator] = at;
+    }
+}
+
+/// The classes of a paragraph, each FSI as the initiator that it acts as (X5c).
+pub(crate) fn directed(alloc: Global, classes: Vec<BidiClass>) -> Result<Vec<BidiClass>, AllocError>
+    ensures { IfOk result (λ acting. acting.items ≡ directed classes.items) }
+{
+    if !has_first_strong(&classes) {
+        return Ok(classes);
+    }
+    let matches = matches(alloc, &classes)?;
+    let mut acting = Vec::new(alloc);
+    for at in 0..classes.len() {
+        acting.push(acting_class(&classes, &matches, at))?;
+    }
+    Ok(acting)
+}
+
+fn has_first_strong(classes: &[BidiClass]) -> bool
+    ensures { result ≡ list_any is_first_strong classes.now }
+{
+    classes.iter().any(|class| is_first_strong(*class))
+}
+
+fn is_first_strong(class: BidiClass) -> bool
+    ensures { result ≡ is_first_strong class }
+{
+    matches!(class, BidiClass::FSI)
+}
+
+// The class that a character acts as.
+fn acting_class(classes: &[BidiClass], matches: &[usize], at: usize) -> BidiClass
+    requires within { at < length classes.now }
+    requires matches { matches.now ≡ matches_of classes.now }
+    requires length { length matches.now ≡ length classes.now }
+    ensures { result ≡ directed_at classes.now at (class_at classes.now at) }
+{
+    let class = classes[at];
+    if !is_first_strong(class) {
+        return class;
+    }
+    match first_strong_level(classes, matches, at) {
+        Some(1) => BidiClass::RLI,
+        _ => BidiClass::LRI,
+    }
+}
+
+// The level that the first strong character in the span of an initiator gives. An isolate inside
+// it is passed over in one step.
+fn first_strong_level(classes: &[BidiClass], matches: &[usize], initiator: usize) -> Option<u8>
+    requires within { initiator < length classes.now }
+    requires opens { is_initiator (class_at classes.now initiator) ≡ true }
+    requires matches { matches.now ≡ matches_of classes.now }
+    requires length { length matches.now ≡ length classes.now }
+    ensures { result ≡ first_strong_level (span_of classes.now initiator) }
+{
+    let end = matches[initiator];
+    let mut at = initiator + 1;
+    while at < end {
+        let class = classes[at];
+        let level = strong_level(class);
+        if level.is_some() {
+            return level;
+        }
+        at = behind(class, matches[at], at);
+    }
+    None
+}
+
+// The next place that lies in no isolate which begins here.
+fn behind(class: BidiClass, found: usize, at: usize) -> usize
+    requires at { at + 1 < usize.MAX }
+    requires found { found + 1 < usize.MAX }
+    ensures { result ≡ (if is_initiator class then found + 1 else at + 1) }
+{
+    if is_initiator(class) {
+        found + 1
+    } else {
+        at + 1
+    }
+}

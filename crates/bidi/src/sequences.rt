@@ -1,0 +1,143 @@
+//! Level runs and isolating run sequences (UAX #9, X10, BD7 and BD13) of the characters that X9 leaves.
+ghost use Rattle.std.specs.Prelude.{◌≡◌, ◌≢◌, ◌+◌, ◌-◌, ◌<◌, ◌≤◌, ◌==◌, ◌&&◌, ℕ, ◌++◌, length, max, slice_index, OnOk, if◌then◌else◌};
+ghost use Rattle.std.specs.List.{range_with_len};
+ghost use Rattle.bidi.specs.Classes.{class_at, is_initiator};
+ghost use Rattle.bidi.specs.Isolates.{matches_of};
+ghost use Rattle.bidi.specs.Sequences.{direction, level_before, level_behind};
+ghost use Rattle.bidi.specs.Runs.{IsRunEnd, AreWithin, next_start, sequence_at};
+
+use crate::classes::is_initiator;
+use std::alloc::AllocError;
+use ucd::BidiClass;
+
+/// The direction of a level.
+pub(crate) fn direction(level: u8) -> BidiClass
+    ensures { result ≡ direction level }
+{
+    if level % 2 == 1 {
+        BidiClass::R
+    } else {
+        BidiClass::L
+    }
+}
+
+/// Where the run ends that begins at `start`: the least place behind it with another level.
+pub(crate) fn run_end(levels: &[u8], start: usize) -> usize
+    requires { start < length levels.now }
+    ensures { IsRunEnd levels.now start result }
+{
+    let mut end = start + 1;
+    while end < levels.len() && levels[end] == levels[end - 1] {
+        end += 1;
+    }
+    end
+}
+
+/// Where the run begins in which the run up to `end` continues, if there is one: at the match of
+/// its last character, if a run begins there.
+pub(crate) fn next_run(levels: &[u8], matches: &[usize], end: usize) -> Option<usize>
+    requires within { (0 < end) × (end ≤ length levels.now) }
+    requires matches { length matches.now ≡ length levels.now }
+    requires above { end - 1 < slice_index matches.now (end - 1) }
+    ensures { result ≡ next_start levels.now (slice_index matches.now (end - 1)) }
+{
+    let start = matches[end - 1];
+    if start < levels.len() && levels[start] != levels[start - 1] {
+        Some(start)
+    } else {
+        None
+    }
+}
+
+// Adds the places of a run.
+fn push_places(places: &mut Vec<usize>, start: usize, end: usize) -> Result<(), AllocError>
+    requires { start ≤ end }
+    ensures { OnOk result (places.new.items ≡ places.old.items ++ range_with_len start (end - start)) }
+{
+    for place in start..end {
+        places.push(place)?;
+    }
+    Ok(())
+}
+
+/// Puts the places of the sequence that begins at `first` into `places`, in order.
+pub(crate) fn gather(
+    classes: &[BidiClass],
+    levels: &[u8],
+    matches: &[usize],
+    first: usize,
+    places: &mut Vec<usize>,
+) -> Result<(), AllocError>
+    requires within { first < length levels.now }
+    requires length { length classes.now ≡ length levels.now }
+    requires matches { matches.now ≡ matches_of classes.now }
+    requires found { length matches.now ≡ length levels.now }
+    ensures places { OnOk result (places.new.items ≡ sequence_at classes.now levels.now first) }
+    ensures within { OnOk result (AreWithin (length levels.now) places.new.items) }
+    ensures some { OnOk result (0 < length places.new.items) }
+{
+    places.clear();
+    let mut start = first;
+    loop {
+        let end = run_end(levels, start);
+        push_places(places, start, end)?;
+        match next_run(levels, matches, end) {
+            Some(next) => start = next,
+            None => return Ok(()),
+        }
+    }
+}
+
+/// The direction in front of a sequence's first character (X10).
+pub(crate) fn sos(levels: &[u8], base: u8, first: usize) -> BidiClass
+    requires { first < length levels.now }
+    ensures { result ≡ direction (max (slice_index levels.now first) (level_before base levels.now first)) }
+{
+    let before = if first == 0 { base } else { levels[first - 1] };
+    direction(levels[first].max(before))
+}
+
+/// The direction behind a sequence's last character (X10). Behind an initiator without a match
+/// stands the paragraph level.
+pub(crate) fn eos(
+    classes: &[BidiClass],
+    levels: &[u8],
+    matches: &[usize],
+    base: u8,
+    last: usize,
+) -> BidiClass
+    requires within { last < length levels.now }
+    requires length { length classes.now ≡ length levels.now }
+    requires matches { matches.now ≡ matches_of classes.now }
+    requires found { length matches.now ≡ length levels.now }
+    ensures { result ≡ direction (max (slice_index levels.now last)
+        (level_behind base classes.now levels.now last)) }
+{
+    let behind = level_behind(
+        levels,
+        base,
+        is_open(classes[last], matches[last], levels.len()),
+        last,
+    );
+    direction(levels[last].max(behind))
+}
+
+// Whether a character is an initiator without a match.
+fn is_open(class: BidiClass, found: usize, len: usize) -> bool
+    ensures { result ≡ (is_initiator class && (found == len)) }
+{
+    is_initiator(class) && found == len
+}
+
+// The level behind a character.
+fn level_behind(levels: &[u8], base: u8, is_open: bool, last: usize) -> u8
+    requires { last < length levels.now }
+    ensures { result ≡ (if is_open then base
+        else (if last + 1 == length levels.now then base else slice_index levels.now (last + 1))) }
+{
+    if is_open || last + 1 == levels.len() {
+        base
+    } else {
+        levels[last + 1]
+    }
+}
