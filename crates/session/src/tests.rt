@@ -7,28 +7,20 @@ use std::alloc::Global;
 use std::test::Fail;
 use ucd::{Cause, Tables, UcdFiles};
 
-/// The lines of DerivedBidiClass.txt for the characters of the rows.
-const BIDI_CLASSES: &[u8] = b"000A;B
-000D;B
-0031;EN
-0061..007A;L
-05D0..05EA;R
-2029;B
-2067;RLI
-2069;PDI";
+// The table files of the tests.
+const FILES: UcdFiles<'_> = UcdFiles {
+    bidi_class: excerpt::BIDI_CLASS,
+    bidi_brackets: excerpt::BIDI_BRACKETS,
+    bidi_mirroring: excerpt::BIDI_MIRRORING,
+    line_break: excerpt::LINE_BREAK,
+    general_category: excerpt::GENERAL_CATEGORY,
+    east_asian_width: excerpt::EAST_ASIAN_WIDTH,
+    emoji_data: excerpt::EMOJI_DATA,
+};
 
 fn engine(alloc: Global) -> Result<BaseEngine, Fail> {
-    let files = UcdFiles {
-        bidi_class: BIDI_CLASSES,
-        bidi_brackets: b"",
-        bidi_mirroring: b"",
-        line_break: b"",
-        general_category: b"",
-        east_asian_width: b"",
-        emoji_data: b"",
-    };
-    let tables = match Tables::read(alloc, &files) {
-        Err(fault) if fault.cause == Cause::Memory => Tables::read(alloc, &files)?,
+    let tables = match Tables::read(alloc, &FILES) {
+        Err(fault) if fault.cause == Cause::Memory => Tables::read(alloc, &FILES)?,
         tables => tables?,
     };
     Ok(BaseEngine::new(tables, Base::WeakLtr))

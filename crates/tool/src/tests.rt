@@ -8,51 +8,16 @@ use std::io::{ErrorKind, Read, Write};
 use std::test::Fail;
 use ucd::{BidiClass, Cause, TableFault, Tables, UcdFiles};
 
-/// The lines of DerivedBidiClass.txt for the characters of the rows.
-const BIDI_CLASSES: &[u8] = b"0009;S
-000A;B
-000B;S
-000C;WS
-000D;B
-0020;WS
-0021..0022;ON
-0023..0025;ET
-0026..002A;ON
-002B;ES
-002C;CS
-002D;ES
-002E..002F;CS
-0030..0039;EN
-003A;CS
-003B..0040;ON
-0041..005A;L
-005B..0060;ON
-0061..007A;L
-007B..007E;ON
-0085;B
-00A0;CS
-0300..036F;NSM
-05D0..05EA;R
-0620..064A;AL
-0660..0669;AN
-2003;WS
-200B..200D;BN
-200E;L
-200F;R
-2028;WS
-2029;B
-202A;LRE
-202B;RLE
-202C;PDF
-202D;LRO
-202E;RLO
-2066;LRI
-2067;RLI
-2068;FSI
-2069;PDI
-2329..232A;ON
-3008..3009;ON
-";
+// The table files of the tests.
+const FILES: UcdFiles<'_> = UcdFiles {
+    bidi_class: excerpt::BIDI_CLASS,
+    bidi_brackets: excerpt::BIDI_BRACKETS,
+    bidi_mirroring: excerpt::BIDI_MIRRORING,
+    line_break: excerpt::LINE_BREAK,
+    general_category: excerpt::GENERAL_CATEGORY,
+    east_asian_width: excerpt::EAST_ASIAN_WIDTH,
+    emoji_data: excerpt::EMOJI_DATA,
+};
 
 // Gives so many bytes a call, and fails behind the last of them if it is to.
 #[derive(Drop)]
@@ -129,15 +94,11 @@ impl Write for Short<'_> {
     }
 }
 
-fn files(bidi_class: &[u8]) -> UcdFiles<'_> {
+// The same with another file of classes.
+fn files_with(bidi_class: &[u8]) -> UcdFiles<'_> {
     UcdFiles {
         bidi_class,
-        bidi_brackets: b"",
-        bidi_mirroring: b"",
-        line_break: b"",
-        general_category: b"",
-        east_asian_width: b"",
-        emoji_data: b"",
+        ..FILES
     }
 }
 
@@ -168,7 +129,7 @@ fn lines_of<R: Read + Drop>(
 #[test]
 fn directions_of_texts(rt: HostRuntime) -> Result<(), Fail> {
     let alloc = rt.alloc();
-    let tables = Tables::read(alloc, &files(BIDI_CLASSES))?;
+    let tables = Tables::read(alloc, &FILES)?;
     let weak = Base::WeakLtr;
     let rows: [(&str, &[u8], Base, &[u8], Result<(), RunFault>); 14] = [
         ("nothing", b"", weak, b"", Ok(())),
@@ -241,7 +202,7 @@ fn directions_of_texts(rt: HostRuntime) -> Result<(), Fail> {
 #[test]
 fn devices_that_fail(rt: HostRuntime) -> Result<(), Fail> {
     let alloc = rt.alloc();
-    let tables = Tables::read(alloc, &files(BIDI_CLASSES))?;
+    let tables = Tables::read(alloc, &FILES)?;
     let text = b"a\nb\xe4\xb8\x80\n\n\xff";
     let written: [&[u8]; 10] = [
         b"",
@@ -298,7 +259,7 @@ fn devices_that_fail(rt: HostRuntime) -> Result<(), Fail> {
 #[test]
 fn long_paragraphs(rt: HostRuntime) -> Result<(), Fail> {
     let alloc = rt.alloc();
-    let tables = Tables::read(alloc, &files(BIDI_CLASSES))?;
+    let tables = Tables::read(alloc, &FILES)?;
     for (letters, lines, end) in [
         (1_048_576usize, b"LTR\nLTR\n".as_slice(), Ok(())),
         (
@@ -324,7 +285,7 @@ fn long_paragraphs(rt: HostRuntime) -> Result<(), Fail> {
 #[test]
 fn classes_of_files(rt: HostRuntime) -> Result<(), Fail> {
     let alloc = rt.alloc();
-    let tables = Tables::read(alloc, &files(b"D800..E000;R\nD800;L\n0041;AL\r"))?;
+    let tables = Tables::read(alloc, &files_with(b"D800..E000;R\nD800;L\n0041;AL\r"))?;
     assert_eq!(rt; tables.bidi_class('\u{E000}'), BidiClass::R);
     assert_eq!(rt; tables.bidi_class('\u{D7FF}'), BidiClass::L);
     assert_eq!(rt; tables.bidi_class('\u{E001}'), BidiClass::L);
@@ -372,7 +333,7 @@ fn faults_of_tables(rt: HostRuntime) -> Result<(), Fail> {
         ),
     ];
     for (file, message) in rows {
-        match Tables::read(alloc, &files(file)) {
+        match Tables::read(alloc, &files_with(file)) {
             Ok(_) => assert_eq!(rt; "", message),
             Err(fault) => {
                 let fault = ProgramFault::Table(fault);
