@@ -1,5 +1,5 @@
 -- What is wrong with an input that is UTF-8 throughout, and with one that is not.
-use Rattle.std.proofs.Common.{◌≡◌, ℕ, ◌≤◌, List, length, take, drop, Some, None, refl, arith}
+use Rattle.std.proofs.Common.{◌≡◌, ℕ, List, length, take, drop, Some, None, refl, arith}
 use Rattle.std.specs.Str.{IsUtf8}
 use Rattle.std.specs.Str.Lossy.{utf8_valid_len, utf8_error_len}
 use Rattle.std.proofs.lemmas.Str.{utf8_valid_len-IsUtf8}
@@ -7,7 +7,7 @@ use Rattle.std.proofs.lemmas.List.{take_all, drop_all}
 use Rattle.std.proofs.lemmas.Bool.Decides.{nat_tests}
 use Rattle.tool.specs.declared.text.Ending.TheVariants.{AtEnd, AtFailure}
 use Rattle.tool.specs.declared.faults.RunFault.TheVariants as fault
-use Rattle.tool.specs.TextRun.{input_fault, is_bad}
+use Rattle.tool.specs.TextRun.{input_fault}
 
 -- its front is all of it
 pub take-utf8_valid_len : (bytes : List ℕ) → IsUtf8 bytes → take (utf8_valid_len bytes) bytes ≡ bytes

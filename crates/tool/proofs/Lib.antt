@@ -1,4 +1,5 @@
 pub mod CommandLineLemmas
 pub mod Devices
 pub mod Front
+pub mod LevelsLines
 pub mod Lines

@@ -31,9 +31,9 @@ start = on_top (λ s. record s { no_binary_name = true }) (new_app (codes "fribi
 
 unfoldable pub program : App
 program =
-    with_rule (with_rule (with_rule (with_rule (with_rule (with_rule (with_rule (with_rule start
-    ucd_rule) novisual_rule) (flag_rule (codes "basedir"))) (flag_rule (codes "rtl"))) (flag_rule (codes "ltr")))
-    (flag_rule (codes "wrtl"))) (flag_rule (codes "wltr"))) files_rule
+    with_rule (with_rule (with_rule (with_rule (with_rule (with_rule (with_rule (with_rule (with_rule start
+    ucd_rule) novisual_rule) (flag_rule (codes "basedir"))) (flag_rule (codes "levels"))) (flag_rule (codes "rtl")))
+    (flag_rule (codes "ltr"))) (flag_rule (codes "wrtl"))) (flag_rule (codes "wltr"))) files_rule
 
 -- how base levels are found: by the one option that is set, or by the first strong character
 abbrev pub base_by : Bool → Bool → Bool → Bool → Option Base
@@ -55,6 +55,7 @@ pub record AreSettings (words : List Text) (settings : Settings) : Type 0 where
   pub base : base_of (matches_of program words) ≡ Some settings.base
   pub novisual : settings.print.novisual ≡ is_given (codes "novisual") (matches_of program words)
   pub basedir : settings.print.basedir ≡ is_given (codes "basedir") (matches_of program words)
+  pub levels : settings.print.levels ≡ is_given (codes "levels") (matches_of program words)
   pub files : map (λ file. file.now) settings.files.items ≡ unwrap_or (all_of (codes "files") (matches_of program words)) []
 
 -- the matches are those of words with which nothing is wrong, so that what is required is there

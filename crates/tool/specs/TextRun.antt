@@ -1,13 +1,16 @@
 -- What is written for a text, and how its run ends.
-use Rattle.std.specs.Prelude.{◌≡◌, ℕ, ◌+◌, ◌-◌, ◌<◌, ◌==◌, nat_lt, nat_le, ◌&&◌, not, Bool, true, false, List, [], ◌∷◌, ◌++◌, length, take, drop, map, codes, take_while, Option, Some, None, IfSome, ⊤, is_some, is_none, Result, Ok, Err, if◌then◌else◌}
-use Rattle.std.specs.List.{flat_map, list_all}
+use Rattle.std.specs.Prelude.{◌≡◌, ℕ, ◌+◌, ◌-◌, ◌<◌, ◌==◌, nat_le, not, Bool, List, [], ◌++◌, length, take, drop, map, codes, take_while, Option, Some, None, IfSome, ⊤, is_some, is_none, Result, Ok, Err, if◌then◌else◌}
+use Rattle.std.specs.Fmt.{decimal}
+use Rattle.std.specs.List.{flat_map, join_with_byte, list_all}
 use Rattle.std.specs.Str.{chars}
 use Rattle.std.specs.Str.Lossy.{utf8_valid_len, utf8_error_len}
 use Rattle.std.specs.Io.KnownBytes.{Appends, Consumes, IsAtEnd}
-use Rattle.ucd.specs.declared.bidi_class.BidiClass.{BidiClass}
+use Rattle.ucd.specs.Tables.{class_of}
+use Rattle.ucd.specs.declared.tables.Tables.{Tables}
 use Rattle.bidi.specs.declared.base.Base.{Base}
 use Rattle.bidi.specs.Base.{base_level_of}
 use Rattle.bidi.specs.Cuts.{cut, paragraphs}
+use Rattle.bidi.specs.Levels.{levels_of}
 use Rattle.tool.specs.declared.faults.RunFault.{RunFault}
 use Rattle.tool.specs.declared.faults.RunFault.TheVariants as fault
 use Rattle.tool.specs.declared.text.Ending.{Ending}
@@ -46,32 +49,39 @@ abbrev pub ending_of : List (List ℕ) → Option RunFault → Option RunFault
 ending_of pars wrong = if are_within pars then wrong else Some fault.ParagraphTooLong
 
 -- the paragraphs of the front of an input
-abbrev pub front_paragraphs : (ℕ → BidiClass) → List ℕ → List (List ℕ)
-front_paragraphs class_of bytes = paragraphs (cut class_of) (front_of bytes)
+abbrev pub front_paragraphs : Tables → List ℕ → List (List ℕ)
+front_paragraphs tables bytes = paragraphs (cut (class_of tables)) (front_of bytes)
 
--- what is printed for a paragraph
+-- what is printed of a paragraph's direction, by its base level
 abbrev pub direction_line : ℕ → List ℕ
 direction_line level = if level == 0 then codes "LTR\n" else codes "RTL\n"
 
-module _ (class_of : ℕ → BidiClass) (base : Base) (print : Print) where
+-- and of its levels: decimal numbers, with one space between
+abbrev pub levels_line : List ℕ → List ℕ
+levels_line levels = join_with_byte 32 (map decimal levels) ++ codes "\n"
+
+module _ (tables : Tables) (base : Base) (print : Print) where
+  -- what is printed for a paragraph: a line of its direction, and one of its levels, where they are asked for
   abbrev pub line_of : List ℕ → List ℕ
-  line_of paragraph = if print.basedir then direction_line (base_level_of (map class_of paragraph) base) else []
+  line_of paragraph =
+      (if print.basedir then direction_line (base_level_of (map (class_of tables) paragraph) base) else [])
+      ++ (if print.levels then levels_line (levels_of tables paragraph base) else [])
 
   -- what is printed for paragraphs, in order
   abbrev pub page : List (List ℕ) → List ℕ
   page pars = flat_map line_of pars
 
 -- the lines of paragraphs as they are written, and whether one of them is too long
-abbrev pub IsLinesOf : (ℕ → BidiClass) → Base → Print → List (List ℕ) → Bool → List ℕ → Bool → Type 0
-IsLinesOf class_of base print pars is_whole lines is_long =
-    (lines ≡ page class_of base print (written_of pars is_whole)) × (is_long ≡ not (are_within pars))
+abbrev pub IsLinesOf : Tables → Base → Print → List (List ℕ) → Bool → List ℕ → Bool → Type 0
+IsLinesOf tables base print pars is_whole lines is_long =
+    (lines ≡ page tables base print (written_of pars is_whole)) × (is_long ≡ not (are_within pars))
 
 -- the bytes that are written for an input, and how its run ends
-abbrev pub IsOutputOf : (ℕ → BidiClass) → Base → Print → List ℕ → Ending → List ℕ → Option RunFault → Type 0
-IsOutputOf class_of base print bytes ending lines end =
-    let pars = front_paragraphs class_of bytes in
+abbrev pub IsOutputOf : Tables → Base → Print → List ℕ → Ending → List ℕ → Option RunFault → Type 0
+IsOutputOf tables base print bytes ending lines end =
+    let pars = front_paragraphs tables bytes in
     let wrong = input_fault ending bytes in
-    (lines ≡ page class_of base print (written_of pars (is_none wrong))) × (end ≡ ending_of pars wrong)
+    (lines ≡ page tables base print (written_of pars (is_none wrong))) × (end ≡ ending_of pars wrong)
 
 -- what a source gave between two states: all that it had, or, where it failed, the bytes that passed before
 abbrev pub Gave : Device → Device → Ending → List ℕ → Type 0
@@ -107,10 +117,10 @@ HasReadAll None old new bytes = IsAtEnd new.bytes × (new.passed ≡ old.passed 
 HasReadAll (Some wrong) old new bytes = ⊤
 
 -- The run of a text: what the reader gave has a front, whose paragraphs are written as far as they go.
-abbrev pub IsTextRun : (ℕ → BidiClass) → Base → Print → Device → Device → Device → Device → Result (Unit {0}) RunFault → Type 0
-IsTextRun class_of base print reader_old reader_new writer_old writer_new result =
+abbrev pub IsTextRun : Tables → Base → Print → Device → Device → Device → Device → Result (Unit {0}) RunFault → Type 0
+IsTextRun tables base print reader_old reader_new writer_old writer_new result =
     (ending : Ending) × (bytes : List ℕ) × Gave reader_old reader_new ending bytes
     × HasReadAll (fault_of result) reader_old reader_new bytes
-    × (let pars = front_paragraphs class_of bytes in
+    × (let pars = front_paragraphs tables bytes in
     let wrong = input_fault ending bytes in
-    EndsWith (page class_of base print) (written_of pars (is_none wrong)) (ending_of pars wrong) writer_old writer_new (fault_of result))
+    EndsWith (page tables base print) (written_of pars (is_none wrong)) (ending_of pars wrong) writer_old writer_new (fault_of result))

@@ -19,10 +19,11 @@ fn command<'a>(alloc: Global) -> Result<Command<'a>, AllocError>
 {
     Command::new(alloc, "fribidi")
         .no_binary_name(true)
-        .about("Prints the base direction of each paragraph")
+        .about("Prints the base direction and the levels of each paragraph")
         .arg(ucd(alloc))?
         .arg(flag(alloc, "novisual", "print no visual lines").required(true))?
         .arg(flag(alloc, "basedir", "print the direction of each paragraph"))?
+        .arg(flag(alloc, "levels", "print the level of each character"))?
         .arg(flag(alloc, "rtl", "from right to left"))?
         .arg(flag(alloc, "ltr", "from left to right"))?
         .arg(flag(
@@ -126,6 +127,7 @@ pub fn settings<'a>(alloc: Global, words: &'a [&'a str]) -> Result<Options<'a>, 
     let print = Print {
         novisual: is_set(&matches, "novisual"),
         basedir: is_set(&matches, "basedir"),
+        levels: is_set(&matches, "levels"),
     };
     let Some(ucd) = matches.get_str("ucd") else {
         unreachable!()

@@ -1,4 +1,6 @@
 //! Worked rows: texts and what is written for them, command lines and messages.
+ghost use Rattle.std.specs.Prelude.{◌≡◌, true};
+
 use crate::device::{FromRead, ToWrite};
 use crate::{LineFault, Print, ProgramFault, RunFault, run_text, settings};
 use bidi::Base;
@@ -105,6 +107,12 @@ fn files_with(bidi_class: &[u8]) -> UcdFiles<'_> {
 const DIRECTIONS: Print = Print {
     novisual: true,
     basedir: true,
+    levels: false,
+};
+
+const LEVELS: Print = Print {
+    levels: true,
+    ..DIRECTIONS
 };
 
 // The lines that are written for a text, and how its run ends.
@@ -112,16 +120,19 @@ fn lines_of<R: Read + Drop>(
     alloc: Global,
     tables: &Tables,
     base: Base,
+    print: &Print,
     text: R,
     room: usize,
-) -> (Vec<u8>, Result<(), RunFault>) {
+) -> (Vec<u8>, Result<(), RunFault>)
+    requires { print.now.novisual ≡ true }
+{
     let mut taken = Vec::new(alloc);
     let mut reader = FromRead::new(text);
     let mut writer = ToWrite::new(Short {
         taken: &mut taken,
         room,
     });
-    let result = run_text(alloc, &mut reader, &mut writer, tables, base, &DIRECTIONS);
+    let result = run_text(alloc, &mut reader, &mut writer, tables, base, print);
     drop(writer);
     (taken, result)
 }
@@ -190,7 +201,7 @@ fn directions_of_texts(rt: HostRuntime) -> Result<(), Fail> {
                 size,
                 fails: false,
             };
-            let (taken, result) = lines_of(alloc, &tables, base, pieces, 1000);
+            let (taken, result) = lines_of(alloc, &tables, base, &DIRECTIONS, pieces, 1000);
             assert_eq!(rt; taken.as_slice(), lines, "{name} by {size}");
             assert_eq!(rt; result, end, "{name} by {size}");
         }
@@ -222,7 +233,7 @@ fn devices_that_fail(rt: HostRuntime) -> Result<(), Fail> {
             size: 2,
             fails: true,
         };
-        let (taken, result) = lines_of(alloc, &tables, Base::WeakLtr, pieces, 1000);
+        let (taken, result) = lines_of(alloc, &tables, Base::WeakLtr, &DIRECTIONS, pieces, 1000);
         assert_eq!(rt; taken.as_slice(), *lines, "behind {at}");
         let end = if at == 9 {
             RunFault::NotUtf8(8)
@@ -236,17 +247,21 @@ fn devices_that_fail(rt: HostRuntime) -> Result<(), Fail> {
         behind: b"\ncd",
         has_failed: false,
     };
-    let (taken, result) = lines_of(alloc, &tables, Base::WeakLtr, once, 1000);
+    let (taken, result) = lines_of(alloc, &tables, Base::WeakLtr, &DIRECTIONS, once, 1000);
     assert_eq!(rt; taken.as_slice(), b"LTR\n".as_slice());
     assert_eq!(rt; result, Err(RunFault::Read));
-    for room in 0..8usize {
+    for room in 0..14usize {
         let pieces = Pieces {
             bytes: b"a\n\xd7\x90",
             size: 3,
             fails: false,
         };
-        let (taken, result) = lines_of(alloc, &tables, Base::WeakLtr, pieces, room);
-        assert_eq!(rt; taken.as_slice(), &b"LTR\nRTL\n"[..room], "room for {room}");
+        let (taken, result) = lines_of(alloc, &tables, Base::WeakLtr, &LEVELS, pieces, room);
+        assert_eq!(rt;
+            taken.as_slice(),
+            &b"LTR\n0 0\nRTL\n1\n"[..room],
+            "room for {room}"
+        );
         assert_eq!(rt;
             result,
             Err(RunFault::Write(room as u64)),
@@ -275,7 +290,7 @@ fn long_paragraphs(rt: HostRuntime) -> Result<(), Fail> {
             size: 65_536,
             fails: false,
         };
-        let (taken, result) = lines_of(alloc, &tables, Base::WeakLtr, pieces, 1000);
+        let (taken, result) = lines_of(alloc, &tables, Base::WeakLtr, &DIRECTIONS, pieces, 1000);
         assert_eq!(rt; taken.as_slice(), lines, "{letters}");
         assert_eq!(rt; result, end, "{letters}");
     }
@@ -294,8 +309,8 @@ fn classes_of_files(rt: HostRuntime) -> Result<(), Fail> {
     let mut reader = FromRead::new(b"a\nb".as_slice());
     let mut writer = ToWrite::new(&mut taken);
     let print = Print {
-        novisual: true,
         basedir: false,
+        ..DIRECTIONS
     };
     run_text(alloc, &mut reader, &mut writer, &tables, Base::Rtl, &print)?;
     drop(writer);
@@ -395,7 +410,10 @@ fn command_lines(rt: HostRuntime) -> Result<(), Fail> {
     let found = settings(alloc, &["--ucd", "D", "--novisual"])?;
     assert_eq!(rt; found.ucd, "D");
     assert_eq!(rt; found.base, Base::WeakLtr);
-    assert!(rt; found.print.novisual && !found.print.basedir && found.files.is_empty());
+    assert!(rt; found.print.novisual && found.files.is_empty());
+    assert!(rt; !found.print.basedir && !found.print.levels);
+    let found = settings(alloc, &["--ucd", "D", "--levels", "--novisual"])?;
+    assert!(rt; !found.print.basedir && found.print.levels);
     for (word, base) in [
         ("--rtl", Base::Rtl),
         ("--ltr", Base::Ltr),
@@ -418,7 +436,7 @@ fn command_lines(rt: HostRuntime) -> Result<(), Fail> {
     let wrong: [(&[&str], u8); 5] = [
         (&["--novisual"], 2),
         (&["--ucd", "D"], 2),
-        (&["--ucd", "D", "--novisual", "--levels"], 2),
+        (&["--ucd", "D", "--novisual", "--ltov"], 2),
         (&["--ucd", "D", "--novisual", "--ucd", "E"], 2),
         (&["--help"], 0),
     ];

@@ -1,18 +1,18 @@
-//! The run of a text: its bytes are read and checked, its paragraphs found, and a line written for
+//! The run of a text: its bytes are read and checked, its paragraphs found, and lines written for
 //! each. What is written and how the run ends is one function of what the source gives.
-ghost use Rattle.std.specs.Prelude.{◌≡◌, ◌+◌, ◌++◌, true, take, length, IfOk, IfErr, OnOk, OnErr, vec_len};
+ghost use Rattle.std.specs.Prelude.{◌≡◌, ◌+◌, true, take, length, IfOk, IfErr, OnOk, OnErr, vec_len};
 ghost use Rattle.std.specs.Io.KnownBytes.{IsAtEnd};
 ghost use Rattle.std.specs.Str.{chars};
 ghost use Rattle.std.specs.Str.Lossy.{utf8_valid_len};
 ghost use Rattle.ucd.specs.Tables.{class_of};
 ghost use Rattle.bidi.specs.Cuts.{cut, paragraphs};
-ghost use Rattle.tool.specs.TextRun.{Gave, Wrote, StoppedAt, input_fault, line_of};
+ghost use Rattle.tool.specs.TextRun.{Gave, Wrote, StoppedAt, input_fault};
 ghost use Rattle.tool.specs.TextRun.{IsLinesOf, IsOutputOf, IsTextRun};
 
 use crate::device::{Sink, Source};
 use crate::faults::RunFault;
-use crate::print::Print;
-use bidi::{Base, base_level, first_cut};
+use crate::print::{Print, push_line};
+use bidi::{Base, first_cut};
 use std::alloc::{AllocError, Global};
 use ucd::Tables;
 
@@ -100,27 +100,6 @@ fn front(bytes: &[u8], ending: Ending) -> (&str, Option<RunFault>)
     }
 }
 
-// Adds the line of one paragraph.
-fn push_line(
-    lines: &mut Vec<u8>,
-    tables: &Tables,
-    base: Base,
-    print: &Print,
-    paragraph: &[char],
-) -> Result<(), AllocError>
-    ensures ok { OnOk result (lines.new.items
-        ≡ lines.old.items ++ line_of (class_of tables.now) base print.now paragraph.now) }
-{
-    if !print.basedir {
-        return Ok(());
-    }
-    if base_level(tables, paragraph, base) == 0 {
-        lines.extend_from_slice(b"LTR\n")
-    } else {
-        lines.extend_from_slice(b"RTL\n")
-    }
-}
-
 // The lines of a text's paragraphs up to the first that is too long, and whether one is. The last
 // paragraph is left out where the text is not whole.
 fn lines_of(
@@ -131,7 +110,7 @@ fn lines_of(
     text: &[char],
     is_whole: bool,
 ) -> Result<(Vec<u8>, bool), AllocError>
-    ensures { IfOk result (λ r. IsLinesOf (class_of tables.now) base print.now
+    ensures { IfOk result (λ r. IsLinesOf tables.now base print.now
         (paragraphs (cut (class_of tables.now)) text.now) is_whole r.0.items r.1) }
 {
     let mut lines = Vec::new(alloc);
@@ -141,14 +120,14 @@ fn lines_of(
             return Ok((lines, true));
         }
         let (paragraph, behind) = rest.split_at(end);
-        push_line(&mut lines, tables, base, print, paragraph)?;
+        push_line(alloc, &mut lines, tables, base, print, paragraph)?;
         rest = behind;
     }
     if rest.len() > PARAGRAPH_LIMIT {
         return Ok((lines, true));
     }
     if is_whole && !rest.is_empty() {
-        push_line(&mut lines, tables, base, print, rest)?;
+        push_line(alloc, &mut lines, tables, base, print, rest)?;
     }
     Ok((lines, false))
 }
@@ -170,7 +149,7 @@ fn output_of(
     ending: Ending,
 ) -> Result<(Vec<u8>, Option<RunFault>), AllocError>
     ensures { IfOk result (λ r.
-        IsOutputOf (class_of tables.now) base print.now bytes.now ending r.0.items r.1) }
+        IsOutputOf tables.now base print.now bytes.now ending r.0.items r.1) }
 {
     let (text, wrong) = front(bytes, ending);
     let characters = characters(alloc, text)?;
@@ -192,7 +171,7 @@ pub fn run_text<R: Source, W: Sink>(
     print: &Print,
 ) -> Result<(), RunFault>
     requires { print.now.novisual ≡ true }
-    ensures { IsTextRun (class_of tables.now) base print.now
+    ensures { IsTextRun tables.now base print.now
         (R.state reader.old) (R.state reader.new) (W.state writer.old) (W.state writer.new) result }
 {
     let Ok((bytes, ending)) = read_all(alloc, reader) else {

@@ -24,4 +24,5 @@ returns c =
     let five = with_arg _ _ _ _ _ four c.flag-4.ensures.rule c.flag-4.ensures.local c.in_ok-arg-5.ensures in
     let six = with_arg _ _ _ _ _ five c.flag-5.ensures.rule c.flag-5.ensures.local c.in_ok-arg-6.ensures in
     let seven = with_arg _ _ _ _ _ six c.flag-6.ensures.rule c.flag-6.ensures.local c.in_ok-arg-7.ensures in
-    IfOk-weaker c.arg-8.result _ _ (λ new added. with_arg _ new _ _ _ seven c.files.ensures.rule c.files.ensures.local added) c.arg-8.ensures
+    let eight = with_arg _ _ _ _ _ seven c.flag-7.ensures.rule c.flag-7.ensures.local c.in_ok-arg-8.ensures in
+    IfOk-weaker c.arg-9.result _ _ (λ new added. with_arg _ new _ _ _ eight c.files.ensures.rule c.files.ensures.local added) c.arg-9.ensures

@@ -31,6 +31,7 @@ returns-clause-ok c =
       base = sym (c.in-Some.ensures ∙ (λ i. base_by (rtl i) (ltr i) (wrtl i) (wltr i)));
       novisual = c.is_set-5.ensures ∙ given (codes "novisual");
       basedir = c.is_set-6.ensures ∙ given (codes "basedir");
+      levels = c.is_set-7.ensures ∙ given (codes "levels");
       files = ap (map (λ s. s.now)) c.in-Ok.ensures.items ∙ ap (λ (s : Bor (List (Bor Text))). map (λ v. v.now) s.now) c.unwrap_or.ensures
           ∙ texts_or_none c.get_strs.result _ refl
           ∙ ap (λ texts. unwrap_or texts []) (c.get_strs.ensures ∙ raw_values-rows found (codes "files") ∙ ap (all_of (codes "files")) m.rows);

@@ -1,4 +1,4 @@
-use Rattle.std.proofs.Common.{◌≡◌, length}
+use Rattle.std.proofs.Common.{length}
 use Rattle.ucd.specs.Tables.{class_of}
 use Rattle.bidi.specs.Cuts.{cut, paragraphs}
 use Rattle.tool.proofs.Lines.{AreLinesSoFar}
@@ -8,7 +8,7 @@ use Rattle.tool.proofs.text.lines_of.Given as goal
 abbrev pub invariant-loop-end : goal.invariant-loop-end
 invariant-loop-end l =
     let is_cut = cut (class_of l.tables) in
-    AreLinesSoFar (class_of l.tables) l.base l.print l.is_whole (paragraphs is_cut l.text) (paragraphs is_cut l.rest) l.lines.items
+    AreLinesSoFar l.tables l.base l.print l.is_whole (paragraphs is_cut l.text) (paragraphs is_cut l.rest) l.lines.items
 
 abbrev pub decreases-loop-end : goal.decreases-loop-end
 decreases-loop-end l = length l.rest
