@@ -27,7 +27,7 @@ ucd:
 demo: program ucd
 	@cat demo/sample.txt
 	@echo
-	bin/fribidi --ucd ucd --novisual --basedir demo/sample.txt
+	bin/fribidi --ucd ucd --novisual --basedir --levels demo/sample.txt
 
 test:
 	rt ci

@@ -111,6 +111,12 @@ const DIRECTIONS: Print = Print {
 };
 
 const LEVELS: Print = Print {
+    novisual: true,
+    basedir: false,
+    levels: true,
+};
+
+const BOTH: Print = Print {
     levels: true,
     ..DIRECTIONS
 };
@@ -209,6 +215,91 @@ fn directions_of_texts(rt: HostRuntime) -> Result<(), Fail> {
     Ok(())
 }
 
+// What the command writes for a text, by the words of its command line.
+fn written<'a>(
+    alloc: Global,
+    tables: &Tables,
+    words: &'a [&'a str],
+    text: &str,
+    size: usize,
+) -> Result<Vec<u8>, Fail> {
+    let settings = settings(alloc, words)?;
+    let bytes = text.as_bytes();
+    let pieces = Pieces {
+        bytes,
+        size,
+        fails: false,
+    };
+    let (taken, result) = lines_of(alloc, tables, settings.base, &settings.print, pieces, 1000);
+    result?;
+    Ok(taken)
+}
+
+#[test]
+fn levels_of_texts(rt: HostRuntime) -> Result<(), Fail> {
+    let alloc = rt.alloc();
+    let tables = Tables::read(alloc, &FILES)?;
+    let rows = [
+        ("", "--wltr", ""),
+        ("\u{5d0}\n", "--wltr", "1 1\n"),
+        ("\u{627} 1", "--wltr", "1 1 2\n"),
+        ("1", "--wrtl", "2\n"),
+        ("\u{5d0}1+2", "--wltr", "1 2 2 2\n"),
+        ("\u{5d0}1++2", "--wltr", "1 2 1 1 2\n"),
+        ("\u{5d0} $1", "--wltr", "1 1 2 2\n"),
+        ("\u{627}$1", "--wltr", "1 1 2\n"),
+        ("a1$\u{5d0}", "--rtl", "2 2 2 1\n"),
+        ("\u{202e}a\n", "--wltr", "0 1 0\n"),
+    ];
+    for size in [1, 2, 3, 65_536] {
+        for (text, direction, lines) in rows {
+            let words = ["--ucd", "D", "--novisual", "--levels", direction];
+            let taken = written(alloc, &tables, &words, text, size)?;
+            assert_eq!(rt; taken.as_slice(), lines.as_bytes(), "{text:?} by {size}");
+        }
+        let words = ["--ucd=D", "--novisual", "--levels", "--wrtl", "--basedir"];
+        let taken = written(alloc, &tables, &words, "\u{2067}a\nb", size)?;
+        assert_eq!(rt; taken.as_slice(), b"RTL\n1 4 1\nLTR\n0\n".as_slice());
+    }
+    Ok(())
+}
+
+// Embeddings down to the greatest depth, and one more, which opens nothing.
+#[test]
+fn levels_of_deep_embeddings(rt: HostRuntime) -> Result<(), Fail> {
+    let alloc = rt.alloc();
+    let tables = Tables::read(alloc, &FILES)?;
+    let rows: [(usize, &str, &[u8]); 2] = [
+        (64, "a\u{202c}b\u{202c}c", b"126 126 126 126 124\n"),
+        (
+            65,
+            "a\u{202c}b\u{202c}c\u{202c}d",
+            b"126 126 126 126 126 126 124\n",
+        ),
+    ];
+    for (depth, inside, levels) in rows {
+        let mut text = Vec::new(alloc);
+        let mut lines = Vec::new(alloc);
+        for _ in 0..depth {
+            text.extend_from_slice("\u{202b}".as_bytes())?;
+            lines.extend_from_slice(b"0 ")?;
+        }
+        text.extend_from_slice(inside.as_bytes())?;
+        lines.extend_from_slice(levels)?;
+        for size in [1, 2, 3, 65_536] {
+            let pieces = Pieces {
+                bytes: &text,
+                size,
+                fails: false,
+            };
+            let (taken, result) = lines_of(alloc, &tables, Base::WeakLtr, &LEVELS, pieces, 1000);
+            assert_eq!(rt; taken.as_slice(), lines.as_slice(), "{depth} by {size}");
+            assert_eq!(rt; result, Ok(()), "{depth} by {size}");
+        }
+    }
+    Ok(())
+}
+
 // A read that fails behind each beginning of a text, and a write that fails behind each number of bytes.
 #[test]
 fn devices_that_fail(rt: HostRuntime) -> Result<(), Fail> {
@@ -256,7 +347,7 @@ fn devices_that_fail(rt: HostRuntime) -> Result<(), Fail> {
             size: 3,
             fails: false,
         };
-        let (taken, result) = lines_of(alloc, &tables, Base::WeakLtr, &LEVELS, pieces, room);
+        let (taken, result) = lines_of(alloc, &tables, Base::WeakLtr, &BOTH, pieces, room);
         assert_eq!(rt;
             taken.as_slice(),
             &b"LTR\n0 0\nRTL\n1\n"[..room],
