@@ -2,7 +2,8 @@
 # make ucd    the seven table files of Unicode 15.0, from Debian's package unicode-data, into ucd/
 # make demo   both, and the command on the sample text
 # make test   the gate: every proof from nothing, the must-fail edits, the tests and the stored run
-# make bench  the time of the command beside that of Debian's fribidi, and edits a second of a session
+# make bench  the time of the command beside that of Debian's fribidi, edits a second of a session, and the time
+#             of levels by what a text is made of
 
 UNICODE = /usr/share/unicode
 
@@ -33,7 +34,8 @@ test:
 	rt ci
 
 bench: program ucd
-	cd crates/edit_bench && rt run -- 1 1 > /dev/null
-	cp crates/edit_bench/out/edit_bench bin/edit_bench
+	cd crates/bench && rt run -- edits 1 1 > /dev/null
+	cp crates/bench/out/bench bin/bench
 	bench/compare
 	bench/edits
+	bench/levels

@@ -1,0 +1,42 @@
+//! Measures what the command itself can't show, for the scripts of `bench/`:
+//!
+//! - `bench edits PARAGRAPHS EDITS` makes edits in a session and prints what it keeps in the end.
+//! - `bench levels UCD CHARACTERS` prints how long the levels of a paragraph take, for texts of many
+//!   kinds, with the table files of the folder UCD.
+#![tactic(auto)]
+
+mod edits;
+mod levels;
+mod numbers;
+
+use anyhow::{Result, bail};
+use std::env;
+
+fn main(rt: HostRuntime) -> Result<()> {
+    let mut words = env::args(&rt)?;
+    let _ = words.next();
+    let Some(subject) = words.next() else {
+        bail!("what is to be measured?");
+    };
+    match subject.as_str() {
+        "edits" => {
+            let paragraphs = number(words.next());
+            let edits = number(words.next());
+            edits::run(&rt, paragraphs, edits)
+        }
+        "levels" => {
+            let Some(folder) = words.next() else {
+                bail!("where are the table files?");
+            };
+            let characters = number(words.next());
+            levels::run(&rt, folder.as_str(), characters)
+        }
+        _ => bail!("that can't be measured"),
+    }
+}
+
+// The number that a word is, and 0 for any other and where it is missing.
+fn number(word: Option<String>) -> usize {
+    word.and_then(|word| word.as_str().parse().ok())
+        .unwrap_or(0)
+}
