@@ -75,14 +75,20 @@ fn texts<'a>(alloc: Global, words: &'a [String]) -> Result<Vec<&'a str>, AllocEr
 // Reads the table files of a folder, all of them before the first is parsed.
 fn tables(rt: &HostRuntime, folder: &str) -> Result<Tables, ProgramFault> {
     let bidi_class = table_file(rt, folder, FILE_NAMES[0])?;
+    let bidi_brackets = table_file(rt, folder, FILE_NAMES[1])?;
+    let bidi_mirroring = table_file(rt, folder, FILE_NAMES[2])?;
+    let line_break = table_file(rt, folder, FILE_NAMES[3])?;
+    let general_category = table_file(rt, folder, FILE_NAMES[4])?;
+    let east_asian_width = table_file(rt, folder, FILE_NAMES[5])?;
+    let emoji_data = table_file(rt, folder, FILE_NAMES[6])?;
     let files = UcdFiles {
         bidi_class: &bidi_class,
-        bidi_brackets: &[],
-        bidi_mirroring: &[],
-        line_break: &[],
-        general_category: &[],
-        east_asian_width: &[],
-        emoji_data: &[],
+        bidi_brackets: &bidi_brackets,
+        bidi_mirroring: &bidi_mirroring,
+        line_break: &line_break,
+        general_category: &general_category,
+        east_asian_width: &east_asian_width,
+        emoji_data: &emoji_data,
     };
     Tables::read(rt.alloc(), &files).map_err(ProgramFault::Table)
 }

@@ -1,7 +1,19 @@
 -- What tables hold: the entries of each file.
 use Rattle.std.specs.Prelude.{List}
 use Rattle.ucd.specs.declared.bidi_class.BidiClass.{BidiClass}
+use Rattle.ucd.specs.declared.bracket.Bracket.{Bracket}
+use Rattle.ucd.specs.declared.bracket.Mirror.{Mirror}
+use Rattle.ucd.specs.declared.category.Category.{Category}
+use Rattle.ucd.specs.declared.emoji.Pictograph.{Pictograph}
 use Rattle.ucd.specs.declared.grammar.Entry.{Entry}
+use Rattle.ucd.specs.declared.line_class.LineClass.{LineClass}
+use Rattle.ucd.specs.declared.width.Width.{Width}
 
 pub record Contents : Type 0 where
   pub bidi_classes : List (Entry BidiClass)
+  pub brackets : List (Entry Bracket)
+  pub mirrors : List (Entry Mirror)
+  pub line_classes : List (Entry LineClass)
+  pub categories : List (Entry Category)
+  pub widths : List (Entry Width)
+  pub pictographs : List (Entry Pictograph)

@@ -1,6 +1,11 @@
 pub mod BidiClasses
+pub mod Brackets
+pub mod Categories
 pub mod Contents
+pub mod Emoji
 pub mod Entries
 pub mod Files
 pub mod Grammar
+pub mod LineClasses
 pub mod Tables
+pub mod Widths

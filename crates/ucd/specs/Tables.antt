@@ -1,35 +1,127 @@
 -- The tables, by the files that they were read from.
-use Rattle.std.specs.Prelude.{◌≡◌, ℕ, ◌-◌, ◌<◌, unwrap_or}
+use Rattle.std.specs.Prelude.{◌≡◌, ℕ, ◌-◌, ◌<◌, ◌⊎◌, ◌&&◌, Bool, true, false, List, Option, Some, is_some, option_map, unwrap_or}
 use Rattle.std.specs.Char.{IsScalar}
 use Rattle.ucd.specs.declared.bidi_class.BidiClass.{BidiClass}
 use Rattle.ucd.specs.declared.bidi_class.BidiClass.TheVariants.{L}
+use Rattle.ucd.specs.declared.bracket.Bracket.{Bracket}
+use Rattle.ucd.specs.declared.bracket.Mirror.{Mirror}
+use Rattle.ucd.specs.declared.category.Category.{Category}
+use Rattle.ucd.specs.declared.category.Category.TheVariants.{Mark, Unassigned}
 use Rattle.ucd.specs.declared.fault.Cause.{Cause}
 use Rattle.ucd.specs.declared.fault.Cause.TheVariants as cause
 use Rattle.ucd.specs.declared.fault.TableFault.{TableFault}
 use Rattle.ucd.specs.declared.file.LineFault.{LineFault}
+use Rattle.ucd.specs.declared.line_class.LineClass.{LineClass}
+use Rattle.ucd.specs.declared.line_class.LineClass.TheVariants.{XX}
 use Rattle.ucd.specs.declared.tables.Tables.{Tables}
 use Rattle.ucd.specs.declared.tables.UcdFiles.{UcdFiles}
+use Rattle.ucd.specs.declared.width.Width.{Width}
+use Rattle.ucd.specs.declared.width.Width.TheVariants.{Wide}
 use Rattle.ucd.specs.BidiClasses.{bidi_class_form}
+use Rattle.ucd.specs.Brackets.{bracket_form, mirror_form}
+use Rattle.ucd.specs.Categories.{category_form}
+use Rattle.ucd.specs.Emoji.{emoji_form}
 use Rattle.ucd.specs.Entries.{value_at}
-use Rattle.ucd.specs.Grammar.{lines_of}
 use Rattle.ucd.specs.Files.{IsGood, IsFirstFault, value_in}
+use Rattle.ucd.specs.Grammar.{Form, lines_of}
+use Rattle.ucd.specs.LineClasses.{line_class_form}
+use Rattle.ucd.specs.Widths.{width_form}
 
--- the bidirectional class of a character
+-- what a mirror is, without its name
+abbrev pub mirror_by : Option Mirror → Option ℕ
+mirror_by mirror = option_map (λ m. m.0) mirror
+
+-- whether a width is wide, where there is one
+abbrev pub is_wide_by : Option Width → Bool
+is_wide_by (Some Wide) = true
+is_wide_by _ = false
+
+-- whether a category is Mn or Mc, or Cn
+abbrev pub is_mark_by : Category → Bool
+is_mark_by Mark = true
+is_mark_by _ = false
+
+abbrev pub is_unassigned_by : Category → Bool
+is_unassigned_by Unassigned = true
+is_unassigned_by _ = false
+
+-- what tables say of a character, with the defaults of what no line names
 unfoldable pub class_of : Tables → ℕ → BidiClass
 class_of t c = unwrap_or (value_at t.bidi_classes c) L
 
--- No line of the files is refused, and the tables say what the files say, with the defaults where they name nothing.
+unfoldable pub bracket_of : Tables → ℕ → Option Bracket
+bracket_of t c = value_at t.brackets c
+
+unfoldable pub mirror_of : Tables → ℕ → Option ℕ
+mirror_of t c = mirror_by (value_at t.mirrors c)
+
+unfoldable pub line_class_of : Tables → ℕ → LineClass
+line_class_of t c = unwrap_or (value_at t.line_classes c) XX
+
+unfoldable pub is_wide_in : Tables → ℕ → Bool
+is_wide_in t c = is_wide_by (value_at t.widths c)
+
+abbrev pub category_of : Tables → ℕ → Category
+category_of t c = unwrap_or (value_at t.categories c) Unassigned
+
+unfoldable pub is_mark_in : Tables → ℕ → Bool
+is_mark_in t c = is_mark_by (category_of t c)
+
+unfoldable pub is_future_pictograph_in : Tables → ℕ → Bool
+is_future_pictograph_in t c = is_some (value_at t.pictographs c) && is_unassigned_by (category_of t c)
+
+-- no line of the files is refused
+pub record AreGood (files : UcdFiles) : Type 0 where
+  pub bidi_class : IsGood bidi_class_form (lines_of files.bidi_class.now)
+  pub bidi_brackets : IsGood bracket_form (lines_of files.bidi_brackets.now)
+  pub bidi_mirroring : IsGood mirror_form (lines_of files.bidi_mirroring.now)
+  pub line_break : IsGood line_class_form (lines_of files.line_break.now)
+  pub general_category : IsGood category_form (lines_of files.general_category.now)
+  pub east_asian_width : IsGood width_form (lines_of files.east_asian_width.now)
+  pub emoji_data : IsGood emoji_form (lines_of files.emoji_data.now)
+
+-- the category that a file names, or Cn
+abbrev pub category_in : UcdFiles → ℕ → Category
+category_in files c = unwrap_or (value_in category_form (lines_of files.general_category.now) c) Unassigned
+
+-- the tables say of a character what the files say, with the same defaults
+pub record SayOf (files : UcdFiles) (t : Tables) (c : ℕ) : Type 0 where
+  pub bidi_class : class_of t c ≡ unwrap_or (value_in bidi_class_form (lines_of files.bidi_class.now) c) L
+  pub bracket : bracket_of t c ≡ value_in bracket_form (lines_of files.bidi_brackets.now) c
+  pub mirror : mirror_of t c ≡ mirror_by (value_in mirror_form (lines_of files.bidi_mirroring.now) c)
+  pub line_class : line_class_of t c ≡ unwrap_or (value_in line_class_form (lines_of files.line_break.now) c) XX
+  pub is_wide : is_wide_in t c ≡ is_wide_by (value_in width_form (lines_of files.east_asian_width.now) c)
+  pub is_mark : is_mark_in t c ≡ is_mark_by (category_in files c)
+  pub is_future_pictograph : is_future_pictograph_in t c
+      ≡ (is_some (value_in emoji_form (lines_of files.emoji_data.now) c) && is_unassigned_by (category_in files c))
+
 pub record AreTablesOf (files : UcdFiles) (t : Tables) : Type 0 where
-  pub good : IsGood bidi_class_form (lines_of files.bidi_class.now)
-  pub bidi_class : (c : ℕ) → IsScalar c → class_of t c ≡ unwrap_or (value_in bidi_class_form (lines_of files.bidi_class.now) c) L
+  pub good : AreGood files
+  pub say : (c : ℕ) → IsScalar c → SayOf files t c
 
--- the fault is that of the first line that is refused; where memory ran out, its file and line are 0
-abbrev pub IsFaultBy : UcdFiles → ℕ → ℕ → Cause → Type 0
-IsFaultBy files file line cause.Memory = (file ≡ 0) × (line ≡ 0)
-IsFaultBy files file line why = (file ≡ 1) × (0 < line) × IsFirstFault bidi_class_form (lines_of files.bidi_class.now) (line - 1) why
+-- the fault is that of the first line of a file that is refused; where memory ran out, its file and line are 0
+module _ {V : Type 0} (number : ℕ) (form : Form V) (lines : List (List ℕ)) where
+  abbrev pub IsFaultBy : ℕ → ℕ → Cause → Type 0
+  IsFaultBy file line cause.Memory = (file ≡ 0) × (line ≡ 0)
+  IsFaultBy file line why = (file ≡ number) × (0 < line) × IsFirstFault form lines (line - 1) why
 
+  abbrev pub IsFaultIn : TableFault → Type 0
+  IsFaultIn fault = IsFaultBy fault.file fault.line fault.cause
+
+  -- the fault is in this file, or this file is good and the fault is in those behind it
+  abbrev pub IsInOr : (TableFault → Type 0) → TableFault → Type 0
+  IsInOr behind fault = IsFaultIn fault ⊎ (IsGood form lines × behind fault)
+
+-- the files in their order, in which the first fault is looked for
 abbrev pub IsFaultOf : UcdFiles → TableFault → Type 0
-IsFaultOf files fault = IsFaultBy files fault.file fault.line fault.cause
+IsFaultOf files =
+    IsInOr 1 bidi_class_form (lines_of files.bidi_class.now) (
+    IsInOr 2 bracket_form (lines_of files.bidi_brackets.now) (
+    IsInOr 3 mirror_form (lines_of files.bidi_mirroring.now) (
+    IsInOr 4 line_class_form (lines_of files.line_break.now) (
+    IsInOr 5 category_form (lines_of files.general_category.now) (
+    IsInOr 6 width_form (lines_of files.east_asian_width.now) (
+    IsFaultIn 7 emoji_form (lines_of files.emoji_data.now)))))))
 
 -- a fault in a line of a file, or want of memory, which is in none
 abbrev pub fault_by : ℕ → ℕ → Cause → TableFault

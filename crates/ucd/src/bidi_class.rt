@@ -1,6 +1,8 @@
 //! The bidirectional classes (UAX #9, section 3.2, table 4).
 ghost use Rattle.std.specs.Prelude.{◌≡◌, codes};
-ghost use Rattle.ucd.specs.BidiClasses.{name_of, class_named, all_classes};
+ghost use Rattle.ucd.specs.BidiClasses.{name_of, class_named, all_classes, bidi_class_form};
+
+use crate::grammar::Property;
 
 /// A bidirectional class, under its short name in the Unicode Character Database.
 #[derive(Clone, Copy, Debug, PartialEq, Eq)]
@@ -61,5 +63,21 @@ impl BidiClass {
             b"PDI" => Some(BidiClass::PDI),
             _ => None,
         }
+    }
+}
+
+impl Property for BidiClass {
+    ghost form = { bidi_class_form };
+
+    fn has_ranges() -> bool {
+        true
+    }
+
+    fn has_third() -> bool {
+        false
+    }
+
+    fn read_value(second: &[u8], _third: &[u8]) -> Option<Option<BidiClass>> {
+        BidiClass::from_name(second).map(Some)
     }
 }

@@ -85,7 +85,8 @@ fn hex_number(digits: &[u8]) -> Option<u32>
     Some(number)
 }
 
-fn code_point(digits: &[u8]) -> Option<u32>
+/// The code point that 4 to 6 hexadecimal digits write.
+pub(crate) fn code_point(digits: &[u8]) -> Option<u32>
     ensures { result ≡ code_point digits.now }
 {
     if digits.len() < 4 || digits.len() > 6 {

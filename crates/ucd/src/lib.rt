@@ -5,12 +5,19 @@
 #![tactic(auto)]
 
 mod bidi_class;
+mod bracket;
+mod category;
+mod emoji;
 mod fault;
 mod file;
 mod grammar;
+mod line_class;
 mod range_table;
 mod tables;
+mod width;
 
 pub use bidi_class::BidiClass;
+pub use bracket::Bracket;
 pub use fault::{Cause, FILE_NAMES, TableFault};
+pub use line_class::LineClass;
 pub use tables::{Tables, UcdFiles};

@@ -1,7 +1,35 @@
 use Rattle.std.proofs.Common.{refl}
-use Rattle.ucd.specs.Tables.{class_of}
+use Rattle.ucd.specs.Tables.{class_of, bracket_of, mirror_of, line_class_of, is_wide_in, is_mark_in, is_future_pictograph_in}
 use Rattle.ucd.proofs.tables.Tables.read.Goals as goal
 
-pub returns-in-Ok-clause-ok : goal.returns-in-Ok-clause-ok
-unfolding class_of
-returns-in-Ok-clause-ok c = record { good = c.in-Ok.ensures.ok.good; bidi_class = λ x is. rw (c.in-Ok.ensures.ok.values x is) refl }
+-- each table holds its file
+pub returns-clause-ok : goal.returns-clause-ok
+unfolding class_of bracket_of mirror_of line_class_of is_wide_in is_mark_in is_future_pictograph_in
+returns-clause-ok c =
+    let bidi_classes = c.in_ok-read_table.ensures.ok in
+    let brackets = c.in_ok-read_table-2.ensures.ok in
+    let mirrors = c.in_ok-read_table-3.ensures.ok in
+    let line_classes = c.in_ok-read_table-4.ensures.ok in
+    let categories = c.in_ok-read_table-5.ensures.ok in
+    let widths = c.in_ok-read_table-6.ensures.ok in
+    let pictographs = c.in_ok-read_table-7.ensures.ok in
+    record {
+      good = record {
+        bidi_class = bidi_classes.good;
+        bidi_brackets = brackets.good;
+        bidi_mirroring = mirrors.good;
+        line_break = line_classes.good;
+        general_category = categories.good;
+        east_asian_width = widths.good;
+        emoji_data = pictographs.good;
+      };
+      say = λ x is. record {
+        bidi_class = rw (bidi_classes.values x is) refl;
+        bracket = brackets.values x is;
+        mirror = rw (mirrors.values x is) refl;
+        line_class = rw (line_classes.values x is) refl;
+        is_wide = rw (widths.values x is) refl;
+        is_mark = rw (categories.values x is) refl;
+        is_future_pictograph = rw (pictographs.values x is, categories.values x is) refl;
+      };
+    }

@@ -1,0 +1,16 @@
+-- The general categories (UAX #44, section 5.7.1), as far as line breaking asks for them.
+use Rattle.std.specs.Prelude.{ℕ, List, codes, true, false, Some, ◌||◌, if◌then◌else◌}
+use Rattle.std.specs.Str.{bytes_eq}
+use Rattle.ucd.specs.Grammar.{Form}
+use Rattle.ucd.specs.declared.category.Category.{Category}
+use Rattle.ucd.specs.declared.category.Category.TheVariants.{Mark, Unassigned, Other}
+
+-- Mn and Mc are marks, and Cn is unassigned
+abbrev pub category_named : List ℕ → Category
+category_named name =
+    if bytes_eq (codes "Mn") name || bytes_eq (codes "Mc") name then Mark
+    else (if bytes_eq (codes "Cn") name then Unassigned else Other)
+
+-- DerivedGeneralCategory.txt: code points or a range of them, and the name of a category, which may be any
+abbrev pub category_form : Form Category
+category_form = record { has_ranges = true; has_third = false; value = λ name _. Some (Some (category_named name)) }

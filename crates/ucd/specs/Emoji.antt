@@ -1,0 +1,13 @@
+-- Pictographs (UTS #51, section 1.4.1).
+use Rattle.std.specs.Prelude.{ℕ, List, codes, true, false, Option, Some, None, if◌then◌else◌}
+use Rattle.std.specs.Str.{bytes_eq}
+use Rattle.ucd.specs.Grammar.{Form}
+use Rattle.ucd.specs.declared.emoji.Pictograph.{Pictograph}
+
+-- a line of any other property names nothing
+abbrev pub pictograph_named : List ℕ → Option Pictograph
+pictograph_named name = if bytes_eq (codes "Extended_Pictographic") name then Some (record {}) else None
+
+-- emoji-data.txt: code points or a range of them, and the name of a property, which may be any
+abbrev pub emoji_form : Form Pictograph
+emoji_form = record { has_ranges = true; has_third = false; value = λ name _. Some (pictograph_named name) }

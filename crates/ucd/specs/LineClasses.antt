@@ -1,0 +1,63 @@
+-- The line breaking classes by name (UAX #14, section 5.1, table 1).
+use Rattle.std.specs.Prelude.{ℕ, List, [], ◌∷◌, codes, true, false, Option, Some, option_map, find}
+use Rattle.std.specs.Str.{bytes_eq}
+use Rattle.ucd.specs.Grammar.{Form}
+use Rattle.ucd.specs.declared.line_class.LineClass.{LineClass}
+use Rattle.ucd.specs.declared.line_class.LineClass.TheVariants.{BK, CM, CR, GL, LF, NL, SP, WJ, ZW, ZWJ, B2, BA, BB, CB, HY, CL, CP, EX, IN, NS, OP, QU, IS, NU, PO, PR, SY, AI, AL, CJ, EB, EM, H2, H3, HL, ID, JL, JT, JV, RI, SA, SG, XX}
+
+abbrev pub all_classes : List LineClass
+all_classes = BK ∷ CM ∷ CR ∷ GL ∷ LF ∷ NL ∷ SP ∷ WJ ∷ ZW ∷ ZWJ ∷ B2 ∷ BA ∷ BB ∷ CB ∷ HY ∷ CL ∷ CP ∷ EX ∷ IN ∷ NS ∷ OP ∷ QU ∷ IS ∷ NU ∷ PO ∷ PR ∷ SY ∷ AI ∷ AL ∷ CJ ∷ EB ∷ EM ∷ H2 ∷ H3 ∷ HL ∷ ID ∷ JL ∷ JT ∷ JV ∷ RI ∷ SA ∷ SG ∷ XX ∷ []
+
+-- the short name of a class
+abbrev pub name_of : LineClass → List ℕ
+name_of BK = codes "BK"
+name_of CM = codes "CM"
+name_of CR = codes "CR"
+name_of GL = codes "GL"
+name_of LF = codes "LF"
+name_of NL = codes "NL"
+name_of SP = codes "SP"
+name_of WJ = codes "WJ"
+name_of ZW = codes "ZW"
+name_of ZWJ = codes "ZWJ"
+name_of B2 = codes "B2"
+name_of BA = codes "BA"
+name_of BB = codes "BB"
+name_of CB = codes "CB"
+name_of HY = codes "HY"
+name_of CL = codes "CL"
+name_of CP = codes "CP"
+name_of EX = codes "EX"
+name_of IN = codes "IN"
+name_of NS = codes "NS"
+name_of OP = codes "OP"
+name_of QU = codes "QU"
+name_of IS = codes "IS"
+name_of NU = codes "NU"
+name_of PO = codes "PO"
+name_of PR = codes "PR"
+name_of SY = codes "SY"
+name_of AI = codes "AI"
+name_of AL = codes "AL"
+name_of CJ = codes "CJ"
+name_of EB = codes "EB"
+name_of EM = codes "EM"
+name_of H2 = codes "H2"
+name_of H3 = codes "H3"
+name_of HL = codes "HL"
+name_of ID = codes "ID"
+name_of JL = codes "JL"
+name_of JT = codes "JT"
+name_of JV = codes "JV"
+name_of RI = codes "RI"
+name_of SA = codes "SA"
+name_of SG = codes "SG"
+name_of XX = codes "XX"
+
+-- the class with this short name
+abbrev pub class_named : List ℕ → Option LineClass
+class_named name = find (λ c. bytes_eq (name_of c) name) all_classes
+
+-- LineBreak.txt: code points or a range of them, and the name of a class
+abbrev pub line_class_form : Form LineClass
+line_class_form = record { has_ranges = true; has_third = false; value = λ name _. option_map Some (class_named name) }

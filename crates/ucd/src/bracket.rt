@@ -1,0 +1,71 @@
+//! Brackets and mirrors (UAX #9, BD14 to BD16 and L4), and how BidiBrackets.txt and
+//! BidiMirroring.txt name them.
+ghost use Rattle.std.specs.Prelude.{◌≡◌};
+ghost use Rattle.ucd.specs.Brackets.{character_of, opens_of, bracket_form, mirror_form};
+
+use crate::grammar::{Property, code_point};
+
+/// A bracket: the one that it makes a pair with, and whether it opens the pair (UAX #9, BD14 and
+/// BD15).
+#[derive(Clone, Copy, Debug, PartialEq, Eq)]
+pub struct Bracket {
+    pub pair: char,
+    pub opens: bool,
+}
+
+/// The character that stands in a character's place in right-to-left text (UAX #9, L4).
+#[derive(Clone, Copy, Debug, PartialEq, Eq)]
+pub struct Mirror(pub char);
+
+// The character that 4 to 6 hexadecimal digits write.
+fn character(digits: &[u8]) -> Option<char>
+    ensures { result ≡ character_of digits.now }
+{
+    char::from_u32(code_point(digits)?)
+}
+
+// Whether a bracket of this type opens a pair: `o` for one that does, `c` for one that closes it.
+fn opens(kind: &[u8]) -> Option<bool>
+    ensures { result ≡ opens_of kind.now }
+{
+    match kind {
+        b"o" => Some(true),
+        b"c" => Some(false),
+        _ => None,
+    }
+}
+
+impl Property for Bracket {
+    ghost form = { bracket_form };
+
+    fn has_ranges() -> bool {
+        false
+    }
+
+    fn has_third() -> bool {
+        true
+    }
+
+    fn read_value(second: &[u8], third: &[u8]) -> Option<Option<Bracket>> {
+        let pair = character(second)?;
+        let opens = opens(third)?;
+        Some(Some(Bracket { pair, opens }))
+    }
+}
+
+impl Property for Mirror {
+    ghost form = { mirror_form };
+
+    fn has_ranges() -> bool {
+        false
+    }
+
+    fn has_third() -> bool {
+        false
+    }
+
+    fn read_value(second: &[u8], _third: &[u8]) -> Option<Option<Mirror>> {
+        let mirror = character(second)?;
+        Some(Some(Mirror(mirror)))
+    }
+}

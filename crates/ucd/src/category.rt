@@ -1,0 +1,40 @@
+//! The general categories (UAX #44, section 5.7.1), as far as line breaking asks for them, and how
+//! DerivedGeneralCategory.txt names them.
+ghost use Rattle.std.specs.Prelude.{◌≡◌, codes};
+ghost use Rattle.ucd.specs.Categories.{category_named, category_form};
+
+use crate::grammar::Property;
+
+/// A general category: Mn or Mc, Cn, or any other.
+#[derive(Clone, Copy, Debug, PartialEq, Eq)]
+pub enum Category {
+    Mark,
+    Unassigned,
+    Other,
+}
+
+fn category_named(name: &[u8]) -> Category
+    ensures { result ≡ category_named name.now }
+{
+    match name {
+        b"Mn" | b"Mc" => Category::Mark,
+        b"Cn" => Category::Unassigned,
+        _ => Category::Other,
+    }
+}
+
+impl Property for Category {
+    ghost form = { category_form };
+
+    fn has_ranges() -> bool {
+        true
+    }
+
+    fn has_third() -> bool {
+        false
+    }
+
+    fn read_value(second: &[u8], _third: &[u8]) -> Option<Option<Category>> {
+        Some(Some(category_named(second)))
+    }
+}

@@ -1,0 +1,28 @@
+//! Pictographs (UTS #51, section 1.4.1), and how emoji-data.txt names them.
+ghost use Rattle.std.specs.Prelude.{◌≡◌, codes};
+ghost use Rattle.ucd.specs.Emoji.{emoji_form};
+
+use crate::grammar::Property;
+
+/// The property Extended_Pictographic, the only one of emoji-data.txt that says anything here.
+#[derive(Clone, Copy, Debug, PartialEq, Eq)]
+pub struct Pictograph;
+
+impl Property for Pictograph {
+    ghost form = { emoji_form };
+
+    fn has_ranges() -> bool {
+        true
+    }
+
+    fn has_third() -> bool {
+        false
+    }
+
+    fn read_value(second: &[u8], _third: &[u8]) -> Option<Option<Pictograph>> {
+        match second {
+            b"Extended_Pictographic" => Some(Some(Pictograph)),
+            _ => Some(None),
+        }
+    }
+}

@@ -1,0 +1,38 @@
+//! East Asian width (UAX #11), as far as line breaking asks for it, and how EastAsianWidth.txt names
+//! it.
+ghost use Rattle.std.specs.Prelude.{◌≡◌, codes};
+ghost use Rattle.ucd.specs.Widths.{width_named, width_form};
+
+use crate::grammar::Property;
+
+/// An East Asian width: F, W or H, or any other.
+#[derive(Clone, Copy, Debug, PartialEq, Eq)]
+pub enum Width {
+    Wide,
+    Other,
+}
+
+fn width_named(name: &[u8]) -> Width
+    ensures { result ≡ width_named name.now }
+{
+    match name {
+        b"F" | b"W" | b"H" => Width::Wide,
+        _ => Width::Other,
+    }
+}
+
+impl Property for Width {
+    ghost form = { width_form };
+
+    fn has_ranges() -> bool {
+        true
+    }
+
+    fn has_third() -> bool {
+        false
+    }
+
+    fn read_value(second: &[u8], _third: &[u8]) -> Option<Option<Width>> {
+        Some(Some(width_named(second)))
+    }
+}
