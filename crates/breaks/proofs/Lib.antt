@@ -1,0 +1,3 @@
+pub mod RuleLemmas
+pub mod SumLemmas
+pub mod WalkLemmas

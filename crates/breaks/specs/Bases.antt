@@ -1,0 +1,67 @@
+-- The bases of a paragraph: its characters, each with the combining marks that stay with it (UAX #14, LB1, LB9 and LB10).
+use Rattle.std.specs.Prelude.{ℕ, Bool, true, false, not, ◌&&◌, List, [], ◌∷◌, if◌then◌else◌}
+use Rattle.ucd.specs.Tables.{line_class_of, is_wide_in, is_mark_in, is_future_pictograph_in}
+use Rattle.ucd.specs.declared.line_class.LineClass.{LineClass}
+use Rattle.ucd.specs.declared.line_class.LineClass.TheVariants.{AI, AL, BK, CJ, CM, CR, LF, NL, NS, SA, SG, SP, XX, ZW, ZWJ}
+use Rattle.ucd.specs.declared.tables.Tables.{Tables}
+use Rattle.breaks.specs.Classes.{is_one_of}
+use Rattle.breaks.specs.declared.character.Character.{Character}
+
+-- LB1: AI, SG and XX become AL, SA becomes CM where it is a mark of category Mn or Mc and else AL, and CJ becomes NS
+abbrev pub resolved : LineClass → Bool → LineClass
+resolved AI is_mark = AL
+resolved SG is_mark = AL
+resolved XX is_mark = AL
+resolved SA true = CM
+resolved SA false = AL
+resolved CJ is_mark = NS
+resolved class is_mark = class
+
+-- what line breaking reads of a character
+abbrev pub character : Tables → ℕ → Character
+character t c = record {
+  class = resolved (line_class_of t c) (is_mark_in t c);
+  is_wide = is_wide_in t c;
+  is_future_pictograph = is_future_pictograph_in t c;
+}
+
+-- a base: a character, and those that stay with it
+pub record Base : Type 0 where
+  pub first : Character
+  pub attached : List Character
+
+-- LB9: a CM or ZWJ stays with the character before it, unless that is BK, CR, LF, NL, SP or ZW
+abbrev pub stays_with : Character → Character → Bool
+stays_with before c =
+    is_one_of (CM ∷ ZWJ ∷ []) c.class && not (is_one_of (BK ∷ CR ∷ LF ∷ NL ∷ SP ∷ ZW ∷ []) before.class)
+
+-- a character in front of bases: it begins one, or the first of them stays with it
+abbrev pub alone : Character → Base
+alone c = record { first = c; attached = [] }
+
+abbrev pub joined : Character → List Base → List Base
+joined c [] = alone c ∷ []
+joined c (b ∷ bases) = record { first = c; attached = b.first ∷ b.attached } ∷ bases
+
+abbrev pub bases_of : List Character → List Base
+bases_of [] = []
+bases_of (a ∷ []) = alone a ∷ []
+bases_of (a ∷ b ∷ text) = if stays_with a b then joined a (bases_of (b ∷ text)) else alone a ∷ bases_of (b ∷ text)
+
+-- The class of a base is that of its first character, and so is its width and whether it is a pictograph.
+-- LB10: a CM or ZWJ that stays with no character is AL.
+abbrev pub base_class : LineClass → LineClass
+base_class CM = AL
+base_class ZWJ = AL
+base_class class = class
+
+abbrev pub class_of : Base → LineClass
+class_of b = base_class b.first.class
+
+-- the character that a base ends with
+abbrev pub last_of : Character → List Character → Character
+last_of first [] = first
+last_of first (c ∷ attached) = last_of c attached
+
+abbrev pub end_of : Base → Character
+end_of b = last_of b.first b.attached

@@ -1,0 +1,14 @@
+-- Line breaking classes as the rules list them.
+use Rattle.std.specs.Prelude.{Bool, List}
+use Rattle.std.specs.List.{list_any}
+use Rattle.ucd.specs.declared.line_class.LineClass.{LineClass}
+use Rattle.ucd.specs.contracts.line_class.LineClass.{the_type}
+use denote.Enum.Bare.{sameb}
+
+-- whether two classes are the same
+abbrev pub is_same : LineClass → LineClass → Bool
+is_same = sameb the_type
+
+-- whether a class is one of those listed
+abbrev pub is_one_of : List LineClass → LineClass → Bool
+is_one_of classes class = list_any (λ c. is_same c class) classes

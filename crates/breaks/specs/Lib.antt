@@ -1,0 +1,5 @@
+pub mod Bases
+pub mod Classes
+pub mod Marks
+pub mod Rules
+pub mod Walk

@@ -1,0 +1,172 @@
+-- The rules for break marks (UAX #14, LB3 to LB31), in the order of the annex. LB1, LB9 and LB10 have made bases of the characters
+-- (Bases.antt), LB2 speaks of the position before a text, which has no mark, and LB31 is what holds where no rule of the table does.
+use Rattle.std.specs.Prelude.{◌%◌, ◌==◌, Bool, true, false, not, ◌&&◌, List, [], ◌∷◌, if◌then◌else◌}
+use Rattle.std.specs.List.{prefix_len}
+use Rattle.ucd.specs.declared.line_class.LineClass.{LineClass}
+use Rattle.ucd.specs.declared.line_class.LineClass.TheVariants.{AL, B2, BA, BB, BK, CB, CL, CP, CR, EB, EM, EX, GL, H2, H3, HL, HY, ID, IN, IS, JL, JT, JV, LF, NL, NS, NU, OP, PO, PR, QU, RI, SP, SY, WJ, ZW, ZWJ}
+use Rattle.breaks.specs.Bases.{Base, class_of, end_of}
+use Rattle.breaks.specs.Classes.{is_same, is_one_of}
+use Rattle.breaks.specs.declared.mark.Mark.{Mark}
+use Rattle.breaks.specs.declared.mark.Mark.TheVariants.{Never, May, Must}
+
+-- A rule: a condition on the bases before a position, the nearest first, one on the bases behind it, and the mark that it gives.
+pub record Rule : Type 0 where
+  pub before : List Base → Bool
+  pub behind : List Base → Bool
+  pub mark : Mark
+
+-- `×`, `÷` and `!`
+abbrev never : (List Base → Bool) → (List Base → Bool) → Rule
+never before behind = record { before = before; behind = behind; mark = Never }
+
+abbrev may : (List Base → Bool) → (List Base → Bool) → Rule
+may before behind = record { before = before; behind = behind; mark = May }
+
+abbrev must : (List Base → Bool) → (List Base → Bool) → Rule
+must before behind = record { before = before; behind = behind; mark = Must }
+
+-- conditions on the bases before a position, and on those behind it
+abbrev pub any : List Base → Bool
+any bases = true
+
+abbrev pub none : List Base → Bool
+none [] = true
+none (b ∷ bases) = false
+
+-- the nearest base has one of the classes
+abbrev pub is : List LineClass → List Base → Bool
+is classes [] = false
+is classes (b ∷ bases) = is_one_of classes (class_of b)
+
+-- and it isn't wide
+abbrev pub is_narrow : List LineClass → List Base → Bool
+is_narrow classes [] = false
+is_narrow classes (b ∷ bases) = is_one_of classes (class_of b) && not b.first.is_wide
+
+-- the nearest base has none of the classes
+abbrev pub is_not : List LineClass → List Base → Bool
+is_not classes [] = false
+is_not classes (b ∷ bases) = not (is_one_of classes (class_of b))
+
+-- the nearest base has one of the classes, and the one in front of it one of some others
+abbrev pub is_pair : List LineClass → List LineClass → List Base → Bool
+is_pair firsts classes (b ∷ a ∷ bases) = is_one_of firsts (class_of a) && is_one_of classes (class_of b)
+is_pair firsts classes bases = false
+
+-- the classes with `SP*` behind them: the nearest base that is no space has one of them
+abbrev pub without_spaces : List Base → List Base
+without_spaces [] = []
+without_spaces (b ∷ bases) = if is_same (class_of b) SP then without_spaces bases else b ∷ bases
+
+abbrev pub is_spaced : List LineClass → List Base → Bool
+is_spaced classes bases = is classes (without_spaces bases)
+
+-- the character directly before is a ZWJ
+abbrev pub ends_in_zwj : List Base → Bool
+ends_in_zwj [] = false
+ends_in_zwj (b ∷ bases) = is_same (end_of b).class ZWJ
+
+-- the number of RI from the start of their run up to the position is odd
+abbrev pub ends_in_odd_run : List Base → Bool
+ends_in_odd_run bases = prefix_len (λ b. is_same (class_of b) RI) bases % 2 == 1
+
+-- the nearest base is Extended_Pictographic and unassigned
+abbrev pub is_future_pictograph : List Base → Bool
+is_future_pictograph [] = false
+is_future_pictograph (b ∷ bases) = b.first.is_future_pictograph
+
+abbrev letters : List LineClass
+letters = AL ∷ HL ∷ []
+
+abbrev syllables : List LineClass
+syllables = JL ∷ JV ∷ JT ∷ H2 ∷ H3 ∷ []
+
+unfoldable pub rules : List Rule
+rules =
+    -- LB3
+    must any none ∷
+    -- LB4
+    must (is (BK ∷ [])) any ∷
+    -- LB5
+    never (is (CR ∷ [])) (is (LF ∷ [])) ∷
+    must (is (CR ∷ LF ∷ NL ∷ [])) any ∷
+    -- LB6
+    never any (is (BK ∷ CR ∷ LF ∷ NL ∷ [])) ∷
+    -- LB7
+    never any (is (SP ∷ ZW ∷ [])) ∷
+    -- LB8
+    may (is_spaced (ZW ∷ [])) any ∷
+    -- LB8a
+    never ends_in_zwj any ∷
+    -- LB11
+    never any (is (WJ ∷ [])) ∷
+    never (is (WJ ∷ [])) any ∷
+    -- LB12
+    never (is (GL ∷ [])) any ∷
+    -- LB12a
+    never (is_not (SP ∷ BA ∷ HY ∷ [])) (is (GL ∷ [])) ∷
+    -- LB13
+    never any (is (CL ∷ CP ∷ EX ∷ IS ∷ SY ∷ [])) ∷
+    -- LB14
+    never (is_spaced (OP ∷ [])) any ∷
+    -- LB15
+    never (is_spaced (QU ∷ [])) (is (OP ∷ [])) ∷
+    -- LB16
+    never (is_spaced (CL ∷ CP ∷ [])) (is (NS ∷ [])) ∷
+    -- LB17
+    never (is_spaced (B2 ∷ [])) (is (B2 ∷ [])) ∷
+    -- LB18
+    may (is (SP ∷ [])) any ∷
+    -- LB19
+    never any (is (QU ∷ [])) ∷
+    never (is (QU ∷ [])) any ∷
+    -- LB20
+    may any (is (CB ∷ [])) ∷
+    may (is (CB ∷ [])) any ∷
+    -- LB21
+    never any (is (BA ∷ HY ∷ NS ∷ [])) ∷
+    never (is (BB ∷ [])) any ∷
+    -- LB21a
+    never (is_pair (HL ∷ []) (HY ∷ BA ∷ [])) any ∷
+    -- LB21b
+    never (is (SY ∷ [])) (is (HL ∷ [])) ∷
+    -- LB22
+    never any (is (IN ∷ [])) ∷
+    -- LB23
+    never (is letters) (is (NU ∷ [])) ∷
+    never (is (NU ∷ [])) (is letters) ∷
+    -- LB23a
+    never (is (PR ∷ [])) (is (ID ∷ EB ∷ EM ∷ [])) ∷
+    never (is (ID ∷ EB ∷ EM ∷ [])) (is (PO ∷ [])) ∷
+    -- LB24
+    never (is (PR ∷ PO ∷ [])) (is letters) ∷
+    never (is letters) (is (PR ∷ PO ∷ [])) ∷
+    -- LB25
+    never (is (CL ∷ CP ∷ NU ∷ [])) (is (PO ∷ PR ∷ [])) ∷
+    never (is (PO ∷ PR ∷ [])) (is (OP ∷ NU ∷ [])) ∷
+    never (is (HY ∷ IS ∷ NU ∷ SY ∷ [])) (is (NU ∷ [])) ∷
+    -- LB26
+    never (is (JL ∷ [])) (is (JL ∷ JV ∷ H2 ∷ H3 ∷ [])) ∷
+    never (is (JV ∷ H2 ∷ [])) (is (JV ∷ JT ∷ [])) ∷
+    never (is (JT ∷ H3 ∷ [])) (is (JT ∷ [])) ∷
+    -- LB27
+    never (is syllables) (is (PO ∷ [])) ∷
+    never (is (PR ∷ [])) (is syllables) ∷
+    -- LB28
+    never (is letters) (is letters) ∷
+    -- LB29
+    never (is (IS ∷ [])) (is letters) ∷
+    -- LB30
+    never (is (AL ∷ HL ∷ NU ∷ [])) (is_narrow (OP ∷ [])) ∷
+    never (is_narrow (CP ∷ [])) (is (AL ∷ HL ∷ NU ∷ [])) ∷
+    -- LB30a
+    never ends_in_odd_run (is (RI ∷ [])) ∷
+    -- LB30b
+    never (is (EB ∷ [])) (is (EM ∷ [])) ∷
+    never is_future_pictograph (is (EM ∷ [])) ∷
+    []
+
+-- the mark of a position: that of the first rule of which both conditions hold, and LB31 where there is none
+abbrev pub mark_by : List Rule → List Base → List Base → Mark
+mark_by [] before behind = May
+mark_by (rule ∷ rules) before behind = if rule.before before && rule.behind behind then rule.mark else mark_by rules before behind

@@ -1,0 +1,97 @@
+//! What the rules ask of the bases before a position, kept along one walk over the characters: so
+//! no position looks back, however long the run of spaces or RI that it ends.
+ghost use Rattle.std.specs.Prelude.{◌≡◌, List, []};
+ghost use Rattle.breaks.specs.Bases.{Base, alone, end_of, stays_with};
+ghost use Rattle.breaks.specs.Rules.{without_spaces, ends_in_odd_run};
+ghost use Rattle.breaks.specs.Walk.{Sums, Passes, nearest};
+
+use crate::character::{Character, is_one_of};
+use crate::mark::Mark;
+use crate::rules::mark_between;
+use ucd::LineClass;
+
+/// What the rules ask of the bases before a position.
+#[derive(Clone, Copy, Debug)]
+pub struct Before {
+    /// The class of the last base.
+    pub class: LineClass,
+    /// Whether it is wide.
+    pub is_wide: bool,
+    /// Whether it is Extended_Pictographic and unassigned.
+    pub is_future_pictograph: bool,
+    /// The class of its last character, which is the one directly before the position.
+    pub end: LineClass,
+    /// The class of the base in front of it.
+    pub second: Option<LineClass>,
+    /// The class of the last base that is no space.
+    pub unspaced: Option<LineClass>,
+    /// Whether the bases end in an odd number of RI.
+    pub is_odd_run: bool,
+}
+
+impl Before {
+    /// What stands before the second position of a text that begins with this character.
+    pub fn start(first: &Character) -> Before
+        ensures { Sums result (alone first.now) [] }
+    {
+        Before::begun(first, None, None, false)
+    }
+
+    /// The mark of the position in front of the next character, which is one of those before it
+    /// from then on.
+    pub fn pass(&mut self, next: &Character) -> Mark
+        ensures { (last : Base) (others : List Base) → Sums self.old last others
+            → Passes self.new last others next.now result }
+    {
+        if self.keeps(next) {
+            self.end = next.class;
+            return Mark::Never;
+        }
+        let mark = mark_between(self, next);
+        *self = Before::begun(next, Some(self.class), self.unspaced, self.is_odd_run);
+        mark
+    }
+
+    // LB9: whether the character stays with the last base.
+    fn keeps(&self, next: &Character) -> bool
+        ensures { (last : Base) → self.now.end ≡ (end_of last).class
+            → result ≡ stays_with (end_of last) next.now }
+    {
+        let alone = [
+            LineClass::BK,
+            LineClass::CR,
+            LineClass::LF,
+            LineClass::NL,
+            LineClass::SP,
+            LineClass::ZW,
+        ];
+        is_one_of(next.class, &[LineClass::CM, LineClass::ZWJ]) && !is_one_of(self.end, &alone)
+    }
+
+    // A base that begins with this character, and what is kept of those in front of it.
+    fn begun(
+        first: &Character,
+        second: Option<LineClass>,
+        unspaced: Option<LineClass>,
+        is_odd_run: bool,
+    ) -> Before
+        ensures { (others : List Base) → second ≡ nearest others
+            → unspaced ≡ nearest (without_spaces others) → is_odd_run ≡ ends_in_odd_run others
+            → Sums result (alone first.now) others }
+    {
+        let class = first.base_class();
+        Before {
+            class,
+            is_wide: first.is_wide,
+            is_future_pictograph: first.is_future_pictograph,
+            end: first.class,
+            second,
+            unspaced: if class == LineClass::SP {
+                unspaced
+            } else {
+                Some(class)
+            },
+            is_odd_run: class == LineClass::RI && !is_odd_run,
+        }
+    }
+}
