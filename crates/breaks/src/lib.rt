@@ -8,3 +8,6 @@ mod mark;
 mod rules;
 
 pub use mark::{Mark, marks};
+
+#[cfg(test)]
+mod tests;

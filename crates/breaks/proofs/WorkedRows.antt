@@ -1,0 +1,165 @@
+-- Rows of the definitions, worked.
+use Rattle.std.proofs.Common.{◌≡◌, true, false, List, [], ◌∷◌, map, refl}
+use Rattle.ucd.specs.declared.line_class.LineClass.{LineClass}
+use Rattle.ucd.specs.declared.line_class.LineClass.TheVariants.{AI, AL, B2, BA, BK, CB, CJ, CL, CM, CP, CR, EB, EM, GL, H2, HL, HY, ID, IS, JT, LF, NL, NS, NU, OP, PO, PR, QU, RI, SA, SP, SY, WJ, XX, ZW, ZWJ}
+use Rattle.breaks.specs.Bases.{resolved, bases_of}
+use Rattle.breaks.specs.Marks.{marks_behind}
+use Rattle.breaks.specs.Rules.{rules}
+use Rattle.breaks.specs.declared.character.Character.{Character}
+use Rattle.breaks.specs.declared.mark.Mark.{Mark}
+use Rattle.breaks.specs.declared.mark.Mark.TheVariants.{Never, May, Must}
+
+abbrev narrow : LineClass → Character
+narrow class = record { class = class; is_wide = false; is_future_pictograph = false }
+
+abbrev wide : LineClass → Character
+wide class = record { class = class; is_wide = true; is_future_pictograph = false }
+
+abbrev pictograph : LineClass → Character
+pictograph class = record { class = class; is_wide = true; is_future_pictograph = true }
+
+abbrev marks : List Character → List Mark
+marks text = marks_behind [] (bases_of text)
+
+abbrev marks_by : List LineClass → List Mark
+marks_by classes = marks (map narrow classes)
+
+-- LB1
+ambiguous : resolved AI true ≡ AL
+ambiguous = refl
+
+complex_mark : resolved SA true ≡ CM
+complex_mark = refl
+
+complex_letter : resolved SA false ≡ AL
+complex_letter = refl
+
+small_kana : resolved CJ false ≡ NS
+small_kana = refl
+
+unknown : resolved XX true ≡ AL
+unknown = refl
+
+-- LB3 to LB6: a line ends where it must, but not between CR and LF, nor before either
+ends : marks_by (AL ∷ CR ∷ LF ∷ []) ≡ Never ∷ Never ∷ Must ∷ []
+unfolding rules
+ends = refl
+
+between : marks_by (AL ∷ BK ∷ AL ∷ []) ≡ Never ∷ Must ∷ Must ∷ []
+unfolding rules
+between = refl
+
+twice : marks_by (LF ∷ CR ∷ NL ∷ []) ≡ Must ∷ Must ∷ Must ∷ []
+unfolding rules
+twice = refl
+
+-- LB7, LB8 and LB18: behind spaces and not before them
+spaces : marks_by (AL ∷ SP ∷ SP ∷ AL ∷ []) ≡ Never ∷ Never ∷ May ∷ Must ∷ []
+unfolding rules
+spaces = refl
+
+zero_width : marks_by (AL ∷ ZW ∷ SP ∷ CL ∷ []) ≡ Never ∷ Never ∷ May ∷ Must ∷ []
+unfolding rules
+zero_width = refl
+
+-- LB8a and LB9: a joiner binds what stands behind it, also at the end of a base
+joiner : marks_by (AL ∷ ZWJ ∷ ID ∷ []) ≡ Never ∷ Never ∷ Must ∷ []
+unfolding rules
+joiner = refl
+
+joiner_within : marks_by (AL ∷ ZWJ ∷ CM ∷ ID ∷ []) ≡ Never ∷ Never ∷ May ∷ Must ∷ []
+unfolding rules
+joiner_within = refl
+
+-- LB10: a mark behind a space is a letter, with those behind it
+lone_mark : marks_by (AL ∷ SP ∷ CM ∷ CM ∷ AL ∷ []) ≡ Never ∷ May ∷ Never ∷ Never ∷ Must ∷ []
+unfolding rules
+lone_mark = refl
+
+-- LB11 to LB12a
+word_joiner : marks_by (ID ∷ WJ ∷ ID ∷ []) ≡ Never ∷ Never ∷ Must ∷ []
+unfolding rules
+word_joiner = refl
+
+glue : marks_by (BA ∷ GL ∷ ID ∷ GL ∷ []) ≡ May ∷ Never ∷ Never ∷ Must ∷ []
+unfolding rules
+glue = refl
+
+-- LB13 to LB17: over spaces
+opening : marks_by (OP ∷ SP ∷ AL ∷ []) ≡ Never ∷ Never ∷ Must ∷ []
+unfolding rules
+opening = refl
+
+quotation : marks_by (QU ∷ SP ∷ OP ∷ []) ≡ Never ∷ Never ∷ Must ∷ []
+unfolding rules
+quotation = refl
+
+closing : marks_by (CP ∷ SP ∷ NS ∷ []) ≡ Never ∷ Never ∷ Must ∷ []
+unfolding rules
+closing = refl
+
+dashes : marks_by (B2 ∷ SP ∷ B2 ∷ []) ≡ Never ∷ Never ∷ Must ∷ []
+unfolding rules
+dashes = refl
+
+-- LB20 and LB21
+contingent : marks_by (AL ∷ CB ∷ AL ∷ []) ≡ May ∷ May ∷ Must ∷ []
+unfolding rules
+contingent = refl
+
+hyphen : marks_by (AL ∷ HY ∷ AL ∷ []) ≡ Never ∷ May ∷ Must ∷ []
+unfolding rules
+hyphen = refl
+
+hebrew_hyphen : marks_by (HL ∷ HY ∷ HL ∷ []) ≡ Never ∷ Never ∷ Must ∷ []
+unfolding rules
+hebrew_hyphen = refl
+
+hebrew_solidus : marks_by (SY ∷ HL ∷ SY ∷ AL ∷ []) ≡ Never ∷ Never ∷ May ∷ Must ∷ []
+unfolding rules
+hebrew_solidus = refl
+
+-- LB23 to LB29
+price : marks_by (PR ∷ NU ∷ IS ∷ NU ∷ PO ∷ []) ≡ Never ∷ Never ∷ Never ∷ Never ∷ Must ∷ []
+unfolding rules
+price = refl
+
+in_parentheses : marks_by (PR ∷ OP ∷ NU ∷ CP ∷ PO ∷ []) ≡ Never ∷ Never ∷ Never ∷ Never ∷ Must ∷ []
+unfolding rules
+in_parentheses = refl
+
+syllables : marks_by (H2 ∷ JT ∷ PO ∷ ID ∷ []) ≡ Never ∷ Never ∷ May ∷ Must ∷ []
+unfolding rules
+syllables = refl
+
+-- LB30: a parenthesis that is not wide
+narrow_parenthesis : marks (narrow AL ∷ narrow OP ∷ narrow AL ∷ narrow CP ∷ narrow AL ∷ []) ≡ Never ∷ Never ∷ Never ∷ Never ∷ Must ∷ []
+unfolding rules
+narrow_parenthesis = refl
+
+wide_parenthesis : marks (narrow AL ∷ wide OP ∷ narrow AL ∷ wide CP ∷ narrow AL ∷ []) ≡ May ∷ Never ∷ Never ∷ May ∷ Must ∷ []
+unfolding rules
+wide_parenthesis = refl
+
+-- LB30a: pairs, from the start of their run
+flags : marks_by (RI ∷ RI ∷ CM ∷ RI ∷ RI ∷ RI ∷ []) ≡ Never ∷ Never ∷ May ∷ Never ∷ May ∷ Must ∷ []
+unfolding rules
+flags = refl
+
+flags_again : marks_by (RI ∷ AL ∷ RI ∷ RI ∷ []) ≡ May ∷ May ∷ Never ∷ Must ∷ []
+unfolding rules
+flags_again = refl
+
+-- LB30b: a modifier behind its base, or behind a pictograph to come
+modifier : marks_by (EB ∷ EM ∷ ID ∷ EM ∷ []) ≡ Never ∷ May ∷ May ∷ Must ∷ []
+unfolding rules
+modifier = refl
+
+future_modifier : marks (pictograph ID ∷ narrow EM ∷ []) ≡ Never ∷ Must ∷ []
+unfolding rules
+future_modifier = refl
+
+-- no text
+nothing : marks [] ≡ []
+unfolding rules
+nothing = refl
