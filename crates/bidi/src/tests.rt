@@ -1,4 +1,4 @@
-//! Worked rows: the levels of paragraphs, by class names.
+//! Worked rows: the levels of paragraphs.
 use crate::{Base, resolve};
 use std::alloc::Global;
 use std::test::Fail;
@@ -6,9 +6,9 @@ use ucd::{Tables, UcdFiles};
 
 fn tables(alloc: Global) -> Result<Tables, Fail> {
     let files = UcdFiles {
-        bidi_class: b"000A;B\n0020;WS\n0024;ET\n002B;ES\n0030..0039;EN\n0061..007A;L\n05D0..05EA;R\n0620..064A;AL\n202A;LRE\n202B;RLE\n202C;PDF\n202D;LRO\n202E;RLO\n2066;LRI\n2067;RLI\n2068;FSI\n2069;PDI",
-        bidi_brackets: b"",
-        bidi_mirroring: b"",
+        bidi_class: excerpt::BIDI_CLASS,
+        bidi_brackets: excerpt::BIDI_BRACKETS,
+        bidi_mirroring: excerpt::BIDI_MIRRORING,
         line_break: b"",
         general_category: b"",
         east_asian_width: b"",
@@ -21,7 +21,8 @@ fn tables(alloc: Global) -> Result<Tables, Fail> {
 fn levels_of_rows(rt: HostRuntime) -> Result<(), Fail> {
     let alloc = rt.alloc();
     let tables = tables(alloc)?;
-    let rows: [(&str, Base, &[u8]); 9] = [
+    let rows: [(&str, Base, &[u8]); 11] = [
+        ("", Base::WeakLtr, &[]),
         ("\u{5D0}\n", Base::WeakLtr, &[1, 1]),
         ("\u{627} 1", Base::WeakLtr, &[1, 1, 2]),
         ("1", Base::WeakRtl, &[2]),
@@ -31,11 +32,38 @@ fn levels_of_rows(rt: HostRuntime) -> Result<(), Fail> {
         ("\u{627}$1", Base::WeakLtr, &[1, 1, 2]),
         ("a1$\u{5D0}", Base::Rtl, &[2, 2, 2, 1]),
         ("\u{202E}a\n", Base::WeakLtr, &[0, 1, 0]),
+        ("\u{2067}a\n", Base::WeakRtl, &[1, 4, 1]),
     ];
     for (text, base, levels) in &rows {
         let text: Vec<char> = text.chars().collect(alloc)?;
         let found = resolve(alloc, &tables, &text, *base)?;
         assert_eq!(rt; found.as_slice(), *levels);
+    }
+    Ok(())
+}
+
+// The levels of 64 and of 65 embeddings, behind which some characters and PDFs stand by turns.
+#[test]
+fn levels_of_deep_embeddings(rt: HostRuntime) -> Result<(), Fail> {
+    let alloc = rt.alloc();
+    let tables = tables(alloc)?;
+    let rows: [(usize, &str, &[u8]); 2] = [
+        (64, "a\u{202C}b\u{202C}c", &[126, 126, 126, 126, 124]),
+        (
+            65,
+            "a\u{202C}b\u{202C}c\u{202C}d",
+            &[126, 126, 126, 126, 126, 126, 124],
+        ),
+    ];
+    for (depth, inner, inside) in &rows {
+        let mut text = vec![in alloc; '\u{202B}'; *depth]?;
+        let mut levels = vec![in alloc; 0; *depth]?;
+        for character in inner.chars() {
+            text.push(character)?;
+        }
+        levels.extend_from_slice(inside)?;
+        let found = resolve(alloc, &tables, &text, Base::WeakLtr)?;
+        assert_eq!(rt; found.as_slice(), levels.as_slice());
     }
     Ok(())
 }
