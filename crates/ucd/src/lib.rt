@@ -21,3 +21,6 @@ pub use bracket::Bracket;
 pub use fault::{Cause, FILE_NAMES, TableFault};
 pub use line_class::LineClass;
 pub use tables::{Tables, UcdFiles};
+
+#[cfg(test)]
+mod tests;
