@@ -116,7 +116,7 @@ const LEVELS: Print = Print {
     levels: true,
 };
 
-const BOTH: Print = Print {
+const BOTH_LINES: Print = Print {
     levels: true,
     ..DIRECTIONS
 };
@@ -347,7 +347,7 @@ fn devices_that_fail(rt: HostRuntime) -> Result<(), Fail> {
             size: 3,
             fails: false,
         };
-        let (taken, result) = lines_of(alloc, &tables, Base::WeakLtr, &BOTH, pieces, room);
+        let (taken, result) = lines_of(alloc, &tables, Base::WeakLtr, &BOTH_LINES, pieces, room);
         assert_eq!(rt;
             taken.as_slice(),
             &b"LTR\n0 0\nRTL\n1\n"[..room],
