@@ -3,7 +3,7 @@
 # make demo   both, and the command on the sample text
 # make test   the gate: every proof from nothing, the must-fail edits, the tests and the stored run
 # make bench  the time of the command beside that of Debian's fribidi, edits a second of a session, and the time
-#             of levels by what a text is made of
+#             of levels and of break marks by what a text is made of
 
 UNICODE = /usr/share/unicode
 
@@ -39,3 +39,4 @@ bench: program ucd
 	bench/compare
 	bench/edits
 	bench/levels
+	bench/marks

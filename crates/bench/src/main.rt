@@ -3,11 +3,14 @@
 //! - `bench edits PARAGRAPHS EDITS` makes edits in a session and prints what it keeps in the end.
 //! - `bench levels UCD CHARACTERS` prints how long the levels of a paragraph take, for texts of many
 //!   kinds, with the table files of the folder UCD.
+//! - `bench marks UCD CHARACTERS` prints the same of break marks.
 #![tactic(auto)]
 
 mod edits;
 mod levels;
+mod marks;
 mod numbers;
+mod paragraphs;
 
 use anyhow::{Result, bail};
 use std::env;
@@ -24,12 +27,16 @@ fn main(rt: HostRuntime) -> Result<()> {
             let edits = number(words.next());
             edits::run(&rt, paragraphs, edits)
         }
-        "levels" => {
+        "levels" | "marks" => {
             let Some(folder) = words.next() else {
                 bail!("where are the table files?");
             };
             let characters = number(words.next());
-            levels::run(&rt, folder.as_str(), characters)
+            if subject.as_str() == "levels" {
+                levels::run(&rt, folder.as_str(), characters)
+            } else {
+                marks::run(&rt, folder.as_str(), characters)
+            }
         }
         _ => bail!("that can't be measured"),
     }

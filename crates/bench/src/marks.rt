@@ -1,0 +1,58 @@
+//! How long the break marks of one paragraph take, by what the paragraph is made of.
+use crate::paragraphs::{Kind, Subject, measure_all};
+use anyhow::Result;
+
+// Plain letters and real text, and then what some rule has most work with.
+const KINDS: [Kind; 8] = [
+    Kind {
+        name: "plain letters",
+        words: &[
+            "the", "quick", "brown", "fox", "jumps", "over", "lazy", "dog",
+        ],
+    },
+    Kind {
+        name: "English text",
+        words: &[
+            "The ",
+            "quick ",
+            "brown ",
+            "fox, ",
+            "(12.5%) ",
+            "jumps ",
+            "over ",
+            "\"lazy\" ",
+            "well-known ",
+            "dogs. ",
+        ],
+    },
+    Kind {
+        name: "Chinese text",
+        words: &["你好，", "世界。", "今天", "天气", "很好", "（2022）", "「引用」"],
+    },
+    Kind {
+        name: "spaces alone",
+        words: &[" "],
+    },
+    Kind {
+        name: "RI alone",
+        words: &["\u{1F1E6}"],
+    },
+    Kind {
+        name: "CM alone",
+        words: &["\u{300}"],
+    },
+    Kind {
+        name: "( and spaces",
+        words: &["(   "],
+    },
+    Kind {
+        name: "ZWJ alone",
+        words: &["\u{200D}"],
+    },
+];
+
+/// Prints a line for each kind of paragraph of so many characters: its least time in nanoseconds, at
+/// how many positions a line may end, and its name.
+pub fn run(rt: &HostRuntime, folder: &str, characters: usize) -> Result<()> {
+    measure_all(rt, Subject::Marks, &KINDS, folder, characters)
+}

@@ -1,0 +1,120 @@
+//! How long it takes to analyse one paragraph, by what it is made of.
+use crate::numbers::Numbers;
+use anyhow::Result;
+use bidi::{Base, resolve};
+use breaks::{Mark, marks};
+use std::alloc::{AllocError, Global};
+use std::fs;
+use std::time::Instant;
+use ucd::{FILE_NAMES, Tables, UcdFiles};
+
+/// A paragraph of these words, in an order that looks random.
+pub struct Kind {
+    pub name: &'static str,
+    pub words: &'static [&'static str],
+}
+
+/// What is found of a paragraph.
+#[derive(Clone, Copy, Debug, PartialEq, Eq)]
+pub enum Subject {
+    Levels,
+    Marks,
+}
+
+// How often a paragraph is analysed. The least time counts.
+const RUNS: usize = 5;
+
+/// Prints a line for each kind of paragraph of so many characters: its least time in nanoseconds, a
+/// number that tells something of what was found, and its name.
+pub fn measure_all(
+    rt: &HostRuntime,
+    subject: Subject,
+    kinds: &[Kind],
+    folder: &str,
+    characters: usize,
+) -> Result<()> {
+    let tables = tables(rt, folder)?;
+    for kind in kinds {
+        let text = text_of(rt.alloc(), kind.words, characters)?;
+        let (time, found) = measure(rt, subject, &tables, &text)?;
+        println!(rt; "{time} {found} {}", kind.name)?;
+    }
+    Ok(())
+}
+
+fn table_file(rt: &HostRuntime, folder: &str, name: &str) -> Result<Vec<u8>> {
+    let path = format!(in rt.alloc(); "{folder}/{name}")?;
+    Ok(fs::read(rt, path.as_str())?)
+}
+
+fn tables(rt: &HostRuntime, folder: &str) -> Result<Tables> {
+    let bidi_class = table_file(rt, folder, FILE_NAMES[0])?;
+    let bidi_brackets = table_file(rt, folder, FILE_NAMES[1])?;
+    let bidi_mirroring = table_file(rt, folder, FILE_NAMES[2])?;
+    let line_break = table_file(rt, folder, FILE_NAMES[3])?;
+    let general_category = table_file(rt, folder, FILE_NAMES[4])?;
+    let east_asian_width = table_file(rt, folder, FILE_NAMES[5])?;
+    let emoji_data = table_file(rt, folder, FILE_NAMES[6])?;
+    let files = UcdFiles {
+        bidi_class: &bidi_class,
+        bidi_brackets: &bidi_brackets,
+        bidi_mirroring: &bidi_mirroring,
+        line_break: &line_break,
+        general_category: &general_category,
+        east_asian_width: &east_asian_width,
+        emoji_data: &emoji_data,
+    };
+    Ok(Tables::read(rt.alloc(), &files)?)
+}
+
+fn text_of(alloc: Global, words: &[&str], characters: usize) -> Result<Vec<char>, AllocError> {
+    let mut text = Vec::new(alloc);
+    let mut numbers = Numbers::new();
+    for _ in 0..characters {
+        let pick = (numbers.next() >> 33) as usize % words.len().max(1);
+        for c in words.get(pick).copied().unwrap_or("").chars() {
+            if text.len() == characters {
+                return Ok(text);
+            }
+            text.push(c)?;
+        }
+    }
+    Ok(text)
+}
+
+// The least time in nanoseconds, and what was found.
+fn measure(
+    rt: &HostRuntime,
+    subject: Subject,
+    tables: &Tables,
+    text: &[char],
+) -> Result<(u64, usize)> {
+    let mut least = u64::MAX;
+    let mut found = 0;
+    for _ in 0..RUNS {
+        let start = Instant::now(rt)?;
+        found = analyse(rt.alloc(), subject, tables, text)?;
+        let time = start.elapsed(rt)?.as_nanos();
+        least = least.min(u64::try_from(time).unwrap_or(u64::MAX));
+    }
+    Ok((least, found))
+}
+
+// The highest level, or at how many positions a line may end.
+fn analyse(
+    alloc: Global,
+    subject: Subject,
+    tables: &Tables,
+    text: &[char],
+) -> Result<usize, AllocError> {
+    match subject {
+        Subject::Levels => {
+            let levels = resolve(alloc, tables, text, Base::WeakLtr)?;
+            Ok(usize::from(levels.iter().copied().max().unwrap_or(0)))
+        }
+        Subject::Marks => {
+            let marks = marks(alloc, tables, text)?;
+            Ok(marks.iter().filter(|mark| **mark != Mark::Never).count())
+        }
+    }
+}
