@@ -162,7 +162,8 @@ impl Openers {
     // What another character does: an initiator stands outside of what it opens.
     fn pass(&mut self, class: BidiClass)
         requires { AreOpeners self.old }
-        ensures { Follows self.old self.new (λ chain. if is_pdi class then chain else open_after chain class) }
+        ensures { Follows self.old self.new
+            (λ chain. if is_pdi class then chain else open_after chain class) }
     {
         match class {
             BidiClass::RLE
@@ -221,7 +222,8 @@ fn push_character(
     ensures levels { OnOk result (stayed.new.levels.items
         ≡ stayed.old.levels.items ++ (if is_separator class then base else status.level) ∷ []) }
     ensures types { OnOk result (stayed.new.types.items
-        ≡ stayed.old.types.items ++ (if is_separator class then class else unwrap_or status.overriding class) ∷ []) }
+        ≡ stayed.old.types.items
+        ++ (if is_separator class then class else unwrap_or status.overriding class) ∷ []) }
 {
     match class {
         BidiClass::B => stayed.push(class, base, class),

@@ -1,6 +1,7 @@
 //! Isolate initiators: their matching PDIs (UAX #9, BD9), and the direction of those by the first
 //! strong character (X5c).
-ghost use Rattle.std.specs.Prelude.{◌≡◌, ◌+◌, ◌-◌, ◌<◌, ◌==◌, true, IfOk, length, take, slice_index, slice_set, if◌then◌else◌};
+ghost use Rattle.std.specs.Prelude.{◌≡◌, ◌+◌, ◌-◌, ◌<◌, ◌==◌, true, IfOk, if◌then◌else◌};
+ghost use Rattle.std.specs.Prelude.{length, take, slice_index, slice_set};
 ghost use Rattle.std.specs.List.{list_any};
 ghost use Rattle.bidi.specs.Base.{first_strong_level};
 ghost use Rattle.bidi.specs.Classes.{class_at, is_initiator};
@@ -33,7 +34,8 @@ pub(crate) fn matches(alloc: Global, classes: &[BidiClass]) -> Result<Vec<usize>
 
 // Gives its match to the initiator that was opened last, and takes it off.
 fn close(found: &mut [usize], pending: &mut Vec<usize>, at: usize)
-    requires { 0 < length pending.old.items → slice_index pending.old.items (length pending.old.items - 1) < length found.old }
+    requires { 0 < length pending.old.items
+        → slice_index pending.old.items (length pending.old.items - 1) < length found.old }
     ensures rest { pending.new.items ≡ take (length pending.old.items - 1) pending.old.items }
     ensures found { found.new ≡ (if length pending.old.items == 0 then found.old
         else slice_set found.old (slice_index pending.old.items (length pending.old.items - 1)) at) }

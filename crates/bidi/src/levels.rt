@@ -1,5 +1,6 @@
 //! The levels of a paragraph's characters before L1 (UAX #9, X1 to I2).
-ghost use Rattle.std.specs.Prelude.{◌≡◌, ◌<◌, ◌≤◌, false, map, replicate, length, slice_index, IfSome, IfOk, OnOk};
+ghost use Rattle.std.specs.Prelude.{◌≡◌, ◌<◌, ◌≤◌, false, map, replicate, length, slice_index};
+ghost use Rattle.std.specs.Prelude.{IfSome, IfOk, OnOk};
 ghost use Rattle.ucd.specs.Tables.{class_of};
 ghost use Rattle.bidi.specs.Classes.{class_at};
 ghost use Rattle.bidi.specs.Isolates.{matches_of};
@@ -125,9 +126,10 @@ impl Sequence {
         requires resolved { length resolved.old ≡ length stayed.now.levels.items }
         requires matches { matches.now ≡ matches_of stayed.now.classes.items }
         requires found { length matches.now ≡ length stayed.now.levels.items }
-        ensures { OnOk result (let sequence = sequence_at stayed.now.classes.items stayed.now.levels.items start in
+        ensures { OnOk result (let left = stayed.now in
+            let sequence = sequence_at left.classes.items left.levels.items start in
             resolved.new ≡ put resolved.old sequence
-            (levels_in base stayed.now.classes.items stayed.now.levels.items stayed.now.types.items sequence)) }
+            (levels_in base left.classes.items left.levels.items left.types.items sequence)) }
     {
         gather(
             &stayed.classes,

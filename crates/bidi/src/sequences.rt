@@ -1,5 +1,6 @@
 //! Level runs and isolating run sequences (UAX #9, X10, BD7 and BD13) of the characters that X9 leaves.
-ghost use Rattle.std.specs.Prelude.{◌≡◌, ◌≢◌, ◌+◌, ◌-◌, ◌<◌, ◌≤◌, ◌==◌, ◌&&◌, ℕ, ◌++◌, length, max, slice_index, OnOk, if◌then◌else◌};
+ghost use Rattle.std.specs.Prelude.{◌≡◌, ◌+◌, ◌-◌, ◌<◌, ◌≤◌, ◌==◌, ◌&&◌, ◌++◌, if◌then◌else◌};
+ghost use Rattle.std.specs.Prelude.{length, max, slice_index, OnOk};
 ghost use Rattle.std.specs.List.{range_with_len};
 ghost use Rattle.bidi.specs.Classes.{class_at, is_initiator};
 ghost use Rattle.bidi.specs.Isolates.{matches_of};

@@ -1,5 +1,6 @@
 //! The weak rules (UAX #9, W1 to W7), each a pass over the types of one isolating run sequence.
-ghost use Rattle.std.specs.Prelude.{◌≡◌, ℕ, ◌<◌, ◌≤◌, true, false, ◌&&◌, ◌||◌, not, [], ◌∷◌, length, slice_index_or, if◌then◌else◌};
+ghost use Rattle.std.specs.Prelude.{◌≡◌, ℕ, ◌<◌, ◌≤◌, true, false, ◌&&◌, ◌||◌, not, if◌then◌else◌};
+ghost use Rattle.std.specs.Prelude.{[], ◌∷◌, length, slice_index_or};
 ghost use Rattle.bidi.specs.Classes.{is_strong, class_at};
 ghost use Rattle.bidi.specs.Weak.{is_mark, is_terminator, is_number, is_arabic, is_left};
 ghost use Rattle.bidi.specs.Weak.{mark_behind, w1, w2, w3, w4, w5, w6, w7, weak, w3_type, w4_at, w6_type};
