@@ -1,3 +1,4 @@
+pub mod ClassLemmas
 pub mod RuleLemmas
 pub mod SumLemmas
 pub mod WalkLemmas

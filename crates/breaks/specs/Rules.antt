@@ -75,11 +75,12 @@ abbrev pub is_future_pictograph : List Base → Bool
 is_future_pictograph [] = false
 is_future_pictograph (b ∷ bases) = b.first.is_future_pictograph
 
+-- The classes of a set stand in the order of LineClass, as the code's sets of bits list theirs.
 abbrev letters : List LineClass
 letters = AL ∷ HL ∷ []
 
 abbrev syllables : List LineClass
-syllables = JL ∷ JV ∷ JT ∷ H2 ∷ H3 ∷ []
+syllables = H2 ∷ H3 ∷ JL ∷ JT ∷ JV ∷ []
 
 unfoldable pub rules : List Rule
 rules =
@@ -127,7 +128,7 @@ rules =
     never any (is (BA ∷ HY ∷ NS ∷ [])) ∷
     never (is (BB ∷ [])) any ∷
     -- LB21a
-    never (is_pair (HL ∷ []) (HY ∷ BA ∷ [])) any ∷
+    never (is_pair (HL ∷ []) (BA ∷ HY ∷ [])) any ∷
     -- LB21b
     never (is (SY ∷ [])) (is (HL ∷ [])) ∷
     -- LB22
@@ -136,19 +137,19 @@ rules =
     never (is letters) (is (NU ∷ [])) ∷
     never (is (NU ∷ [])) (is letters) ∷
     -- LB23a
-    never (is (PR ∷ [])) (is (ID ∷ EB ∷ EM ∷ [])) ∷
-    never (is (ID ∷ EB ∷ EM ∷ [])) (is (PO ∷ [])) ∷
+    never (is (PR ∷ [])) (is (EB ∷ EM ∷ ID ∷ [])) ∷
+    never (is (EB ∷ EM ∷ ID ∷ [])) (is (PO ∷ [])) ∷
     -- LB24
-    never (is (PR ∷ PO ∷ [])) (is letters) ∷
-    never (is letters) (is (PR ∷ PO ∷ [])) ∷
+    never (is (PO ∷ PR ∷ [])) (is letters) ∷
+    never (is letters) (is (PO ∷ PR ∷ [])) ∷
     -- LB25
     never (is (CL ∷ CP ∷ NU ∷ [])) (is (PO ∷ PR ∷ [])) ∷
     never (is (PO ∷ PR ∷ [])) (is (OP ∷ NU ∷ [])) ∷
     never (is (HY ∷ IS ∷ NU ∷ SY ∷ [])) (is (NU ∷ [])) ∷
     -- LB26
-    never (is (JL ∷ [])) (is (JL ∷ JV ∷ H2 ∷ H3 ∷ [])) ∷
-    never (is (JV ∷ H2 ∷ [])) (is (JV ∷ JT ∷ [])) ∷
-    never (is (JT ∷ H3 ∷ [])) (is (JT ∷ [])) ∷
+    never (is (JL ∷ [])) (is (H2 ∷ H3 ∷ JL ∷ JV ∷ [])) ∷
+    never (is (H2 ∷ JV ∷ [])) (is (JT ∷ JV ∷ [])) ∷
+    never (is (H3 ∷ JT ∷ [])) (is (JT ∷ [])) ∷
     -- LB27
     never (is syllables) (is (PO ∷ [])) ∷
     never (is (PR ∷ [])) (is syllables) ∷
@@ -157,8 +158,8 @@ rules =
     -- LB29
     never (is (IS ∷ [])) (is letters) ∷
     -- LB30
-    never (is (AL ∷ HL ∷ NU ∷ [])) (is_narrow (OP ∷ [])) ∷
-    never (is_narrow (CP ∷ [])) (is (AL ∷ HL ∷ NU ∷ [])) ∷
+    never (is (NU ∷ AL ∷ HL ∷ [])) (is_narrow (OP ∷ [])) ∷
+    never (is_narrow (CP ∷ [])) (is (NU ∷ AL ∷ HL ∷ [])) ∷
     -- LB30a
     never ends_in_odd_run (is (RI ∷ [])) ∷
     -- LB30b

@@ -1,10 +1,10 @@
 -- What one walk over the characters keeps of the bases before a position, and how the rows of the code's table are read off it. Only the
 -- code speaks of these: that its marks are those of Marks.antt is what `marks` ensures.
-use Rattle.std.specs.Prelude.{◌≡◌, Bool, true, false, not, ◌&&◌, ◌++◌, List, [], ◌∷◌, Option, Some, None, MatchBool, if◌then◌else◌}
+use Rattle.std.specs.Prelude.{◌≡◌, ℕ, Bool, true, false, not, ◌&&◌, ◌++◌, List, [], ◌∷◌, Option, Some, None, MatchBool, if◌then◌else◌}
 use Rattle.ucd.specs.declared.line_class.LineClass.{LineClass}
 use Rattle.ucd.specs.declared.line_class.LineClass.TheVariants.{ZWJ}
 use Rattle.breaks.specs.Bases.{Base, alone, base_class, class_of, end_of, stays_with}
-use Rattle.breaks.specs.Classes.{is_same, is_one_of}
+use Rattle.breaks.specs.Classes.{is_same, is_in}
 use Rattle.breaks.specs.Rules.{rules, mark_by, without_spaces, ends_in_odd_run}
 use Rattle.breaks.specs.declared.before.Before.{Before}
 use Rattle.breaks.specs.declared.character.Character.{Character}
@@ -16,27 +16,27 @@ use Rattle.breaks.specs.declared.rules.Right.{Right}
 use Rattle.breaks.specs.declared.rules.Right.TheVariants as right
 use Rattle.breaks.specs.declared.rules.Rule.{Rule}
 
--- a class is there, and is one of those listed
-abbrev pub is_some_of : List LineClass → Option LineClass → Bool
-is_some_of classes None = false
-is_some_of classes (Some class) = is_one_of classes class
+-- a class is there, and is in the set
+abbrev pub is_some_in : ℕ → Option LineClass → Bool
+is_some_in classes None = false
+is_some_in classes (Some class) = is_in classes class
 
 -- whether a row's conditions hold
 abbrev pub left_at : Left → Before → Bool
 left_at left.Any before = true
-left_at (left.Is classes) before = is_one_of classes.now before.class
-left_at (left.IsNarrow classes) before = is_one_of classes.now before.class && not before.is_wide
-left_at (left.IsNot classes) before = not (is_one_of classes.now before.class)
-left_at (left.IsPair firsts classes) before = is_some_of firsts.now before.second && is_one_of classes.now before.class
-left_at (left.IsSpaced classes) before = is_some_of classes.now before.unspaced
+left_at (left.Is classes) before = is_in classes before.class
+left_at (left.IsNarrow classes) before = is_in classes before.class && not before.is_wide
+left_at (left.IsNot classes) before = not (is_in classes before.class)
+left_at (left.IsPair firsts classes) before = is_some_in firsts before.second && is_in classes before.class
+left_at (left.IsSpaced classes) before = is_some_in classes before.unspaced
 left_at left.EndsInZwj before = is_same before.end ZWJ
 left_at left.IsOddRun before = before.is_odd_run
 left_at left.IsFuturePictograph before = before.is_future_pictograph
 
 abbrev pub right_at : Right → Character → Bool
 right_at right.Any behind = true
-right_at (right.Is classes) behind = is_one_of classes.now (base_class behind.class)
-right_at (right.IsNarrow classes) behind = is_one_of classes.now (base_class behind.class) && not behind.is_wide
+right_at (right.Is classes) behind = is_in classes (base_class behind.class)
+right_at (right.IsNarrow classes) behind = is_in classes (base_class behind.class) && not behind.is_wide
 
 unfoldable pub first_mark : List Rule → Before → Character → Mark
 first_mark [] before behind = May

@@ -5,7 +5,8 @@ ghost use Rattle.breaks.specs.Bases.{Base, alone, end_of, stays_with};
 ghost use Rattle.breaks.specs.Rules.{without_spaces, ends_in_odd_run};
 ghost use Rattle.breaks.specs.Walk.{Sums, Passes, nearest};
 
-use crate::character::{Character, is_one_of};
+use crate::character::Character;
+use crate::classes::{BK, CM, CR, LF, NL, SP, ZW, ZWJ, has};
 use crate::mark::Mark;
 use crate::rules::mark_between;
 use ucd::LineClass;
@@ -57,15 +58,7 @@ impl Before {
         ensures { (last : Base) → self.now.end ≡ (end_of last).class
             → result ≡ stays_with (end_of last) next.now }
     {
-        let alone = [
-            LineClass::BK,
-            LineClass::CR,
-            LineClass::LF,
-            LineClass::NL,
-            LineClass::SP,
-            LineClass::ZW,
-        ];
-        is_one_of(next.class, &[LineClass::CM, LineClass::ZWJ]) && !is_one_of(self.end, &alone)
+        has(CM | ZWJ, next.class) && !has(BK | CR | LF | NL | SP | ZW, self.end)
     }
 
     // A base that begins with this character, and what is kept of those in front of it.

@@ -1,6 +1,5 @@
 //! What line breaking reads of a character (UAX #14, LB1, LB9 and LB10).
 ghost use Rattle.std.specs.Prelude.{◌≡◌};
-ghost use Rattle.breaks.specs.Classes.{is_one_of};
 ghost use Rattle.breaks.specs.Bases.{resolved, character, base_class};
 
 use ucd::{LineClass, Tables};
@@ -47,11 +46,4 @@ fn resolved(class: LineClass, is_mark: bool) -> LineClass
         LineClass::CJ => LineClass::NS,
         _ => class,
     }
-}
-
-/// Whether the class is one of those listed.
-pub fn is_one_of(class: LineClass, classes: &[LineClass]) -> bool
-    ensures { result ≡ is_one_of classes.now class }
-{
-    classes.contains(&class)
 }

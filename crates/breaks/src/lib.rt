@@ -4,6 +4,7 @@
 
 mod before;
 mod character;
+mod classes;
 mod mark;
 mod rules;
 
