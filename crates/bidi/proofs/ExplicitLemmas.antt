@@ -39,11 +39,11 @@ stayed_to-more classes k =
     ap (filter (λ i. not (is_removed (class_at classes i)))) (numbers-more k) ∙ filter-append (λ i. not (is_removed (class_at classes i))) (range_with_len 0 k) (k ∷ [])
 
 module _ {X : Type 0} (f : ℕ → X) (classes : List BidiClass) (k : ℕ) where
-  stays : is_removed (class_at classes k) ≡ false → map f (stayed_to classes (k + 1)) ≡ map f (stayed_to classes k) ++ f k ∷ []
+  pub stays : is_removed (class_at classes k) ≡ false → map f (stayed_to classes (k + 1)) ≡ map f (stayed_to classes k) ++ f k ∷ []
   stays e =
       ap (map f) (stayed_to-more classes k ∙ ap (λ (b : Bool). stayed_to classes k ++ cond (not b) (k ∷ []) []) e) ∙ map-append f (stayed_to classes k) (k ∷ [])
 
-  goes : is_removed (class_at classes k) ≡ true → map f (stayed_to classes (k + 1)) ≡ map f (stayed_to classes k)
+  pub goes : is_removed (class_at classes k) ≡ true → map f (stayed_to classes (k + 1)) ≡ map f (stayed_to classes k)
   goes e =
       ap (map f) (stayed_to-more classes k ∙ ap (λ (b : Bool). stayed_to classes k ++ cond (not b) (k ∷ []) []) e ∙ append-nil (stayed_to classes k))
 

@@ -4,6 +4,7 @@ use Rattle.std.specs.List.{list_any, range_with_len}
 use Rattle.std.proofs.lemmas.Bool.{cond-true, cond-false, cases_Bool, cases_eq, eq-eqb, ne_eqb, and_from, not_from_false, lt-ltb, or_left}
 use Rattle.std.proofs.lemmas.List.{get_or-set_same, get_or-set_other, length-set}
 use Rattle.ucd.specs.declared.bidi_class.BidiClass.{BidiClass}
+use Rattle.ucd.specs.declared.bracket.Bracket.{Bracket}
 use Rattle.bidi.specs.Base.{match_of}
 use Rattle.bidi.specs.Classes.{class_at, is_initiator}
 use Rattle.bidi.specs.Isolates.{match_at}
@@ -23,10 +24,10 @@ length-put levels (place ∷ places) (value ∷ values) = length-put (set levels
 abbrev pub continued_at : List BidiClass → List (List ℕ) → ℕ → Bool
 continued_at classes earlier j = list_any (λ run. is_initiator (class_at classes (last_of run)) && is_match (match_of classes (last_of run)) j) earlier
 
-module _ (base : ℕ) (classes : List BidiClass) (levels : List ℕ) (types : List BidiClass) where
+module _ (bracket_of : ℕ → Option Bracket) (base : ℕ) (characters : List ℕ) (classes : List BidiClass) (levels : List ℕ) (types : List BidiClass) where
   -- the levels with those of one more sequence
   abbrev pub write : List ℕ → List ℕ → List ℕ
-  write done sequence = put done sequence (levels_in base classes levels types sequence)
+  write done sequence = put done sequence (levels_in bracket_of base characters classes levels types sequence)
 
   -- What a walk over the runs knows at the start of one: of each place at which a run begins, whether an earlier run continues in it,
   -- and that the levels so far, with those of the sequences that begin from here on, are the whole.
@@ -36,7 +37,7 @@ module _ (base : ℕ) (classes : List BidiClass) (levels : List ℕ) (types : Li
     pub size : length done ≡ length levels
     pub marks : length flags ≡ length levels
     pub told : (j : ℕ) → j < length levels → (0 < j → slice_index levels (j - 1) ≢ slice_index levels j) → get_or flags j false ≡ continued_at classes earlier j
-    pub whole : fold write done (sequences_from classes earlier (runs_from levels start)) ≡ resolved base classes levels types
+    pub whole : fold write done (sequences_from classes earlier (runs_from levels start)) ≡ resolved bracket_of base characters classes levels types
 
   pub Resolves-start : (flags : List Bool) → length flags ≡ length levels → ((j : ℕ) → j < length levels → get_or flags j false ≡ false) → Resolves 0 flags levels
   Resolves-start flags size none = record {
@@ -74,7 +75,7 @@ module _ (base : ℕ) (classes : List BidiClass) (levels : List ℕ) (types : Li
         size = elim (cases_Bool (get_or flags start false)) [
           | inl skipped ↦ ap length (written ∙ cond-true (get_or flags start false) done (write done (sequence_at classes levels start)) skipped) ∙ now.size
           | inr begun ↦ ap length (written ∙ cond-false (get_or flags start false) done (write done (sequence_at classes levels start)) begun)
-              ∙ length-put done (sequence_at classes levels start) (levels_in base classes levels types (sequence_at classes levels start)) ∙ now.size
+              ∙ length-put done (sequence_at classes levels start) (levels_in bracket_of base characters classes levels types (sequence_at classes levels start)) ∙ now.size
         ];
         marks = marks;
         told = λ j inside edge. marked j inside edge
@@ -93,7 +94,7 @@ module _ (base : ℕ) (classes : List BidiClass) (levels : List ℕ) (types : Li
       }
 
   -- at the end
-  pub Resolves-end : (start : ℕ) (flags : List Bool) (done : List ℕ) → length levels ≤ start → Resolves start flags done → done ≡ resolved base classes levels types
+  pub Resolves-end : (start : ℕ) (flags : List Bool) (done : List ℕ) → length levels ≤ start → Resolves start flags done → done ≡ resolved bracket_of base characters classes levels types
   Resolves-end start flags done past now = ap (λ runs. fold write done (sequences_from classes now.earlier runs)) (sym (runs_from-end levels start past)) ∙ now.whole
 
 -- a mark at the place where the next run begins, or none where the run ends its sequence

@@ -1,3 +1,4 @@
+mod BracketLemmas
 mod ExplicitLemmas
 mod IsolateLemmas
 mod JumpLemmas
@@ -6,7 +7,9 @@ mod LevelLemmas
 mod MatchLemmas
 mod NeighbourLemmas
 mod OpenersLemmas
+mod PairLemmas
 mod PiecesLemmas
 mod RunLemmas
+mod WorkedBrackets
 mod WorkedLevels
 mod WorkedRows

@@ -1,30 +1,34 @@
 -- The levels of a paragraph's characters before L1 (UAX #9, X1 to I2).
-use Rattle.std.specs.Prelude.{ℕ, List, [], ◌∷◌, map, fold, slice_index, slice_set, if◌then◌else◌}
-use Rattle.ucd.specs.Tables.{class_of}
+use Rattle.std.specs.Prelude.{ℕ, List, [], ◌∷◌, Option, map, fold, slice_index, slice_set, if◌then◌else◌}
+use Rattle.ucd.specs.Tables.{class_of, bracket_of}
+use Rattle.ucd.specs.declared.bracket.Bracket.{Bracket}
 use Rattle.ucd.specs.declared.tables.Tables.{Tables}
 use Rattle.ucd.specs.declared.bidi_class.BidiClass.{BidiClass}
 use Rattle.bidi.specs.declared.base.Base.{Base}
 use Rattle.bidi.specs.Base.{base_level_of}
+use Rattle.bidi.specs.Brackets.{brackets}
 use Rattle.bidi.specs.Classes.{class_at}
 use Rattle.bidi.specs.Explicit.{directed, level_at, type_at}
 use Rattle.bidi.specs.Sequences.{is_removed, stayed, sequences, first_of, sos, eos, direction}
 use Rattle.bidi.specs.Weak.{weak}
 use Rattle.bidi.specs.Neutral.{neutral, implicit_level}
 
--- the levels of one sequence: the weak rules, the neutral rules and the implicit rules, at the level of its first character
-abbrev pub sequence_levels : ℕ → BidiClass → BidiClass → List BidiClass → List ℕ
-sequence_levels level sos eos types = map (implicit_level level) (neutral (direction level) sos eos (weak sos types))
+-- the levels of one sequence: the weak rules, bracket pairs, the neutral rules and the implicit rules, at the level of its first character
+abbrev pub sequence_levels : (ℕ → Option Bracket) → ℕ → BidiClass → BidiClass → List ℕ → List BidiClass → List ℕ
+sequence_levels bracket_of level sos eos characters types =
+    map (implicit_level level) (neutral (direction level) sos eos (brackets bracket_of (direction level) sos characters types (weak sos types)))
 
 -- values put at their places in a list
 abbrev pub put : List ℕ → List ℕ → List ℕ → List ℕ
 put levels (place ∷ places) (value ∷ values) = put (slice_set levels place value) places values
 put levels places values = levels
 
--- of the list that X9 leaves, by its classes, its explicit levels and its explicit types: the levels of all sequences, each at its places
-module _ (base : ℕ) (classes : List BidiClass) (levels : List ℕ) (types : List BidiClass) where
+-- of the list that X9 leaves, by its characters, their classes, explicit levels and explicit types: the levels of all sequences, each
+-- at its places
+module _ (bracket_of : ℕ → Option Bracket) (base : ℕ) (characters : List ℕ) (classes : List BidiClass) (levels : List ℕ) (types : List BidiClass) where
   abbrev pub levels_in : List ℕ → List ℕ
-  levels_in sequence = sequence_levels (slice_index levels (first_of sequence))
-      (sos base levels sequence) (eos base classes levels sequence) (map (class_at types) sequence)
+  levels_in sequence = sequence_levels bracket_of (slice_index levels (first_of sequence))
+      (sos base levels sequence) (eos base classes levels sequence) (map (slice_index characters) sequence) (map (class_at types) sequence)
 
   abbrev pub resolved : List ℕ
   resolved = fold (λ done sequence. put done sequence (levels_in sequence)) levels (sequences classes levels)
@@ -36,14 +40,15 @@ put_back before (class ∷ classes) [] = before ∷ put_back before classes []
 put_back before (class ∷ classes) (level ∷ levels) =
     if is_removed class then before ∷ put_back before classes (level ∷ levels) else level ∷ put_back level classes levels
 
--- the levels of a paragraph, by its classes and the paragraph level; each FSI stands as the initiator that it acts as
-abbrev pub levels_by : List BidiClass → ℕ → List ℕ
-levels_by classes base =
+-- the levels of a paragraph, by its characters, their classes and the paragraph level; each FSI stands as the initiator that it acts as
+abbrev pub levels_by : (ℕ → Option Bracket) → List ℕ → List BidiClass → ℕ → List ℕ
+levels_by bracket_of text classes base =
     let places = stayed classes in
-    put_back base classes (resolved base (map (class_at classes) places) (map (level_at base classes) places) (map (type_at base classes) places))
+    put_back base classes (resolved bracket_of base (map (slice_index text) places) (map (class_at classes) places) (map (level_at base classes) places) (map (type_at base classes) places))
 
-abbrev pub paragraph_levels : List BidiClass → ℕ → List ℕ
-paragraph_levels classes base = levels_by (directed classes) base
+abbrev pub paragraph_levels : (ℕ → Option Bracket) → List ℕ → List BidiClass → ℕ → List ℕ
+paragraph_levels bracket_of text classes base = levels_by bracket_of text (directed classes) base
 
 abbrev pub levels_of : Tables → List ℕ → Base → List ℕ
-levels_of tables text base = let classes = map (class_of tables) text in paragraph_levels classes (base_level_of classes base)
+levels_of tables text base =
+    let classes = map (class_of tables) text in paragraph_levels (bracket_of tables) text classes (base_level_of classes base)

@@ -1,5 +1,7 @@
 pub mod Base
+pub mod Brackets
 pub mod Classes
+pub mod Closers
 pub mod Cuts
 pub mod Engine
 pub mod Explicit
@@ -9,7 +11,9 @@ pub mod Levels
 pub mod Neighbours
 pub mod Neutral
 pub mod Openers
+pub mod Paragraphs
 pub mod Pieces
+pub mod Resolving
 pub mod Rules
 pub mod Runs
 pub mod Sequences

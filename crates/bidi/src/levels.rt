@@ -1,17 +1,19 @@
 //! The levels of a paragraph's characters before L1 (UAX #9, X1 to I2).
 ghost use Rattle.std.specs.Prelude.{◌≡◌, ◌<◌, ◌≤◌, false, map, replicate, length, slice_index};
 ghost use Rattle.std.specs.Prelude.{IfSome, IfOk, OnOk};
-ghost use Rattle.ucd.specs.Tables.{class_of};
+ghost use Rattle.ucd.specs.Tables.{class_of, bracket_of};
+ghost use Rattle.bidi.specs.Brackets.{brackets};
 ghost use Rattle.bidi.specs.Classes.{class_at};
-ghost use Rattle.bidi.specs.Isolates.{matches_of};
-ghost use Rattle.bidi.specs.Levels.{levels_of, levels_in, put, put_back, resolved, sequence_levels};
+ghost use Rattle.bidi.specs.Levels.{levels_of, put, put_back, resolved};
 ghost use Rattle.bidi.specs.Neutral.{implicit_level, neutral};
-ghost use Rattle.bidi.specs.Sequences.{direction, eos, first_of, sos};
+ghost use Rattle.bidi.specs.Paragraphs.{AreSides, IsReady, Takes, resolved_by, write_by};
+ghost use Rattle.bidi.specs.Runs.{AreWithin, marked};
+ghost use Rattle.bidi.specs.Sequences.{direction, stayed};
 ghost use Rattle.bidi.specs.Stayed.{HasAll};
 ghost use Rattle.bidi.specs.Weak.{weak};
-ghost use Rattle.bidi.specs.Runs.{AreWithin, marked, sequence_at};
 
 use crate::base::{Base, base_level};
+use crate::brackets::{Pairs, copy_types};
 use crate::classes::is_removed;
 use crate::explicit::{Stayed, explicit};
 use crate::isolates::{directed, matches};
@@ -44,6 +46,22 @@ fn take_types(
     Ok(())
 }
 
+// The characters of a sequence, at its places.
+fn take_characters(
+    all: &[char],
+    places: &[usize],
+    characters: &mut Vec<char>,
+) -> Result<(), AllocError>
+    requires { AreWithin (length all.now) places.now }
+    ensures { OnOk result (characters.new.items ≡ map (slice_index all.now) places.now) }
+{
+    characters.clear();
+    for place in places {
+        characters.push(all[*place])?;
+    }
+    Ok(())
+}
+
 // Writes the level of each character of a sequence to its place.
 fn put_levels(levels: &mut [u8], places: &[usize], level: u8, types: &[BidiClass])
     requires within { AreWithin (length levels.old) places.now }
@@ -56,97 +74,128 @@ fn put_levels(levels: &mut [u8], places: &[usize], level: u8, types: &[BidiClass
     }
 }
 
-// The weak and the neutral rules, over the types of a sequence.
-fn resolve_types(types: &mut [BidiClass], level: u8, sos: BidiClass, eos: BidiClass)
-    ensures { types.new ≡ neutral (direction level) sos eos (weak sos types.old) }
-{
-    resolve_weak(types, sos);
-    resolve_neutral(types, direction(level), sos, eos);
+// The characters that X9 leaves, with what is found of them before their sequences are resolved.
+#[derive(Clone, Copy)]
+struct Paragraph<'a> {
+    tables: &'a Tables,
+    base: u8,
+    characters: &'a [char],
+    stayed: &'a Stayed,
+    matches: &'a [usize],
 }
 
-// Writes the levels of a sequence to its places, by its types.
-fn resolve_places(
-    stayed: &Stayed,
-    matches: &[usize],
-    base: u8,
-    places: &[usize],
-    types: &mut [BidiClass],
-    resolved: &mut [u8],
-)
-    requires stayed { HasAll stayed.now }
-    requires resolved { length resolved.old ≡ length stayed.now.levels.items }
-    requires matches { matches.now ≡ matches_of stayed.now.classes.items }
-    requires found { length matches.now ≡ length stayed.now.levels.items }
+// What a sequence is resolved by: its level, and the directions at both of its ends.
+#[derive(Clone, Copy, Debug, PartialEq, Eq)]
+struct Sides {
+    level: u8,
+    sos: BidiClass,
+    eos: BidiClass,
+}
+
+fn sides_of(paragraph: &Paragraph<'_>, places: &[usize]) -> Sides
+    requires paragraph { IsReady paragraph.now }
     requires some { 0 < length places.now }
-    requires within { AreWithin (length stayed.now.levels.items) places.now }
-    requires types { length types.old ≡ length places.now }
-    ensures { resolved.new ≡ put resolved.old places.now
-        (sequence_levels (slice_index stayed.now.levels.items (first_of places.now))
-        (sos base stayed.now.levels.items places.now)
-        (eos base stayed.now.classes.items stayed.now.levels.items places.now) types.old) }
+    requires within { AreWithin (length paragraph.now.stayed.now.levels.items) places.now }
+    ensures sides { AreSides paragraph.now places.now result }
+    ensures bounded { result.level ≤ 125 }
 {
-    let levels = stayed.levels.as_slice();
-    let classes = stayed.classes.as_slice();
+    let levels = paragraph.stayed.levels.as_slice();
+    let classes = paragraph.stayed.classes.as_slice();
     let first = places[0];
     let last = places[places.len() - 1];
-    let level = levels[first];
-    let sos = sos(levels, base, first);
-    let eos = eos(classes, levels, matches, base, last);
-    resolve_types(types, level, sos, eos);
-    put_levels(resolved, places, level, types);
+    Sides {
+        level: levels[first],
+        sos: sos(levels, paragraph.base, first),
+        eos: eos(classes, levels, paragraph.matches, paragraph.base, last),
+    }
 }
 
-// What the levels of a sequence are found in: a list of places and one of types, used again for
-// each sequence.
+// The rules over the types of a sequence, from the weak to the neutral ones.
+fn resolve_types(
+    tables: &Tables,
+    characters: &[char],
+    explicit: &[BidiClass],
+    types: &mut [BidiClass],
+    pairs: &mut Pairs,
+    sides: Sides,
+) -> Result<(), AllocError>
+    requires characters { length characters.now ≡ length types.old }
+    requires explicit { explicit.now ≡ types.old }
+    ensures { OnOk result (types.new ≡ neutral (direction sides.level) sides.sos sides.eos
+        (brackets (bracket_of tables.now) (direction sides.level) sides.sos characters.now explicit.now
+        (weak sides.sos types.old))) }
+{
+    let embedding = direction(sides.level);
+    resolve_weak(types, sides.sos);
+    pairs.resolve(tables, characters, explicit, types, embedding, sides.sos)?;
+    resolve_neutral(types, embedding, sides.sos, sides.eos);
+    Ok(())
+}
+
+// What the levels of a sequence are found in, used again for each sequence: the places of its
+// characters, these, their explicit types and their types.
 #[derive(Drop)]
 struct Sequence {
     places: Vec<usize>,
+    characters: Vec<char>,
+    explicit: Vec<BidiClass>,
     types: Vec<BidiClass>,
+    pairs: Pairs,
 }
 
 impl Sequence {
     fn new(alloc: Global) -> Sequence {
         Sequence {
             places: Vec::new(alloc),
+            characters: Vec::new(alloc),
+            explicit: Vec::new(alloc),
             types: Vec::new(alloc),
+            pairs: Pairs::new(alloc),
         }
+    }
+
+    // Takes the sequence that begins at `start`.
+    fn take(&mut self, paragraph: &Paragraph<'_>, start: usize) -> Result<(), AllocError>
+        requires paragraph { IsReady paragraph.now }
+        requires within { start < length paragraph.now.stayed.now.levels.items }
+        ensures { OnOk result (Takes paragraph.now start self.new) }
+    {
+        let stayed = paragraph.stayed;
+        gather(
+            &stayed.classes,
+            &stayed.levels,
+            paragraph.matches,
+            start,
+            &mut self.places,
+        )?;
+        take_characters(paragraph.characters, &self.places, &mut self.characters)?;
+        take_types(&stayed.types, &self.places, &mut self.explicit)?;
+        copy_types(&self.explicit, &mut self.types)
     }
 
     // Finds the levels of the sequence that begins at `start`, and writes them to their places.
     fn resolve(
         &mut self,
-        stayed: &Stayed,
-        matches: &[usize],
-        base: u8,
+        paragraph: &Paragraph<'_>,
         start: usize,
         resolved: &mut [u8],
     ) -> Result<(), AllocError>
-        requires within { start < length stayed.now.levels.items }
-        requires stayed { HasAll stayed.now }
-        requires resolved { length resolved.old ≡ length stayed.now.levels.items }
-        requires matches { matches.now ≡ matches_of stayed.now.classes.items }
-        requires found { length matches.now ≡ length stayed.now.levels.items }
-        ensures { OnOk result (let left = stayed.now in
-            let sequence = sequence_at left.classes.items left.levels.items start in
-            resolved.new ≡ put resolved.old sequence
-            (levels_in base left.classes.items left.levels.items left.types.items sequence)) }
+        requires paragraph { IsReady paragraph.now }
+        requires within { start < length paragraph.now.stayed.now.levels.items }
+        requires resolved { length resolved.old ≡ length paragraph.now.stayed.now.levels.items }
+        ensures { OnOk result (resolved.new ≡ write_by paragraph.now resolved.old start) }
     {
-        gather(
-            &stayed.classes,
-            &stayed.levels,
-            matches,
-            start,
-            &mut self.places,
-        )?;
-        take_types(&stayed.types, &self.places, &mut self.types)?;
-        resolve_places(
-            stayed,
-            matches,
-            base,
-            &self.places,
+        self.take(paragraph, start)?;
+        let sides = sides_of(paragraph, &self.places);
+        resolve_types(
+            paragraph.tables,
+            &self.characters,
+            &self.explicit,
             &mut self.types,
-            resolved,
-        );
+            &mut self.pairs,
+            sides,
+        )?;
+        put_levels(resolved, &self.places, sides.level, &self.types);
         Ok(())
     }
 }
@@ -163,53 +212,73 @@ fn mark(continued: &mut [bool], next: Option<usize>)
 
 // Finds the levels of all sequences, run by run, and writes them to their places.
 fn resolve_runs(
-    stayed: &Stayed,
-    matches: &[usize],
-    base: u8,
+    paragraph: &Paragraph<'_>,
     sequence: &mut Sequence,
     continued: &mut [bool],
     done: &mut [u8],
 ) -> Result<(), AllocError>
-    requires stayed { HasAll stayed.now }
-    requires matches { matches.now ≡ matches_of stayed.now.classes.items }
-    requires found { length matches.now ≡ length stayed.now.levels.items }
-    requires continued { continued.old ≡ replicate (length stayed.now.levels.items) false }
-    requires done { done.old ≡ stayed.now.levels.items }
-    ensures { OnOk result (done.new
-        ≡ resolved base stayed.now.classes.items stayed.now.levels.items stayed.now.types.items) }
+    requires paragraph { IsReady paragraph.now }
+    requires continued { continued.old ≡ replicate (length paragraph.now.stayed.now.levels.items) false }
+    requires done { done.old ≡ paragraph.now.stayed.now.levels.items }
+    ensures { OnOk result (done.new ≡ resolved_by paragraph.now) }
 {
-    let levels = stayed.levels.as_slice();
+    let levels = paragraph.stayed.levels.as_slice();
     let mut start = 0;
     while start < levels.len() {
         // A run in which an earlier one continues belongs to the sequence of that one.
         if !continued[start] {
-            sequence.resolve(stayed, matches, base, start, done)?;
+            sequence.resolve(paragraph, start, done)?;
         }
         start = run_end(levels, start);
-        mark(continued, next_run(levels, matches, start));
+        mark(continued, next_run(levels, paragraph.matches, start));
     }
     Ok(())
 }
 
 // The levels of the characters that X9 leaves.
-fn resolve_stayed(alloc: Global, stayed: &Stayed, base: u8) -> Result<Vec<u8>, AllocError>
-    requires { HasAll stayed.now }
-    ensures { IfOk result (λ levels. levels.items
-        ≡ resolved base stayed.now.classes.items stayed.now.levels.items stayed.now.types.items) }
+fn resolve_stayed(
+    alloc: Global,
+    tables: &Tables,
+    characters: &[char],
+    stayed: &Stayed,
+    base: u8,
+) -> Result<Vec<u8>, AllocError>
+    requires stayed { HasAll stayed.now }
+    requires characters { length characters.now ≡ length stayed.now.levels.items }
+    ensures { IfOk result (λ levels. levels.items ≡ resolved (bracket_of tables.now) base characters.now
+        stayed.now.classes.items stayed.now.levels.items stayed.now.types.items) }
 {
     let matches = matches(alloc, &stayed.classes)?;
     let mut continued = vec![in alloc; false; stayed.levels.len()]?;
     let mut resolved = Vec::from_slice(alloc, &stayed.levels)?;
     let mut sequence = Sequence::new(alloc);
-    resolve_runs(
-        stayed,
-        &matches,
+    let paragraph = Paragraph {
+        tables,
         base,
-        &mut sequence,
-        &mut continued,
-        &mut resolved,
-    )?;
+        characters,
+        stayed,
+        matches: &matches,
+    };
+    resolve_runs(&paragraph, &mut sequence, &mut continued, &mut resolved)?;
     Ok(resolved)
+}
+
+// The characters that X9 leaves.
+fn stayed_characters(
+    alloc: Global,
+    text: &[char],
+    classes: &[BidiClass],
+) -> Result<Vec<char>, AllocError>
+    requires { length text.now ≡ length classes.now }
+    ensures { IfOk result (λ characters. characters.items ≡ map (slice_index text.now) (stayed classes.now)) }
+{
+    let mut characters = Vec::new(alloc);
+    for at in 0..text.len() {
+        if !is_removed(classes[at]) {
+            characters.push(text[at])?;
+        }
+    }
+    Ok(characters)
 }
 
 // The levels of all characters: one that X9 took out has the level of the nearest one before it
@@ -250,6 +319,7 @@ pub fn resolve(
     let classes = directed(alloc, classes_of(alloc, tables, text)?)?;
     let base = base_level(tables, text, base);
     let stayed = explicit(alloc, &classes, base)?;
-    let resolved = resolve_stayed(alloc, &stayed, base)?;
+    let characters = stayed_characters(alloc, text, &classes)?;
+    let resolved = resolve_stayed(alloc, tables, &characters, &stayed, base)?;
     put_back(alloc, &classes, base, &resolved)
 }

@@ -3,6 +3,7 @@
 #![tactic(auto)]
 
 mod base;
+mod brackets;
 mod classes;
 mod cuts;
 mod engine;

@@ -67,3 +67,47 @@ fn levels_of_deep_embeddings(rt: HostRuntime) -> Result<(), Fail> {
     }
     Ok(())
 }
+
+#[test]
+fn levels_of_brackets(rt: HostRuntime) -> Result<(), Fail> {
+    let alloc = rt.alloc();
+    let tables = tables(alloc)?;
+    let rows: [(&str, Base, &[u8]); 7] = [
+        (
+            "\u{5D0}\u{5D1} (x) \u{5D2}",
+            Base::WeakLtr,
+            &[1, 1, 1, 1, 2, 1, 1, 1],
+        ),
+        ("a(\u{5D0})b", Base::WeakLtr, &[0, 0, 1, 0, 0]),
+        ("\u{5D0}(a)", Base::Ltr, &[1, 0, 0, 0]),
+        ("\u{5D0}(\u{5D1})", Base::Ltr, &[1, 1, 1, 1]),
+        ("\u{5D0}(\u{5D1}(a)", Base::Ltr, &[1, 1, 1, 0, 0, 0]),
+        ("a\u{2329}b\u{3009}", Base::Rtl, &[2, 2, 2, 2]),
+        ("a(b)\u{300}", Base::Rtl, &[2, 2, 2, 2, 2]),
+    ];
+    for (text, base, levels) in &rows {
+        let text: Vec<char> = text.chars().collect(alloc)?;
+        let found = resolve(alloc, &tables, &text, *base)?;
+        assert_eq!(rt; found.as_slice(), *levels);
+    }
+    Ok(())
+}
+
+// 63 openers are held; at the 64th the pairing stops.
+#[test]
+fn levels_of_deep_brackets(rt: HostRuntime) -> Result<(), Fail> {
+    let alloc = rt.alloc();
+    let tables = tables(alloc)?;
+    let rows: [(usize, usize, usize); 2] = [(63, 128, 0), (64, 66, 64)];
+    for (depth, twos, ones) in &rows {
+        let mut text = vec![in alloc; 'x'; 1]?;
+        text.extend_from_slice(&vec![in alloc; '('; *depth]?)?;
+        text.push('a')?;
+        text.extend_from_slice(&vec![in alloc; ')'; *depth]?)?;
+        let mut levels = vec![in alloc; 2; *twos]?;
+        levels.extend_from_slice(&vec![in alloc; 1; *ones]?)?;
+        let found = resolve(alloc, &tables, &text, Base::Rtl)?;
+        assert_eq!(rt; found.as_slice(), levels.as_slice());
+    }
+    Ok(())
+}

@@ -1,7 +1,9 @@
-use Rattle.std.proofs.Common.{◌≡◌, ℕ, ◌≤◌, List, length, map, get_or, Option, Some, None, unwrap_or, option_map, IfOk, sym, ap, subst, ◌∙◌, inl, inr, arith}
+use Rattle.std.proofs.Common.{◌≡◌, ℕ, ◌≤◌, List, length, map, get_or, slice_index, Option, Some, None, unwrap_or, option_map, IfOk, sym, ap, subst, ◌∙◌, inl, inr, arith}
 use Rattle.std.proofs.lemmas.Bool.{cases_lt}
 use Rattle.std.proofs.lemmas.List.{get_or-map, get_or_past, length-map}
-use Rattle.ucd.specs.Tables.{class_of}
+use Rattle.std.proofs.lemmas.List.FromFn.{length-map-range_with_len}
+use Rattle.ucd.specs.Tables.{class_of, bracket_of}
+use Rattle.ucd.specs.declared.bracket.Bracket.{Bracket}
 use Rattle.ucd.specs.declared.bidi_class.BidiClass.{BidiClass}
 use Rattle.ucd.specs.declared.bidi_class.BidiClass.TheVariants.{L}
 use Rattle.bidi.specs.declared.base.Base.{Base}
@@ -9,7 +11,7 @@ use Rattle.bidi.specs.declared.base.Base.TheVariants.{Rtl, Ltr, WeakRtl, WeakLtr
 use Rattle.bidi.specs.declared.explicit.Stayed.{Stayed}
 use Rattle.bidi.specs.Base.{base_level_of, first_strong, strong_level}
 use Rattle.bidi.specs.Classes.{class_at}
-use Rattle.bidi.specs.Explicit.{directed, level_at, type_at}
+use Rattle.bidi.specs.Explicit.{directed, directed_at, level_at, type_at}
 use Rattle.bidi.specs.Levels.{levels_by, levels_of, put_back, resolved}
 use Rattle.bidi.specs.Sequences.{stayed}
 use Rattle.bidi.specs.Stayed.{HasAll, IsStayed}
@@ -46,32 +48,53 @@ whole classes base left low kept =
     }
 
 -- the levels of what stayed, put back
-all_levels : (classes : List BidiClass) (base : ℕ) (left : Stayed) (done : List ℕ) → IsStayed classes base left
-    → done ≡ resolved base left.classes.items left.levels.items left.types.items → put_back base classes done ≡ levels_by classes base
-all_levels classes base left done kept e =
+all_levels : (bracket : ℕ → Option Bracket) (text : List ℕ) (classes : List BidiClass) (base : ℕ) (characters : List ℕ) (left : Stayed) (done : List ℕ) → IsStayed classes base left
+    → characters ≡ map (slice_index text) (stayed classes) → done ≡ resolved bracket base characters left.classes.items left.levels.items left.types.items
+    → put_back base classes done ≡ levels_by bracket text classes base
+all_levels bracket text classes base characters left done kept there e =
     ap (put_back base classes) (
     e
-    ∙ ap (λ xs. resolved base xs left.levels.items left.types.items) kept.classes_are
-    ∙ ap (λ xs. resolved base (map (class_at classes) (stayed classes)) xs left.types.items) kept.levels_are
-    ∙ ap (resolved base (map (class_at classes) (stayed classes)) (map (level_at base classes) (stayed classes))) kept.types_are
+    ∙ ap (λ xs. resolved bracket base xs left.classes.items left.levels.items left.types.items) there
+    ∙ ap (λ xs. resolved bracket base (map (slice_index text) (stayed classes)) xs left.levels.items left.types.items) kept.classes_are
+    ∙ ap (λ xs. resolved bracket base (map (slice_index text) (stayed classes)) (map (class_at classes) (stayed classes)) xs left.types.items) kept.levels_are
+    ∙ ap (resolved bracket base (map (slice_index text) (stayed classes)) (map (class_at classes) (stayed classes)) (map (level_at base classes) (stayed classes))) kept.types_are
     )
 
-pub resolve_stayed-requires : goal.resolve_stayed-requires
-resolve_stayed-requires c =
+-- the classes of a text are as many as its characters, each FSI as what it acts as too
+length-directed : (classes : List BidiClass) → length (directed classes) ≡ length classes
+length-directed classes = length-map-range_with_len (λ k. directed_at classes k (class_at classes k)) 0 (length classes)
+
+pub stayed_characters-requires : goal.stayed_characters-requires
+stayed_characters-requires c =
+    sym (ap length (c.deref-2.ensures.value ∙ c.in_ok-classes.ensures) ∙ length-directed c.in_ok-classes_of.field-0.items ∙ ap length c.in_ok-classes_of.ensures ∙ length-map c.args.text.now (class_of c.args.tables.now))
+
+pub resolve_stayed-requires-clause-stayed : goal.resolve_stayed-requires-clause-stayed
+resolve_stayed-requires-clause-stayed c =
     whole c.deref.result.now c.base_level-base.result c.in_ok-stayed.stayed
     (rw c.base_level-base.ensures (base_level_of-low (map (class_of c.args.tables.now) c.args.text.now) c.args.base)) c.in_ok-stayed.ensures
 
+pub resolve_stayed-requires-clause-characters : goal.resolve_stayed-requires-clause-characters
+resolve_stayed-requires-clause-characters c =
+    let kept : IsStayed c.in_ok-classes.classes.items c.base_level-base.result c.in_ok-stayed.stayed = rw c.deref.ensures.value at c.in_ok-stayed.ensures in
+    ap length c.deref-3.ensures.value ∙ ap length c.in_ok-characters.ensures ∙ length-map (stayed c.deref-2.result.now) (slice_index c.args.text.now)
+    ∙ ap (λ classes. length (stayed classes)) c.deref-2.ensures.value
+    ∙ sym (ap length kept.levels_are ∙ length-map (stayed c.in_ok-classes.classes.items) (level_at c.base_level-base.result c.in_ok-classes.classes.items))
+
 pub returns : goal.returns
 returns c =
-    let classes = map (class_of c.args.tables.now) c.args.text.now in
+    let bracket = bracket_of c.args.tables.now in
+    let text = c.args.text.now in
+    let classes = map (class_of c.args.tables.now) text in
     let base = c.base_level-base.result in
     let taken : c.in_ok-classes_of.field-0.items ≡ classes = c.in_ok-classes_of.ensures in
     let acting : c.in_ok-classes.classes.items ≡ directed classes = c.in_ok-classes.ensures ∙ ap directed taken in
     let kept : IsStayed c.in_ok-classes.classes.items base c.in_ok-stayed.stayed = rw c.deref.ensures.value at c.in_ok-stayed.ensures in
-    let found : put_back base c.deref-2.result.now c.deref-3.result.now ≡ levels_of c.args.tables.now c.args.text.now c.args.base =
-    ap (λ xs. put_back base xs c.deref-3.result.now) c.deref-2.ensures.value
-    ∙ ap (put_back base c.in_ok-classes.classes.items) c.deref-3.ensures.value
-    ∙ all_levels c.in_ok-classes.classes.items base c.in_ok-stayed.stayed c.in_ok-resolved.resolved.items kept c.in_ok-resolved.ensures
-    ∙ ap (λ xs. levels_by xs base) acting ∙ ap (levels_by (directed classes)) c.base_level-base.ensures in
-    let made : IfOk c.put_back.result (λ levels. levels.items ≡ put_back base c.deref-2.result.now c.deref-3.result.now) = c.put_back.ensures in
+    let there : c.deref-3.result.now ≡ map (slice_index text) (stayed c.in_ok-classes.classes.items) =
+    c.deref-3.ensures.value ∙ c.in_ok-characters.ensures ∙ ap (λ xs. map (slice_index text) (stayed xs)) c.deref-2.ensures.value in
+    let found : put_back base c.deref-4.result.now c.deref-5.result.now ≡ levels_of c.args.tables.now text c.args.base =
+    ap (λ xs. put_back base xs c.deref-5.result.now) c.deref-4.ensures.value
+    ∙ ap (put_back base c.in_ok-classes.classes.items) c.deref-5.ensures.value
+    ∙ all_levels bracket text c.in_ok-classes.classes.items base c.deref-3.result.now c.in_ok-stayed.stayed c.in_ok-resolved.resolved.items kept there c.in_ok-resolved.ensures
+    ∙ ap (λ xs. levels_by bracket text xs base) acting ∙ ap (levels_by bracket text (directed classes)) c.base_level-base.ensures in
+    let made : IfOk c.put_back.result (λ levels. levels.items ≡ put_back base c.deref-4.result.now c.deref-5.result.now) = c.put_back.ensures in
     subst (λ (xs : List ℕ). IfOk c.put_back.result (λ levels. levels.items ≡ xs)) found made

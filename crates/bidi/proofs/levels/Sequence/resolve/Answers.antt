@@ -1,19 +1,39 @@
-use Rattle.std.proofs.Common.{◌≡◌, map, ap, ◌∙◌}
+use Rattle.std.proofs.Common.{◌≡◌, ℕ, List, length, map, slice_index, sym, ap, ◌∙◌}
+use Rattle.std.proofs.lemmas.List.{with_items_is}
+use Rattle.ucd.specs.Tables.{bracket_of}
+use Rattle.bidi.specs.Brackets.{brackets}
 use Rattle.bidi.specs.Classes.{class_at}
-use Rattle.bidi.specs.Runs.{sequence_at}
+use Rattle.bidi.specs.Levels.{put}
+use Rattle.bidi.specs.Neutral.{implicit_level, neutral}
+use Rattle.bidi.specs.Paragraphs.{AreSides, Takes, sequence_in}
+use Rattle.bidi.specs.Sequences.{direction, eos, first_of, sos}
+use Rattle.bidi.specs.Weak.{weak}
 use Rattle.bidi.proofs.levels.Sequence.resolve.Goals as goal
 
 pub returns : goal.returns
 returns c =
-    let classes = c.args.stayed.now.classes.items in
-    let levels = c.args.stayed.now.levels.items in
-    let sequence = sequence_at classes levels c.args.start in
-    let gathered : c.gather.new.places.items ≡ sequence_at c.deref.result.now c.deref-2.result.now c.args.start = c.in_ok-gather.ensures.places in
-    let found : c.gather.new.places.items ≡ sequence =
-    gathered ∙ ap (λ xs. sequence_at xs c.deref-2.result.now c.args.start) c.deref.ensures.value ∙ ap (λ xs. sequence_at classes xs c.args.start) c.deref-2.ensures.value in
-    let places : c.deref-5.result.now ≡ sequence = c.deref-5.ensures.value ∙ found in
-    let taken : c.take_types.new.types.items ≡ map (class_at c.deref-3.result.now) c.deref-4.result.now = c.in_ok-take_types.ensures in
-    let types : c.deref_mut.result.now ≡ map (class_at c.args.stayed.now.types.items) sequence =
-    c.deref_mut.ensures.value ∙ taken ∙ ap (λ xs. map (class_at xs) c.deref-4.result.now) c.deref-3.ensures.value
-    ∙ ap (map (class_at c.args.stayed.now.types.items)) (c.deref-4.ensures.value ∙ found) in
-    rw (places, types) at c.resolve_places.ensures
+    let p = c.args.paragraph.now in
+    let levels = p.stayed.now.levels.items in
+    let classes = p.stayed.now.classes.items in
+    let explicit = p.stayed.now.types.items in
+    let sequence = sequence_in p c.args.start in
+    let sides = c.sides_of-sides.result in
+    let taken : Takes p c.args.start c.take.new.self = c.in_ok-take.ensures in
+    let are : AreSides p c.deref.result.now sides = c.sides_of-sides.ensures.sides in
+    let here : c.deref.result.now ≡ sequence = c.deref.ensures.value ∙ taken.places_are in
+    let level : sides.level ≡ slice_index levels (first_of sequence) = are.level_is ∙ ap (λ xs. slice_index levels (first_of xs)) here in
+    let before : sides.sos ≡ sos p.base levels sequence = are.sos_is ∙ ap (sos p.base levels) here in
+    let behind : sides.eos ≡ eos p.base classes levels sequence = are.eos_is ∙ ap (eos p.base classes levels) here in
+    let places : c.deref-4.result.now ≡ sequence = c.deref-4.ensures.value ∙ taken.places_are in
+    let characters : c.deref-2.result.now ≡ map (slice_index p.characters.now) sequence =
+    c.deref-2.ensures.value ∙ taken.characters_are ∙ ap (map (slice_index p.characters.now)) taken.places_are in
+    let found : c.take.new.self.explicit.items ≡ map (class_at explicit) sequence = taken.explicit_are ∙ ap (map (class_at explicit)) taken.places_are in
+    let first : c.deref-3.result.now ≡ map (class_at explicit) sequence = c.deref-3.ensures.value ∙ found in
+    let types : c.deref_mut.result.now ≡ map (class_at explicit) sequence = c.deref_mut.ensures.value ∙ taken.types_are ∙ found in
+    let made : c.resolve_types.new.types ≡ neutral (direction sides.level) sides.sos sides.eos
+    (brackets (bracket_of p.tables.now) (direction sides.level) sides.sos c.deref-2.result.now c.deref-3.result.now (weak sides.sos c.deref_mut.result.now)) = c.in_ok-resolve_types.ensures in
+    let kept : length c.resolve_types.new.types ≡ length c.deref_mut.result.now = c.resolve_types.auto.types in
+    let after : c.deref-5.result.now ≡ c.resolve_types.new.types =
+    c.deref-5.ensures.value ∙ with_items_is c.take.new.self.types c.resolve_types.new.types (kept ∙ c.deref_mut.ensures.len) in
+    let written : c.put_levels.new.levels ≡ put c.args.resolved.now c.deref-4.result.now (map (implicit_level sides.level) c.deref-5.result.now) = c.put_levels.ensures in
+    rw (after, made, places, characters, first, types, level, before, behind) at written

@@ -1,0 +1,136 @@
+-- Bracket pairs and the directions that they take (UAX #9, BD14 to BD16 and N0), in one isolating run sequence, by indexes into it.
+use Rattle.std.specs.Prelude.{ℕ, zero, suc, ◌+◌, ◌==◌, nat_lt, nat_le, Bool, true, false, ◌&&◌, ◌||◌, not, List, [], ◌∷◌, ◌++◌, length, map, fold, reverse, take, slice_index, slice_range, Option, Some, None, unwrap_or, count_by, if◌then◌else◌}
+use Rattle.std.specs.List.{list_any, list_all, range_with_len}
+use Rattle.ucd.specs.declared.bidi_class.BidiClass.{BidiClass}
+use Rattle.ucd.specs.declared.bidi_class.BidiClass.TheVariants.{L, R, AL, EN, AN, ON}
+use Rattle.ucd.specs.declared.bracket.Bracket.{Bracket}
+use Rattle.bidi.specs.Classes.{class_at}
+use Rattle.bidi.specs.Least.{least}
+use Rattle.bidi.specs.Neighbours.{nearest}
+use Rattle.bidi.specs.Neutral.{agree, side}
+use Rattle.bidi.specs.Weak.{is_left, is_mark}
+
+abbrev pub is_other : BidiClass → Bool
+is_other ON = true
+is_other type = false
+
+-- U+2329 and U+232A count as U+3008 and U+3009
+abbrev pub canonical : ℕ → ℕ
+canonical c = if c == 0x2329 then 0x3008 else (if c == 0x232A then 0x3009 else c)
+
+abbrev pub is_opening : Option Bracket → Bool
+is_opening (Some bracket) = bracket.opens
+is_opening None = false
+
+abbrev pub is_closing : Option Bracket → Bool
+is_closing (Some bracket) = not bracket.opens
+is_closing None = false
+
+-- a closer matches an opener if it is the pair of that one
+abbrev pub is_pair_of : Option Bracket → ℕ → Bool
+is_pair_of (Some bracket) c = canonical bracket.pair == canonical c
+is_pair_of None c = false
+
+-- the greatest number below one that passes a test
+abbrev pub greatest : (ℕ → Bool) → ℕ → Option ℕ
+greatest test zero = None
+greatest test (suc k) = if test k then Some k else greatest test k
+
+-- an opener and its closer
+pub record Pair : Type 0 where
+  pub opener : ℕ
+  pub closer : ℕ
+
+-- by the brackets of a table, and by the characters of a sequence and their current types
+module _ (bracket_of : ℕ → Option Bracket) (characters : List ℕ) (types : List BidiClass) where
+  -- BD14 and BD15: only characters whose current type is ON count
+  abbrev pub is_opener : ℕ → Bool
+  is_opener i = is_other (class_at types i) && is_opening (bracket_of (slice_index characters i))
+
+  abbrev pub is_closer : ℕ → Bool
+  is_closer j = is_other (class_at types j) && is_closing (bracket_of (slice_index characters j))
+
+  abbrev pub fits : ℕ → ℕ → Bool
+  fits i j = is_pair_of (bracket_of (slice_index characters i)) (slice_index characters j)
+
+  -- an opener is live at j if no pair of those in front of j begins at it or before it, and ends behind it
+  abbrev pub is_live : List Pair → ℕ → Bool
+  is_live pairs i = is_opener i && not (list_any (λ pair. nat_le pair.opener i && nat_lt i pair.closer) pairs)
+
+  -- a closer makes a pair with the greatest live opener that it matches
+  abbrev pub paired_with : Option ℕ → ℕ → List Pair
+  paired_with (Some i) j = record { opener = i; closer = j } ∷ []
+  paired_with None j = []
+
+  -- the pairs whose closer stands in front of j
+  abbrev pub pairs_before : ℕ → List Pair
+  pairs_before zero = []
+  pairs_before (suc j) =
+      let pairs = pairs_before j in
+      pairs ++ (if is_closer j then paired_with (greatest (λ i. is_live pairs i && fits i j) j) j else [])
+
+  -- BD16: at the first opener at which 63 are live, the pairing stops
+  abbrev pub is_full : ℕ → Bool
+  is_full j = is_opener j && nat_le 63 (count_by (is_live (pairs_before j)) (range_with_len 0 j))
+
+  abbrev pub pairs_of : List Pair
+  pairs_of = pairs_before (unwrap_or (least is_full 0 (length types)) (length types))
+
+-- the closer of an opener that has one
+abbrev pub closer_of : List Pair → ℕ → Option ℕ
+closer_of [] i = None
+closer_of (pair ∷ pairs) i = if pair.opener == i then Some pair.closer else closer_of pairs i
+
+-- the direction of a strong type; numbers count as R
+abbrev pub is_direction : BidiClass → Bool
+is_direction L = true
+is_direction R = true
+is_direction AL = true
+is_direction EN = true
+is_direction AN = true
+is_direction type = false
+
+-- whether a type is strong and of direction L, or of direction R
+abbrev pub is_toward : Bool → BidiClass → Bool
+is_toward left type = is_direction type && agree left (is_left type)
+
+-- whether a strong type of a direction stands between two places
+abbrev pub stands : Bool → List BidiClass → ℕ → ℕ → Bool
+stands left types a b = list_any (is_toward left) (slice_range types (a + 1) b)
+
+-- the nearest strong type in front of a place, or sos
+abbrev pub context : BidiClass → List BidiClass → ℕ → BidiClass
+context sos types a = nearest is_direction sos (reverse (take a types))
+
+-- N0: the direction that a pair takes, if it takes one. It is the embedding direction where a strong type of that stands inside; else,
+-- where one of the opposite stands inside, the opposite if that stands in front too, and the embedding direction if not.
+abbrev pub pair_direction : Bool → BidiClass → List BidiClass → ℕ → ℕ → Option BidiClass
+pair_direction left sos types a b =
+    if stands left types a b then Some (side left)
+    else (if stands (not left) types a b then Some (side (if agree left (is_left (context sos types a)) then left else not left)) else None)
+
+-- whether a place is that of a set bracket, or of a mark directly behind it, which was NSM before W1
+abbrev pub is_set_with : List Bool → ℕ → ℕ → Bool
+is_set_with marks p k = (p == k) || (nat_lt p k && list_all (λ mark. mark) (slice_range marks (p + 1) (k + 1)))
+
+abbrev pub set_with : List Bool → BidiClass → List BidiClass → ℕ → List BidiClass
+set_with marks direction types p = map (λ k. if is_set_with marks p k then direction else class_at types k) (range_with_len 0 (length types))
+
+-- the types behind one pair
+abbrev pub set_pair : List Bool → List BidiClass → ℕ → ℕ → Option BidiClass → List BidiClass
+set_pair marks types a b (Some direction) = set_with marks direction (set_with marks direction types a) b
+set_pair marks types a b None = types
+
+module _ (embedding : BidiClass) (sos : BidiClass) (marks : List Bool) where
+  abbrev pub pair_step : List BidiClass → ℕ → Option ℕ → List BidiClass
+  pair_step types a (Some b) = set_pair marks types a b (pair_direction (is_left embedding) sos types a b)
+  pair_step types a None = types
+
+  -- the pairs in order of their openers, each by the types as the earlier ones left them
+  abbrev pub resolve_pairs : (ℕ → Option ℕ) → List BidiClass → List BidiClass
+  resolve_pairs closer types = fold (λ current a. pair_step current a (closer a)) types (range_with_len 0 (length types))
+
+-- N0 over a sequence: by its characters, its types before W1 and its types now
+abbrev pub brackets : (ℕ → Option Bracket) → BidiClass → BidiClass → List ℕ → List BidiClass → List BidiClass → List BidiClass
+brackets bracket_of embedding sos characters explicit types =
+    resolve_pairs embedding sos (map is_mark explicit) (closer_of (pairs_of bracket_of characters types)) types

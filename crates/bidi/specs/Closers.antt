@@ -1,0 +1,43 @@
+-- Bracket pairs as a list: at each place that of its closer, or the length where it opens no pair.
+use Rattle.std.specs.Prelude.{◌≡◌, ℕ, ◌<◌, ◌⊎◌, ◌==◌, nat_lt, List, length, map, take, slice_index, slice_set, Option, Some, None, unwrap_or, if◌then◌else◌}
+use Rattle.std.specs.List.{range_with_len}
+use Rattle.ucd.specs.declared.bidi_class.BidiClass.{BidiClass}
+use Rattle.ucd.specs.declared.bidi_class.BidiClass.TheVariants.{ON}
+use Rattle.bidi.specs.declared.brackets.Opener.{Opener}
+use Rattle.bidi.specs.Brackets.{Pair, canonical, closer_of, greatest}
+use Rattle.bidi.specs.Classes.{class_at}
+
+abbrev pub closers_of : List Pair → ℕ → List ℕ
+closers_of pairs len = map (λ i. unwrap_or (closer_of pairs i) len) (range_with_len 0 len)
+
+abbrev pub closer_in : List ℕ → ℕ → Option ℕ
+closer_in closers i = if nat_lt (slice_index closers i) (length closers) then Some (slice_index closers i) else None
+
+-- pairs stand at characters of type ON, each closer behind its opener, and of two pairs one is in front of the other or inside it
+pub record AreNested (types : List BidiClass) (closers : List ℕ) : Type 0 where
+  pub other : (a : ℕ) → a < length closers → slice_index closers a < length closers → class_at types a ≡ ON
+  pub behind : (a : ℕ) → a < length closers → a < slice_index closers a
+  pub apart : (a b : ℕ) → a < b → b < length closers → slice_index closers a < length closers → slice_index closers b < length closers
+      → (slice_index closers a < b) ⊎ (slice_index closers b < slice_index closers a)
+
+-- The walk that finds the pairs holds the openers that are live, the newest last.
+
+abbrev pub place_of : List Opener → ℕ → ℕ
+place_of openers m = slice_index (map (λ (o : Opener). o.place) openers) m
+
+abbrev pub pair_of : List Opener → ℕ → ℕ
+pair_of openers m = slice_index (map (λ (o : Opener). o.pair) openers) m
+
+-- the newest of them that a closer matches
+abbrev pub newest : List Opener → ℕ → Option ℕ
+newest openers c = greatest (λ m. canonical (pair_of openers m) == canonical c) (length openers)
+
+-- what a closer leaves of them
+abbrev pub left_by : Option ℕ → List Opener → List Opener
+left_by (Some m) openers = take m openers
+left_by None openers = openers
+
+-- the closers behind one at a place
+abbrev pub closed_by : Option ℕ → List Opener → List ℕ → ℕ → List ℕ
+closed_by (Some m) openers closers place = slice_set closers (place_of openers m) place
+closed_by None openers closers place = closers

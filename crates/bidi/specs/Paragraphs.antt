@@ -1,0 +1,45 @@
+-- What is found of the characters that X9 leaves before their sequences are resolved, and what is then written.
+use Rattle.std.specs.Prelude.{◌≡◌, ℕ, ◌<◌, List, length, map, slice_index}
+use Rattle.ucd.specs.Tables.{bracket_of}
+use Rattle.bidi.specs.Classes.{class_at}
+use Rattle.bidi.specs.Isolates.{matches_of}
+use Rattle.bidi.specs.Levels.{levels_in, put, resolved}
+use Rattle.bidi.specs.Runs.{AreWithin, sequence_at}
+use Rattle.bidi.specs.Sequences.{eos, first_of, sos}
+use Rattle.bidi.specs.Stayed.{HasAll}
+use Rattle.bidi.specs.declared.levels.Paragraph.{Paragraph}
+use Rattle.bidi.specs.declared.levels.Sequence.{Sequence}
+use Rattle.bidi.specs.declared.levels.Sides.{Sides}
+
+-- of each character that stays all is known, and of each initiator its match
+pub record IsReady (p : Paragraph) : Type 0 where
+  pub stayed : HasAll p.stayed.now
+  pub characters : length p.characters.now ≡ length p.stayed.now.levels.items
+  pub matches : p.matches.now ≡ matches_of p.stayed.now.classes.items
+  pub found : length p.matches.now ≡ length p.stayed.now.levels.items
+
+abbrev pub sequence_in : Paragraph → ℕ → List ℕ
+sequence_in p start = sequence_at p.stayed.now.classes.items p.stayed.now.levels.items start
+
+-- the levels with those of the sequence that begins at a place
+abbrev pub write_by : Paragraph → List ℕ → ℕ → List ℕ
+write_by p done start =
+    put done (sequence_in p start) (levels_in (bracket_of p.tables.now) p.base p.characters.now p.stayed.now.classes.items p.stayed.now.levels.items p.stayed.now.types.items (sequence_in p start))
+
+abbrev pub resolved_by : Paragraph → List ℕ
+resolved_by p = resolved (bracket_of p.tables.now) p.base p.characters.now p.stayed.now.classes.items p.stayed.now.levels.items p.stayed.now.types.items
+
+-- the level of a sequence, and the directions at its ends
+pub record AreSides (p : Paragraph) (places : List ℕ) (sides : Sides) : Type 0 where
+  pub level_is : sides.level ≡ slice_index p.stayed.now.levels.items (first_of places)
+  pub sos_is : sides.sos ≡ sos p.base p.stayed.now.levels.items places
+  pub eos_is : sides.eos ≡ eos p.base p.stayed.now.classes.items p.stayed.now.levels.items places
+
+-- a sequence of the paragraph, at a place
+pub record Takes (p : Paragraph) (start : ℕ) (sequence : Sequence) : Type 0 where
+  pub places_are : sequence.places.items ≡ sequence_in p start
+  pub within : AreWithin (length p.stayed.now.levels.items) sequence.places.items
+  pub some : 0 < length sequence.places.items
+  pub characters_are : sequence.characters.items ≡ map (slice_index p.characters.now) sequence.places.items
+  pub explicit_are : sequence.explicit.items ≡ map (class_at p.stayed.now.types.items) sequence.places.items
+  pub types_are : sequence.types.items ≡ sequence.explicit.items

@@ -1,0 +1,348 @@
+//! Bracket pairs and the directions that they take (UAX #9, BD14 to BD16 and N0), over the characters
+//! of one isolating run sequence.
+ghost use Rattle.std.specs.Prelude.{◌≡◌, ℕ, ◌<◌, ◌≤◌, ◌&&◌, [], map, length, OnOk, Some, None};
+ghost use Rattle.std.specs.Prelude.{if◌then◌else◌, true, false, not};
+ghost use Rattle.ucd.specs.Tables.{bracket_of};
+ghost use Rattle.bidi.specs.Brackets.{brackets, canonical, is_other, pairs_of, resolve_pairs, is_direction};
+ghost use Rattle.bidi.specs.Brackets.{is_toward, stands, set_with, set_pair};
+ghost use Rattle.bidi.specs.Closers.{closers_of, closer_in, AreNested, newest, place_of, left_by};
+ghost use Rattle.bidi.specs.Closers.{closed_by};
+ghost use Rattle.bidi.specs.Weak.{is_mark, is_left};
+ghost use Rattle.bidi.specs.Classes.{class_at};
+ghost use Rattle.bidi.specs.Neutral.{agree, side};
+ghost use Rattle.bidi.specs.Resolving.{IsClear};
+
+use arrayvec::ArrayVec;
+use std::alloc::{AllocError, Global};
+use ucd::{BidiClass, Bracket, Tables};
+
+/// How many openers are held at most (BD16).
+const MAX_OPENERS: usize = 63;
+
+// An opener that is held, and the closer that it makes a pair with.
+#[derive(Clone, Copy, Debug, Default, PartialEq, Eq)]
+struct Opener {
+    place: usize,
+    pair: char,
+}
+
+// U+2329 and U+232A count as U+3008 and U+3009.
+fn canonical(character: char) -> char
+    ensures { result ≡ canonical character }
+{
+    match character {
+        '\u{2329}' => '\u{3008}',
+        '\u{232A}' => '\u{3009}',
+        _ => character,
+    }
+}
+
+// The bracket that a character is, which only a character of type ON is.
+fn bracket_at(tables: &Tables, character: char, class: BidiClass) -> Option<Bracket>
+    ensures { result ≡ (if is_other class then bracket_of tables.now character else None) }
+{
+    match class {
+        BidiClass::ON => tables.bracket(character),
+        _ => None,
+    }
+}
+
+// The newest of the openers held that a closer matches, if there is one.
+fn matching(openers: &[Opener], closer: char) -> Option<usize>
+    ensures { result ≡ newest openers.now closer }
+{
+    let wanted = canonical(closer);
+    let mut held = openers.len();
+    while held > 0 {
+        held -= 1;
+        if canonical(openers[held].pair) == wanted {
+            return Some(held);
+        }
+    }
+    None
+}
+
+// Makes a pair of the closer at `place` and the newest opener that it matches, if there is one. That
+// opener is dropped, and so are the newer ones.
+fn close(
+    openers: &mut ArrayVec<Opener, MAX_OPENERS>,
+    closers: &mut [usize],
+    closer: char,
+    place: usize,
+)
+    requires { (m : ℕ) → m < length openers.old.items → place_of openers.old.items m < length closers.old }
+    ensures openers { openers.new.items ≡ left_by (newest openers.old.items closer) openers.old.items }
+    ensures closers { closers.new ≡ closed_by (newest openers.old.items closer) openers.old.items closers.old place }
+{
+    if let Some(held) = matching(openers.as_slice(), closer) {
+        closers[openers.as_slice()[held].place] = place;
+        openers.truncate(held);
+    }
+}
+
+// Puts the length into each place.
+fn fill(closers: &mut Vec<usize>, len: usize) -> Result<(), AllocError>
+    ensures { OnOk result (closers.new.items ≡ closers_of [] len) }
+{
+    closers.clear();
+    for _ in 0..len {
+        closers.push(len)?;
+    }
+    Ok(())
+}
+
+/// What the pairs of a sequence are found in: its types before N0, and at each place that of its
+/// closer. It is used again for each sequence.
+#[derive(Drop)]
+pub(crate) struct Pairs {
+    before: Vec<BidiClass>,
+    closers: Vec<usize>,
+}
+
+impl Pairs {
+    pub fn new(alloc: Global) -> Pairs {
+        Pairs {
+            before: Vec::new(alloc),
+            closers: Vec::new(alloc),
+        }
+    }
+
+    /// N0 over the types of a sequence, by its characters and by its types before W1.
+    pub fn resolve(
+        &mut self,
+        tables: &Tables,
+        characters: &[char],
+        explicit: &[BidiClass],
+        types: &mut [BidiClass],
+        embedding: BidiClass,
+        sos: BidiClass,
+    ) -> Result<(), AllocError>
+        requires characters { length characters.now ≡ length types.old }
+        requires explicit { length explicit.now ≡ length types.old }
+        ensures { OnOk result (types.new
+            ≡ brackets (bracket_of tables.now) embedding sos characters.now explicit.now types.old) }
+    {
+        copy_types(types, &mut self.before)?;
+        find_pairs(tables, characters, types, &mut self.closers)?;
+        resolve_brackets(types, &self.before, explicit, &self.closers, embedding, sos);
+        Ok(())
+    }
+}
+
+/// Puts types into another list, in place of what it has.
+pub(crate) fn copy_types(from: &[BidiClass], to: &mut Vec<BidiClass>) -> Result<(), AllocError>
+    ensures { OnOk result (to.new.items ≡ from.now) }
+{
+    to.clear();
+    to.extend_from_slice(from)
+}
+
+// Puts the place of its closer for each opener into `closers`, and the length for each other place.
+fn find_pairs(
+    tables: &Tables,
+    characters: &[char],
+    types: &[BidiClass],
+    closers: &mut Vec<usize>,
+) -> Result<(), AllocError>
+    requires { length characters.now ≡ length types.now }
+    ensures pairs { OnOk result (closers.new.items
+        ≡ closers_of (pairs_of (bracket_of tables.now) characters.now types.now) (length types.now)) }
+    ensures nested { OnOk result (AreNested types.now closers.new.items) }
+{
+    fill(closers, types.len())?;
+    let mut openers: ArrayVec<Opener, MAX_OPENERS> = ArrayVec::new();
+    for place in 0..types.len() {
+        let character = characters[place];
+        if let Some(bracket) = bracket_at(tables, character, types[place]) {
+            if !bracket.opens {
+                close(&mut openers, closers, character, place);
+            } else if openers.is_full() {
+                return Ok(());
+            } else {
+                openers.push(Opener {
+                    place,
+                    pair: bracket.pair,
+                });
+            }
+        }
+    }
+    Ok(())
+}
+
+// The least place from `from` on with a strong type of direction L, or of direction R.
+fn next_toward(types: &[BidiClass], left: bool, from: usize) -> usize
+    requires { from ≤ length types.now }
+    ensures reached { from ≤ result }
+    ensures bounded { result ≤ length types.now }
+    ensures passed { (m : ℕ) → from ≤ m → m < result → is_toward left (class_at types.now m) ≡ false }
+    ensures stops { result < length types.now → is_toward left (class_at types.now result) ≡ true }
+{
+    let mut at = from;
+    while at < types.len() && !is_toward(left, types[at]) {
+        at += 1;
+    }
+    at
+}
+
+// Whether a type is strong and of direction L, or of direction R. Numbers count as R.
+fn is_toward(left: bool, class: BidiClass) -> bool
+    ensures { result ≡ is_toward left class }
+{
+    match class {
+        BidiClass::L => left,
+        BidiClass::R | BidiClass::AL | BidiClass::EN | BidiClass::AN => !left,
+        _ => false,
+    }
+}
+
+// N0: gives each pair its direction, in order of the openers. `before` are the types as they were.
+fn resolve_brackets(
+    types: &mut [BidiClass],
+    before: &[BidiClass],
+    explicit: &[BidiClass],
+    closers: &[usize],
+    embedding: BidiClass,
+    sos: BidiClass,
+)
+    requires before { before.now ≡ types.old }
+    requires explicit { length explicit.now ≡ length types.old }
+    requires closers { length closers.now ≡ length types.old }
+    requires nested { AreNested types.old closers.now }
+    ensures { types.new ≡ resolve_pairs embedding sos (map is_mark explicit.now) (closer_in closers.now) types.old }
+{
+    let left = is_left(embedding);
+    let mut strong = sos;
+    // The next strong types behind the place, as the types were before N0.
+    let mut same = 0;
+    let mut other = 0;
+    for place in 0..types.len() {
+        let closer = closers[place];
+        if closer < types.len() {
+            let has_same = stands_inside(types, before, left, place, closer, &mut same);
+            let has_other = stands_inside(types, before, !left, place, closer, &mut other);
+            let direction = pair_direction(left, strong, has_same, has_other);
+            set_pair(types, explicit, place, closer, direction);
+        }
+        strong = strong_after(types[place], strong);
+    }
+}
+
+// Whether a strong type of a direction stands inside a pair. `next` moves to the next place behind
+// the opener that had such a type before N0, or to the length.
+fn stands_inside(
+    types: &[BidiClass],
+    before: &[BidiClass],
+    left: bool,
+    place: usize,
+    closer: usize,
+    next: &mut usize,
+) -> bool
+    requires sizes { length before.now ≡ length types.now }
+    requires behind { place < closer }
+    requires inside { closer < length types.now }
+    requires clear { IsClear left before.now place next.old }
+    requires kept { is_other (class_at types.now place) ≡ true → (m : ℕ) → place < m → m < closer → class_at types.now m ≡ class_at before.now m }
+    ensures value { result ≡ stands left types.now place closer }
+    ensures clear { IsClear left before.now place next.new }
+{
+    let from = (*next).max(place + 1);
+    *next = next_toward(before, left, from);
+    if is_other(types[place]) {
+        *next < closer
+    } else {
+        // Marks in a row behind an earlier bracket, of which this one is one, have changed.
+        next_toward(types, left, place + 1) < closer
+    }
+}
+
+// The direction of a pair, by whether a strong type of the embedding direction stands inside, and
+// one of the other.
+fn pair_direction(
+    left: bool,
+    strong: BidiClass,
+    has_same: bool,
+    has_other: bool,
+) -> Option<BidiClass>
+    ensures { result ≡ (if has_same then Some (side left)
+        else (if has_other then Some (side (if agree left (is_left strong) then left else not left)) else None)) }
+{
+    if has_same {
+        Some(side(left))
+    } else if has_other {
+        Some(side(is_left(strong)))
+    } else {
+        None
+    }
+}
+
+fn is_left(class: BidiClass) -> bool
+    ensures { result ≡ is_left class }
+{
+    matches!(class, BidiClass::L)
+}
+
+fn is_mark(class: BidiClass) -> bool
+    ensures { result ≡ is_mark class }
+{
+    matches!(class, BidiClass::NSM)
+}
+
+fn is_other(class: BidiClass) -> bool
+    ensures { result ≡ is_other class }
+{
+    matches!(class, BidiClass::ON)
+}
+
+fn side(left: bool) -> BidiClass
+    ensures { result ≡ side left }
+{
+    if left { BidiClass::L } else { BidiClass::R }
+}
+
+// The nearest strong type, behind a character of this type. Numbers are strong here.
+fn strong_after(class: BidiClass, strong: BidiClass) -> BidiClass
+    ensures { result ≡ (if is_direction class then class else strong) }
+{
+    match class {
+        BidiClass::L | BidiClass::R | BidiClass::AL | BidiClass::EN | BidiClass::AN => class,
+        _ => strong,
+    }
+}
+
+// Sets the types of a pair, if it takes a direction.
+fn set_pair(
+    types: &mut [BidiClass],
+    explicit: &[BidiClass],
+    place: usize,
+    closer: usize,
+    direction: Option<BidiClass>,
+)
+    requires explicit { length explicit.now ≡ length types.old }
+    requires place { place < length types.old }
+    requires closer { closer < length types.old }
+    ensures { types.new ≡ set_pair (map is_mark explicit.now) types.old place closer direction }
+{
+    if let Some(direction) = direction {
+        set_with_marks(types, explicit, place, direction);
+        set_with_marks(types, explicit, closer, direction);
+    }
+}
+
+// Sets the type of a bracket, and of the marks directly behind it.
+fn set_with_marks(
+    types: &mut [BidiClass],
+    explicit: &[BidiClass],
+    place: usize,
+    direction: BidiClass,
+)
+    requires explicit { length explicit.now ≡ length types.old }
+    requires place { place < length types.old }
+    ensures { types.new ≡ set_with (map is_mark explicit.now) direction types.old place }
+{
+    types[place] = direction;
+    let mut at = place + 1;
+    while at < types.len() && is_mark(explicit[at]) {
+        types[at] = direction;
+        at += 1;
+    }
+}
