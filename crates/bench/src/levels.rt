@@ -2,8 +2,12 @@
 use crate::paragraphs::{Kind, Subject, measure_all};
 use anyhow::Result;
 
+// As many openers as are held, and a closer for each.
+const DEEP: &str = "(((((((((((((((((((((((((((((((((((((((((((((((((((((((((((((((\
+    )))))))))))))))))))))))))))))))))))))))))))))))))))))))))))))))";
+
 // Plain letters and real text, and then what some rule has most work with.
-const KINDS: [Kind; 10] = [
+const KINDS: [Kind; 15] = [
     Kind {
         name: "plain letters",
         words: &[
@@ -66,6 +70,26 @@ const KINDS: [Kind; 10] = [
     Kind {
         name: "PDI alone",
         words: &["\u{2069}"],
+    },
+    Kind {
+        name: "( alone",
+        words: &["("],
+    },
+    Kind {
+        name: "() again and again",
+        words: &["()"],
+    },
+    Kind {
+        name: "(a) between Hebrew",
+        words: &["\u{5d0}(a)"],
+    },
+    Kind {
+        name: "63 ( and 63 )",
+        words: &[DEEP],
+    },
+    Kind {
+        name: ") alone",
+        words: &[")"],
     },
 ];
 
