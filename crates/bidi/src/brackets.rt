@@ -100,11 +100,12 @@ pub(crate) struct Pairs {
 }
 
 impl Pairs {
-    pub fn new(alloc: Global) -> Pairs {
-        Pairs {
-            before: Vec::new(alloc),
-            closers: Vec::new(alloc),
-        }
+    /// Nothing yet, with room for a sequence of so many characters.
+    pub fn with_capacity(alloc: Global, capacity: usize) -> Result<Pairs, AllocError> {
+        Ok(Pairs {
+            before: Vec::with_capacity(alloc, capacity)?,
+            closers: Vec::with_capacity(alloc, capacity)?,
+        })
     }
 
     /// N0 over the types of a sequence, by its characters and by its types before W1.

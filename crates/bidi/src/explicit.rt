@@ -26,16 +26,17 @@ pub(crate) struct Stayed {
 }
 
 impl Stayed {
-    fn new(alloc: Global) -> Stayed
-        ensures classes { result.classes.items ≡ [] }
-        ensures levels { result.levels.items ≡ [] }
-        ensures types { result.types.items ≡ [] }
+    // Nothing yet, with room for so many characters.
+    fn with_capacity(alloc: Global, capacity: usize) -> Result<Stayed, AllocError>
+        ensures classes { IfOk result (λ stayed. stayed.classes.items ≡ []) }
+        ensures levels { IfOk result (λ stayed. stayed.levels.items ≡ []) }
+        ensures types { IfOk result (λ stayed. stayed.types.items ≡ []) }
     {
-        Stayed {
-            classes: Vec::new(alloc),
-            levels: Vec::new(alloc),
-            types: Vec::new(alloc),
-        }
+        Ok(Stayed {
+            classes: Vec::with_capacity(alloc, capacity)?,
+            levels: Vec::with_capacity(alloc, capacity)?,
+            types: Vec::with_capacity(alloc, capacity)?,
+        })
     }
 
     fn push(&mut self, class: BidiClass, level: u8, explicit: BidiClass) -> Result<(), AllocError>
@@ -236,7 +237,7 @@ pub(crate) fn explicit(alloc: Global, classes: &[BidiClass], base: u8) -> Result
     requires { base ≤ 1 }
     ensures { IfOk result (IsStayed classes.now base) }
 {
-    let mut stayed = Stayed::new(alloc);
+    let mut stayed = Stayed::with_capacity(alloc, classes.len())?;
     let mut openers = Openers::new(base);
     for class in classes {
         let class = *class;

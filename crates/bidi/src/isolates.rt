@@ -53,7 +53,7 @@ pub(crate) fn directed(alloc: Global, classes: Vec<BidiClass>) -> Result<Vec<Bid
         return Ok(classes);
     }
     let matches = matches(alloc, &classes)?;
-    let mut acting = Vec::new(alloc);
+    let mut acting = Vec::with_capacity(alloc, classes.len())?;
     for at in 0..classes.len() {
         acting.push(acting_class(&classes, &matches, at))?;
     }

@@ -144,14 +144,15 @@ struct Sequence {
 }
 
 impl Sequence {
-    fn new(alloc: Global) -> Sequence {
-        Sequence {
-            places: Vec::new(alloc),
-            characters: Vec::new(alloc),
-            explicit: Vec::new(alloc),
-            types: Vec::new(alloc),
-            pairs: Pairs::new(alloc),
-        }
+    // Nothing yet, with room for so many characters.
+    fn with_capacity(alloc: Global, capacity: usize) -> Result<Sequence, AllocError> {
+        Ok(Sequence {
+            places: Vec::with_capacity(alloc, capacity)?,
+            characters: Vec::with_capacity(alloc, capacity)?,
+            explicit: Vec::with_capacity(alloc, capacity)?,
+            types: Vec::with_capacity(alloc, capacity)?,
+            pairs: Pairs::with_capacity(alloc, capacity)?,
+        })
     }
 
     // Takes the sequence that begins at `start`.
@@ -251,7 +252,7 @@ fn resolve_stayed(
     let matches = matches(alloc, &stayed.classes)?;
     let mut continued = vec![in alloc; false; stayed.levels.len()]?;
     let mut resolved = Vec::from_slice(alloc, &stayed.levels)?;
-    let mut sequence = Sequence::new(alloc);
+    let mut sequence = Sequence::with_capacity(alloc, stayed.levels.len())?;
     let paragraph = Paragraph {
         tables,
         base,
@@ -272,7 +273,7 @@ fn stayed_characters(
     requires { length text.now ≡ length classes.now }
     ensures { IfOk result (λ characters. characters.items ≡ map (slice_index text.now) (stayed classes.now)) }
 {
-    let mut characters = Vec::new(alloc);
+    let mut characters = Vec::with_capacity(alloc, text.len())?;
     for at in 0..text.len() {
         if !is_removed(classes[at]) {
             characters.push(text[at])?;
@@ -291,7 +292,7 @@ fn put_back(
 ) -> Result<Vec<u8>, AllocError>
     ensures { IfOk result (λ levels. levels.items ≡ put_back base classes.now resolved.now) }
 {
-    let mut levels = Vec::new(alloc);
+    let mut levels = Vec::with_capacity(alloc, classes.len())?;
     let mut level = base;
     let mut rest = resolved;
     for class in classes {
