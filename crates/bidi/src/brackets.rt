@@ -72,7 +72,8 @@ fn close(
 )
     requires { (m : ℕ) → m < length openers.old.items → place_of openers.old.items m < length closers.old }
     ensures openers { openers.new.items ≡ left_by (newest openers.old.items closer) openers.old.items }
-    ensures closers { closers.new ≡ closed_by (newest openers.old.items closer) openers.old.items closers.old place }
+    ensures closers { closers.new
+        ≡ closed_by (newest openers.old.items closer) openers.old.items closers.old place }
 {
     if let Some(held) = matching(openers.as_slice(), closer) {
         closers[openers.as_slice()[held].place] = place;
@@ -209,7 +210,8 @@ fn resolve_brackets(
     requires explicit { length explicit.now ≡ length types.old }
     requires closers { length closers.now ≡ length types.old }
     requires nested { AreNested types.old closers.now }
-    ensures { types.new ≡ resolve_pairs embedding sos (map is_mark explicit.now) (closer_in closers.now) types.old }
+    ensures { types.new
+        ≡ resolve_pairs embedding sos (map is_mark explicit.now) (closer_in closers.now) types.old }
 {
     let left = is_left(embedding);
     let mut strong = sos;
@@ -242,7 +244,8 @@ fn stands_inside(
     requires behind { place < closer }
     requires inside { closer < length types.now }
     requires clear { IsClear left before.now place next.old }
-    requires kept { is_other (class_at types.now place) ≡ true → (m : ℕ) → place < m → m < closer → class_at types.now m ≡ class_at before.now m }
+    requires kept { is_other (class_at types.now place) ≡ true
+        → (m : ℕ) → place < m → m < closer → class_at types.now m ≡ class_at before.now m }
     ensures value { result ≡ stands left types.now place closer }
     ensures clear { IsClear left before.now place next.new }
 {
@@ -265,7 +268,8 @@ fn pair_direction(
     has_other: bool,
 ) -> Option<BidiClass>
     ensures { result ≡ (if has_same then Some (side left)
-        else (if has_other then Some (side (if agree left (is_left strong) then left else not left)) else None)) }
+        else (if has_other
+        then Some (side (if agree left (is_left strong) then left else not left)) else None)) }
 {
     if has_same {
         Some(side(left))

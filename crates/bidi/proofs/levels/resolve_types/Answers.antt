@@ -1,6 +1,4 @@
-use Rattle.std.proofs.Common.{◌≡◌, ap, ◌∙◌}
-use Rattle.ucd.specs.Tables.{bracket_of}
-use Rattle.bidi.specs.Brackets.{brackets}
+use Rattle.std.proofs.Common.{ap, ◌∙◌}
 use Rattle.bidi.specs.Neutral.{neutral}
 use Rattle.bidi.specs.Sequences.{direction}
 use Rattle.bidi.proofs.levels.resolve_types.Goals as goal

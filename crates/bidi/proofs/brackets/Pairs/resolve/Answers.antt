@@ -1,8 +1,6 @@
-use Rattle.std.proofs.Common.{◌≡◌, ℕ, ◌+◌, ◌<◌, ◌≤◌, List, length, map, fold, refl, sym, ap, ◌∙◌, arith}
-use Rattle.std.specs.List.{range_with_len}
+use Rattle.std.proofs.Common.{◌≡◌, length, map, ap, ◌∙◌, arith}
 use Rattle.ucd.specs.Tables.{bracket_of}
-use Rattle.ucd.specs.declared.bidi_class.BidiClass.{BidiClass}
-use Rattle.bidi.specs.Brackets.{brackets, closer_of, pair_step, pairs_of, resolve_pairs}
+use Rattle.bidi.specs.Brackets.{closer_of, pair_step, pairs_of, resolve_pairs}
 use Rattle.bidi.specs.Closers.{closer_in, closers_of}
 use Rattle.bidi.specs.Weak.{is_mark}
 use Rattle.bidi.proofs.PairLemmas.{closer_in-pairs_of, fold-same, length-closers_of}
