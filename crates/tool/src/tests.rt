@@ -250,6 +250,13 @@ fn levels_of_texts(rt: HostRuntime) -> Result<(), Fail> {
         ("\u{627}$1", "--wltr", "1 1 2\n"),
         ("a1$\u{5d0}", "--rtl", "2 2 2 1\n"),
         ("\u{202e}a\n", "--wltr", "0 1 0\n"),
+        ("\u{5d0}\u{5d1} (x) \u{5d2}", "--wltr", "1 1 1 1 2 1 1 1\n"),
+        ("a(\u{5d0})b", "--wltr", "0 0 1 0 0\n"),
+        ("\u{5d0}(a)", "--ltr", "1 0 0 0\n"),
+        ("\u{5d0}(\u{5d1})", "--ltr", "1 1 1 1\n"),
+        ("\u{5d0}(\u{5d1}(a)", "--ltr", "1 1 1 0 0 0\n"),
+        ("a\u{2329}b\u{3009}", "--rtl", "2 2 2 2\n"),
+        ("a(b)\u{300}", "--rtl", "2 2 2 2 2\n"),
     ];
     for size in [1, 2, 3, 65_536] {
         for (text, direction, lines) in rows {
@@ -294,6 +301,40 @@ fn levels_of_deep_embeddings(rt: HostRuntime) -> Result<(), Fail> {
             };
             let (taken, result) = lines_of(alloc, &tables, Base::WeakLtr, &LEVELS, pieces, 1000);
             assert_eq!(rt; taken.as_slice(), lines.as_slice(), "{depth} by {size}");
+            assert_eq!(rt; result, Ok(()), "{depth} by {size}");
+        }
+    }
+    Ok(())
+}
+
+// As many openers as are held, and one more, at which the pairing stops.
+#[test]
+fn levels_of_deep_brackets(rt: HostRuntime) -> Result<(), Fail> {
+    let alloc = rt.alloc();
+    let tables = Tables::read(alloc, &FILES)?;
+    let rows: [(usize, &[u8], &[u8]); 2] = [(63, b"2 2 ", b"2 "), (64, b"2 2 ", b"1 ")];
+    for (depth, first, closer) in rows {
+        let mut text = Vec::from_slice(alloc, b"x")?;
+        let mut line = Vec::from_slice(alloc, first)?;
+        for _ in 0..depth {
+            text.push(b'(')?;
+            line.extend_from_slice(b"2 ")?;
+        }
+        text.push(b'a')?;
+        for _ in 0..depth {
+            text.push(b')')?;
+            line.extend_from_slice(closer)?;
+        }
+        line.pop();
+        line.push(b'\n')?;
+        for size in [1, 2, 3, 65_536] {
+            let pieces = Pieces {
+                bytes: &text,
+                size,
+                fails: false,
+            };
+            let (taken, result) = lines_of(alloc, &tables, Base::Rtl, &LEVELS, pieces, 1000);
+            assert_eq!(rt; taken.as_slice(), line.as_slice(), "{depth} by {size}");
             assert_eq!(rt; result, Ok(()), "{depth} by {size}");
         }
     }
