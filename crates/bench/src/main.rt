@@ -4,9 +4,11 @@
 //! - `bench levels UCD CHARACTERS` prints how long the levels of a paragraph take, for texts of many
 //!   kinds, with the table files of the folder UCD.
 //! - `bench marks UCD CHARACTERS` prints the same of break marks.
+//! - `bench fill UCD CHARACTERS` prints how long a paragraph takes to be laid out and filled again.
 #![tactic(auto)]
 
 mod edits;
+mod fill;
 mod levels;
 mod marks;
 mod numbers;
@@ -27,15 +29,15 @@ fn main(rt: HostRuntime) -> Result<()> {
             let edits = number(words.next());
             edits::run(&rt, paragraphs, edits)
         }
-        "levels" | "marks" => {
+        "levels" | "marks" | "fill" => {
             let Some(folder) = words.next() else {
                 bail!("where are the table files?");
             };
             let characters = number(words.next());
-            if subject.as_str() == "levels" {
-                levels::run(&rt, folder.as_str(), characters)
-            } else {
-                marks::run(&rt, folder.as_str(), characters)
+            match subject.as_str() {
+                "levels" => levels::run(&rt, folder.as_str(), characters),
+                "marks" => marks::run(&rt, folder.as_str(), characters),
+                _ => fill::run(&rt, folder.as_str(), characters),
             }
         }
         _ => bail!("that can't be measured"),

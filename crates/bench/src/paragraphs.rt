@@ -21,8 +21,8 @@ pub enum Subject {
     Marks,
 }
 
-// How often a paragraph is analysed. The least time counts.
-const RUNS: usize = 5;
+/// How often a paragraph is analysed. The least time counts.
+pub const RUNS: usize = 5;
 
 /// Prints a line for each kind of paragraph of so many characters: its least time in nanoseconds, a
 /// number that tells something of what was found, and its name.
@@ -47,7 +47,8 @@ fn table_file(rt: &HostRuntime, folder: &str, name: &str) -> Result<Vec<u8>> {
     Ok(fs::read(rt, path.as_str())?)
 }
 
-fn tables(rt: &HostRuntime, folder: &str) -> Result<Tables> {
+/// The tables of the files of a folder.
+pub fn tables(rt: &HostRuntime, folder: &str) -> Result<Tables> {
     let bidi_class = table_file(rt, folder, FILE_NAMES[0])?;
     let bidi_brackets = table_file(rt, folder, FILE_NAMES[1])?;
     let bidi_mirroring = table_file(rt, folder, FILE_NAMES[2])?;
@@ -67,7 +68,8 @@ fn tables(rt: &HostRuntime, folder: &str) -> Result<Tables> {
     Ok(Tables::read(rt.alloc(), &files)?)
 }
 
-fn text_of(alloc: Global, words: &[&str], characters: usize) -> Result<Vec<char>, AllocError> {
+/// So many characters of these words.
+pub fn text_of(alloc: Global, words: &[&str], characters: usize) -> Result<Vec<char>, AllocError> {
     let mut text = Vec::new(alloc);
     let mut numbers = Numbers::new();
     for _ in 0..characters {

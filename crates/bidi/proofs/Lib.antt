@@ -2,12 +2,12 @@ mod BracketLemmas
 mod ExplicitLemmas
 mod IsolateLemmas
 mod JumpLemmas
-mod LeastLemmas
+pub mod LeastLemmas
 mod LevelLemmas
 mod MatchLemmas
 mod NeighbourLemmas
 mod OpenersLemmas
-mod PairLemmas
+pub mod PairLemmas
 mod PiecesLemmas
 mod RunLemmas
 mod WorkedBrackets

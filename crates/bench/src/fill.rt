@@ -1,0 +1,156 @@
+//! How long one paragraph takes to be laid out, and to be filled again, by what it is made of and by
+//! the width.
+ghost use Rattle.std.specs.Prelude.{◌<◌, IfOk};
+ghost use Rattle.lines.specs.Engine.{rules_of};
+ghost use Rattle.lines.specs.Layouts.{IsLaidOut};
+
+use crate::paragraphs::{RUNS, tables, text_of};
+use anyhow::{Result, bail};
+use bidi::Base;
+use lines::{Engine, Laid, PARAGRAPH_LIMIT};
+use std::time::Instant;
+
+// A paragraph of these words, in an order that looks random, and a width in columns.
+struct Case {
+    name: &'static str,
+    words: &'static [&'static str],
+    width: u16,
+}
+
+const LETTERS: &[&str] = &["a"];
+
+const ENGLISH: &[&str] = &[
+    "The ", "quick ", "brown ", "fox ", "jumps ", "over ", "the ", "lazy ", "dogs. ",
+];
+
+const CASES: [Case; 12] = [
+    Case {
+        name: "letters",
+        words: LETTERS,
+        width: 80,
+    },
+    Case {
+        name: "letters",
+        words: LETTERS,
+        width: 1,
+    },
+    Case {
+        name: "letters",
+        words: LETTERS,
+        width: 65_535,
+    },
+    Case {
+        name: "words",
+        words: ENGLISH,
+        width: 80,
+    },
+    Case {
+        name: "words",
+        words: ENGLISH,
+        width: 1,
+    },
+    Case {
+        name: "words",
+        words: ENGLISH,
+        width: 65_535,
+    },
+    Case {
+        name: "spaces",
+        words: &[" "],
+        width: 80,
+    },
+    Case {
+        name: "spaces",
+        words: &[" "],
+        width: 1,
+    },
+    Case {
+        name: "combining marks",
+        words: &["\u{300}"],
+        width: 80,
+    },
+    Case {
+        name: "combining marks",
+        words: &["\u{300}"],
+        width: 1,
+    },
+    Case {
+        name: "zero-width spaces",
+        words: &["\u{200B}"],
+        width: 1,
+    },
+    Case {
+        name: "ideographs",
+        words: &["\u{4E00}"],
+        width: 1,
+    },
+];
+
+/// Prints a line for each case, with a paragraph of so many characters: its least times in
+/// nanoseconds, laid out and filled again, how many lines it has, the width, and its name.
+pub fn run(rt: &HostRuntime, folder: &str, characters: usize) -> Result<()> {
+    let mut engine = Engine::new(tables(rt, folder)?, Base::WeakLtr, false);
+    for case in &CASES {
+        let (time, laid) = lay_out(rt, &mut engine, case, characters)?;
+        let again = refill(rt, &mut engine, &laid, case.width)?;
+        let lines = laid.line_count();
+        println!(rt; "{time} {again} {lines} {} {}", case.width, case.name)?;
+    }
+    Ok(())
+}
+
+// The least time of some runs, and the paragraph.
+fn lay_out(
+    rt: &HostRuntime,
+    engine: &mut Engine,
+    case: &Case,
+    characters: usize,
+) -> Result<(u64, Laid)>
+    ensures { IfOk result (λ r. IsLaidOut (rules_of engine.new) r.1) }
+{
+    let mut least = u64::MAX;
+    for _ in 1..RUNS {
+        let (time, _) = lay_out_once(rt, engine, case, characters)?;
+        least = least.min(time);
+    }
+    let (time, laid) = lay_out_once(rt, engine, case, characters)?;
+    Ok((least.min(time), laid))
+}
+
+fn lay_out_once(
+    rt: &HostRuntime,
+    engine: &mut Engine,
+    case: &Case,
+    characters: usize,
+) -> Result<(u64, Laid)>
+    ensures { IfOk result (λ r. IsLaidOut (rules_of engine.new) r.1) }
+{
+    let text = text_of(rt.alloc(), case.words, characters)?;
+    let is_long = text.len() > PARAGRAPH_LIMIT;
+    if text.is_empty() || is_long || case.width == 0 || engine.first_cut(&text).is_some() {
+        bail!("that is no paragraph");
+    }
+    let start = Instant::now(rt)?;
+    let Ok(laid) = engine.lay_out(rt.alloc(), text, case.width) else {
+        bail!("out of memory");
+    };
+    let time = start.elapsed(rt)?.as_nanos();
+    Ok((u64::try_from(time).unwrap_or(u64::MAX), laid))
+}
+
+// The least time of some runs.
+fn refill(rt: &HostRuntime, engine: &mut Engine, laid: &Laid, width: u16) -> Result<u64>
+    requires { IsLaidOut (rules_of engine.old) laid.now }
+{
+    let mut least = u64::MAX;
+    if width == 0 {
+        bail!("a width of 0");
+    }
+    for _ in 0..RUNS {
+        let start = Instant::now(rt)?;
+        let _ = engine.refill(rt.alloc(), laid, width)?;
+        let time = start.elapsed(rt)?.as_nanos();
+        least = least.min(u64::try_from(time).unwrap_or(u64::MAX));
+    }
+    Ok(least)
+}

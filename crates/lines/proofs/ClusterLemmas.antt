@@ -1,0 +1,94 @@
+-- The ends of the clusters of a text, one after the other, are the ends that the rules give.
+use Rattle.std.proofs.Common.{◌≡◌, ℕ, suc, ◌-◌, Bool, true, false, ◌&&◌, cond, List, [], ◌∷◌, ◌++◌, map, length, replicate, refl, sym, ap, ap₂, ◌∙◌, append-nil, arith}
+use Rattle.std.proofs.Math.Utf8.{scalars}
+use Rattle.std.proofs.lemmas.Bool.{and_parts}
+use Rattle.std.proofs.lemmas.List.Folds.{flat_map-map}
+use Rattle.std.proofs.lemmas.Str.{chars-encodes, chars_from_encodes, scalars-chars}
+use Rattle.std.specs.List.{concat, flat_map}
+use Rattle.std.specs.Prelude.{encode_utf8, encode_utf8_all}
+use Rattle.std.specs.Str.{chars, IsUtf8}
+use Rattle.unicode_segmentation.specs.Grapheme.{graphemes, is_grapheme_break}
+use Rattle.unicode_segmentation.specs.Segments.{Rule, cut, prepend, segments}
+use Rattle.lines.specs.Clusters.{cluster_ends, ends_behind, ends_of}
+
+-- the ends of a cluster, of its characters
+abbrev ends_of_piece : List ℕ → List Bool
+ends_of_piece piece = replicate (length piece - 1) false ++ true ∷ []
+
+-- a character in front of pieces: one of its own, or the front of the first
+abbrev attach : Bool → ℕ → List (List ℕ) → List (List ℕ)
+attach is_break c pieces = cond is_break ((c ∷ []) ∷ pieces) (prepend (c ∷ []) pieces)
+
+attach_begins : (b : Bool) (c : ℕ) (pieces : List (List ℕ)) → (p : List ℕ) × (ps : List (List ℕ)) × (attach b c pieces ≡ (c ∷ p) ∷ ps)
+attach_begins true c pieces = ([], pieces, refl)
+attach_begins false c [] = ([], [], refl)
+attach_begins false c (p ∷ ps) = (p, ps, refl)
+
+-- the first piece begins with the first character
+cut_begins : (rule : Rule) (before : List ℕ) (c : ℕ) (cs after : List ℕ)
+    → (p : List ℕ) × (ps : List (List ℕ)) × (cut rule before (c ∷ cs) after ≡ (c ∷ p) ∷ ps)
+unfolding cut
+cut_begins rule before c cs after = attach_begins (rule (c ∷ before) (cs ++ after)) c (cut rule (c ∷ before) cs after)
+
+-- one more character in front has an end behind it where it is a piece of its own
+ends_attach : (b : Bool) (c d : ℕ) (p : List ℕ) (ps : List (List ℕ))
+    → flat_map ends_of_piece (attach b c ((d ∷ p) ∷ ps)) ≡ b ∷ flat_map ends_of_piece ((d ∷ p) ∷ ps)
+ends_attach true c d p ps = refl
+ends_attach false c d p ps =
+    let more : length (c ∷ (d ∷ p)) - 1 ≡ suc (length (d ∷ p) - 1) = omega arith in
+    ap (λ n. (replicate n false ++ true ∷ []) ++ flat_map ends_of_piece ps) more
+
+ends_of_cut : (before cs : List ℕ) → flat_map ends_of_piece (cut (is_grapheme_break true) before cs []) ≡ ends_behind before cs
+unfolding cut
+ends_of_cut before [] = refl
+ends_of_cut before (c ∷ []) = unfold is_grapheme_break in refl
+ends_of_cut before (c ∷ (d ∷ cs)) =
+    let rule = is_grapheme_break true in
+    let inner = cut_begins rule (c ∷ before) d cs [] in
+    let b = rule (c ∷ before) ((d ∷ cs) ++ []) in
+    ap (λ rest. flat_map ends_of_piece (attach b c rest)) inner.2 ∙ ends_attach b c d inner.0 inner.1
+    ∙ ap₂ ◌∷◌ (ap (rule (c ∷ before)) (append-nil (d ∷ cs))) (ap (flat_map ends_of_piece) (sym inner.2) ∙ ends_of_cut (c ∷ before) (d ∷ cs))
+
+-- the pieces make up the characters
+concat_attach : (b : Bool) (c : ℕ) (pieces : List (List ℕ)) → concat (attach b c pieces) ≡ c ∷ concat pieces
+concat_attach true c pieces = refl
+concat_attach false c [] = refl
+concat_attach false c (p ∷ ps) = refl
+
+concat_cut : (rule : Rule) (before cs after : List ℕ) → concat (cut rule before cs after) ≡ cs
+unfolding cut
+concat_cut rule before [] after = refl
+concat_cut rule before (c ∷ cs) after =
+    concat_attach (rule (c ∷ before) (cs ++ after)) c (cut rule (c ∷ before) cs after) ∙ ap (λ t. c ∷ t) (concat_cut rule (c ∷ before) cs after)
+
+-- so each is of characters, whose bytes spell them again
+scalars_parts : (xs ys : List ℕ) → scalars (xs ++ ys) ≡ true → (scalars xs ≡ true) × (scalars ys ≡ true)
+scalars_parts [] ys h = (refl, h)
+scalars_parts (x ∷ xs) ys h =
+    let both = and_parts _ _ h in
+    let rest = scalars_parts xs ys both.1 in
+    (ap₂ ◌&&◌ both.0 rest.0, rest.1)
+
+ends_of_bytes : (pieces : List (List ℕ)) → scalars (concat pieces) ≡ true → flat_map ends_of (map encode_utf8_all pieces) ≡ flat_map ends_of_piece pieces
+ends_of_bytes [] h = refl
+ends_of_bytes (p ∷ ps) h =
+    let parts = scalars_parts p (concat ps) h in
+    ap₂ ◌++◌ (ap ends_of_piece (chars-encodes p parts.0)) (ends_of_bytes ps parts.1)
+
+pub ends_of_graphemes : (bs : List ℕ) → IsUtf8 bs → flat_map ends_of (graphemes true bs) ≡ cluster_ends (chars bs)
+unfolding segments cluster_ends
+ends_of_graphemes bs u =
+    let rule = is_grapheme_break true in
+    let all : scalars (concat (cut rule [] (chars bs) [])) ≡ true = ap scalars (concat_cut rule [] (chars bs) []) ∙ scalars-chars bs u in
+    ends_of_bytes _ all ∙ ends_of_cut [] (chars bs)
+
+-- characters, and what their bytes spell
+bytes_of_each : (cs : List ℕ) → flat_map encode_utf8 cs ≡ encode_utf8_all cs
+bytes_of_each [] = refl
+bytes_of_each (c ∷ cs) = ap (◌++◌ (encode_utf8 c)) (bytes_of_each cs)
+
+pub spelled : {A : Type 0} (char : A → ℕ) (items : List A) (text bytes : List ℕ) → map char items ≡ text
+    → bytes ≡ flat_map (λ x. encode_utf8 (char x)) items → IsUtf8 bytes → chars bytes ≡ text
+spelled char items text bytes same e u =
+    let all = flat_map-map encode_utf8 char items in
+    sym (chars_from_encodes text bytes u (sym (e ∙ sym all ∙ ap (flat_map encode_utf8) same ∙ bytes_of_each text)))

@@ -1,0 +1,75 @@
+-- Rows of the definitions, worked.
+use Rattle.std.proofs.Common.{◌≡◌, ℕ, true, false, Bool, List, [], ◌∷◌, map, refl}
+use Rattle.breaks.specs.declared.mark.Mark.{Mark}
+use Rattle.breaks.specs.declared.mark.Mark.TheVariants.{Never, May, Must}
+use Rattle.lines.specs.Filling.{columns, fits, line_len, line_starts_of, shown}
+use Rattle.lines.specs.declared.places.Place.{Place}
+
+-- a letter, a space, and a letter at the end of the paragraph
+abbrev letter : Place
+letter = record { columns = 1; is_trailing = false; mark = Never; ends_cluster = true }
+
+abbrev space : Place
+space = record { columns = 1; is_trailing = true; mark = Never; ends_cluster = true }
+
+abbrev last_space : Place
+last_space = record space { mark = May }
+
+abbrev last : Place
+last = record letter { mark = Must }
+
+abbrev starts : ℕ → List Place → List ℕ
+starts width places = line_starts_of false width places
+
+letters : starts 3 (letter ∷ letter ∷ letter ∷ letter ∷ letter ∷ letter ∷ letter ∷ last ∷ []) ≡ 0 ∷ 3 ∷ 6 ∷ []
+unfolding line_starts_of
+letters = refl
+
+spaces : starts 3 (letter ∷ letter ∷ letter ∷ space ∷ space ∷ last_space ∷ letter ∷ letter ∷ last ∷ []) ≡ 0 ∷ 6 ∷ []
+unfolding line_starts_of
+spaces = refl
+
+abbrev words : List Place
+words = letter ∷ letter ∷ last_space ∷ letter ∷ letter ∷ last_space ∷ letter ∷ last ∷ []
+
+five : starts 5 words ≡ 0 ∷ 6 ∷ []
+unfolding line_starts_of
+five = refl
+
+four : starts 4 words ≡ 0 ∷ 3 ∷ 6 ∷ []
+unfolding line_starts_of
+four = refl
+
+one : starts 1 words ≡ 0 ∷ 1 ∷ 3 ∷ 4 ∷ 6 ∷ 7 ∷ []
+unfolding line_starts_of
+one = refl
+
+-- nothing is shown of the first line
+front : starts 1 (space ∷ space ∷ last_space ∷ last ∷ []) ≡ 0 ∷ 3 ∷ []
+unfolding line_starts_of
+front = refl
+
+nothing_shown : shown (space ∷ space ∷ last_space ∷ []) ≡ []
+nothing_shown = refl
+
+-- `a`, a space with a mark on it, and `b`: the line may end inside a cluster
+inside : starts 1 (letter ∷ record last_space { ends_cluster = false } ∷ record letter { columns = 0 } ∷ last ∷ []) ≡ 0 ∷ 2 ∷ []
+unfolding line_starts_of
+inside = refl
+
+-- a line ends where it must, whatever the width
+ends : starts 80 (letter ∷ record space { mark = Must } ∷ last ∷ []) ≡ 0 ∷ 2 ∷ []
+unfolding line_starts_of
+ends = refl
+
+nobreak : line_starts_of true 1 words ≡ 0 ∷ []
+unfolding line_starts_of
+nobreak = refl
+
+-- two wide characters, neither of which fits
+abbrev wide : Place
+wide = record { columns = 2; is_trailing = false; mark = May; ends_cluster = true }
+
+too_wide : starts 1 (wide ∷ record wide { mark = Must } ∷ []) ≡ 0 ∷ 1 ∷ []
+unfolding line_starts_of
+too_wide = refl

@@ -1,0 +1,21 @@
+use Rattle.std.proofs.Common.{◌++◌, append-nil, sym, ap, ap₂, ◌∙◌}
+use Rattle.std.proofs.lemmas.Iterator.{YieldsList-from_slice, items_from_drains}
+use Rattle.std.specs.List.{flat_map}
+use Rattle.unicode_segmentation.specs.Iter.{graphemes_left}
+use Rattle.lines.proofs.ClusterLemmas.{ends_of_graphemes, spelled}
+use Rattle.lines.specs.Clusters.{cluster_ends, ends_of}
+use Rattle.lines.proofs.clusters.cluster_ends.Goals as goal
+
+-- all clusters are left
+pub loop-cluster-init : goal.loop-cluster-init
+loop-cluster-init c =
+    let ran = c.in_ok-utf8.ensures.ran in
+    let same = items_from_drains ran.0 ran.1 (YieldsList-from_slice c.args.text.now c.iter.ensures.rest) in
+    ap₂ ◌++◌ c.in_ok-ends.ensures.items (ap (flat_map ends_of) (ap graphemes_left c.into_iter-cluster-iterator.ensures.into_iter_gives ∙ c.graphemes-cluster-items.ensures.left))
+    ∙ ends_of_graphemes c.deref.result.now c.deref.utf8 ∙ ap cluster_ends (spelled _ _ _ _ same (c.deref.ensures ∙ ran.2) c.deref.utf8)
+
+-- none is left
+pub returns : goal.returns
+returns c =
+    let ends = c.loop-cluster.ends.items in
+    sym (append-nil ends) ∙ ap (λ pieces. ends ++ flat_map ends_of pieces) (sym c.in-None.ensures.steps.0) ∙ c.loop-cluster.invariant

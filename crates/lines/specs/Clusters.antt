@@ -1,0 +1,16 @@
+-- Where the extended grapheme clusters of a text end, by the rules of the crate `unicode_segmentation` (UAX #29).
+use Rattle.std.specs.Prelude.{ℕ, ◌-◌, Bool, true, false, List, [], ◌∷◌, ◌++◌, length, replicate}
+use Rattle.std.specs.Str.{chars}
+use Rattle.unicode_segmentation.specs.Grapheme.{is_grapheme_break}
+
+-- whether a cluster ends behind each character of a text, of which others stand before, the nearest first
+abbrev pub ends_behind : List ℕ → List ℕ → List Bool
+ends_behind before [] = []
+ends_behind before (c ∷ text) = is_grapheme_break true (c ∷ before) text ∷ ends_behind (c ∷ before) text
+
+unfoldable pub cluster_ends : List ℕ → List Bool
+cluster_ends text = ends_behind [] text
+
+-- the ends of one cluster, of its bytes: none but behind its last character
+abbrev pub ends_of : List ℕ → List Bool
+ends_of cluster = replicate (length (chars cluster) - 1) false ++ true ∷ []

@@ -1,0 +1,41 @@
+-- What calls of an engine do to what it shows.
+use Rattle.std.specs.Prelude.{◌≡◌, ℕ, ◌+◌, ◌≤◌, List, length, Result, Ok, Err}
+use Rattle.bidi.specs.Engine.{counted}
+use Rattle.lines.specs.Layouts.{Rules}
+use Rattle.lines.specs.declared.engine.Engine.{Engine}
+
+abbrev pub rules_of : Engine → Rules
+rules_of engine = engine.rules
+
+abbrev pub analysed_of : Engine → ℕ
+analysed_of engine = engine.analysed
+
+abbrev pub filled_of : Engine → ℕ
+filled_of engine = engine.filled
+
+-- an engine keeps its rules
+abbrev pub SameRules : Engine → Engine → Type 0
+SameRules old new = rules_of new ≡ rules_of old
+
+-- a count rises, by at most n
+pub record RisesBy (n old new : ℕ) : Type 0 where
+  pub least : old ≤ new
+  pub most : new ≤ old + n
+
+-- n characters were analysed and filled
+pub record LaysOut (n : ℕ) (old new : Engine) : Type 0 where
+  pub analysed : analysed_of new ≡ counted (analysed_of old) n
+  pub filled : filled_of new ≡ counted (filled_of old) n
+
+pub record LaysOutAtMost (n : ℕ) (old new : Engine) : Type 0 where
+  pub analysed : RisesBy n (analysed_of old) (analysed_of new)
+  pub filled : RisesBy n (filled_of old) (filled_of new)
+
+-- n characters were filled, and none analysed
+pub record Fills (n : ℕ) (old new : Engine) : Type 0 where
+  pub analysed : analysed_of new ≡ analysed_of old
+  pub filled : filled_of new ≡ counted (filled_of old) n
+
+pub record FillsAtMost (n : ℕ) (old new : Engine) : Type 0 where
+  pub analysed : analysed_of new ≡ analysed_of old
+  pub filled : RisesBy n (filled_of old) (filled_of new)

@@ -1,0 +1,88 @@
+-- Where the lines of a paragraph end, by the width.
+use Rattle.std.specs.Prelude.{ℕ, zero, suc, ◌+◌, ◌-◌, nat_le, ◌==◌, Bool, true, false, ◌&&◌, ◌||◌, List, [], ◌∷◌, length, take, sum_by, slice_index_or, Option, Some, None, unwrap_or, if◌then◌else◌}
+use Rattle.std.specs.List.{suffix_len}
+use Rattle.bidi.specs.Brackets.{greatest}
+use Rattle.bidi.specs.Least.{least}
+use Rattle.breaks.specs.declared.mark.Mark.{Mark}
+use Rattle.breaks.specs.declared.mark.Mark.TheVariants.{Never, May, Must}
+use Rattle.lines.specs.declared.places.Place.{Place}
+
+-- the columns of a piece are the sum of those of its characters
+abbrev pub columns : List Place → ℕ
+columns piece = sum_by (λ p. p.columns) piece
+
+-- The tail of a piece is its longest ending of characters that count for nothing there, and the shown part is the rest.
+abbrev pub shown : List Place → List Place
+shown piece = take (length piece - suffix_len (λ p. p.is_trailing) piece) piece
+
+-- a piece fits if its shown part takes at most the width
+abbrev pub fits : ℕ → List Place → Bool
+fits width piece = nat_le (columns (shown piece)) width
+
+abbrev pub is_must : Mark → Bool
+is_must Must = true
+is_must mark = false
+
+abbrev pub is_break : Mark → Bool
+is_break Never = false
+is_break mark = true
+
+-- the place at an index, and nothing behind the last
+abbrev pub nothing : Place
+nothing = record { columns = 0; is_trailing = false; mark = Never; ends_cluster = false }
+
+abbrev pub place_at : List Place → ℕ → Place
+place_at rest k = slice_index_or rest k nothing
+
+-- the first answer that there is
+abbrev pub or_else : Option ℕ → Option ℕ → Option ℕ
+or_else (Some k) other = Some k
+or_else None other = other
+
+-- A line begins at the first of these characters, and others follow. Positions are named by the character that they lie behind.
+module _ (rest : List Place) where
+  -- a line must end behind a character, or may; a cluster ends there
+  abbrev pub must_end : ℕ → Bool
+  must_end k = is_must (place_at rest k).mark
+
+  abbrev pub may_end : ℕ → Bool
+  may_end k = is_break (place_at rest k).mark
+
+  abbrev pub cluster_ends_at : ℕ → Bool
+  cluster_ends_at k = (place_at rest k).ends_cluster
+
+  -- the first position at which a line must end; the end of the paragraph is one
+  abbrev pub stop : ℕ
+  stop = unwrap_or (least must_end 0 (length rest)) (length rest - 1)
+
+  -- the first position at which a line may end or a cluster ends
+  abbrev pub first_end : ℕ
+  first_end = unwrap_or (least (λ k. may_end k || cluster_ends_at k) 0 (length rest)) (length rest - 1)
+
+-- the line up to a position fits
+abbrev pub fits_to : ℕ → List Place → ℕ → Bool
+fits_to width rest k = fits width (take (suc k) rest)
+
+-- The line ends at the greatest position, up to the first at which it must end, at which it may end and up to which it fits; without one
+-- at the greatest such at which a cluster ends; and without one of these at the first position at which it may end or a cluster ends.
+abbrev pub by_break : ℕ → List Place → Option ℕ
+by_break width rest = greatest (λ k. may_end rest k && fits_to width rest k) (suc (stop rest))
+
+abbrev pub by_cluster : ℕ → List Place → Option ℕ
+by_cluster width rest = greatest (λ k. cluster_ends_at rest k && fits_to width rest k) (suc (stop rest))
+
+abbrev pub line_end : ℕ → List Place → ℕ
+line_end width rest = unwrap_or (or_else (by_break width rest) (by_cluster width rest)) (first_end rest)
+
+-- how many characters the first line takes; where lines end at mandatory breaks only, it ends at the first of these
+abbrev pub line_len : Bool → ℕ → List Place → ℕ
+line_len nobreak width rest = suc (if nobreak then stop rest else line_end width rest)
+
+-- where lines start: at a character in front of which so many of the line before are left as none
+abbrev pub starts : Bool → ℕ → ℕ → ℕ → List Place → List ℕ
+starts nobreak width place left [] = []
+starts nobreak width place zero (p ∷ rest) = place ∷ starts nobreak width (suc place) (line_len nobreak width (p ∷ rest) - 1) rest
+starts nobreak width place (suc left) (p ∷ rest) = starts nobreak width (suc place) left rest
+
+unfoldable pub line_starts_of : Bool → ℕ → List Place → List ℕ
+line_starts_of nobreak width places = starts nobreak width 0 0 places

@@ -1,0 +1,77 @@
+-- The layout of a paragraph, as what it consists of.
+use Rattle.std.specs.Prelude.{◌≡◌, ℕ, ◌<◌, ◌≤◌, Bool, List, [], ◌∷◌, length, map}
+use Rattle.ucd.specs.Tables.{class_of}
+use Rattle.ucd.specs.declared.tables.Tables.{Tables}
+use Rattle.bidi.specs.declared.base.Base.{Base}
+use Rattle.bidi.specs.Base.{base_level_of}
+use Rattle.bidi.specs.Cuts.{cut, paragraphs}
+use Rattle.bidi.specs.Levels.{levels_of}
+use Rattle.breaks.specs.Marks.{marks_of}
+use Rattle.breaks.specs.declared.mark.Mark.{Mark}
+use Rattle.lines.specs.Filling.{line_starts_of}
+use Rattle.lines.specs.Places.{places_of}
+
+-- what a layout goes by: the tables, the option on the base level, and whether lines end at mandatory breaks only
+pub record Rules : Type 0 where
+  pub tables : Tables
+  pub option : Base
+  pub nobreak : Bool
+
+-- the lines of a paragraph, by where each starts
+pub record Lines : Type 0 where
+  pub starts : List ℕ
+
+-- a paragraph: its characters, its base level, the level and the mark of each character, and its lines
+pub record Layout : Type 0 where
+  pub text : List ℕ
+  pub base : ℕ
+  pub levels : List ℕ
+  pub marks : List Mark
+  pub lines : Lines
+
+abbrev pub lines_of : Rules → ℕ → List ℕ → Lines
+lines_of rules width text = record { starts = line_starts_of rules.nobreak width (places_of rules.tables text) }
+
+-- the layout of a paragraph from scratch
+abbrev pub layout_of : Rules → ℕ → List ℕ → Layout
+layout_of rules width text = record {
+  text = text;
+  base = base_level_of (map (class_of rules.tables) text) rules.option;
+  levels = levels_of rules.tables text rules.option;
+  marks = marks_of rules.tables text;
+  lines = lines_of rules width text;
+}
+
+-- where paragraphs are cut
+abbrev pub cut_by : Rules → ℕ → ℕ → Bool
+cut_by rules = cut (class_of rules.tables)
+
+-- a text is one paragraph, of a length that is allowed
+pub record IsParagraph (rules : Rules) (text : List ℕ) : Type 0 where
+  pub whole : paragraphs (cut_by rules) text ≡ text ∷ []
+  pub within : length text ≤ 1048576
+
+-- a layout is that of its text, which is one paragraph, at some width
+pub record IsLaidOut (rules : Rules) (layout : Layout) : Type 0 where
+  pub width : ℕ
+  pub paragraph : IsParagraph rules layout.text
+  pub from_scratch : layout ≡ layout_of rules width layout.text
+
+-- lines are those of a text at some width
+pub record AreLinesOf (rules : Rules) (text : List ℕ) (lines : Lines) : Type 0 where
+  pub width : ℕ
+  pub from_scratch : lines ≡ lines_of rules width text
+
+-- A paragraph and lines of it are exchanged. The paragraph is then laid out at the width of those lines, and they are its old ones.
+pub record Exchanges (old new : Layout) (lines_old lines_new : Lines) : Type 0 where
+  pub put : new ≡ record old { lines = lines_old }
+  pub taken : lines_new ≡ old.lines
+  pub widths : (rules : Rules) (width other : ℕ) → old ≡ layout_of rules width old.text → lines_old ≡ lines_of rules other old.text
+      → (new ≡ layout_of rules other old.text) × (lines_new ≡ lines_of rules width old.text)
+  pub stay : (rules : Rules) → IsLaidOut rules old → AreLinesOf rules old.text lines_old → IsLaidOut rules new × AreLinesOf rules new.text lines_new
+
+-- what an engine shows: the rules that it goes by, and how many characters it analysed and filled
+pub record State : Type 0 where
+  pub rules : Rules
+  pub analysed : ℕ
+  pub filled : ℕ

@@ -1,0 +1,17 @@
+-- What the walk along a line keeps of the characters that it has passed.
+use Rattle.std.specs.Prelude.{◌≡◌, ℕ, ◌+◌, List, if◌then◌else◌}
+use Rattle.lines.specs.Filling.{columns, shown}
+use Rattle.lines.specs.declared.filling.Sums.{Sums}
+use Rattle.lines.specs.declared.places.Place.{Place}
+
+-- the sums of a piece with one more character
+abbrev pub sums_behind : Sums → Place → Sums
+sums_behind sums p = record {
+  columns = sums.columns + p.columns;
+  shown = if p.is_trailing then sums.shown else sums.columns + p.columns;
+}
+
+-- the columns of a piece, and those of its shown part
+pub record AreSumsOf (piece : List Place) (sums : Sums) : Type 0 where
+  pub columns_are : sums.columns ≡ columns piece
+  pub shown_are : sums.shown ≡ columns (shown piece)

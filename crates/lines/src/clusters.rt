@@ -1,0 +1,32 @@
+//! Where the grapheme clusters of a paragraph end (UAX #29), as the crate `unicode_segmentation` has
+//! them.
+ghost use Rattle.std.specs.Prelude.{◌≡◌, ◌++◌, IfOk, OnOk};
+ghost use Rattle.lines.specs.Clusters.{cluster_ends, ends_of};
+
+use std::alloc::{AllocError, Global};
+use unicode_segmentation::UnicodeSegmentation;
+
+/// Whether a cluster ends behind each character of a paragraph.
+pub fn cluster_ends(alloc: Global, text: &[char]) -> Result<Vec<bool>, AllocError>
+    ensures { IfOk result (λ ends. ends.items ≡ cluster_ends text.now) }
+{
+    let utf8: String = text.iter().collect(alloc)?;
+    let mut ends = Vec::with_capacity(alloc, text.len())?;
+    for cluster in utf8.graphemes(true) {
+        push_ends(&mut ends, cluster)?;
+    }
+    Ok(ends)
+}
+
+// Adds the ends of one cluster: none but behind its last character.
+fn push_ends(ends: &mut Vec<bool>, cluster: &str) -> Result<(), AllocError>
+    ensures { OnOk result (ends.new.items ≡ ends.old.items ++ ends_of cluster.now) }
+{
+    let mut left = cluster.chars().count();
+    while left > 1 {
+        ends.push(false)?;
+        left -= 1;
+    }
+    ends.push(true)?;
+    Ok(())
+}

@@ -1,0 +1,173 @@
+//! What lays paragraphs out: the tables and options, and how much was analysed and filled.
+ghost use Rattle.std.specs.Prelude.{◌≡◌, ◌<◌, ◌≤◌, length, IfOk, IfErr};
+
+use crate::filling::line_starts;
+use crate::laid::{Fill, Laid};
+use crate::places::places;
+use bidi::{Base, base_level, first_cut, is_cut, resolve};
+use breaks::{Mark, marks};
+use std::alloc::{AllocError, Global};
+use std::marker::Model;
+use ucd::Tables;
+
+/// How many characters a paragraph may have.
+pub const PARAGRAPH_LIMIT: usize = 1_048_576;
+
+/// Owns the tables and lends none of them out, so that all work on them is counted.
+#[derive(Debug, Drop)]
+pub struct Engine {
+    tables: Tables,
+    base: Base,
+    nobreak: bool,
+    analysed: u64,
+    filled: u64,
+}
+
+impl Model for Engine {
+    ghost use Rattle.lines.specs.Layouts.{State};
+
+    ghost Value = { State };
+
+    ghost view = { λ e. record {
+      rules = record { tables = e.tables; option = e.base; nobreak = e.nobreak };
+      analysed = e.analysed;
+      filled = e.filled;
+    } };
+}
+
+impl Engine {
+    ghost use Rattle.bidi.specs.Cuts.{first_cut, SplitsAt};
+    ghost use Rattle.breaks.specs.Marks.{marks_of};
+    ghost use Rattle.lines.specs.Layouts.{cut_by, layout_of, lines_of};
+    ghost use Rattle.lines.specs.Layouts.{AreLinesOf, IsLaidOut, IsParagraph};
+    ghost use Rattle.lines.specs.Engine.{rules_of, analysed_of, filled_of, SameRules};
+    ghost use Rattle.lines.specs.Engine.{Fills, FillsAtMost, LaysOut, LaysOutAtMost};
+
+    /// An engine that has not worked yet. With `nobreak`, lines end at mandatory breaks only.
+    pub fn new(tables: Tables, base: Base, nobreak: bool) -> Engine
+        ensures rules { rules_of result ≡ record { tables = tables; option = base; nobreak = nobreak } }
+        ensures analysed { analysed_of result ≡ 0 }
+        ensures filled { filled_of result ≡ 0 }
+    {
+        Engine {
+            tables,
+            base,
+            nobreak,
+            analysed: 0,
+            filled: 0,
+        }
+    }
+
+    /// Whether a paragraph ends between two neighbours.
+    pub fn is_cut(&self, before: char, after: char) -> bool
+        ensures { result ≡ cut_by (rules_of self.now) before after }
+    {
+        is_cut(&self.tables, before, after)
+    }
+
+    /// Where the first paragraph of a text ends, if another follows it.
+    pub fn first_cut(&self, text: &[char]) -> Option<usize>
+        ensures place { result ≡ first_cut (cut_by (rules_of self.now)) text.now }
+        ensures paragraphs { SplitsAt (cut_by (rules_of self.now)) text.now result }
+    {
+        first_cut(&self.tables, text)
+    }
+
+    /// How many characters were analysed, up to the greatest `u64`, at which the count stays.
+    pub fn analysed(&self) -> u64
+        ensures { result ≡ analysed_of self.now }
+    {
+        self.analysed
+    }
+
+    /// How many characters were filled into lines, up to the greatest `u64`, at which the count stays.
+    pub fn filled(&self) -> u64
+        ensures { result ≡ filled_of self.now }
+    {
+        self.filled
+    }
+
+    /// Lays out one paragraph at a width in columns, which is not 0. Where there is no memory, the
+    /// text comes back.
+    pub fn lay_out(
+        &mut self,
+        alloc: Global,
+        text: Vec<char>,
+        width: u16,
+    ) -> Result<Laid, (Vec<char>, AllocError)>
+        requires paragraph { IsParagraph (rules_of self.old) text.items }
+        requires width { 0 < width }
+        ensures ok { IfOk result (λ laid. laid ≡ layout_of (rules_of self.old) width text.items) }
+        ensures laid_out { IfOk result (IsLaidOut (rules_of self.new)) }
+        ensures counts { IfOk result (λ laid. LaysOut (length text.items) self.old self.new) }
+        ensures err { IfErr result (λ back. back.0.items ≡ text.items) }
+        ensures at_most { LaysOutAtMost (length text.items) self.old self.new }
+        ensures rules { SameRules self.old self.new }
+    {
+        self.analysed = self.analysed.saturating_add(text.len() as u64);
+        self.filled = self.filled.saturating_add(text.len() as u64);
+        match self.parts(alloc, &text, width) {
+            Ok((base, levels, marks, line_starts)) => Ok(Laid {
+                text,
+                base,
+                levels,
+                marks,
+                line_starts,
+            }),
+            Err(error) => Err((text, error)),
+        }
+    }
+
+    /// The lines of a paragraph at another width, which is not 0. The paragraph is laid out by this
+    /// engine's rules.
+    pub fn refill(&mut self, alloc: Global, laid: &Laid, width: u16) -> Result<Fill, AllocError>
+        requires laid { IsLaidOut (rules_of self.old) laid.now }
+        requires width { 0 < width }
+        ensures ok { IfOk result (λ fill. fill ≡ lines_of (rules_of self.old) width laid.now.text) }
+        ensures lines { IfOk result (AreLinesOf (rules_of self.new) laid.now.text) }
+        ensures counts { IfOk result (λ fill. Fills (length laid.now.text) self.old self.new) }
+        ensures at_most { FillsAtMost (length laid.now.text) self.old self.new }
+        ensures rules { SameRules self.old self.new }
+    {
+        self.filled = self.filled.saturating_add(laid.text.len() as u64);
+        let line_starts = self.starts(alloc, &laid.text, &laid.marks, width)?;
+        Ok(Fill { line_starts })
+    }
+
+    // What a paragraph's layout consists of beside its text.
+    fn parts(
+        &self,
+        alloc: Global,
+        text: &[char],
+        width: u16,
+    ) -> Result<(u8, Vec<u8>, Vec<Mark>, Vec<u32>), AllocError>
+        requires { length text.now ≤ 1048576 }
+        ensures { IfOk result (λ parts.
+            (parts.0 ≡ (layout_of (rules_of self.now) width text.now).base)
+            × (parts.1.items ≡ (layout_of (rules_of self.now) width text.now).levels)
+            × (parts.2.items ≡ (layout_of (rules_of self.now) width text.now).marks)
+            × (parts.3.items ≡ (layout_of (rules_of self.now) width text.now).lines.starts)) }
+    {
+        let base = base_level(&self.tables, text, self.base);
+        let levels = resolve(alloc, &self.tables, text, self.base)?;
+        let marks = marks(alloc, &self.tables, text)?;
+        let line_starts = self.starts(alloc, text, &marks, width)?;
+        Ok((base, levels, marks, line_starts))
+    }
+
+    // Where the lines of a paragraph start, whose marks are known.
+    fn starts(
+        &self,
+        alloc: Global,
+        text: &[char],
+        marks: &[Mark],
+        width: u16,
+    ) -> Result<Vec<u32>, AllocError>
+        requires marks { marks.now ≡ marks_of (rules_of self.now).tables text.now }
+        requires within { length text.now ≤ 1048576 }
+        ensures { IfOk result (λ starts. starts.items ≡ (lines_of (rules_of self.now) width text.now).starts) }
+    {
+        let places = places(alloc, &self.tables, text, marks)?;
+        line_starts(alloc, &places, width, self.nobreak)
+    }
+}

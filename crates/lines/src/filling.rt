@@ -1,0 +1,174 @@
+//! Where the lines of a paragraph start.
+ghost use Rattle.std.specs.Prelude.{◌≡◌, ◌+◌, ◌||◌, ◌<◌, ◌≤◌, ◌^◌, length};
+ghost use Rattle.std.specs.Prelude.{Some, IfOk, if◌then◌else◌};
+ghost use Rattle.lines.specs.Filling.{by_break, by_cluster, first_end, line_end};
+ghost use Rattle.lines.specs.Filling.{is_break, is_must, line_len, line_starts_of, stop};
+ghost use Rattle.lines.specs.Sums.{sums_behind};
+
+use crate::places::Place;
+use breaks::Mark;
+use std::alloc::{AllocError, Global};
+
+/// Where each line of a paragraph starts, at a width.
+pub fn line_starts(
+    alloc: Global,
+    places: &[Place],
+    width: u16,
+    nobreak: bool,
+) -> Result<Vec<u32>, AllocError>
+    requires { length places.now ≤ 1048576 }
+    ensures { IfOk result (λ starts. starts.items ≡ line_starts_of nobreak width places.now) }
+{
+    let mut starts = Vec::new(alloc);
+    let mut start = 0;
+    let mut rest = places;
+    while !rest.is_empty() {
+        starts.push(start as u32)?;
+        let len = line_len(rest, width, nobreak);
+        start += len;
+        let (_, behind) = rest.split_at(len);
+        rest = behind;
+    }
+    Ok(starts)
+}
+
+// How many characters the first line takes.
+fn line_len(rest: &[Place], width: u16, nobreak: bool) -> usize
+    requires { (0 < length rest.now) × (length rest.now ≤ 1048576) }
+    ensures len { result ≡ line_len nobreak width rest.now }
+    ensures within { result ≤ length rest.now }
+{
+    if nobreak {
+        first_must(rest) + 1
+    } else {
+        line_end(rest, width) + 1
+    }
+}
+
+// Whether a line must end there.
+fn is_must(mark: Mark) -> bool
+    ensures { result ≡ is_must mark }
+{
+    mark == Mark::Must
+}
+
+// Whether a line may end there, or must.
+fn is_break(mark: Mark) -> bool
+    ensures { result ≡ is_break mark }
+{
+    mark != Mark::Never
+}
+
+// Whether a line may end behind a character, or a cluster ends there.
+fn is_candidate(place: &Place) -> bool
+    ensures { result ≡ is_break place.now.mark || place.now.ends_cluster }
+{
+    is_break(place.mark) || place.ends_cluster
+}
+
+// The first character behind which a line must end.
+fn first_must(rest: &[Place]) -> usize
+    requires { 0 < length rest.now }
+    ensures end { result ≡ stop rest.now }
+    ensures within { result < length rest.now }
+{
+    for (k, place) in rest.iter().enumerate() {
+        if is_must(place.mark) {
+            return k;
+        }
+    }
+    rest.len() - 1
+}
+
+// The first character behind which a line may end, or a cluster ends.
+fn first_end(rest: &[Place]) -> usize
+    requires { 0 < length rest.now }
+    ensures end { result ≡ first_end rest.now }
+    ensures within { result < length rest.now }
+{
+    for (k, place) in rest.iter().enumerate() {
+        if is_candidate(place) {
+            return k;
+        }
+    }
+    rest.len() - 1
+}
+
+// The last character of the first line.
+fn line_end(rest: &[Place], width: u16) -> usize
+    requires { (0 < length rest.now) × (length rest.now ≤ 1048576) }
+    ensures end { result ≡ line_end width rest.now }
+    ensures within { result < length rest.now }
+{
+    match fitting_ends(rest, width) {
+        (Some(k), _) => k,
+        (None, Some(k)) => k,
+        (None, None) => first_end(rest),
+    }
+}
+
+// The last characters, up to the first behind which a line must end, up to which a line fits: of
+// those behind which it may end, and of those behind which a cluster ends.
+fn fitting_ends(rest: &[Place], width: u16) -> (Option<usize>, Option<usize>)
+    requires { (0 < length rest.now) × (length rest.now ≤ 1048576) }
+    ensures by_break { result.0 ≡ by_break width rest.now }
+    ensures by_cluster { result.1 ≡ by_cluster width rest.now }
+{
+    let mut by_break = None;
+    let mut by_cluster = None;
+    let mut sums = Sums {
+        columns: 0,
+        shown: 0,
+    };
+    let mut k = 0;
+    while k < rest.len() {
+        let place = rest[k];
+        sums = sums.behind(place);
+        if sums.shown > width as usize {
+            return (by_break, by_cluster);
+        }
+        by_break = later(by_break, k, is_break(place.mark));
+        by_cluster = later(by_cluster, k, place.ends_cluster);
+        if is_must(place.mark) {
+            return (by_break, by_cluster);
+        }
+        k += 1;
+    }
+    (by_break, by_cluster)
+}
+
+// The columns of a piece, and those of its shown part.
+#[derive(Clone, Copy)]
+struct Sums {
+    columns: usize,
+    shown: usize,
+}
+
+impl Sums {
+    // Those of the piece with one more character.
+    fn behind(self, place: Place) -> Sums
+        requires { self.columns < 2 ^ 40 }
+        ensures sums { result ≡ sums_behind self place }
+        ensures most { result.columns ≤ self.columns + 255 }
+    {
+        let columns = self.columns + place.columns as usize;
+        if place.is_trailing {
+            Sums {
+                columns,
+                shown: self.shown,
+            }
+        } else {
+            Sums {
+                columns,
+                shown: columns,
+            }
+        }
+    }
+}
+
+// The number, if it passes, else the one that passed before.
+fn later(before: Option<usize>, k: usize, passes: bool) -> Option<usize>
+    ensures { result ≡ if passes then Some k else before }
+{
+    if passes { Some(k) } else { before }
+}

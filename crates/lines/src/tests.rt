@@ -1,0 +1,129 @@
+//! Worked rows. The tests pass too where one allocation is refused, whichever it is.
+ghost use Rattle.std.specs.Prelude.{◌<◌, IfOk};
+ghost use Rattle.lines.specs.Engine.{rules_of, SameRules};
+ghost use Rattle.lines.specs.Layouts.{AreLinesOf, IsLaidOut};
+
+use crate::{Engine, Fill, Laid, PARAGRAPH_LIMIT};
+use bidi::Base;
+use breaks::Mark;
+use std::alloc::Global;
+use std::test::Fail;
+use ucd::{Cause, Tables, UcdFiles};
+
+// The table files of the tests.
+const FILES: UcdFiles<'_> = UcdFiles {
+    bidi_class: excerpt::BIDI_CLASS,
+    bidi_brackets: excerpt::BIDI_BRACKETS,
+    bidi_mirroring: excerpt::BIDI_MIRRORING,
+    line_break: excerpt::LINE_BREAK,
+    general_category: excerpt::GENERAL_CATEGORY,
+    east_asian_width: excerpt::EAST_ASIAN_WIDTH,
+    emoji_data: excerpt::EMOJI_DATA,
+};
+
+fn engine(alloc: Global, nobreak: bool) -> Result<Engine, Fail> {
+    let tables = match Tables::read(alloc, &FILES) {
+        Err(fault) if fault.cause == Cause::Memory => Tables::read(alloc, &FILES)?,
+        tables => tables?,
+    };
+    Ok(Engine::new(tables, Base::WeakLtr, nobreak))
+}
+
+// The layout of a text that is one paragraph, at a width that is not 0.
+fn lay_out(alloc: Global, engine: &mut Engine, text: &str, width: u16) -> Result<Laid, Fail>
+    ensures laid { IfOk result (IsLaidOut (rules_of engine.new)) }
+    ensures rules { SameRules engine.old engine.new }
+{
+    let text: Vec<char> = text.chars().collect(alloc)?;
+    let is_long = text.len() > PARAGRAPH_LIMIT;
+    if text.is_empty() || is_long || engine.first_cut(&text).is_some() || width == 0 {
+        return Err(Fail::new("no paragraph"));
+    }
+    match engine.lay_out(alloc, text, width) {
+        Ok(laid) => Ok(laid),
+        // The text came back where memory ran out.
+        Err((text, _)) => match engine.lay_out(alloc, text, width) {
+            Ok(laid) => Ok(laid),
+            Err((_, error)) => Err(Fail::from(error)),
+        },
+    }
+}
+
+#[test]
+fn line_starts_of_rows(rt: HostRuntime) -> Result<(), Fail> {
+    let alloc = rt.alloc();
+    let mut fills = engine(alloc, false)?;
+    let mut keeps = engine(alloc, true)?;
+    let rows: [(&str, u16, &[u32], &[u32]); 13] = [
+        ("abcdefgh", 3, &[0, 3, 6], &[0]),
+        ("abc   def", 3, &[0, 6], &[0]),
+        ("ab cd ef", 5, &[0, 6], &[0]),
+        ("ab cd ef", 4, &[0, 3, 6], &[0]),
+        ("ab cd ef", 1, &[0, 1, 3, 4, 6, 7], &[0]),
+        ("   a", 1, &[0, 3], &[0]),
+        ("a \u{300}b", 1, &[0, 2], &[0]),
+        ("a\u{2028}b", 80, &[0, 2], &[0, 2]),
+        ("\u{4E00}\u{4E00}", 1, &[0, 1], &[0]),
+        ("e\u{300}e\u{300}e", 1, &[0, 2, 4], &[0]),
+        ("a\r\n", 1, &[0], &[0]),
+        ("\n", 1, &[0], &[0]),
+        ("ab cd\u{2028}e", 1, &[0, 1, 3, 4, 6], &[0, 6]),
+    ];
+    for (text, width, filled, kept) in rows {
+        let laid = lay_out(alloc, &mut fills, text, width)?;
+        assert_eq!(rt; laid.line_starts(), filled, "{text:?} at width {width}");
+        assert_eq!(rt; laid.line_count(), filled.len());
+        // Where lines end at mandatory breaks only.
+        let laid = lay_out(alloc, &mut keeps, text, width)?;
+        assert_eq!(rt; laid.line_starts(), kept, "{text:?}");
+    }
+    Ok(())
+}
+
+// The lines of a paragraph at another width.
+fn refill(alloc: Global, engine: &mut Engine, laid: &Laid, width: u16) -> Result<Fill, Fail>
+    requires laid { IsLaidOut (rules_of engine.old) laid.now }
+    requires width { 0 < width }
+    ensures { IfOk result (AreLinesOf (rules_of engine.old) laid.now.text) }
+{
+    match engine.refill(alloc, laid, width) {
+        Ok(fill) => Ok(fill),
+        Err(_) => Ok(engine.refill(alloc, laid, width)?),
+    }
+}
+
+// Whether the engine counts so many characters, and the paragraph's lines start there.
+fn shows(engine: &Engine, counts: (u64, u64), laid: &Laid, starts: &[u32]) -> bool {
+    (engine.analysed(), engine.filled()) == counts && laid.line_starts() == starts
+}
+
+#[test]
+fn paragraph_at_two_widths(rt: HostRuntime) -> Result<(), Fail> {
+    let alloc = rt.alloc();
+    let mut engine = engine(alloc, false)?;
+    let mut laid = lay_out(alloc, &mut engine, "abcdefgh", 3)?;
+    assert!(rt; shows(&engine, (8, 8), &laid, &[0, 3, 6]));
+    let mut fill = refill(alloc, &mut engine, &laid, 4)?;
+    laid.exchange(&mut fill);
+    assert!(rt; shows(&engine, (8, 16), &laid, &[0, 4]));
+    laid.exchange(&mut fill);
+    assert!(rt; shows(&engine, (8, 16), &laid, &[0, 3, 6]));
+    Ok(())
+}
+
+// Whether a paragraph's parts are these.
+fn consists(laid: &Laid, text: &[char], base: u8, levels: &[u8], marks: &[Mark]) -> bool {
+    laid.text() == text && laid.base() == base && laid.levels() == levels && laid.marks() == marks
+}
+
+#[test]
+fn parts_of_a_paragraph(rt: HostRuntime) -> Result<(), Fail> {
+    let alloc = rt.alloc();
+    let mut engine = engine(alloc, false)?;
+    assert!(rt; engine.is_cut('\n', 'a') && !engine.is_cut('a', '\n'));
+    let laid = lay_out(alloc, &mut engine, "\u{5D0}- a", 3)?;
+    let text = ['\u{5D0}', '-', ' ', 'a'];
+    let marks = [Mark::Never, Mark::Never, Mark::May, Mark::Must];
+    assert!(rt; consists(&laid, &text, 1, &[1, 1, 1, 2], &marks));
+    Ok(())
+}
