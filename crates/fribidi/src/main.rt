@@ -3,12 +3,12 @@
 
 ghost use Rattle.std.specs.Prelude.{◌≡◌, true};
 
+use device::{FromRead, ToWrite};
 use std::alloc::{AllocError, Global};
 use std::fs::File;
 use std::io::{ErrorKind, Read, Stdout};
 use std::process::ExitCode;
 use std::{env, fs, io};
-use tool::device::{FromRead, ToWrite};
 use tool::{LineFault, ProgramFault, RunFault, Settings, run_text, settings};
 use ucd::{FILE_NAMES, Tables, UcdFiles};
 

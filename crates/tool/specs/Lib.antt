@@ -1,5 +1,3 @@
 pub mod CommandLine
-pub mod Device
 pub mod Program
 pub mod TextRun
-pub mod Wrapped

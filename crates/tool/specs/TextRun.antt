@@ -4,7 +4,7 @@ use Rattle.std.specs.Fmt.{decimal}
 use Rattle.std.specs.List.{flat_map, join_with_byte, list_all}
 use Rattle.std.specs.Str.{chars}
 use Rattle.std.specs.Str.Lossy.{utf8_valid_len, utf8_error_len}
-use Rattle.std.specs.Io.KnownBytes.{Appends, Consumes, IsAtEnd}
+use Rattle.std.specs.Io.KnownBytes.{Consumes, IsAtEnd}
 use Rattle.ucd.specs.Tables.{class_of}
 use Rattle.ucd.specs.declared.tables.Tables.{Tables}
 use Rattle.bidi.specs.declared.base.Base.{Base}
@@ -16,7 +16,7 @@ use Rattle.tool.specs.declared.faults.RunFault.TheVariants as fault
 use Rattle.tool.specs.declared.text.Ending.{Ending}
 use Rattle.tool.specs.declared.text.Ending.TheVariants.{AtEnd, AtFailure}
 use Rattle.tool.specs.declared.print.Print.{Print}
-use Rattle.tool.specs.Device.{Device, FailedLast}
+use Rattle.device.specs.Device.{Device, FailedLast, Wrote, StoppedAt}
 
 -- the characters in front of the first byte that is not UTF-8
 abbrev pub front_of : List ℕ → List ℕ
@@ -87,18 +87,6 @@ IsOutputOf tables base print bytes ending lines end =
 abbrev pub Gave : Device → Device → Ending → List ℕ → Type 0
 Gave old new AtEnd bytes = IfSome old.bytes (λ all. all ≡ bytes) × (new.failures ≡ old.failures)
 Gave old new AtFailure bytes = Consumes old.bytes new.bytes bytes × (new.passed ≡ old.passed + length bytes) × FailedLast old new
-
--- a sink took these bytes and no others
-pub record Took (old new : Device) (given : List ℕ) : Type 0 where
-  pub bytes : Appends old.bytes new.bytes given
-  pub passed : new.passed ≡ old.passed + length given
-
--- all of the bytes were taken, or the sink failed behind n of them
-abbrev pub Wrote : List ℕ → Device → Device → Type 0
-Wrote given old new = Took old new given × (new.failures ≡ old.failures)
-
-abbrev pub StoppedAt : ℕ → List ℕ → Device → Device → Type 0
-StoppedAt n given old new = (n < length given) × Took old new (take n given) × FailedLast old new
 
 -- The run ended so: without a fault or with the input's, the whole page of the written paragraphs was taken; at a failed write,
 -- a beginning of it, whose length is told; where memory ran out, the page of some of these paragraphs, from the first on.

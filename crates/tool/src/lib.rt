@@ -2,7 +2,6 @@
 #![tactic(auto)]
 
 mod command_line;
-pub mod device;
 mod faults;
 mod options;
 mod print;

@@ -1,9 +1,9 @@
 //! Worked rows: texts and what is written for them, command lines and messages.
 ghost use Rattle.std.specs.Prelude.{◌≡◌, true};
 
-use crate::device::{FromRead, ToWrite};
 use crate::{LineFault, Print, ProgramFault, RunFault, run_text, settings};
 use bidi::Base;
+use device::{FromRead, ToWrite};
 use std::alloc::Global;
 use std::io;
 use std::io::{ErrorKind, Read, Write};

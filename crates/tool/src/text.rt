@@ -1,18 +1,18 @@
 //! The run of a text: its bytes are read and checked, its paragraphs found, and lines written for
 //! each. What is written and how the run ends is one function of what the source gives.
-ghost use Rattle.std.specs.Prelude.{◌≡◌, ◌+◌, true, take, length, IfOk, IfErr, OnOk, OnErr, vec_len};
+ghost use Rattle.std.specs.Prelude.{◌≡◌, ◌+◌, true, take, length, IfOk, OnErr, vec_len};
 ghost use Rattle.std.specs.Io.KnownBytes.{IsAtEnd};
 ghost use Rattle.std.specs.Str.{chars};
 ghost use Rattle.std.specs.Str.Lossy.{utf8_valid_len};
 ghost use Rattle.ucd.specs.Tables.{class_of};
 ghost use Rattle.bidi.specs.Cuts.{cut, paragraphs};
-ghost use Rattle.tool.specs.TextRun.{Gave, Wrote, StoppedAt, input_fault};
+ghost use Rattle.tool.specs.TextRun.{Gave, input_fault};
 ghost use Rattle.tool.specs.TextRun.{IsLinesOf, IsOutputOf, IsTextRun};
 
-use crate::device::{Sink, Source};
 use crate::faults::RunFault;
 use crate::print::{Print, push_line};
 use bidi::{Base, first_cut};
+use device::{Sink, Source, write_all};
 use std::alloc::{AllocError, Global};
 use ucd::Tables;
 
@@ -54,23 +54,6 @@ fn read_all<R: Source>(alloc: Global, reader: &mut R) -> Result<(Vec<u8>, Ending
             Err(_) => return Ok((bytes, Ending::AtFailure)),
         }
     }
-}
-
-// Writes all the bytes, or says how many were written before the sink failed.
-fn write_all<W: Sink>(writer: &mut W, bytes: &[u8]) -> Result<(), usize>
-    ensures ok { OnOk result (Wrote bytes.now (W.state writer.old) (W.state writer.new)) }
-    ensures err { IfErr result (λ n.
-        StoppedAt n bytes.now (W.state writer.old) (W.state writer.new)) }
-{
-    let mut written = 0;
-    while written < bytes.len() {
-        match writer.write(&bytes[written..]) {
-            Ok(0) => return Err(written),
-            Ok(n) => written += n,
-            Err(_) => return Err(written),
-        }
-    }
-    Ok(())
 }
 
 // The text in front of the first byte that is not UTF-8, and what is wrong with the input, if anything.

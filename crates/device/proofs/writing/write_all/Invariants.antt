@@ -1,6 +1,6 @@
 use Rattle.std.proofs.Common.{◌≡◌, ◌-◌, ◌≤◌, length, take}
-use Rattle.tool.specs.TextRun.{Took}
-use Rattle.tool.proofs.text.write_all.Given as goal
+use Rattle.device.specs.Device.{Took}
+use Rattle.device.proofs.writing.write_all.Given as goal
 
 abbrev pub invariant-loop-written : goal.invariant-loop-written
 invariant-loop-written g l =

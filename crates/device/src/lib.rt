@@ -1,18 +1,22 @@
 //! Where bytes come from and go to. A device counts the bytes that passed and the calls that failed,
 //! so that a fault is answered only where the device failed.
+#![tactic(auto)]
+
 ghost use Rattle.std.specs.Prelude.{◌≡◌, ◌-◌, ◌^◌, ◌<◌, ◌≤◌, length, min, IfOk};
-ghost use Rattle.tool.specs.Device.{Reads, Writes};
+ghost use Rattle.device.specs.Device.{Reads, Writes};
 
 mod from_read;
 mod to_write;
+mod writing;
 
 pub use from_read::FromRead;
 use std::io::ErrorKind;
 pub use to_write::ToWrite;
+pub use writing::write_all;
 
 /// Gives bytes, until it has none left.
 pub trait Source {
-    ghost use Rattle.tool.specs.Device.{Device};
+    ghost use Rattle.device.specs.Device.{Device};
 
     ghost state: { Self → Device };
 
@@ -26,7 +30,7 @@ pub trait Source {
 
 /// Takes bytes.
 pub trait Sink {
-    ghost use Rattle.tool.specs.Device.{Device};
+    ghost use Rattle.device.specs.Device.{Device};
 
     ghost state: { Self → Device };
 

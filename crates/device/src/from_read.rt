@@ -1,7 +1,7 @@
 //! A source over a reader of std.
 ghost use Rattle.std.specs.Prelude.{◌≡◌};
 
-use super::{Source, room};
+use crate::{Source, room};
 use std::io;
 use std::io::ErrorKind;
 
@@ -16,8 +16,8 @@ pub struct FromRead<R> {
 }
 
 impl<R: io::Read> FromRead<R> {
-    ghost use Rattle.tool.specs.Device.{Fails, fresh_device};
-    ghost use Rattle.tool.specs.Wrapped.{source_state};
+    ghost use Rattle.device.specs.Device.{Fails, fresh_device};
+    ghost use Rattle.device.specs.Wrapped.{source_state};
 
     pub fn new(inner: R) -> FromRead<R>
         ensures { source_state R.remaining result ≡ fresh_device (R.remaining inner) }
@@ -40,7 +40,7 @@ impl<R: io::Read> FromRead<R> {
 }
 
 impl<R: io::Read> Source for FromRead<R> {
-    ghost use Rattle.tool.specs.Wrapped.{source_state};
+    ghost use Rattle.device.specs.Wrapped.{source_state};
 
     ghost state = { source_state R.remaining };
 

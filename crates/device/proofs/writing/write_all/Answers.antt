@@ -1,7 +1,7 @@
 use Rattle.std.proofs.Common.{◌+◌, ◌≤◌, length, ◌∙◌, arith}
 use Rattle.std.proofs.lemmas.List.{take_rest}
-use Rattle.tool.proofs.Devices.{Took-more, Takes-some}
-use Rattle.tool.proofs.text.write_all.Goals as goal
+use Rattle.device.proofs.SinkLemmas.{Took-more, Takes-some}
+use Rattle.device.proofs.writing.write_all.Goals as goal
 
 -- the sink took some more
 pub loop-written-preserved : goal.loop-written-preserved

@@ -1,5 +1,5 @@
 -- What is known of a device, and what a call does to it.
-use Rattle.std.specs.Prelude.{◌≡◌, ℕ, ◌+◌, ◌-◌, ◌^◌, ◌≤◌, ◌==◌, min, List, take, Option, Result, MatchResult, MatchBool}
+use Rattle.std.specs.Prelude.{◌≡◌, ℕ, ◌+◌, ◌-◌, ◌^◌, ◌<◌, ◌≤◌, ◌==◌, min, List, length, take, Option, Result, MatchResult, MatchBool}
 use Rattle.std.specs.Io.KnownBytes.{Keeps, Appends, Consumes, IsAtEnd}
 
 -- The bytes that a source still has or a sink holds, where it tells them; how many bytes passed in all; how many
@@ -53,3 +53,15 @@ Writes old new result given =
 pub record FailedLast (old new : Device) : Type 0 where
   pub failures : new.failures ≡ min (old.failures + 1) greatest
   pub last : new.failed_at ≡ new.passed
+
+-- a sink took these bytes and no others
+pub record Took (old new : Device) (given : List ℕ) : Type 0 where
+  pub bytes : Appends old.bytes new.bytes given
+  pub passed : new.passed ≡ old.passed + length given
+
+-- all of the bytes were taken, or the sink failed behind n of them
+abbrev pub Wrote : List ℕ → Device → Device → Type 0
+Wrote given old new = Took old new given × (new.failures ≡ old.failures)
+
+abbrev pub StoppedAt : ℕ → List ℕ → Device → Device → Type 0
+StoppedAt n given old new = (n < length given) × Took old new (take n given) × FailedLast old new

@@ -1,8 +1,8 @@
 -- What is known of a device over a reader or a writer of std, by what is known of that.
 use Rattle.std.specs.Prelude.{ℕ, List, Option}
-use Rattle.tool.specs.Device.{Device}
-use Rattle.tool.specs.declared.device.from_read.FromRead.{FromRead}
-use Rattle.tool.specs.declared.device.to_write.ToWrite.{ToWrite}
+use Rattle.device.specs.Device.{Device}
+use Rattle.device.specs.declared.from_read.FromRead.{FromRead}
+use Rattle.device.specs.declared.to_write.ToWrite.{ToWrite}
 
 abbrev pub source_state : {R : Type 0} → (R → Option (List ℕ)) → FromRead R → Device
 source_state remaining source =

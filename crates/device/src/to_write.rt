@@ -1,7 +1,7 @@
 //! A sink over a writer of std.
 ghost use Rattle.std.specs.Prelude.{◌≡◌};
 
-use super::{Sink, room};
+use crate::{Sink, room};
 use std::io;
 use std::io::ErrorKind;
 
@@ -16,8 +16,8 @@ pub struct ToWrite<W> {
 }
 
 impl<W: io::Write> ToWrite<W> {
-    ghost use Rattle.tool.specs.Device.{Fails, fresh_device};
-    ghost use Rattle.tool.specs.Wrapped.{sink_state};
+    ghost use Rattle.device.specs.Device.{Fails, fresh_device};
+    ghost use Rattle.device.specs.Wrapped.{sink_state};
 
     pub fn new(inner: W) -> ToWrite<W>
         ensures { sink_state W.contents result ≡ fresh_device (W.contents inner) }
@@ -40,7 +40,7 @@ impl<W: io::Write> ToWrite<W> {
 }
 
 impl<W: io::Write> Sink for ToWrite<W> {
-    ghost use Rattle.tool.specs.Wrapped.{sink_state};
+    ghost use Rattle.device.specs.Wrapped.{sink_state};
 
     ghost state = { sink_state W.contents };
 

@@ -1,0 +1,22 @@
+//! Writing all of some bytes, which a sink may take in several calls.
+ghost use Rattle.std.specs.Prelude.{◌≡◌, IfErr, OnOk};
+ghost use Rattle.device.specs.Device.{Wrote, StoppedAt};
+
+use crate::Sink;
+
+/// Writes all the bytes, or says how many were written before the sink failed.
+pub fn write_all<W: Sink>(writer: &mut W, bytes: &[u8]) -> Result<(), usize>
+    ensures ok { OnOk result (Wrote bytes.now (W.state writer.old) (W.state writer.new)) }
+    ensures err { IfErr result (λ n.
+        StoppedAt n bytes.now (W.state writer.old) (W.state writer.new)) }
+{
+    let mut written = 0;
+    while written < bytes.len() {
+        match writer.write(&bytes[written..]) {
+            Ok(0) => return Err(written),
+            Ok(n) => written += n,
+            Err(_) => return Err(written),
+        }
+    }
+    Ok(())
+}
