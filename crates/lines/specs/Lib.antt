@@ -2,5 +2,8 @@ pub mod Clusters
 pub mod Engine
 pub mod Filling
 pub mod Layouts
+pub mod Mirroring
+pub mod Order
 pub mod Places
+pub mod Spaces
 pub mod Sums

@@ -5,7 +5,10 @@ mod clusters;
 mod engine;
 mod filling;
 mod laid;
+pub mod mirror;
+pub mod order;
 mod places;
+pub mod spaces;
 
 pub use engine::{Engine, PARAGRAPH_LIMIT};
 pub use laid::{Fill, Laid};
