@@ -3,9 +3,10 @@
 //! and is made when it is asked for again.
 use crate::{BaseSession, Edit, EditFault, ParDamage};
 use bidi::{Base, BaseEngine};
-use std::alloc::Global;
+use std::alloc::{AllocError, Global};
+use std::process::Abort;
 use std::test::Fail;
-use ucd::{Cause, Tables, UcdFiles};
+use ucd::{Cause, TableFault, Tables, UcdFiles};
 
 // The table files of the tests.
 const FILES: UcdFiles<'_> = UcdFiles {
@@ -18,9 +19,13 @@ const FILES: UcdFiles<'_> = UcdFiles {
     emoji_data: excerpt::EMOJI_DATA,
 };
 
+fn tables(alloc: Global) -> Result<Tables, TableFault> {
+    Tables::read(alloc, &FILES)
+}
+
 fn engine(alloc: Global) -> Result<BaseEngine, Fail> {
-    let tables = match Tables::read(alloc, &FILES) {
-        Err(fault) if fault.cause == Cause::Memory => Tables::read(alloc, &FILES)?,
+    let tables = match tables(alloc) {
+        Err(fault) if fault.cause == Cause::Memory => tables(alloc)?,
         tables => tables?,
     };
     Ok(BaseEngine::new(tables, Base::WeakLtr))
@@ -47,113 +52,206 @@ fn same(left: &BaseSession, right: &BaseSession) -> bool {
         && left.paragraph(left.paragraph_count()).is_none()
 }
 
+// The session keeps what one does that is opened on the text.
+fn check_same(
+    rt: &impl Abort,
+    alloc: Global,
+    edited: &BaseSession,
+    text: &str,
+) -> Result<(), Fail> {
+    let opened = session(alloc, text)?;
+    assert!(rt; same(edited, &opened), "{text:?}");
+    Ok(())
+}
+
+fn make(edited: &mut BaseSession, edit: Edit<'_>) -> Result<ParDamage, EditFault> {
+    match edit {
+        Edit::Insert(pos, text) => edited.insert(pos, text),
+        Edit::Delete(pos, count) => edited.delete(pos, count),
+    }
+}
+
+// Makes the edit of a text, in which at most so many characters may be analysed.
+fn make_within(
+    rt: &impl Abort,
+    edited: &mut BaseSession,
+    text: &str,
+    edit: Edit<'_>,
+    fresh: u64,
+) -> Result<ParDamage, EditFault> {
+    let before = edited.analysed();
+    let result = make(edited, edit);
+    assert!(rt;
+        edited.analysed().saturating_sub(before) <= fresh,
+        "{text:?}"
+    );
+    result
+}
+
+// The same once more, where it was refused for memory and all is as it was.
+fn make_again(
+    rt: &impl Abort,
+    alloc: Global,
+    edited: &mut BaseSession,
+    text: &str,
+    edit: Edit<'_>,
+    fresh: u64,
+) -> Result<ParDamage, Fail> {
+    let mut result = make_within(rt, edited, text, edit, fresh);
+    if result == Err(EditFault::NoMemory) {
+        check_same(rt, alloc, edited, text)?;
+        result = make_within(rt, edited, text, edit, fresh);
+    }
+    Ok(result?)
+}
+
+// The paragraphs have these levels, and there are no others.
+fn check_levels(rt: &impl Abort, edited: &BaseSession, text: &str, levels: &[u8]) {
+    assert_eq!(rt; edited.paragraph_count(), levels.len(), "{text:?}");
+    for (i, level) in levels.iter().enumerate() {
+        let found = edited.paragraph(i).map(|p| p.1);
+        assert_eq!(rt; found, Some(*level), "{text:?}");
+    }
+}
+
+// A text, an edit, its damage, how many characters may be analysed, the text behind it, and its levels.
+type Row<'a> = (&'a str, Edit<'a>, [usize; 3], u64, &'a str, &'a [u8]);
+
+// Makes the edit of a row in a session on its text.
+fn check_made(
+    rt: &impl Abort,
+    alloc: Global,
+    edited: &mut BaseSession,
+    row: &Row<'_>,
+) -> Result<(), Fail> {
+    let (text, edit, [first_par, old_pars, new_pars], fresh, after, levels) = *row;
+    let expected = ParDamage {
+        first_par,
+        old_pars,
+        new_pars,
+    };
+    let damage = make_again(rt, alloc, edited, text, edit, fresh)?;
+    assert_eq!(rt; damage, expected, "{text:?}");
+    check_levels(rt, edited, text, levels);
+    check_same(rt, alloc, edited, after)
+}
+
+fn check_row(rt: &impl Abort, alloc: Global, row: &Row<'_>) -> Result<(), Fail> {
+    let mut edited = session(alloc, row.0)?;
+    check_made(rt, alloc, &mut edited, row)
+}
+
+const ROWS: [Row<'_>; 9] = [
+    ("a\r", Edit::Insert(2, "\n"), [0, 1, 1], 3, "a\r\n", &[0]),
+    ("a\n", Edit::Insert(1, "\r"), [0, 1, 1], 3, "a\r\n", &[0]),
+    (
+        "a\r\nb",
+        Edit::Insert(2, "x"),
+        [0, 1, 2],
+        4,
+        "a\rx\nb",
+        &[0, 0, 0],
+    ),
+    (
+        "ab\ncd\nef",
+        Edit::Insert(3, "x"),
+        [0, 2, 2],
+        7,
+        "ab\nxcd\nef",
+        &[0, 0, 0],
+    ),
+    ("ab\ncd\nef", Edit::Delete(2, 4), [0, 3, 1], 4, "abef", &[0]),
+    (
+        "\u{5d0}\nab",
+        Edit::Delete(1, 1),
+        [0, 2, 1],
+        3,
+        "\u{5d0}ab",
+        &[1],
+    ),
+    (
+        "ab\ncd",
+        Edit::Insert(0, "\u{5d0}"),
+        [0, 1, 1],
+        4,
+        "\u{5d0}ab\ncd",
+        &[1, 0],
+    ),
+    ("abc", Edit::Delete(0, 3), [0, 1, 0], 0, "", &[]),
+    ("", Edit::Insert(0, ""), [0, 0, 0], 0, "", &[]),
+];
+
 #[test]
 fn edits_of_rows(rt: HostRuntime) -> Result<(), Fail> {
-    let alloc = rt.alloc();
-    let rows: [(&str, Edit<'_>, [usize; 3], u64, &str, &[u8]); 9] = [
-        ("a\r", Edit::Insert(2, "\n"), [0, 1, 1], 3, "a\r\n", &[0]),
-        ("a\n", Edit::Insert(1, "\r"), [0, 1, 1], 3, "a\r\n", &[0]),
-        (
-            "a\r\nb",
-            Edit::Insert(2, "x"),
-            [0, 1, 2],
-            4,
-            "a\rx\nb",
-            &[0, 0, 0],
-        ),
-        (
-            "ab\ncd\nef",
-            Edit::Insert(3, "x"),
-            [0, 2, 2],
-            7,
-            "ab\nxcd\nef",
-            &[0, 0, 0],
-        ),
-        ("ab\ncd\nef", Edit::Delete(2, 4), [0, 3, 1], 4, "abef", &[0]),
-        (
-            "\u{5d0}\nab",
-            Edit::Delete(1, 1),
-            [0, 2, 1],
-            3,
-            "\u{5d0}ab",
-            &[1],
-        ),
-        (
-            "ab\ncd",
-            Edit::Insert(0, "\u{5d0}"),
-            [0, 1, 1],
-            4,
-            "\u{5d0}ab\ncd",
-            &[1, 0],
-        ),
-        ("abc", Edit::Delete(0, 3), [0, 1, 0], 0, "", &[]),
-        ("", Edit::Insert(0, ""), [0, 0, 0], 0, "", &[]),
-    ];
-    for (text, edit, [first_par, old_pars, new_pars], fresh, after, levels) in rows {
-        let mut edited = session(alloc, text)?;
-        let mut before = edited.analysed();
-        let mut result = make(&mut edited, edit);
-        if result == Err(EditFault::NoMemory) {
-            assert!(rt;
-                same(&edited, &session(alloc, text)?),
-                "refused at {text:?}"
-            );
-            assert!(rt;
-                edited.analysed().saturating_sub(before) <= fresh,
-                "{text:?}"
-            );
-            before = edited.analysed();
-            result = make(&mut edited, edit);
-        }
-        let damage = result?;
-        let expected = ParDamage {
-            first_par,
-            old_pars,
-            new_pars,
-        };
-        assert_eq!(rt; damage, expected, "{text:?}");
-        assert!(rt;
-            edited.analysed().saturating_sub(before) <= fresh,
-            "{text:?}"
-        );
-        assert_eq!(rt; edited.paragraph_count(), levels.len(), "{text:?}");
-        for (i, level) in levels.iter().enumerate() {
-            let found = edited.paragraph(i).map(|p| p.1);
-            assert_eq!(rt; found, Some(*level), "{text:?}");
-        }
-        assert!(rt; same(&edited, &session(alloc, after)?), "{text:?}");
+    for row in &ROWS {
+        check_row(&rt, rt.alloc(), row)?;
     }
     Ok(())
 }
 
-#[test]
-fn refused_edits(rt: HostRuntime) -> Result<(), Fail> {
-    let alloc = rt.alloc();
-    let mut edited = session(alloc, "ab\ncd")?;
-    let before = edited.analysed();
+fn check_out_of_range(rt: &impl Abort, edited: &mut BaseSession) {
     for (pos, count) in [(6, 0), (3, 3), (0, 6), (1, usize::MAX), (usize::MAX, 1)] {
         assert_eq!(rt; edited.delete(pos, count), Err(EditFault::OutOfRange));
     }
     assert_eq!(rt; edited.insert(6, "x"), Err(EditFault::OutOfRange));
-    let Ok(long) = vec![in alloc; b'a'; 1_048_576] else {
-        return Ok(());
-    };
-    let long = str_of(&long);
-    assert_eq!(rt; edited.insert(1, long), Err(EditFault::ParagraphTooLong));
-    assert!(rt; same(&edited, &session(alloc, "ab\ncd")?));
+}
+
+#[test]
+fn edits_out_of_range(rt: HostRuntime) -> Result<(), Fail> {
+    let alloc = rt.alloc();
+    let mut edited = session(alloc, "ab\ncd")?;
+    let before = edited.analysed();
+    check_out_of_range(&rt, &mut edited);
     assert_eq!(rt; edited.analysed(), before);
+    check_same(&rt, alloc, &edited, "ab\ncd")
+}
+
+fn check_too_long(rt: &impl Abort, edited: &mut BaseSession, long: &str) {
+    let before = edited.analysed();
+    assert_eq!(rt; edited.insert(1, long), Err(EditFault::ParagraphTooLong));
+    assert_eq!(rt; edited.analysed(), before);
+}
+
+// A paragraph of the greatest length in front of a separator takes no more.
+fn check_long_paragraph(rt: &impl Abort, edited: &mut BaseSession, long: &str) -> Result<(), Fail> {
     for edit in [
         Edit::Insert(0, "\n"),
         Edit::Delete(1, 5),
         Edit::Insert(1, long),
     ] {
-        if make(&mut edited, edit) == Err(EditFault::NoMemory) {
-            make(&mut edited, edit)?;
+        if make(edited, edit) == Err(EditFault::NoMemory) {
+            make(edited, edit)?;
         }
     }
     assert_eq!(rt; edited.char_count(), 1_048_577);
     assert_eq!(rt; edited.insert(2, "a"), Err(EditFault::ParagraphTooLong));
     Ok(())
+}
+
+// Edits of the session on two short paragraphs with a text of the greatest length.
+fn check_long(
+    rt: &impl Abort,
+    alloc: Global,
+    edited: &mut BaseSession,
+    long: &str,
+) -> Result<(), Fail> {
+    check_too_long(rt, edited, long);
+    check_same(rt, alloc, edited, "ab\ncd")?;
+    check_long_paragraph(rt, edited, long)
+}
+
+fn letters(alloc: Global, count: usize) -> Result<Vec<u8>, AllocError> {
+    vec![in alloc; b'a'; count]
+}
+
+#[test]
+fn edits_of_long_paragraphs(rt: HostRuntime) -> Result<(), Fail> {
+    let alloc = rt.alloc();
+    let mut edited = session(alloc, "ab\ncd")?;
+    let Ok(long) = letters(alloc, 1_048_576) else {
+        return Ok(());
+    };
+    check_long(&rt, alloc, &mut edited, str_of(&long))
 }
 
 fn str_of(bytes: &[u8]) -> &str {
@@ -190,7 +288,51 @@ const PIECES: [&str; 12] = [
     "\n\n",
 ];
 
+fn random_edit(numbers: &mut Numbers, len: usize) -> Edit<'static> {
+    let pos = numbers.below(len.saturating_add(2));
+    if numbers.below(3) < 2 {
+        let piece = PIECES
+            .get(numbers.below(PIECES.len()))
+            .copied()
+            .unwrap_or("");
+        Edit::Insert(pos, piece)
+    } else {
+        Edit::Delete(pos, numbers.below(6))
+    }
+}
+
+// The session keeps what one does that is opened on the characters.
+fn check_anew(
+    rt: &impl Abort,
+    alloc: Global,
+    edited: &BaseSession,
+    text: &[char],
+    turn: usize,
+) -> Result<(), Fail> {
+    let opened = anew(alloc, text)?;
+    assert!(rt; same(edited, &opened), "turn {turn}");
+    Ok(())
+}
+
 // An edit that is refused for memory leaves all as it was, and is then made.
+fn check_edit(
+    rt: &impl Abort,
+    alloc: Global,
+    edited: &mut BaseSession,
+    text: &mut Vec<char>,
+    edit: Edit<'_>,
+    turn: usize,
+) -> Result<(), Fail> {
+    let mut result = make(edited, edit);
+    if result == Err(EditFault::NoMemory) {
+        check_anew(rt, alloc, edited, text, turn)?;
+        result = make(edited, edit);
+    }
+    let accepted = change(text, edit)?;
+    assert_eq!(rt; result.is_ok(), accepted, "turn {turn}");
+    check_anew(rt, alloc, edited, text, turn)
+}
+
 #[test]
 fn edits_at_random(rt: HostRuntime) -> Result<(), Fail> {
     let alloc = rt.alloc();
@@ -198,33 +340,10 @@ fn edits_at_random(rt: HostRuntime) -> Result<(), Fail> {
     let mut text = Vec::new(alloc);
     let mut edited = session(alloc, "")?;
     for turn in 0..400 {
-        let pos = numbers.below(text.len() + 2);
-        let edit = if numbers.below(3) < 2 {
-            let piece = PIECES
-                .get(numbers.below(PIECES.len()))
-                .copied()
-                .unwrap_or("");
-            Edit::Insert(pos, piece)
-        } else {
-            Edit::Delete(pos, numbers.below(6))
-        };
-        let mut result = make(&mut edited, edit);
-        if result == Err(EditFault::NoMemory) {
-            assert!(rt; same(&edited, &anew(alloc, &text)?), "refused at {turn}");
-            result = make(&mut edited, edit);
-        }
-        let accepted = change(&mut text, edit)?;
-        assert_eq!(rt; result.is_ok(), accepted, "turn {turn}");
-        assert!(rt; same(&edited, &anew(alloc, &text)?), "turn {turn}");
+        let edit = random_edit(&mut numbers, text.len());
+        check_edit(&rt, alloc, &mut edited, &mut text, edit, turn)?;
     }
     Ok(())
-}
-
-fn make(edited: &mut BaseSession, edit: Edit<'_>) -> Result<ParDamage, EditFault> {
-    match edit {
-        Edit::Insert(pos, text) => edited.insert(pos, text),
-        Edit::Delete(pos, count) => edited.delete(pos, count),
-    }
 }
 
 // Makes the edit in a plain list, unless it reaches past the end.
@@ -270,21 +389,31 @@ fn anew(alloc: Global, characters: &[char]) -> Result<BaseSession, Fail> {
     session(alloc, text.as_str())
 }
 
+// A session on a text, in which the edits are made.
+fn run(alloc: Global, text: &str, edits: &[Edit<'_>]) -> Result<BaseSession, Fail> {
+    let mut edited = session(alloc, text)?;
+    edited.run(edits)?;
+    Ok(edited)
+}
+
+// Where memory ran out once, some of the edits were made: those of the whole list follow on the first text.
+fn run_again(alloc: Global, text: &str, edits: &[Edit<'_>]) -> Result<BaseSession, Fail> {
+    let mut edited = session(alloc, text)?;
+    if edited.run(edits).is_err() {
+        return run(alloc, text, edits);
+    }
+    Ok(edited)
+}
+
 #[test]
 fn runs_of_edits(rt: HostRuntime) -> Result<(), Fail> {
     let alloc = rt.alloc();
-    let mut edited = session(alloc, "ab\ncd")?;
     let edits = [
         Edit::Insert(3, "\u{5d0}"),
         Edit::Delete(5, 10),
         Edit::Delete(0, 3),
         Edit::Insert(3, "\ne"),
     ];
-    if edited.run(&edits).is_err() {
-        // Some of the edits were made: those of the whole list follow on the first text.
-        edited = session(alloc, "ab\ncd")?;
-        edited.run(&edits)?;
-    }
-    assert!(rt; same(&edited, &session(alloc, "\u{5d0}cd\ne")?));
-    Ok(())
+    let edited = run_again(alloc, "ab\ncd", &edits)?;
+    check_same(&rt, alloc, &edited, "\u{5d0}cd\ne")
 }
