@@ -18,6 +18,3 @@ pub use base::{Base, base_level};
 pub use cuts::{first_cut, is_cut, paragraphs_are_pieces};
 pub use engine::BaseEngine;
 pub use levels::resolve;
-
-#[cfg(test)]
-mod tests;

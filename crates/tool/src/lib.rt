@@ -16,4 +16,6 @@ pub use program::ProgramFault;
 pub use text::{PARAGRAPH_LIMIT, run_text};
 
 #[cfg(test)]
+mod levels_tests;
+#[cfg(test)]
 mod tests;
