@@ -315,7 +315,8 @@ pub fn resolve(
     text: &[char],
     base: Base,
 ) -> Result<Vec<u8>, AllocError>
-    ensures { IfOk result (λ levels. levels.items ≡ levels_of tables.now text.now base) }
+    ensures levels { IfOk result (λ levels. levels.items ≡ levels_of tables.now text.now base) }
+    ensures len { IfOk result (λ levels. length levels.items ≡ length text.now) }
 {
     let classes = directed(alloc, classes_of(alloc, tables, text)?)?;
     let base = base_level(tables, text, base);

@@ -1,10 +1,12 @@
 pub mod ClusterLemmas
 pub mod FillingLemmas
 mod InverseLemmas
+pub mod KeptLemmas
 pub mod LayoutLemmas
 mod LevelLemmas
 mod OrderLemmas
 pub mod PlaceLemmas
 mod SpaceLemmas
+pub mod VisualLemmas
 mod WorkedOrder
 mod WorkedRows

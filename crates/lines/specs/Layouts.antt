@@ -1,5 +1,5 @@
 -- The layout of a paragraph, as what it consists of.
-use Rattle.std.specs.Prelude.{◌≡◌, ℕ, ◌<◌, ◌≤◌, Bool, List, [], ◌∷◌, length, map}
+use Rattle.std.specs.Prelude.{◌≡◌, ℕ, ◌+◌, ◌≤◌, Bool, List, [], ◌∷◌, length, map, All}
 use Rattle.ucd.specs.Tables.{class_of}
 use Rattle.ucd.specs.declared.tables.Tables.{Tables}
 use Rattle.bidi.specs.declared.base.Base.{Base}
@@ -10,6 +10,7 @@ use Rattle.breaks.specs.Marks.{marks_of}
 use Rattle.breaks.specs.declared.mark.Mark.{Mark}
 use Rattle.lines.specs.Filling.{line_starts_of}
 use Rattle.lines.specs.Places.{places_of}
+use Rattle.lines.specs.Visual.{Line, lines_from}
 
 -- what a layout goes by: the tables, the option on the base level, and whether lines end at mandatory breaks only
 pub record Rules : Type 0 where
@@ -17,30 +18,38 @@ pub record Rules : Type 0 where
   pub option : Base
   pub nobreak : Bool
 
--- the lines of a paragraph, by where each starts
-pub record Lines : Type 0 where
-  pub starts : List ℕ
-
 -- a paragraph: its characters, its base level, the level and the mark of each character, and its lines
 pub record Layout : Type 0 where
   pub text : List ℕ
   pub base : ℕ
   pub levels : List ℕ
   pub marks : List Mark
-  pub lines : Lines
+  pub lines : List Line
 
-abbrev pub lines_of : Rules → ℕ → List ℕ → Lines
-lines_of rules width text = record { starts = line_starts_of rules.nobreak width (places_of rules.tables text) }
+abbrev pub base_of : Rules → List ℕ → ℕ
+base_of rules text = base_level_of (map (class_of rules.tables) text) rules.option
+
+abbrev pub lines_of : Rules → ℕ → List ℕ → List Line
+lines_of rules width text =
+    let places = places_of rules.tables text in
+    lines_from rules.tables (base_of rules text) text (levels_of rules.tables text rules.option) places (line_starts_of rules.nobreak width places)
 
 -- the layout of a paragraph from scratch
 abbrev pub layout_of : Rules → ℕ → List ℕ → Layout
 layout_of rules width text = record {
   text = text;
-  base = base_level_of (map (class_of rules.tables) text) rules.option;
+  base = base_of rules text;
   levels = levels_of rules.tables text rules.option;
   marks = marks_of rules.tables text;
   lines = lines_of rules width text;
 }
+
+abbrev pub start_of : Line → ℕ
+start_of line = line.start
+
+-- the shown part of each line stands in front of the n-th character
+abbrev pub AreWithin : ℕ → List Line → Type 0
+AreWithin n lines = All (λ line. line.start + length line.levels ≤ n) lines
 
 -- where paragraphs are cut
 abbrev pub cut_by : Rules → ℕ → ℕ → Bool
@@ -58,12 +67,12 @@ pub record IsLaidOut (rules : Rules) (layout : Layout) : Type 0 where
   pub from_scratch : layout ≡ layout_of rules width layout.text
 
 -- lines are those of a text at some width
-pub record AreLinesOf (rules : Rules) (text : List ℕ) (lines : Lines) : Type 0 where
+pub record AreLinesOf (rules : Rules) (text : List ℕ) (lines : List Line) : Type 0 where
   pub width : ℕ
   pub from_scratch : lines ≡ lines_of rules width text
 
 -- A paragraph and lines of it are exchanged. The paragraph is then laid out at the width of those lines, and they are its old ones.
-pub record Exchanges (old new : Layout) (lines_old lines_new : Lines) : Type 0 where
+pub record Exchanges (old new : Layout) (lines_old lines_new : List Line) : Type 0 where
   pub put : new ≡ record old { lines = lines_old }
   pub taken : lines_new ≡ old.lines
   pub widths : (rules : Rules) (width other : ℕ) → old ≡ layout_of rules width old.text → lines_old ≡ lines_of rules other old.text

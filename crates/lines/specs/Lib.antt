@@ -1,9 +1,13 @@
+pub mod Bytes
 pub mod Clusters
 pub mod Engine
 pub mod Filling
+pub mod Kept
 pub mod Layouts
 pub mod Mirroring
 pub mod Order
+pub mod Parts
 pub mod Places
 pub mod Spaces
 pub mod Sums
+pub mod Visual

@@ -2,8 +2,9 @@
 ghost use Rattle.std.specs.Prelude.{◌≡◌, ◌<◌, ◌≤◌, length, IfOk, IfErr};
 
 use crate::filling::line_starts;
-use crate::laid::{Fill, Laid};
+use crate::laid::Laid;
 use crate::places::places;
+use crate::visual::{Fill, show_lines};
 use bidi::{Base, base_level, first_cut, is_cut, resolve};
 use breaks::{Mark, marks};
 use std::alloc::{AllocError, Global};
@@ -37,9 +38,10 @@ impl Model for Engine {
 
 impl Engine {
     ghost use Rattle.bidi.specs.Cuts.{first_cut, SplitsAt};
+    ghost use Rattle.bidi.specs.Levels.{levels_of};
     ghost use Rattle.breaks.specs.Marks.{marks_of};
-    ghost use Rattle.lines.specs.Layouts.{cut_by, layout_of, lines_of};
-    ghost use Rattle.lines.specs.Layouts.{AreLinesOf, IsLaidOut, IsParagraph};
+    ghost use Rattle.lines.specs.Layouts.{base_of, cut_by, layout_of, lines_of};
+    ghost use Rattle.lines.specs.Layouts.{AreLinesOf, AreWithin, IsLaidOut, IsParagraph};
     ghost use Rattle.lines.specs.Engine.{rules_of, analysed_of, filled_of, SameRules};
     ghost use Rattle.lines.specs.Engine.{Fills, FillsAtMost, LaysOut, LaysOutAtMost};
 
@@ -107,12 +109,12 @@ impl Engine {
         self.analysed = self.analysed.saturating_add(text.len() as u64);
         self.filled = self.filled.saturating_add(text.len() as u64);
         match self.parts(alloc, &text, width) {
-            Ok((base, levels, marks, line_starts)) => Ok(Laid {
+            Ok((base, levels, marks, lines)) => Ok(Laid {
                 text,
                 base,
                 levels,
                 marks,
-                line_starts,
+                lines,
             }),
             Err(error) => Err((text, error)),
         }
@@ -129,9 +131,10 @@ impl Engine {
         ensures at_most { FillsAtMost (length laid.now.text) self.old self.new }
         ensures rules { SameRules self.old self.new }
     {
-        self.filled = self.filled.saturating_add(laid.text.len() as u64);
-        let line_starts = self.starts(alloc, &laid.text, &laid.marks, width)?;
-        Ok(Fill { line_starts })
+        let text = laid.text();
+        let fill = self.lines(alloc, text, laid.base(), laid.levels(), laid.marks(), width)?;
+        self.filled = self.filled.saturating_add(text.len() as u64);
+        Ok(fill)
     }
 
     // What a paragraph's layout consists of beside its text.
@@ -140,34 +143,46 @@ impl Engine {
         alloc: Global,
         text: &[char],
         width: u16,
-    ) -> Result<(u8, Vec<u8>, Vec<Mark>, Vec<u32>), AllocError>
+    ) -> Result<(u8, Vec<u8>, Vec<Mark>, Fill), AllocError>
         requires { length text.now ≤ 1048576 }
-        ensures { IfOk result (λ parts.
-            (parts.0 ≡ (layout_of (rules_of self.now) width text.now).base)
-            × (parts.1.items ≡ (layout_of (rules_of self.now) width text.now).levels)
-            × (parts.2.items ≡ (layout_of (rules_of self.now) width text.now).marks)
-            × (parts.3.items ≡ (layout_of (rules_of self.now) width text.now).lines.starts)) }
+        ensures base { IfOk result (λ parts.
+            parts.0 ≡ (layout_of (rules_of self.now) width text.now).base) }
+        ensures levels { IfOk result (λ parts.
+            parts.1.items ≡ (layout_of (rules_of self.now) width text.now).levels) }
+        ensures marks { IfOk result (λ parts.
+            parts.2.items ≡ (layout_of (rules_of self.now) width text.now).marks) }
+        ensures lines { IfOk result (λ parts.
+            parts.3 ≡ (layout_of (rules_of self.now) width text.now).lines) }
+        ensures len { IfOk result (λ parts. length parts.1.items ≡ length text.now) }
+        ensures within { IfOk result (λ parts. AreWithin (length text.now) parts.3) }
     {
         let base = base_level(&self.tables, text, self.base);
         let levels = resolve(alloc, &self.tables, text, self.base)?;
         let marks = marks(alloc, &self.tables, text)?;
-        let line_starts = self.starts(alloc, text, &marks, width)?;
-        Ok((base, levels, marks, line_starts))
+        let lines = self.lines(alloc, text, base, &levels, &marks, width)?;
+        Ok((base, levels, marks, lines))
     }
 
-    // Where the lines of a paragraph start, whose marks are known.
-    fn starts(
+    // The lines of a paragraph, of which all else is known.
+    fn lines(
         &self,
         alloc: Global,
         text: &[char],
+        base: u8,
+        levels: &[u8],
         marks: &[Mark],
         width: u16,
-    ) -> Result<Vec<u32>, AllocError>
+    ) -> Result<Fill, AllocError>
+        requires base { base ≡ base_of (rules_of self.now) text.now }
+        requires levels { levels.now ≡ levels_of (rules_of self.now).tables text.now (rules_of self.now).option }
+        requires len { length levels.now ≡ length text.now }
         requires marks { marks.now ≡ marks_of (rules_of self.now).tables text.now }
         requires within { length text.now ≤ 1048576 }
-        ensures { IfOk result (λ starts. starts.items ≡ (lines_of (rules_of self.now) width text.now).starts) }
+        ensures lines { IfOk result (λ lines. lines ≡ lines_of (rules_of self.now) width text.now) }
+        ensures within { IfOk result (AreWithin (length text.now)) }
     {
         let places = places(alloc, &self.tables, text, marks)?;
-        line_starts(alloc, &places, width, self.nobreak)
+        let starts = line_starts(alloc, &places, width, self.nobreak)?;
+        show_lines(alloc, &self.tables, text, base, levels, &places, starts)
     }
 }

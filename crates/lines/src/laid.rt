@@ -1,6 +1,8 @@
 //! A paragraph that is laid out, and the lines that it has at another width.
-ghost use Rattle.std.specs.Prelude.{◌≡◌, length};
+ghost use Rattle.std.specs.Prelude.{◌≡◌, length, map, option_map, slice_get};
 
+use crate::visual::Fill;
+use crate::visual_line::VisualLine;
 use breaks::Mark;
 use std::marker::Model;
 
@@ -11,17 +13,12 @@ pub struct Laid {
     pub(crate) base: u8,
     pub(crate) levels: Vec<u8>,
     pub(crate) marks: Vec<Mark>,
-    pub(crate) line_starts: Vec<u32>,
-}
-
-/// The lines of a paragraph at another width.
-#[derive(Debug, Drop)]
-pub struct Fill {
-    pub(crate) line_starts: Vec<u32>,
+    pub(crate) lines: Fill,
 }
 
 impl Model for Laid {
-    ghost use Rattle.lines.specs.Layouts.{Layout};
+    ghost use Rattle.std.specs.Prelude.{◌≡◌, length};
+    ghost use Rattle.lines.specs.Layouts.{AreWithin, Layout};
 
     ghost Value = { Layout };
 
@@ -30,20 +27,16 @@ impl Model for Laid {
       base = l.base;
       levels = l.levels.items;
       marks = l.marks.items;
-      lines = record { starts = l.line_starts.items };
+      lines = l.lines;
     } };
-}
 
-impl Model for Fill {
-    ghost use Rattle.lines.specs.Layouts.{Lines};
-
-    ghost Value = { Lines };
-
-    ghost view = { λ f. record { starts = f.line_starts.items } };
+    ghost invariant = { λ l.
+      (length l.levels.items ≡ length l.text.items) × AreWithin (length l.text.items) l.lines };
 }
 
 impl Laid {
-    ghost use Rattle.lines.specs.Layouts.{AreLinesOf, Exchanges, IsLaidOut, Rules};
+    ghost use Rattle.lines.specs.Layouts.{AreLinesOf, Exchanges, IsLaidOut, Rules, start_of};
+    ghost use Rattle.lines.specs.Visual.{visual_of};
 
     /// The characters.
     pub fn text(&self) -> &[char]
@@ -61,7 +54,8 @@ impl Laid {
 
     /// The level of each character, before L1.
     pub fn levels(&self) -> &[u8]
-        ensures { result.now ≡ self.now.levels }
+        ensures levels { result.now ≡ self.now.levels }
+        ensures len { length result.now ≡ length self.now.text }
     {
         &self.levels
     }
@@ -75,16 +69,34 @@ impl Laid {
 
     /// Where each line starts, counted in characters from the start of the paragraph.
     pub fn line_starts(&self) -> &[u32]
-        ensures { result.now ≡ self.now.lines.starts }
+        ensures { result.now ≡ map start_of self.now.lines }
     {
-        &self.line_starts
+        self.lines.starts()
     }
 
     /// How many lines the paragraph has.
     pub fn line_count(&self) -> usize
-        ensures { result ≡ length self.now.lines.starts }
+        ensures { result ≡ length self.now.lines }
     {
-        self.line_starts.len()
+        self.lines.starts().len()
+    }
+
+    /// A line, counted from 0.
+    pub fn line(&self, n: usize) -> Option<VisualLine<'_>>
+        ensures { result ≡ option_map (visual_of self.now.base self.now.text n) (slice_get self.now.lines n) }
+    {
+        let part = self.lines.part(n)?;
+        let start = part.start as usize;
+        Some(VisualLine {
+            is_first: n == 0,
+            base: self.base,
+            text: &self.text[start..start + part.levels.len()],
+            columns: part.columns,
+            levels: part.levels,
+            ltov: part.ltov,
+            vtol: part.vtol,
+            chars: part.chars,
+        })
     }
 
     /// Puts the lines of this paragraph at another width in, and hands the old ones out. Both are
@@ -93,6 +105,6 @@ impl Laid {
         requires { (rules : Rules) × IsLaidOut rules self.old × AreLinesOf rules self.old.text fill.old }
         ensures { Exchanges self.old self.new fill.old fill.new }
     {
-        std::mem::swap(&mut self.line_starts, &mut fill.line_starts);
+        std::mem::swap(&mut self.lines, fill);
     }
 }

@@ -3,15 +3,22 @@
 
 mod clusters;
 mod engine;
+mod fill;
 mod filling;
 mod laid;
-pub mod mirror;
-pub mod order;
+mod mirror;
+mod order;
 mod places;
-pub mod spaces;
+mod print;
+mod spaces;
+mod visual;
+mod visual_line;
 
 pub use engine::{Engine, PARAGRAPH_LIMIT};
-pub use laid::{Fill, Laid};
+pub use laid::Laid;
+pub use print::Print;
+pub use visual::Fill;
+pub use visual_line::VisualLine;
 
 #[cfg(test)]
 mod tests;

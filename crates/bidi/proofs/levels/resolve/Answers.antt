@@ -1,9 +1,11 @@
-use Rattle.std.proofs.Common.{◌≡◌, ℕ, ◌≤◌, List, length, map, get_or, slice_index, Option, Some, None, unwrap_or, option_map, IfOk, sym, ap, subst, ◌∙◌, inl, inr, arith}
-use Rattle.std.proofs.lemmas.Bool.{cases_lt}
+use Rattle.std.proofs.Common.{◌≡◌, ℕ, suc, ◌≤◌, List, [], ◌∷◌, length, map, get_or, slice_index, Option, Some, None, unwrap_or, option_map, IfOk, refl, sym, ap, subst, ◌∙◌, inl, inr, arith}
+use Rattle.std.proofs.lemmas.Bool.{cases_Bool, cases_lt, cond-false, cond-true}
+use Rattle.std.proofs.lemmas.Result.{IfOk-weaker}
 use Rattle.std.proofs.lemmas.List.{get_or-map, get_or_past, length-map}
 use Rattle.std.proofs.lemmas.List.FromFn.{length-map-range_with_len}
 use Rattle.ucd.specs.Tables.{class_of, bracket_of}
 use Rattle.ucd.specs.declared.bracket.Bracket.{Bracket}
+use Rattle.ucd.specs.declared.tables.Tables.{Tables}
 use Rattle.ucd.specs.declared.bidi_class.BidiClass.{BidiClass}
 use Rattle.ucd.specs.declared.bidi_class.BidiClass.TheVariants.{L}
 use Rattle.bidi.specs.declared.base.Base.{Base}
@@ -13,7 +15,7 @@ use Rattle.bidi.specs.Base.{base_level_of, first_strong, strong_level}
 use Rattle.bidi.specs.Classes.{class_at}
 use Rattle.bidi.specs.Explicit.{directed, directed_at, level_at, type_at}
 use Rattle.bidi.specs.Levels.{levels_by, levels_of, put_back, resolved}
-use Rattle.bidi.specs.Sequences.{stayed}
+use Rattle.bidi.specs.Sequences.{is_removed, stayed}
 use Rattle.bidi.specs.Stayed.{HasAll, IsStayed}
 use Rattle.bidi.proofs.ExplicitLemmas.{level_at-bound}
 use Rattle.bidi.proofs.levels.resolve.Goals as goal
@@ -64,6 +66,27 @@ all_levels bracket text classes base characters left done kept there e =
 length-directed : (classes : List BidiClass) → length (directed classes) ≡ length classes
 length-directed classes = length-map-range_with_len (λ k. directed_at classes k (class_at classes k)) 0 (length classes)
 
+-- what is put back has a level for each class
+length-put_back : (before : ℕ) (classes : List BidiClass) (levels : List ℕ) → length (put_back before classes levels) ≡ length classes
+length-put_back before [] levels = refl
+length-put_back before (class ∷ classes) [] = ap suc (length-put_back before classes [])
+length-put_back before (class ∷ classes) (level ∷ levels) =
+    elim (cases_Bool (is_removed class)) [
+      | inl removed ↦ ap length (cond-true (is_removed class) (before ∷ put_back before classes (level ∷ levels)) (level ∷ put_back level classes levels) removed)
+          ∙ ap suc (length-put_back before classes (level ∷ levels))
+      | inr stays ↦ ap length (cond-false (is_removed class) (before ∷ put_back before classes (level ∷ levels)) (level ∷ put_back level classes levels) stays)
+          ∙ ap suc (length-put_back level classes levels)
+    ]
+
+-- so a paragraph has a level for each character
+length-levels_of : (tables : Tables) (text : List ℕ) (base : Base) → length (levels_of tables text base) ≡ length text
+length-levels_of tables text base =
+    let classes = directed (map (class_of tables) text) in
+    let places = stayed classes in
+    let level = base_level_of (map (class_of tables) text) base in
+    length-put_back level classes (resolved (bracket_of tables) level (map (slice_index text) places) (map (class_at classes) places) (map (level_at level classes) places) (map (type_at level classes) places))
+    ∙ length-directed (map (class_of tables) text) ∙ length-map text (class_of tables)
+
 pub stayed_characters-requires : goal.stayed_characters-requires
 stayed_characters-requires c =
     sym (ap length (c.deref-2.ensures.value ∙ c.in_ok-classes.ensures) ∙ length-directed c.in_ok-classes_of.field-0.items ∙ ap length c.in_ok-classes_of.ensures ∙ length-map c.args.text.now (class_of c.args.tables.now))
@@ -80,8 +103,8 @@ resolve_stayed-requires-clause-characters c =
     ∙ ap (λ classes. length (stayed classes)) c.deref-2.ensures.value
     ∙ sym (ap length kept.levels_are ∙ length-map (stayed c.in_ok-classes.classes.items) (level_at c.base_level-base.result c.in_ok-classes.classes.items))
 
-pub returns : goal.returns
-returns c =
+pub returns-clause-levels : goal.returns-clause-levels
+returns-clause-levels c =
     let bracket = bracket_of c.args.tables.now in
     let text = c.args.text.now in
     let classes = map (class_of c.args.tables.now) text in
@@ -98,3 +121,8 @@ returns c =
     ∙ ap (λ xs. levels_by bracket text xs base) acting ∙ ap (levels_by bracket text (directed classes)) c.base_level-base.ensures in
     let made : IfOk c.put_back.result (λ levels. levels.items ≡ put_back base c.deref-4.result.now c.deref-5.result.now) = c.put_back.ensures in
     subst (λ (xs : List ℕ). IfOk c.put_back.result (λ levels. levels.items ≡ xs)) found made
+
+pub returns-clause-len : goal.returns-clause-len
+returns-clause-len c =
+    IfOk-weaker c.put_back.result (λ levels. levels.items ≡ levels_of c.args.tables.now c.args.text.now c.args.base) (λ levels. length levels.items ≡ length c.args.text.now)
+      (λ levels e. ap length e ∙ length-levels_of c.args.tables.now c.args.text.now c.args.base) (returns-clause-levels c)

@@ -8,8 +8,8 @@ pub returns-in-Ok-clause-ok : goal.returns-in-Ok-clause-ok
 returns-in-Ok-clause-ok c =
     let parts = c.in-Ok.ensures in
     let rules : Rules = record { tables = c.self.inside.tables; option = c.self.inside.base; nobreak = c.self.inside.nobreak } in
-    same_layout rules c.args.width c.args.text.items c.deref.result.now c.in-Ok.base c.in-Ok.levels.items c.in-Ok.marks.items c.in-Ok.line_starts.items
-    c.deref.ensures.value parts.0 parts.1 parts.2 parts.3
+    same_layout rules c.args.width c.args.text.items c.deref.result.now c.in-Ok.base c.in-Ok.levels.items c.in-Ok.marks.items c.in-Ok.lines
+    c.deref.ensures.value parts.base parts.levels parts.marks parts.lines
     ∙ ap (λ s. layout_of (rules_of s) c.args.width c.args.text.items) c.self.view_is
 
 pub returns-in-Ok-clause-laid_out : goal.returns-in-Ok-clause-laid_out

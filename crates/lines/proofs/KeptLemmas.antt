@@ -1,0 +1,35 @@
+-- The lines that are kept, one by one.
+use Rattle.std.proofs.Common.{◌≡◌, ℕ, zero, suc, ◌<◌, List, [], ◌∷◌, length, map, Some, slice_get, slice_index, slice_index_or, refl, ap, subst, arith}
+use Rattle.std.proofs.lemmas.List.Elements.{All-get_or}
+use Rattle.std.proofs.lemmas.Option.{get_or_from_slice_get, slice_get_within}
+use Rattle.std.specs.List.{All}
+use Rattle.lines.specs.Kept.{line_in, lines_by}
+use Rattle.lines.specs.Layouts.{start_of}
+use Rattle.lines.specs.Visual.{Line}
+use Rattle.lines.specs.declared.visual.Shown.{Shown}
+
+module _ (levels ltov vtol chars : List ℕ) where
+  -- they start where it is said
+  pub starts_of_lines : (starts : List ℕ) (shown : List Shown) → length shown ≡ length starts → map start_of (lines_by levels ltov vtol chars starts shown) ≡ starts
+  starts_of_lines [] shown e = refl
+  starts_of_lines (s ∷ starts) [] e = absurd (omega (arith, e))
+  starts_of_lines (s ∷ starts) (part ∷ shown) e = ap (λ xs. s ∷ xs) (starts_of_lines starts shown (omega (arith, e)))
+
+  -- and are as many
+  pub length-lines : (starts : List ℕ) (shown : List Shown) → length shown ≡ length starts → length (lines_by levels ltov vtol chars starts shown) ≡ length starts
+  length-lines [] shown e = refl
+  length-lines (s ∷ starts) [] e = absurd (omega (arith, e))
+  length-lines (s ∷ starts) (part ∷ shown) e = ap suc (length-lines starts shown (omega (arith, e)))
+
+  -- each by its start and by what is shown of it
+  pub line_at : (starts : List ℕ) (shown : List Shown) (k : ℕ) (d : Shown) → length shown ≡ length starts → k < length starts
+      → slice_get (lines_by levels ltov vtol chars starts shown) k ≡ Some (line_in levels ltov vtol chars (slice_index starts k) (slice_index_or shown k d))
+  line_at [] shown k d e within = absurd (omega (arith, within))
+  line_at (s ∷ starts) [] k d e within = absurd (omega (arith, e))
+  line_at (s ∷ starts) (part ∷ shown) zero d e within = refl
+  line_at (s ∷ starts) (part ∷ shown) (suc k) d e within = line_at starts shown k d (omega (arith, e)) (omega (arith, within))
+
+-- what holds of each line
+pub holds_at : (P : Line → Type 0) (lines : List Line) (k : ℕ) (line : Line) → All P lines → slice_get lines k ≡ Some line → P line
+holds_at P lines k line all e =
+    subst P (get_or_from_slice_get lines k line line e) (All-get_or P lines k line (slice_get_within lines k line e) all)

@@ -1,0 +1,77 @@
+-- Each line's shown part stands in the paragraph.
+use Rattle.std.proofs.Common.{◌≡◌, ℕ, zero, suc, ◌+◌, ◌-◌, ◌<◌, ◌≤◌, min, Bool, List, [], ◌∷◌, length, map, take, drop, slice_range, refl, ap, ◌∙◌, arith}
+use Rattle.std.proofs.lemmas.List.{length-take}
+use Rattle.std.proofs.lemmas.List.Elements.{All-cons, All-nil}
+use Rattle.std.specs.List.{suffix_len}
+use Rattle.std.specs.Prelude.{⊤}
+use Rattle.ucd.specs.Tables.{class_of}
+use Rattle.ucd.specs.declared.tables.Tables.{Tables}
+use Rattle.breaks.specs.Marks.{marks_of}
+use Rattle.breaks.specs.declared.mark.Mark.{Mark}
+use Rattle.lines.specs.Clusters.{cluster_ends}
+use Rattle.lines.specs.Filling.{line_len, line_starts_of, shown, starts}
+use Rattle.lines.specs.Layouts.{AreWithin, Rules, base_of, lines_of}
+use Rattle.lines.specs.Places.{places, places_of}
+use Rattle.lines.specs.Spaces.{line_levels}
+use Rattle.lines.specs.Visual.{Line, line_between, lines_from}
+use Rattle.lines.specs.declared.places.Place.{Place}
+use Rattle.bidi.specs.Levels.{levels_of}
+
+-- numbers from `low` on and below n, each above the one before
+abbrev Rise : ℕ → ℕ → List ℕ → Type 0
+Rise low n [] = ⊤
+Rise low n (x ∷ xs) = (low ≤ x) × (x < n) × Rise (suc x) n xs
+
+rise_from : (low above n : ℕ) (xs : List ℕ) → low ≤ above → Rise above n xs → Rise low n xs
+rise_from low above n [] below rise = tt
+rise_from low above n (x ∷ xs) below rise = (omega (arith, below, rise.0), rise.1, rise.2)
+
+rise_to : (low n m : ℕ) (xs : List ℕ) → n ≤ m → Rise low n xs → Rise low m xs
+rise_to low n m [] below rise = tt
+rise_to low n m (x ∷ xs) below rise = (rise.0, omega (arith, below, rise.1), rise_to (suc x) n m xs below rise.2)
+
+-- lines start so
+starts_rise : (nobreak : Bool) (width place left n : ℕ) (rest : List Place) → place + length rest ≡ n → Rise (place + left) n (starts nobreak width place left rest)
+starts_rise nobreak width place zero n [] e = tt
+starts_rise nobreak width place (suc left) n [] e = tt
+starts_rise nobreak width place zero n (p ∷ rest) e =
+    (omega arith, omega (arith, e), rise_from (suc place) (suc place + (line_len nobreak width (p ∷ rest) - 1)) n (starts nobreak width (suc place) (line_len nobreak width (p ∷ rest) - 1) rest) (omega arith)
+      (starts_rise nobreak width (suc place) (line_len nobreak width (p ∷ rest) - 1) n rest (omega (arith, e))))
+starts_rise nobreak width place (suc left) n (p ∷ rest) e =
+    rise_from (place + suc left) (suc place + left) n (starts nobreak width (suc place) left rest) (omega arith) (starts_rise nobreak width (suc place) left n rest (omega (arith, e)))
+
+-- there are no more places than characters
+length-places : (t : Tables) (text : List ℕ) (marks : List Mark) (clusters : List Bool) → length (places t text marks clusters) ≤ length text
+length-places t [] marks clusters = omega arith
+length-places t (c ∷ text) [] clusters = omega arith
+length-places t (c ∷ text) (mark ∷ marks) [] = omega arith
+length-places t (c ∷ text) (mark ∷ marks) (ends ∷ clusters) = omega (arith, length-places t text marks clusters)
+
+length-take-most : {X : Type 0} (n : ℕ) (xs : List X) → length (take n xs) ≤ n
+length-take-most n xs = omega (arith, length-take n xs)
+
+-- what is shown between two places is no longer than what stands there
+levels_most : (tables : Tables) (base : ℕ) (text levels : List ℕ) (ps : List Place) (s e : ℕ) → length (line_between tables base text levels ps s e).levels ≤ e - s
+levels_most tables base text levels ps s e =
+    let span : List Place = slice_range ps s e in
+    omega (arith, length-take-most (length (shown span)) (line_levels base (map (class_of tables) (slice_range text s e)) (slice_range levels s e)),
+      length-take (length span - suffix_len (λ p. p.is_trailing) span) span, length-take-most (e - s) (drop s ps))
+
+from_within : (tables : Tables) (base : ℕ) (text levels : List ℕ) (ps : List Place) (low n : ℕ) (at : List ℕ) → n ≡ length text → Rise low n at
+    → AreWithin n (lines_from tables base text levels ps at)
+from_within tables base text levels ps low n [] e rise = All-nil (λ (line : Line). line.start + length line.levels ≤ n)
+from_within tables base text levels ps low n (s ∷ []) e rise =
+    All-cons (λ (line : Line). line.start + length line.levels ≤ n) (line_between tables base text levels ps s (length text)) []
+      (omega (arith, levels_most tables base text levels ps s (length text), rise.1, e)) (All-nil (λ (line : Line). line.start + length line.levels ≤ n))
+from_within tables base text levels ps low n (s ∷ t ∷ at) e rise =
+    All-cons (λ (line : Line). line.start + length line.levels ≤ n) (line_between tables base text levels ps s t) (lines_from tables base text levels ps (t ∷ at))
+      (omega (arith, levels_most tables base text levels ps s t, rise.2.0, rise.2.1)) (from_within tables base text levels ps (suc s) n (t ∷ at) e rise.2)
+
+-- the lines of a paragraph stand in it
+pub lines_within : (rules : Rules) (width : ℕ) (text : List ℕ) → AreWithin (length text) (lines_of rules width text)
+unfolding line_starts_of places_of
+lines_within rules width text =
+    let ps : List Place = places_of rules.tables text in
+    from_within rules.tables (base_of rules text) text (levels_of rules.tables text rules.option) ps 0 (length text) (line_starts_of rules.nobreak width ps) refl
+      (rise_to 0 (length ps) (length text) (line_starts_of rules.nobreak width ps) (length-places rules.tables text (marks_of rules.tables text) (cluster_ends text))
+        (starts_rise rules.nobreak width 0 0 (length ps) ps (omega arith)))

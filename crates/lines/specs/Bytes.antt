@@ -1,0 +1,35 @@
+-- What is printed of a line.
+use Rattle.std.specs.Prelude.{ℕ, ◌-◌, ◌==◌, ◌&&◌, not, Bool, List, [], ◌∷◌, ◌++◌, codes, map, replicate, slice_index, encode_utf8_all, if◌then◌else◌}
+use Rattle.std.specs.Fmt.{decimal}
+use Rattle.std.specs.List.{join_with_byte}
+use Rattle.lines.specs.Order.{is_odd}
+use Rattle.lines.specs.Visual.{Visual}
+use Rattle.lines.specs.declared.print.Print.{Print}
+
+-- the paragraph's direction, by its base level
+abbrev pub direction_line : ℕ → List ℕ
+direction_line base = if is_odd base then codes "RTL\n" else codes "LTR\n"
+
+-- decimal numbers, with one space between
+abbrev pub numbers_line : List ℕ → List ℕ
+numbers_line numbers = join_with_byte 32 (map decimal numbers) ++ codes "\n"
+
+-- the spaces in front of a line that is shorter than the width, where the paragraph is from right to left
+abbrev pub padding : ℕ → Print → Visual → List ℕ
+padding width print visual =
+    if is_odd visual.base && not print.nopad then replicate (width - visual.columns) 32 else []
+
+-- the characters in visual order, mirrored or as they are
+abbrev pub shown_chars : Print → Visual → List ℕ
+shown_chars print visual = if print.nomirror then map (slice_index visual.text) visual.vtol else visual.chars
+
+abbrev pub visual_line : ℕ → Print → Visual → List ℕ
+visual_line width print visual = padding width print visual ++ encode_utf8_all (shown_chars print visual) ++ codes "\n"
+
+abbrev pub line_bytes : ℕ → Print → Visual → List ℕ
+line_bytes width print visual =
+    (if print.novisual then [] else visual_line width print visual)
+    ++ (if print.basedir && visual.is_first then direction_line visual.base else [])
+    ++ (if print.ltov then numbers_line visual.ltov else [])
+    ++ (if print.vtol then numbers_line visual.vtol else [])
+    ++ (if print.levels then numbers_line visual.levels else [])

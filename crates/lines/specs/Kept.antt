@@ -1,0 +1,38 @@
+-- The lines of a paragraph as they are kept: in lists of the paragraph's length, where each line's part stands from its start on.
+use Rattle.std.specs.Prelude.{◌≡◌, ℕ, ◌+◌, ◌<◌, ◌≤◌, List, [], ◌∷◌, length, slice_index, slice_index_or, slice_range, All}
+use Rattle.bidi.specs.Runs.{AreWithin}
+use Rattle.lines.specs.Visual.{Line}
+use Rattle.lines.specs.declared.visual.Shown.{Shown}
+
+-- the lines, by where they start and how much of each is shown
+module _ (levels ltov vtol chars : List ℕ) where
+  abbrev pub line_in : ℕ → Shown → Line
+  line_in s shown = record {
+    start = s;
+    columns = shown.columns;
+    levels = slice_range levels s (s + shown.len);
+    ltov = slice_range ltov s (s + shown.len);
+    vtol = slice_range vtol s (s + shown.len);
+    chars = slice_range chars s (s + shown.len);
+  }
+
+  abbrev pub lines_by : List ℕ → List Shown → List Line
+  lines_by (s ∷ starts) (shown ∷ others) = line_in s shown ∷ lines_by starts others
+  lines_by starts others = []
+
+abbrev pub lines_in : List ℕ → List Shown → List ℕ → List ℕ → List ℕ → List ℕ → List Line
+lines_in starts shown levels ltov vtol chars = lines_by levels ltov vtol chars starts shown
+
+-- the lists are of one length, and each line's shown part stands in them
+pub record IsSound (starts : List ℕ) (shown : List Shown) (levels ltov vtol chars : List ℕ) : Type 0 where
+  pub all_shown : length shown ≡ length starts
+  pub ltov_len : length ltov ≡ length levels
+  pub vtol_len : length vtol ≡ length levels
+  pub chars_len : length chars ≡ length levels
+  pub places : All (λ line. AreWithin (length line.levels) line.vtol) (lines_in starts shown levels ltov vtol chars)
+  pub within : (k : ℕ) → k < length starts → slice_index starts k + (slice_index_or shown k (record { len = 0; columns = 0 })).len ≤ length levels
+
+-- each line starts in front of the next one and of the end
+pub record AreStarts (n : ℕ) (starts : List ℕ) : Type 0 where
+  pub below : (k : ℕ) → k < length starts → slice_index starts k < n
+  pub rising : (k : ℕ) → k + 1 < length starts → slice_index starts k < slice_index starts (k + 1)

@@ -1,0 +1,13 @@
+-- A line as the fill that keeps it hands it out.
+use Rattle.lines.specs.Visual.{Line}
+use Rattle.lines.specs.declared.fill.Part.{Part}
+
+abbrev pub line_of : Part → Line
+line_of part = record {
+  start = part.start;
+  columns = part.columns;
+  levels = part.levels.now;
+  ltov = part.ltov.now;
+  vtol = part.vtol.now;
+  chars = part.chars.now;
+}

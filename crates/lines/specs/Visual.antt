@@ -1,0 +1,66 @@
+-- The lines of a paragraph as they are shown: the order, the levels and the characters of each line's shown part.
+use Rattle.std.specs.Prelude.{ℕ, ◌+◌, ◌==◌, Bool, List, [], ◌∷◌, length, map, take, slice_range}
+use Rattle.ucd.specs.Tables.{class_of}
+use Rattle.ucd.specs.declared.tables.Tables.{Tables}
+use Rattle.lines.specs.Filling.{columns, shown}
+use Rattle.lines.specs.Mirroring.{visual_chars}
+use Rattle.lines.specs.Order.{ltov_of, vtol_of}
+use Rattle.lines.specs.Spaces.{line_levels}
+use Rattle.lines.specs.declared.places.Place.{Place}
+
+-- A line of a paragraph, by the character that it starts at. All else is of its shown part, whose positions count from its start: the
+-- columns, the levels after L1 in logical order, of each position the visual one and of each visual position the logical one, and the
+-- characters in visual order, mirrored.
+pub record Line : Type 0 where
+  pub start : ℕ
+  pub columns : ℕ
+  pub levels : List ℕ
+  pub ltov : List ℕ
+  pub vtol : List ℕ
+  pub chars : List ℕ
+
+-- a paragraph of which all is known but its lines
+module _ (tables : Tables) (base : ℕ) (text levels : List ℕ) (places : List Place) where
+  -- L1 is applied to the whole line from s up to e, L2 and L4 to its shown part
+  abbrev pub line_between : ℕ → ℕ → Line
+  line_between s e =
+      let part = shown (slice_range places s e) in
+      let line = slice_range text s e in
+      let part_levels = take (length part) (line_levels base (map (class_of tables) line) (slice_range levels s e)) in
+      record {
+        start = s;
+        columns = columns part;
+        levels = part_levels;
+        ltov = ltov_of part_levels;
+        vtol = vtol_of part_levels;
+        chars = visual_chars tables part_levels (take (length part) line) (vtol_of part_levels);
+      }
+
+  -- each line ends where the next one starts, the last one with the paragraph
+  abbrev pub lines_from : List ℕ → List Line
+  lines_from [] = []
+  lines_from (s ∷ []) = line_between s (length text) ∷ []
+  lines_from (s ∷ t ∷ starts) = line_between s t ∷ lines_from (t ∷ starts)
+
+-- a line with what it has of its paragraph: whether it is the first, the base level, and the characters of its shown part in logical order
+pub record Visual : Type 0 where
+  pub is_first : Bool
+  pub base : ℕ
+  pub text : List ℕ
+  pub columns : ℕ
+  pub levels : List ℕ
+  pub ltov : List ℕ
+  pub vtol : List ℕ
+  pub chars : List ℕ
+
+abbrev pub visual_of : ℕ → List ℕ → ℕ → Line → Visual
+visual_of base text n line = record {
+  is_first = n == 0;
+  base = base;
+  text = slice_range text line.start (line.start + length line.levels);
+  columns = line.columns;
+  levels = line.levels;
+  ltov = line.ltov;
+  vtol = line.vtol;
+  chars = line.chars;
+}

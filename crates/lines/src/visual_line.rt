@@ -1,0 +1,91 @@
+//! One line of a paragraph as it is shown, which borrows from the paragraph.
+ghost use Rattle.std.specs.Prelude.{◌≡◌};
+
+use std::marker::Model;
+
+/// A line as it is shown. All but `is_first` and `base` speak of its shown part, which is the line without
+/// the spaces and separators at its end; positions count from its start.
+#[derive(Debug, Drop)]
+pub struct VisualLine<'a> {
+    pub(crate) is_first: bool,
+    pub(crate) base: u8,
+    pub(crate) text: &'a [char],
+    pub(crate) columns: u32,
+    pub(crate) levels: &'a [u8],
+    pub(crate) ltov: &'a [u32],
+    pub(crate) vtol: &'a [u32],
+    pub(crate) chars: &'a [char],
+}
+
+impl<'a> Model for VisualLine<'a> {
+    ghost use Rattle.std.specs.Prelude.{length};
+    ghost use Rattle.bidi.specs.Runs.{AreWithin};
+    ghost use Rattle.lines.specs.Visual.{Visual};
+
+    ghost Value = { Visual };
+
+    ghost view = { λ l. record {
+      is_first = l.is_first;
+      base = l.base;
+      text = l.text.now;
+      columns = l.columns;
+      levels = l.levels.now;
+      ltov = l.ltov.now;
+      vtol = l.vtol.now;
+      chars = l.chars.now;
+    } };
+
+    // So that no place lies outside the text.
+    ghost invariant = { λ l. AreWithin (length l.text.now) l.vtol.now };
+}
+
+impl<'a> VisualLine<'a> {
+    /// Whether it is the first line of its paragraph.
+    pub fn is_first(&self) -> bool
+        ensures { result ≡ self.now.is_first }
+    {
+        self.is_first
+    }
+
+    /// The base level of its paragraph, 0 or 1.
+    pub fn base(&self) -> u8
+        ensures { result ≡ self.now.base }
+    {
+        self.base
+    }
+
+    /// The characters in visual order, mirrored.
+    pub fn chars(&self) -> &[char]
+        ensures { result.now ≡ self.now.chars }
+    {
+        self.chars
+    }
+
+    /// The level of each character after L1, in logical order.
+    pub fn levels(&self) -> &[u8]
+        ensures { result.now ≡ self.now.levels }
+    {
+        self.levels
+    }
+
+    /// Of each logical position the visual one.
+    pub fn ltov(&self) -> &[u32]
+        ensures { result.now ≡ self.now.ltov }
+    {
+        self.ltov
+    }
+
+    /// Of each visual position the logical one.
+    pub fn vtol(&self) -> &[u32]
+        ensures { result.now ≡ self.now.vtol }
+    {
+        self.vtol
+    }
+
+    /// How many columns it takes.
+    pub fn columns(&self) -> u32
+        ensures { result ≡ self.now.columns }
+    {
+        self.columns
+    }
+}
