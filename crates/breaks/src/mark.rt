@@ -1,5 +1,5 @@
 //! The break marks of a paragraph.
-ghost use Rattle.std.specs.Prelude.{◌≡◌, IfOk};
+ghost use Rattle.std.specs.Prelude.{◌≡◌, length, IfOk};
 ghost use Rattle.breaks.specs.Marks.{marks_of};
 
 use crate::before::Before;
@@ -21,7 +21,8 @@ pub enum Mark {
 /// The mark of the position behind each character of a paragraph (UAX #14, LB1 to LB31, as
 /// docs/PROFILE.md has them). Behind the last one it is `Must`.
 pub fn marks(alloc: Global, tables: &Tables, text: &[char]) -> Result<Vec<Mark>, AllocError>
-    ensures { IfOk result (λ marks. marks.items ≡ marks_of tables.now text.now) }
+    ensures marks { IfOk result (λ marks. marks.items ≡ marks_of tables.now text.now) }
+    ensures len { IfOk result (λ marks. length marks.items ≡ length text.now) }
 {
     let mut marks = Vec::with_capacity(alloc, text.len())?;
     let Some((first, rest)) = text.split_first() else {

@@ -6,6 +6,7 @@ pub mod LayoutLemmas
 mod LevelLemmas
 mod OrderLemmas
 pub mod PlaceLemmas
+mod ShowLemmas
 mod SpaceLemmas
 pub mod VisualLemmas
 mod WorkedOrder

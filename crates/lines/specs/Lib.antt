@@ -9,5 +9,6 @@ pub mod Order
 pub mod Parts
 pub mod Places
 pub mod Spaces
+pub mod Showing
 pub mod Sums
 pub mod Visual

@@ -1,7 +1,12 @@
 //! The lines of a paragraph as they are shown, and one of them, which borrows from its paragraph.
-ghost use Rattle.std.specs.Prelude.{◌≡◌, ◌≤◌, length, IfOk};
+ghost use Rattle.std.specs.Prelude.{◌≡◌, ◌<◌, ◌≤◌, length, slice_index, IfOk};
+ghost use Rattle.bidi.specs.Runs.{AreWithin};
+ghost use Rattle.lines.specs.Filling.{columns, shown};
 ghost use Rattle.lines.specs.Kept.{AreStarts};
-ghost use Rattle.lines.specs.Layouts.{AreWithin};
+ghost use Rattle.lines.specs.Layouts;
+ghost use Rattle.lines.specs.Mirroring.{visual_chars};
+ghost use Rattle.lines.specs.Order.{ltov_of, vtol_of};
+ghost use Rattle.lines.specs.Showing.{end_of, AreShown, IsShown};
 ghost use Rattle.lines.specs.Visual.{lines_from};
 
 use crate::mirror::visual_chars;
@@ -42,7 +47,7 @@ impl Model for Fill {
     ghost view = { λ f. lines_in f.starts.items f.shown.items f.levels.items f.ltov.items f.vtol.items f.chars.items };
 
     ghost invariant = { λ f.
-      IsSound f.starts.items f.shown.items f.levels.items f.ltov.items f.vtol.items f.chars.items };
+        IsSound f.starts.items f.shown.items f.levels.items f.ltov.items f.vtol.items f.chars.items };
 }
 
 /// The lines of a paragraph that start at some places: L1 on each line, and L2 and L4 on its shown part.
@@ -60,7 +65,184 @@ pub(crate) fn show_lines(
     requires starts { AreStarts (length text.now) starts.items }
     ensures lines { IfOk result (λ fill.
         fill ≡ lines_from tables.now base text.now levels.now places.now starts.items) }
-    ensures within { IfOk result (AreWithin (length text.now)) }
+    ensures within { IfOk result (Layouts.AreWithin (length text.now)) }
 {
-    Err(AllocError)
+    let mut levels = copied(alloc, levels)?;
+    let mut ltov = numbers(alloc, text.len())?;
+    let mut vtol = numbers(alloc, text.len())?;
+    let mut chars = characters(alloc, text.len())?;
+    let shown = show_each(
+        alloc,
+        tables,
+        text,
+        base,
+        places,
+        &starts,
+        &mut levels,
+        &mut ltov,
+        &mut vtol,
+        &mut chars,
+    )?;
+    Ok(Fill {
+        starts,
+        shown,
+        levels,
+        ltov,
+        vtol,
+        chars,
+    })
+}
+
+// The levels before L1, to be changed.
+fn copied(alloc: Global, levels: &[u8]) -> Result<Vec<u8>, AllocError>
+    ensures { IfOk result (λ copy. copy.items ≡ levels.now) }
+{
+    levels.to_vec(alloc)
+}
+
+// Room for a number of each character.
+fn numbers(alloc: Global, len: usize) -> Result<Vec<u32>, AllocError>
+    ensures { IfOk result (λ items. length items.items ≡ len) }
+{
+    vec![in alloc; 0; len]
+}
+
+// Room for so many characters.
+fn characters(alloc: Global, len: usize) -> Result<Vec<char>, AllocError>
+    ensures { IfOk result (λ items. length items.items ≡ len) }
+{
+    vec![in alloc; '\0'; len]
+}
+
+// Writes what belongs to each line to its place, over the levels before L1.
+fn show_each(
+    alloc: Global,
+    tables: &Tables,
+    text: &[char],
+    base: u8,
+    places: &[Place],
+    starts: &[u32],
+    levels: &mut [u8],
+    ltov: &mut [u32],
+    vtol: &mut [u32],
+    chars: &mut [char],
+) -> Result<Vec<Shown>, AllocError>
+    requires text { (length text.now ≡ length places.now) × (length text.now ≤ 1048576) }
+    requires starts { AreStarts (length text.now) starts.now }
+    requires levels { length levels.old ≡ length text.now }
+    requires ltov { length ltov.old ≡ length text.now }
+    requires vtol { length vtol.old ≡ length text.now }
+    requires chars { length chars.old ≡ length text.now }
+    ensures lines { IfOk result (λ shown. AreShown tables.now base text.now levels.old places.now starts.now
+        (length starts.now) shown.items levels.new ltov.new vtol.new chars.new) }
+    ensures len { IfOk result (λ shown. length shown.items ≡ length starts.now) }
+{
+    let mut shown = Vec::with_capacity(alloc, starts.len())?;
+    let mut k = 0;
+    while k < starts.len() {
+        let start = starts[k] as usize;
+        let end = end_of(starts, k, text.len());
+        shown.push(show_line(
+            tables,
+            &text[start..end],
+            base,
+            &places[start..end],
+            &mut levels[start..end],
+            &mut ltov[start..end],
+            &mut vtol[start..end],
+            &mut chars[start..end],
+        ))?;
+        k += 1;
+    }
+    Ok(shown)
+}
+
+// Where a line ends: where the next one starts, the last one with the paragraph.
+fn end_of(starts: &[u32], k: usize, len: usize) -> usize
+    requires starts { AreStarts len starts.now }
+    requires k { k < length starts.now }
+    ensures end { result ≡ end_of len starts.now k }
+    ensures within { (slice_index starts.now k < result) × (result ≤ len) }
+{
+    if k + 1 < starts.len() {
+        starts[k + 1] as usize
+    } else {
+        len
+    }
+}
+
+// Writes the levels of a line after L1, and what belongs to its shown part.
+fn show_line(
+    tables: &Tables,
+    line: &[char],
+    base: u8,
+    places: &[Place],
+    levels: &mut [u8],
+    ltov: &mut [u32],
+    vtol: &mut [u32],
+    chars: &mut [char],
+) -> Shown
+    requires line { (length line.now ≡ length places.now) × (length line.now ≤ 1048576) }
+    requires levels { length levels.old ≡ length line.now }
+    requires ltov { length ltov.old ≡ length line.now }
+    requires vtol { length vtol.old ≡ length line.now }
+    requires chars { length chars.old ≡ length line.now }
+    ensures { IsShown tables.now base line.now levels.old places.now
+        result levels.new ltov.new vtol.new chars.new }
+{
+    reset_levels(tables, line, base, levels);
+    let shown = shown_of(places);
+    let n = shown.len as usize;
+    show_part(
+        tables,
+        &line[..n],
+        &levels[..n],
+        &mut ltov[..n],
+        &mut vtol[..n],
+        &mut chars[..n],
+    );
+    shown
+}
+
+// Writes what belongs to the shown part of a line: its order, and its characters in visual order.
+fn show_part(
+    tables: &Tables,
+    part: &[char],
+    levels: &[u8],
+    ltov: &mut [u32],
+    vtol: &mut [u32],
+    chars: &mut [char],
+)
+    requires levels { (length levels.now ≡ length part.now) × (length part.now ≤ 1048576) }
+    requires ltov { length ltov.old ≡ length part.now }
+    requires vtol { length vtol.old ≡ length part.now }
+    requires chars { length chars.old ≡ length part.now }
+    ensures ltov { ltov.new ≡ ltov_of levels.now }
+    ensures vtol { vtol.new ≡ vtol_of levels.now }
+    ensures chars { chars.new ≡ visual_chars tables.now levels.now part.now (vtol_of levels.now) }
+    ensures within { AreWithin (length levels.now) vtol.new }
+{
+    order(levels, vtol, ltov);
+    visual_chars(tables, part, levels, vtol, chars);
+}
+
+// How much of a line is shown: all but its tail.
+fn shown_of(line: &[Place]) -> Shown
+    requires { length line.now ≤ 1048576 }
+    ensures len { result.len ≡ length (shown line.now) }
+    ensures columns { result.columns ≡ columns (shown line.now) }
+    ensures within { result.len ≤ length line.now }
+{
+    let mut shown = Shown { len: 0, columns: 0 };
+    let mut columns = 0;
+    for (k, place) in line.iter().enumerate() {
+        columns += place.columns as u32;
+        if !place.is_trailing {
+            shown = Shown {
+                len: k as u32 + 1,
+                columns,
+            };
+        }
+    }
+    shown
 }

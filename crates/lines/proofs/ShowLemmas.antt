@@ -1,0 +1,285 @@
+-- What is written of one line after the other makes up the lines of the paragraph.
+use Rattle.std.proofs.Common.{◌≡◌, ℕ, zero, suc, ◌+◌, ◌-◌, ◌<◌, ◌≤◌, List, [], ◌∷◌, ◌++◌, length, map, take, drop, get_or, refl, sym, ap, ap₂, subst, ◌∙◌, take-take, drop-drop, below_more, length-append, arith, inl, inr}
+use borrow.Rule.Slice.PartMut.{put_mid}
+use Rattle.std.proofs.lemmas.Bool.{cases_eq, cases_lt, cases_Bool, cond-true, cond-false}
+use Rattle.std.proofs.lemmas.List.{length-drop, length-take-le}
+use Rattle.std.proofs.Math.ListN.{get_or-append}
+use Rattle.std.proofs.Math.Seq.{get_or-append_seam}
+use Rattle.std.proofs.lemmas.Slice.{between_is, between-put_mid, drop-put_mid, take-put_mid_below}
+use Rattle.std.specs.List.{slice_range, All}
+use Rattle.ucd.specs.Tables.{class_of}
+use Rattle.ucd.specs.declared.tables.Tables.{Tables}
+use Rattle.bidi.specs.Runs.{AreWithin}
+use Rattle.lines.specs.Filling.{columns, shown}
+use Rattle.lines.specs.Kept.{AreStarts, IsSound, line_in, lines_by, lines_in}
+use Rattle.lines.specs.Layouts.{AreWithin as LinesAreWithin}
+use Rattle.lines.specs.Mirroring.{visual_chars}
+use Rattle.lines.specs.Order.{ltov_of, vtol_of}
+use Rattle.lines.specs.Showing.{end_of, nothing_shown, AreShown, IsPlaced, IsShown}
+use Rattle.lines.specs.Spaces.{line_levels}
+use Rattle.lines.specs.Visual.{Line, line_between, lines_from}
+use Rattle.lines.specs.declared.places.Place.{Place}
+use Rattle.lines.specs.declared.visual.Shown.{Shown}
+
+-- ---- where a line ends
+
+pub end_next : (n : ℕ) (starts : List ℕ) (k : ℕ) → k + 1 < length starts → get_or starts (k + 1) 0 ≡ end_of n starts k
+end_next n [] k h = absurd (omega (arith, h))
+end_next n (s ∷ []) k h = absurd (omega (arith, h))
+end_next n (s ∷ t ∷ starts) zero h = refl
+end_next n (s ∷ t ∷ starts) (suc k) h =
+    let e : suc k + 1 ≡ suc (k + 1) = omega arith in
+    ap (λ j. get_or (s ∷ t ∷ starts) j 0) e ∙ end_next n (t ∷ starts) k (omega (arith, h))
+
+pub end_last : (n : ℕ) (starts : List ℕ) (k : ℕ) → length starts ≤ k + 1 → n ≡ end_of n starts k
+end_last n [] k h = refl
+end_last n (s ∷ []) k h = refl
+end_last n (s ∷ t ∷ starts) zero h = absurd (omega (arith, h))
+end_last n (s ∷ t ∷ starts) (suc k) h = end_last n (t ∷ starts) k (omega (arith, h))
+
+pub end_within : (n : ℕ) (starts : List ℕ) (k : ℕ) → AreStarts n starts → k < length starts → (get_or starts k 0 < end_of n starts k) × (end_of n starts k ≤ n)
+end_within n starts k are h =
+    elim (cases_lt (k + 1) (length starts)) [
+      | inl more ↦ let e = end_next n starts k more in (omega (arith, e, are.rising k more), omega (arith, e, are.below (k + 1) more))
+      | inr last ↦ let e = end_last n starts k (omega (arith, last)) in (omega (arith, e, are.below k h), omega (arith, e))
+    ]
+
+-- a line ends at or before the start of a later one
+ends_before : (n : ℕ) (starts : List ℕ) (j k : ℕ) → AreStarts n starts → j < k → k < length starts → end_of n starts j ≤ get_or starts k 0
+ends_before n starts j zero are h within = absurd (omega (arith, h))
+ends_before n starts j (suc k) are h within =
+    let one : k + 1 ≡ suc k = omega arith in
+    let more : k + 1 < length starts = omega (arith, within) in
+    elim (cases_eq j k) [
+      | inl e ↦
+          let here = end_next n starts k more in
+          let there : get_or starts (suc k) 0 ≡ end_of n starts k = subst (λ m. get_or starts m 0 ≡ end_of n starts k) one here in
+          let same : end_of n starts j ≡ end_of n starts k = ap (end_of n starts) e in
+          omega (arith, there, same)
+      | inr ne ↦
+          let before = ends_before n starts j k are (omega (arith, h, ne)) (omega (arith, within)) in
+          let there : get_or starts k 0 < get_or starts (suc k) 0 = subst (λ m. get_or starts k 0 < get_or starts m 0) one (are.rising k more) in
+          omega (arith, before, there)
+    ]
+
+-- ---- parts of a list, after a write to a part
+
+kept : (a k : ℕ) (xs ys : List ℕ) (i m : ℕ) → m ≤ a → a ≤ length xs → slice_range (put_mid a k xs ys) i m ≡ slice_range xs i m
+kept a k xs ys i m below within =
+    between_is (put_mid a k xs ys) i m ∙ ap (drop i) (take-put_mid_below a k xs ys m below within) ∙ sym (between_is xs i m)
+
+written : (a k : ℕ) (xs ys : List ℕ) (m : ℕ) → a ≤ length xs → length ys ≡ k → m ≤ k → slice_range (put_mid a k xs ys) a (a + m) ≡ take m ys
+written a k xs ys m within size below =
+    let zs : List ℕ = put_mid a k xs ys in
+    let whole : take (a + k - a) (drop a zs) ≡ ys = between-put_mid a k xs ys (a + k) within (omega (arith, size)) in
+    let e : a + m - a ≡ m = omega arith in
+    let f : a + k - a ≡ k = omega arith in
+    ap (λ j. take j (drop a zs)) e ∙ sym (take-take m k (drop a zs) below) ∙ ap (λ j. take m (take j (drop a zs))) (sym f) ∙ ap (take m) whole
+
+length_range : {X : Type 0} (xs : List X) (s e : ℕ) → s ≤ e → e ≤ length xs → length (slice_range xs s e) ≡ e - s
+length_range xs s e order within = length-take-le (e - s) (drop s xs) (omega (arith, length-drop s xs, order, within))
+
+-- ---- one line more
+
+-- what is kept while the lines are written: the levels from the next line on are the old ones
+pub record Showing (tables : Tables) (base : ℕ) (text old : List ℕ) (places : List Place) (starts : List ℕ) (k : ℕ) (parts : List Shown)
+    (levels ltov vtol chars : List ℕ) : Type 0 where
+  pub so_far : AreShown tables base text old places starts k parts levels ltov vtol chars
+  pub k_within : k ≤ length starts
+  pub parts_len : length parts ≡ k
+  pub levels_len : length levels ≡ length text
+  pub ltov_len : length ltov ≡ length text
+  pub vtol_len : length vtol ≡ length text
+  pub chars_len : length chars ≡ length text
+  pub rest : k < length starts → drop (get_or starts k 0) levels ≡ drop (get_or starts k 0) old
+
+abbrev line_of : ℕ → ℕ → List ℕ → List ℕ → List ℕ → List ℕ → Line
+line_of s c l t v h = record { start = s; columns = c; levels = l; ltov = t; vtol = v; chars = h }
+
+length_put : {X : Type 0} (a k : ℕ) (xs ys : List X) → a ≤ length xs → length ys ≡ k → a + k ≤ length xs → length (put_mid a k xs ys) ≡ length xs
+length_put a k xs ys within size below =
+    length-append (take a xs) (ys ++ drop k (drop a xs))
+    ∙ ap₂ ◌+◌ (length-take-le a xs within) (length-append ys (drop k (drop a xs)))
+    ∙ omega (arith, size, below, length-drop k (drop a xs), length-drop a xs)
+
+-- lists that agree from a place on agree from a later one on
+drop_later : (a b : ℕ) (xs ys : List ℕ) → a ≤ b → drop a xs ≡ drop a ys → drop b xs ≡ drop b ys
+drop_later a b xs ys order same =
+    let e : a + (b - a) ≡ b = omega (arith, order) in
+    ap (λ n. drop n xs) (sym e) ∙ sym (drop-drop (b - a) a xs) ∙ ap (drop (b - a)) same ∙ drop-drop (b - a) a ys ∙ ap (λ n. drop n ys) e
+
+same_line : (s c c2 : ℕ) (l t v h l2 t2 v2 h2 : List ℕ) → c ≡ c2 → l ≡ l2 → t ≡ t2 → v ≡ v2 → h ≡ h2 → line_of s c l t v h ≡ line_of s c2 l2 t2 v2 h2
+same_line s c c2 l t v h l2 t2 v2 h2 a b d e f = rw (a, b, d, e, f) refl
+
+module _ (tables : Tables) (base : ℕ) (text old : List ℕ) (places : List Place) where
+  -- a line that ends where the write begins, or before
+  placed_still : (s e a k : ℕ) (part : Shown) (levels ltov vtol chars l t v h : List ℕ) → IsPlaced tables base text old places s e part levels ltov vtol chars
+      → e ≤ a → a ≤ length levels → a ≤ length ltov → a ≤ length vtol → a ≤ length chars
+      → IsPlaced tables base text old places s e part (put_mid a k levels l) (put_mid a k ltov t) (put_mid a k vtol v) (put_mid a k chars h)
+  placed_still s e a k part levels ltov vtol chars l t v h is below wl wt wv wh =
+      let m : ℕ = s + part.len in
+      let before : m ≤ a = omega (arith, is.within, below) in
+      let same_vtol : slice_range (put_mid a k vtol v) s m ≡ slice_range vtol s m = kept a k vtol v s m before wv in
+      record {
+        line_is = same_line s part.columns part.columns _ _ _ _ _ _ _ _ refl (kept a k levels l s m before wl) (kept a k ltov t s m before wt) same_vtol
+            (kept a k chars h s m before wh) ∙ is.line_is;
+        within = is.within;
+        vtol_within = subst (λ (xs : List ℕ). AreWithin part.len xs) (sym same_vtol) is.vtol_within;
+      }
+
+  -- the line that is written
+  placed_now : (s e : ℕ) (part : Shown) (levels ltov vtol chars l t v h : List ℕ)
+      → IsShown tables base (slice_range text s e) (slice_range levels s e) (slice_range places s e) part l t v h
+      → s < e → e ≤ length text → length levels ≡ length text → length ltov ≡ length text → length vtol ≡ length text → length chars ≡ length text
+      → length l ≡ e - s → length t ≡ e - s → length v ≡ e - s → length h ≡ e - s → drop s levels ≡ drop s old
+      → IsPlaced tables base text old places s e part (put_mid s (e - s) levels l) (put_mid s (e - s) ltov t) (put_mid s (e - s) vtol v) (put_mid s (e - s) chars h)
+  placed_now s e part levels ltov vtol chars l t v h is some within wl wt wv wh sl st sv sh rest =
+      let m : ℕ = e - s in
+      let n : ℕ = part.len in
+      let line : List ℕ = slice_range text s e in
+      let size : length line ≡ m = length_range text s e (omega (arith, some)) within in
+      let below : n ≤ m = omega (arith, is.within, size) in
+      let whole : ℕ → List ℕ → List ℕ = λ (j : ℕ) (xs : List ℕ). take j (line_levels base (map (class_of tables) line) xs) in
+      let amount : ℕ = length (shown (slice_range places s e)) in
+      let levels_here : take n l ≡ whole amount (slice_range old s e) = is.levels_are ∙ ap₂ whole is.len_is (ap (take m) rest) in
+      let vtol_here : slice_range (put_mid s m vtol v) s (s + n) ≡ take n v = written s m vtol v n (omega (arith, wv, within, some)) sv below in
+      record {
+        line_is = same_line s part.columns (columns (shown (slice_range places s e))) _ _ _ _ _ _ _ _
+            is.columns_are
+            (written s m levels l n (omega (arith, wl, within, some)) sl below ∙ levels_here)
+            (written s m ltov t n (omega (arith, wt, within, some)) st below ∙ is.ltov_is ∙ ap ltov_of levels_here)
+            (vtol_here ∙ is.vtol_is ∙ ap vtol_of levels_here)
+            (written s m chars h n (omega (arith, wh, within, some)) sh below ∙ is.chars_are
+            ∙ ap₂ (λ (xs ys : List ℕ). visual_chars tables xs ys (vtol_of xs)) levels_here (ap (λ j. take j line) is.len_is));
+        within = omega (arith, below, some);
+        vtol_within = subst (λ (xs : List ℕ). AreWithin n xs) (sym vtol_here) is.vtol_within;
+      }
+
+  -- and all lines with it
+  pub show_more : (starts : List ℕ) (k e : ℕ) (part : Shown) (parts more : List Shown) (levels ltov vtol chars l t v h : List ℕ)
+      → AreStarts (length text) starts → k < length starts → e ≡ end_of (length text) starts k
+      → Showing tables base text old places starts k parts levels ltov vtol chars
+      → IsShown tables base (slice_range text (get_or starts k 0) e) (slice_range levels (get_or starts k 0) e) (slice_range places (get_or starts k 0) e) part l t v h
+      → length l ≡ e - get_or starts k 0 → length t ≡ e - get_or starts k 0 → length v ≡ e - get_or starts k 0 → length h ≡ e - get_or starts k 0
+      → more ≡ parts ++ part ∷ []
+      → Showing tables base text old places starts (k + 1) more
+      (put_mid (get_or starts k 0) (e - get_or starts k 0) levels l) (put_mid (get_or starts k 0) (e - get_or starts k 0) ltov t)
+      (put_mid (get_or starts k 0) (e - get_or starts k 0) vtol v) (put_mid (get_or starts k 0) (e - get_or starts k 0) chars h)
+  show_more starts k e part parts more levels ltov vtol chars l t v h are below e_is kept_so is sl st sv sh more_is =
+      let n : ℕ = length text in
+      let s : ℕ = get_or starts k 0 in
+      let m : ℕ = e - s in
+      let w = end_within n starts k are below in
+      let some : s < e = omega (arith, w.0, e_is) in
+      let within : e ≤ n = omega (arith, w.1, e_is) in
+      let wl : s ≤ length levels = omega (arith, kept_so.levels_len, some, within) in
+      let wt : s ≤ length ltov = omega (arith, kept_so.ltov_len, some, within) in
+      let wv : s ≤ length vtol = omega (arith, kept_so.vtol_len, some, within) in
+      let wh : s ≤ length chars = omega (arith, kept_so.chars_len, some, within) in
+      let now = placed_now s e part levels ltov vtol chars l t v h is some within kept_so.levels_len kept_so.ltov_len kept_so.vtol_len kept_so.chars_len sl st sv sh (kept_so.rest below) in
+      let last : part ≡ get_or more k nothing_shown =
+      sym (ap (λ (ps : List Shown). get_or ps k nothing_shown) more_is
+      ∙ ap (λ j. get_or (parts ++ part ∷ []) j nothing_shown) (sym kept_so.parts_len) ∙ get_or-append_seam parts part [] nothing_shown) in
+      record {
+        so_far = below_more (λ (j : ℕ). IsPlaced tables base text old places (get_or starts j 0) (end_of n starts j) (get_or more j nothing_shown)
+            (put_mid s m levels l) (put_mid s m ltov t) (put_mid s m vtol v) (put_mid s m chars h)) k
+            (λ j h2.
+            let same : get_or parts j nothing_shown ≡ get_or more j nothing_shown =
+            sym (ap (λ (ps : List Shown). get_or ps j nothing_shown) more_is ∙ get_or-append parts (part ∷ []) nothing_shown j (omega (arith, h2, kept_so.parts_len))) in
+            subst (λ (p : Shown). IsPlaced tables base text old places (get_or starts j 0) (end_of n starts j) p
+            (put_mid s m levels l) (put_mid s m ltov t) (put_mid s m vtol v) (put_mid s m chars h)) same
+            (placed_still _ _ s m _ levels ltov vtol chars l t v h (kept_so.so_far j h2) (ends_before n starts j k are h2 below) wl wt wv wh))
+            (subst (λ (p : Shown). IsPlaced tables base text old places s (end_of n starts k) p
+            (put_mid s m levels l) (put_mid s m ltov t) (put_mid s m vtol v) (put_mid s m chars h)) last
+            (subst (λ (x : ℕ). IsPlaced tables base text old places s x part
+            (put_mid s m levels l) (put_mid s m ltov t) (put_mid s m vtol v) (put_mid s m chars h)) e_is now));
+        k_within = omega (arith, below);
+        parts_len = ap length more_is ∙ length-append parts (part ∷ []) ∙ ap (λ j. j + 1) kept_so.parts_len;
+        levels_len = length_put s m levels l wl sl (omega (arith, kept_so.levels_len, some, within)) ∙ kept_so.levels_len;
+        ltov_len = length_put s m ltov t wt st (omega (arith, kept_so.ltov_len, some, within)) ∙ kept_so.ltov_len;
+        vtol_len = length_put s m vtol v wv sv (omega (arith, kept_so.vtol_len, some, within)) ∙ kept_so.vtol_len;
+        chars_len = length_put s m chars h wh sh (omega (arith, kept_so.chars_len, some, within)) ∙ kept_so.chars_len;
+        rest = λ h2.
+            let next : e ≡ get_or starts (k + 1) 0 = e_is ∙ sym (end_next n starts k h2) in
+            let whole : s + m ≤ get_or starts (k + 1) 0 = omega (arith, next, some) in
+            drop-put_mid s m levels l (get_or starts (k + 1) 0) whole wl sl
+            ∙ drop_later s (get_or starts (k + 1) 0) levels old (omega (arith, next, some)) (kept_so.rest below);
+      }
+
+-- ---- all lines
+
+pub length_lines : (levels ltov vtol chars starts : List ℕ) (parts : List Shown) → length parts ≡ length starts → length (lines_by levels ltov vtol chars starts parts) ≡ length starts
+length_lines levels ltov vtol chars [] [] h = refl
+length_lines levels ltov vtol chars [] (p ∷ parts) h = absurd (omega (arith, h))
+length_lines levels ltov vtol chars (s ∷ starts) [] h = absurd (omega (arith, h))
+length_lines levels ltov vtol chars (s ∷ starts) (p ∷ parts) h = ap suc (length_lines levels ltov vtol chars starts parts (omega (arith, h)))
+
+line_at : (levels ltov vtol chars starts : List ℕ) (parts : List Shown) (j : ℕ) (d : Line) → length parts ≡ length starts → j < length starts
+    → line_in levels ltov vtol chars (get_or starts j 0) (get_or parts j nothing_shown) ≡ get_or (lines_by levels ltov vtol chars starts parts) j d
+line_at levels ltov vtol chars [] parts j d h below = absurd (omega (arith, below))
+line_at levels ltov vtol chars (s ∷ starts) [] j d h below = absurd (omega (arith, h))
+line_at levels ltov vtol chars (s ∷ starts) (p ∷ parts) zero d h below = refl
+line_at levels ltov vtol chars (s ∷ starts) (p ∷ parts) (suc j) d h below = line_at levels ltov vtol chars starts parts j d (omega (arith, h)) (omega (arith, below))
+
+-- what holds of each line holds of all
+all_lines : (P : Line → Type 0) (levels ltov vtol chars starts : List ℕ) (parts : List Shown) → length parts ≡ length starts
+    → ((j : ℕ) → j < length starts → P (line_in levels ltov vtol chars (get_or starts j 0) (get_or parts j nothing_shown)))
+    → All P (lines_by levels ltov vtol chars starts parts)
+all_lines P levels ltov vtol chars starts parts h each = λ j d below.
+    let within : j < length starts = omega (arith, below, length_lines levels ltov vtol chars starts parts h) in
+    subst P (line_at levels ltov vtol chars starts parts j d h within) (each j within)
+
+module _ (tables : Tables) (base : ℕ) (text old : List ℕ) (places : List Place) where
+  -- lines that are equal one by one
+  lines_are : (levels ltov vtol chars starts : List ℕ) (parts : List Shown) → length parts ≡ length starts
+      → ((j : ℕ) → j < length starts → line_in levels ltov vtol chars (get_or starts j 0) (get_or parts j nothing_shown)
+      ≡ line_between tables base text old places (get_or starts j 0) (end_of (length text) starts j))
+      → lines_by levels ltov vtol chars starts parts ≡ lines_from tables base text old places starts
+  lines_are levels ltov vtol chars [] parts h each = refl
+  lines_are levels ltov vtol chars (s ∷ starts) [] h each = absurd (omega (arith, h))
+  lines_are levels ltov vtol chars (s ∷ []) (p ∷ []) h each = ap (λ (line : Line). line ∷ []) (each zero (omega arith))
+  lines_are levels ltov vtol chars (s ∷ []) (p ∷ q ∷ parts) h each = absurd (omega (arith, h))
+  lines_are levels ltov vtol chars (s ∷ t ∷ starts) (p ∷ parts) h each =
+      ap₂ ◌∷◌ (each zero (omega arith)) (lines_are levels ltov vtol chars (t ∷ starts) parts (omega (arith, h)) (λ j below. each (suc j) (omega (arith, below))))
+
+  pub all_shown : (levels ltov vtol chars starts : List ℕ) (parts : List Shown) → length parts ≡ length starts
+      → AreShown tables base text old places starts (length starts) parts levels ltov vtol chars
+      → lines_in starts parts levels ltov vtol chars ≡ lines_from tables base text old places starts
+  all_shown levels ltov vtol chars starts parts h each = lines_are levels ltov vtol chars starts parts h (λ j below. (each j below).line_is)
+
+  -- the part of a line within the lists has the length of the line
+  length_part : (levels : List ℕ) (part : Shown) (s e : ℕ) → e ≤ length levels → s + part.len ≤ e → length (slice_range levels s (s + part.len)) ≡ part.len
+  length_part levels part s e within below =
+      length_range levels s (s + part.len) (omega arith) (omega (arith, within, below)) ∙ omega arith
+
+  pub sound : (levels ltov vtol chars starts : List ℕ) (parts : List Shown) → AreStarts (length text) starts → length parts ≡ length starts
+      → length levels ≡ length text → length ltov ≡ length text → length vtol ≡ length text → length chars ≡ length text
+      → AreShown tables base text old places starts (length starts) parts levels ltov vtol chars
+      → IsSound starts parts levels ltov vtol chars
+  sound levels ltov vtol chars starts parts are h wl wt wv wh each = record {
+    all_shown = h;
+    ltov_len = wt ∙ sym wl;
+    vtol_len = wv ∙ sym wl;
+    chars_len = wh ∙ sym wl;
+    places = all_lines (λ line. AreWithin (length line.levels) line.vtol) levels ltov vtol chars starts parts h
+        (λ j below.
+        let is = each j below in
+        let w = end_within (length text) starts j are below in
+        subst (λ (n : ℕ). AreWithin n (slice_range vtol (get_or starts j 0) (get_or starts j 0 + (get_or parts j nothing_shown).len)))
+        (sym (length_part levels (get_or parts j nothing_shown) (get_or starts j 0) (end_of (length text) starts j) (omega (arith, w.1, wl)) is.within)) is.vtol_within);
+    within = λ j below.
+        let w = end_within (length text) starts j are below in
+        omega (arith, (each j below).within, w.1, wl);
+  }
+
+  pub all_within : (levels ltov vtol chars starts : List ℕ) (parts : List Shown) → AreStarts (length text) starts → length parts ≡ length starts
+      → length levels ≡ length text
+      → AreShown tables base text old places starts (length starts) parts levels ltov vtol chars
+      → LinesAreWithin (length text) (lines_in starts parts levels ltov vtol chars)
+  all_within levels ltov vtol chars starts parts are h wl each =
+      all_lines (λ line. line.start + length line.levels ≤ length text) levels ltov vtol chars starts parts h
+      (λ j below.
+      let is = each j below in
+      let w = end_within (length text) starts j are below in
+      let size = length_part levels (get_or parts j nothing_shown) (get_or starts j 0) (end_of (length text) starts j) (omega (arith, w.1, wl)) is.within in
+      omega (arith, size, is.within, w.1))
