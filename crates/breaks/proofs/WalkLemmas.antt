@@ -1,7 +1,7 @@
 -- The marks that a walk over the characters finds are those of the bases.
-use Rattle.std.proofs.Common.{◌≡◌, ℕ, ◌+◌, ◌<◌, length, get_or, drop, arith, List, [], ◌∷◌, ◌++◌, map, if◌then◌else◌, refl, sym, ap, ◌∙◌, append_assoc, append-nil, inl, inr}
+use Rattle.std.proofs.Common.{◌≡◌, ℕ, suc, ◌+◌, ◌<◌, length, get_or, drop, arith, List, [], ◌∷◌, ◌++◌, map, if◌then◌else◌, refl, sym, ap, ◌∙◌, append_assoc, append-nil, inl, inr}
 use Rattle.std.proofs.lemmas.Bool.{cases_Bool}
-use Rattle.std.proofs.lemmas.List.{at_drop_more}
+use Rattle.std.proofs.lemmas.List.{at_drop_more, length-map}
 use Rattle.breaks.specs.Bases.{Base, alone, joined, stays_with, bases_of, end_of, character}
 use Rattle.breaks.specs.Marks.{marks_behind, marks_of}
 use Rattle.breaks.specs.Rules.{rules, mark_by}
@@ -116,3 +116,18 @@ pub steps : (t : Tables) (rest : List ℕ) (i c : ℕ) (next : Character) (befor
 steps t rest i c next before after marks new mark whole lt is reads (last, others, sums, so_far) passes pushed =
     let here : drop i rest ≡ c ∷ drop (i + 1) rest = at_drop_more (λ xs. xs) rest i c lt ∙ ap (λ x. x ∷ drop (i + 1) rest) (sym is) in
     rw pushed (passes_on before after marks mark next (map (character t) (drop (i + 1) rest)) whole last others (rw reads (rw here at so_far)) (passes last others sums))
+
+-- the walk finds a mark for each character
+length-walk : (others : List Base) (last : Base) (text : List Character) → length (walk others last text) ≡ suc (length text)
+length-walk others last [] = refl
+length-walk others last (c ∷ text) =
+    elim (cases_Bool (stays_with (end_of last) c)) [
+      | inl stays ↦ rw stays (ap suc (length-walk others (with_attached last c) text))
+      | inr begins ↦ rw begins (ap suc (length-walk (last ∷ others) (alone c) text))
+    ]
+
+pub length-marks : (t : Tables) (text : List ℕ) → length (marks_of t text) ≡ length text
+length-marks t [] = ap length (none_marked t [] refl)
+length-marks t (c ∷ text) =
+    ap length (sym (begins_walk t (c ∷ text) text c (character t c) [] refl refl refl))
+    ∙ length-walk [] (alone (character t c)) (map (character t) text) ∙ ap suc (length-map text (character t))

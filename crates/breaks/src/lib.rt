@@ -8,7 +8,7 @@ mod classes;
 mod mark;
 mod rules;
 
-pub use mark::{Mark, marks};
+pub use mark::{Mark, marks, marks_are_as_many};
 
 #[cfg(test)]
 mod tests;

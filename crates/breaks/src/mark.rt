@@ -35,3 +35,8 @@ pub fn marks(alloc: Global, tables: &Tables, text: &[char]) -> Result<Vec<Mark>,
     marks.push(Mark::Must)?;
     Ok(marks)
 }
+
+/// A paragraph has as many marks as characters: a law, which takes no time.
+pub fn marks_are_as_many(tables: &Tables, text: &[char])
+    ensures { length (marks_of tables.now text.now) ≡ length text.now }
+{}

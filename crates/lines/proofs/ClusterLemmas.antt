@@ -92,3 +92,12 @@ pub spelled : {A : Type 0} (char : A → ℕ) (items : List A) (text bytes : Lis
 spelled char items text bytes same e u =
     let all = flat_map-map encode_utf8 char items in
     sym (chars_from_encodes text bytes u (sym (e ∙ sym all ∙ ap (flat_map encode_utf8) same ∙ bytes_of_each text)))
+
+-- each character has an end, or none, behind it
+length_ends_behind : (before text : List ℕ) → length (ends_behind before text) ≡ length text
+length_ends_behind before [] = refl
+length_ends_behind before (c ∷ text) = ap suc (length_ends_behind (c ∷ before) text)
+
+pub length-cluster_ends : (text : List ℕ) → length (cluster_ends text) ≡ length text
+unfolding cluster_ends
+length-cluster_ends text = length_ends_behind [] text

@@ -1,5 +1,7 @@
 -- What the walk along a line finds: sums of columns, and the positions at which the line may end.
-use Rattle.std.proofs.Common.{take-take, subst, ◌≡◌, ℕ, zero, suc, ◌+◌, ◌-◌, ◌*◌, ◌<◌, ◌≤◌, Bool, true, false, ◌&&◌, ◌||◌, Option, Some, None, unwrap_or, List, [], ◌∷◌, ◌++◌, length, take, drop, reverse, sum_by, if◌then◌else◌, refl, sym, ap, ◌∙◌, inl, inr, arith}
+use Rattle.std.proofs.Common.{take-take, length-append, get_or, subst, ◌≡◌, ℕ, zero, suc, ◌+◌, ◌-◌, ◌*◌, ◌<◌, ◌≤◌, Bool, true, false, ◌&&◌, ◌||◌, Option, Some, None, unwrap_or, List, [], ◌∷◌, ◌++◌, length, take, drop, reverse, sum_by, if◌then◌else◌, refl, sym, ap, ◌∙◌, inl, inr, arith}
+use Rattle.std.proofs.Math.ListN.{get_or-append}
+use Rattle.std.proofs.Math.Seq.{get_or-append_seam}
 use Rattle.std.proofs.lemmas.Bool.{and_right, cond-true, cond-false, cases_Bool, cases_eq, cases_lt, lt-leb, le-leb, leb-false, both_ways}
 use Rattle.std.proofs.lemmas.List.{length-take-le}
 use Rattle.std.proofs.lemmas.List.Sums.{sum_by_more, sum_by-take-le, suffix_len-take_no, suffix_len-take_yes}
@@ -9,6 +11,7 @@ use Rattle.bidi.specs.Least.{least}
 use Rattle.bidi.proofs.LeastLemmas.{least_found, least_none}
 use Rattle.bidi.proofs.PairLemmas.{greatest_found}
 use Rattle.lines.specs.Filling.{cluster_ends_at, columns, first_end, fits_to, may_end, must_end, nothing, place_at, line_end, line_len, shown, starts, stop}
+use Rattle.lines.specs.Kept.{AreStarts}
 use Rattle.lines.specs.Sums.{sums_behind, AreSumsOf}
 use Rattle.lines.specs.declared.filling.Sums.{Sums}
 use Rattle.lines.specs.declared.places.Place.{Place}
@@ -318,3 +321,33 @@ counts_behind rest k len columns_shown columns_all new p below is fits counts so
       shown_are = all ∙ sym (shown_behind rest k below ∙ cond-false (trails (place_at rest k)) (columns (shown (take k rest))) (columns (take (suc k) rest)) t);
       columns_are = all;
     })
+
+-- ---- where lines start
+
+-- one start more, in front of all that is left
+pub starts_more : (n m : ℕ) (starts : List ℕ) → AreStarts n starts → n < m → AreStarts m (starts ++ n ∷ [])
+starts_more n m starts are order =
+    let size : length (starts ++ n ∷ []) ≡ length starts + 1 = length-append starts (n ∷ []) in
+    let last : get_or (starts ++ n ∷ []) (length starts) 0 ≡ n = get_or-append_seam starts n [] 0 in
+    record {
+      below = λ k within.
+          elim (cases_lt k (length starts)) [
+            | inl old ↦ omega (arith, get_or-append starts (n ∷ []) 0 k old, are.below k old, order)
+            | inr new ↦
+                let e : length starts ≡ k = omega (arith, new, within, size) in
+                let here : get_or (starts ++ n ∷ []) k 0 ≡ n = subst (λ j. get_or (starts ++ n ∷ []) j 0 ≡ n) e last in
+                omega (arith, here, order)
+          ];
+      rising = λ k within.
+          let before : k < length starts = omega (arith, within, size) in
+          elim (cases_lt (k + 1) (length starts)) [
+            | inl old ↦ omega (arith, get_or-append starts (n ∷ []) 0 k before, get_or-append starts (n ∷ []) 0 (k + 1) old, are.rising k old)
+            | inr new ↦
+                let e : length starts ≡ k + 1 = omega (arith, new, before) in
+                let here : get_or (starts ++ n ∷ []) (k + 1) 0 ≡ n = subst (λ j. get_or (starts ++ n ∷ []) j 0 ≡ n) e last in
+                omega (arith, here, get_or-append starts (n ∷ []) 0 k before, are.below k before)
+          ];
+    }
+
+pub no_starts : (n : ℕ) → AreStarts n []
+no_starts n = record { below = λ k within. absurd (omega (arith, within)); rising = λ k within. absurd (omega (arith, within)) }

@@ -1,6 +1,6 @@
 //! Where the grapheme clusters of a paragraph end (UAX #29), as the crate `unicode_segmentation` has
 //! them.
-ghost use Rattle.std.specs.Prelude.{◌≡◌, ◌++◌, IfOk, OnOk};
+ghost use Rattle.std.specs.Prelude.{◌≡◌, ◌++◌, length, IfOk, OnOk};
 ghost use Rattle.lines.specs.Clusters.{cluster_ends, ends_of};
 
 use std::alloc::{AllocError, Global};
@@ -8,7 +8,8 @@ use unicode_segmentation::UnicodeSegmentation;
 
 /// Whether a cluster ends behind each character of a paragraph.
 pub fn cluster_ends(alloc: Global, text: &[char]) -> Result<Vec<bool>, AllocError>
-    ensures { IfOk result (λ ends. ends.items ≡ cluster_ends text.now) }
+    ensures ends { IfOk result (λ ends. ends.items ≡ cluster_ends text.now) }
+    ensures len { IfOk result (λ ends. length ends.items ≡ length text.now) }
 {
     let utf8: String = text.iter().collect(alloc)?;
     let mut ends = Vec::with_capacity(alloc, text.len())?;

@@ -3,6 +3,7 @@ ghost use Rattle.std.specs.Prelude.{◌≡◌, ◌+◌, ◌||◌, ◌<◌, ◌�
 ghost use Rattle.std.specs.Prelude.{Some, IfOk, if◌then◌else◌};
 ghost use Rattle.lines.specs.Filling.{by_break, by_cluster, first_end, line_end};
 ghost use Rattle.lines.specs.Filling.{is_break, is_must, line_len, line_starts_of, stop};
+ghost use Rattle.lines.specs.Kept.{AreStarts};
 ghost use Rattle.lines.specs.Sums.{sums_behind};
 
 use crate::places::Place;
@@ -17,7 +18,8 @@ pub fn line_starts(
     nobreak: bool,
 ) -> Result<Vec<u32>, AllocError>
     requires { length places.now ≤ 1048576 }
-    ensures { IfOk result (λ starts. starts.items ≡ line_starts_of nobreak width places.now) }
+    ensures lines { IfOk result (λ starts. starts.items ≡ line_starts_of nobreak width places.now) }
+    ensures starts { IfOk result (λ starts. AreStarts (length places.now) starts.items) }
 {
     let mut starts = Vec::new(alloc);
     let mut start = 0;

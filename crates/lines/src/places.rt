@@ -4,7 +4,7 @@ ghost use Rattle.breaks.specs.Marks.{marks_of};
 ghost use Rattle.lines.specs.Places.{columns_of, is_trailing_in, place, places, places_of};
 
 use crate::clusters::cluster_ends;
-use breaks::Mark;
+use breaks::{Mark, marks_are_as_many};
 use std::alloc::{AllocError, Global};
 use ucd::{LineClass, Tables};
 use unicode_width::UnicodeWidthChar;
@@ -68,8 +68,9 @@ pub fn places(
 ) -> Result<Vec<Place>, AllocError>
     requires { marks.now ≡ marks_of tables.now text.now }
     ensures places { IfOk result (λ places. places.items ≡ places_of tables.now text.now) }
-    ensures len { IfOk result (λ places. length places.items ≤ length text.now) }
+    ensures len { IfOk result (λ places. length places.items ≡ length text.now) }
 {
+    marks_are_as_many(tables, text);
     let ends = cluster_ends(alloc, text)?;
     zip_places(alloc, tables, text, marks, &ends)
 }
@@ -81,12 +82,14 @@ fn zip_places(
     marks: &[Mark],
     ends: &[bool],
 ) -> Result<Vec<Place>, AllocError>
+    requires marks { length marks.now ≡ length text.now }
+    requires ends { length ends.now ≡ length text.now }
     ensures places { IfOk result (λ out. out.items ≡ places tables.now text.now marks.now ends.now) }
-    ensures len { IfOk result (λ out. length out.items ≤ length text.now) }
+    ensures len { IfOk result (λ out. length out.items ≡ length text.now) }
 {
     let mut places = Vec::with_capacity(alloc, text.len())?;
     let mut k = 0;
-    while k < text.len() && k < marks.len() && k < ends.len() {
+    while k < text.len() {
         places.push(Place::of(tables, text[k], marks[k], ends[k]))?;
         k += 1;
     }

@@ -1,8 +1,8 @@
-use Rattle.std.proofs.Common.{◌++◌, append-nil, sym, ap, ap₂, ◌∙◌}
+use Rattle.std.proofs.Common.{◌++◌, length, append-nil, sym, ap, ap₂, ◌∙◌}
 use Rattle.std.proofs.lemmas.Iterator.{YieldsList-from_slice, items_from_drains}
 use Rattle.std.specs.List.{flat_map}
 use Rattle.unicode_segmentation.specs.Iter.{graphemes_left}
-use Rattle.lines.proofs.ClusterLemmas.{ends_of_graphemes, spelled}
+use Rattle.lines.proofs.ClusterLemmas.{ends_of_graphemes, length-cluster_ends, spelled}
 use Rattle.lines.specs.Clusters.{cluster_ends, ends_of}
 use Rattle.lines.proofs.clusters.cluster_ends.Goals as goal
 
@@ -18,4 +18,5 @@ loop-cluster-init c =
 pub returns : goal.returns
 returns c =
     let ends = c.loop-cluster.ends.items in
-    sym (append-nil ends) ∙ ap (λ pieces. ends ++ flat_map ends_of pieces) (sym c.in-None.ensures.steps.0) ∙ c.loop-cluster.invariant
+    let all = sym (append-nil ends) ∙ ap (λ pieces. ends ++ flat_map ends_of pieces) (sym c.in-None.ensures.steps.0) ∙ c.loop-cluster.invariant in
+    record { ends = all; len = ap length all ∙ length-cluster_ends c.args.text.now }

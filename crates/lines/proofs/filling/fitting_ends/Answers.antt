@@ -1,6 +1,6 @@
-use Rattle.std.proofs.Common.{◌≡◌, ap, arith, sym, ◌∙◌, Some, Option, ℕ, if◌then◌else◌}
+use Rattle.std.proofs.Common.{◌≡◌, ap, arith, sym, ◌∙◌, Some, if◌then◌else◌}
 use Rattle.lines.specs.Filling.{cluster_ends_at, may_end}
-use Rattle.lines.proofs.FillingLemmas.{walk_ends, walk_misfits, walk_more, walk_stops, IsWalked}
+use Rattle.lines.proofs.FillingLemmas.{walk_ends, walk_misfits, walk_more, walk_stops}
 use Rattle.lines.proofs.filling.fitting_ends.Goals as goal
 
 pub behind-sums-requires : goal.behind-sums-requires

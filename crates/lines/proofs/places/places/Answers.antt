@@ -8,5 +8,5 @@ pub returns-clause-places : goal.returns-clause-places
 unfolding places_of
 returns-clause-places c =
     let all : places c.args.tables.now c.args.text.now c.args.marks.now c.deref.result.now ≡ places_of c.args.tables.now c.args.text.now =
-    ap₂ (places c.args.tables.now c.args.text.now) c.requires (c.deref.ensures.value ∙ c.in_ok-ends.ensures) in
+    ap₂ (places c.args.tables.now c.args.text.now) c.requires (c.deref.ensures.value ∙ c.in_ok-ends.ensures.ends) in
     subst (λ (items : List Place). IfOk c.zip_places.result (λ out. out.items ≡ items)) all c.zip_places.ensures.places
