@@ -65,3 +65,7 @@ Wrote given old new = Took old new given × (new.failures ≡ old.failures)
 
 abbrev pub StoppedAt : ℕ → List ℕ → Device → Device → Type 0
 StoppedAt n given old new = (n < length given) × Took old new (take n given) × FailedLast old new
+
+-- bytes pass only up to the greatest count
+abbrev pub StaysCounted : Device → Device → Type 0
+StaysCounted old new = old.passed < new.passed → new.passed ≤ greatest

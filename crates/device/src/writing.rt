@@ -1,6 +1,6 @@
 //! Writing all of some bytes, which a sink may take in several calls.
 ghost use Rattle.std.specs.Prelude.{◌≡◌, IfErr, OnOk};
-ghost use Rattle.device.specs.Device.{Wrote, StoppedAt};
+ghost use Rattle.device.specs.Device.{Wrote, StaysCounted, StoppedAt};
 
 use crate::Sink;
 
@@ -9,6 +9,7 @@ pub fn write_all<W: Sink>(writer: &mut W, bytes: &[u8]) -> Result<(), usize>
     ensures ok { OnOk result (Wrote bytes.now (W.state writer.old) (W.state writer.new)) }
     ensures err { IfErr result (λ n.
         StoppedAt n bytes.now (W.state writer.old) (W.state writer.new)) }
+    ensures counted { StaysCounted (W.state writer.old) (W.state writer.new) }
 {
     let mut written = 0;
     while written < bytes.len() {

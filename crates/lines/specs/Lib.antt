@@ -12,3 +12,4 @@ pub mod Spaces
 pub mod Showing
 pub mod Sums
 pub mod Visual
+pub mod Writing

@@ -1,6 +1,7 @@
 //! Lines of a paragraph: where each starts at a width, over the levels and the break marks.
 #![tactic(auto)]
 
+mod bytes;
 mod clusters;
 mod engine;
 mod fill;
@@ -14,6 +15,7 @@ mod spaces;
 mod visual;
 mod visual_line;
 
+pub use bytes::WriteFault;
 pub use engine::{Engine, PARAGRAPH_LIMIT};
 pub use laid::Laid;
 pub use print::Print;

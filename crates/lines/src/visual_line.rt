@@ -1,6 +1,13 @@
 //! One line of a paragraph as it is shown, which borrows from the paragraph.
-ghost use Rattle.std.specs.Prelude.{◌≡◌};
+ghost use Rattle.std.specs.Prelude.{◌≡◌, OnOk, IfErr};
+ghost use Rattle.device.specs.Device.{Wrote, StoppedAt};
+ghost use Rattle.lines.specs.Bytes.{line_bytes};
 
+use crate::bytes::{
+    WriteFault, write_direction, write_levels, write_ltov, write_shown, write_vtol,
+};
+use crate::print::Print;
+use device::Sink;
 use std::marker::Model;
 
 /// A line as it is shown. All but `is_first` and `base` speak of its shown part, which is the line without
@@ -87,5 +94,26 @@ impl<'a> VisualLine<'a> {
         ensures { result ≡ self.now.columns }
     {
         self.columns
+    }
+
+    /// Writes the line, and no more behind a failure of the sink. It takes no memory.
+    pub fn write<W: Sink>(
+        &self,
+        writer: &mut W,
+        width: u16,
+        print: &Print,
+    ) -> Result<(), WriteFault>
+        ensures ok { OnOk result (Wrote (line_bytes width print.now self.now)
+            (W.state writer.old) (W.state writer.new)) }
+        ensures err { IfErr result (λ fault.
+            StoppedAt fault.written (line_bytes width print.now self.now)
+            (W.state writer.old) (W.state writer.new)) }
+    {
+        let shown = write_shown(writer, 0, self, width, print)?;
+        let direction = write_direction(writer, shown, self, print)?;
+        let ltov = write_ltov(writer, direction, self, print)?;
+        let vtol = write_vtol(writer, ltov, self, print)?;
+        write_levels(writer, vtol, self, print)?;
+        Ok(())
     }
 }

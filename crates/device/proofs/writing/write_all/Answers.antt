@@ -12,4 +12,5 @@ loop-written-preserved g c =
       within = within;
       took = Took-more _ _ _ c.args.bytes.now c.loop-written.written c.in-Ok.n _ (take_rest c.args.bytes.now c.loop-written.written) within c.loop-written.invariant.took takes;
       failures = takes.passes.failures ∙ c.loop-written.invariant.failures;
+      counted = λ _. takes.passes.bounded;
     }

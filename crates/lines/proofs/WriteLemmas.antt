@@ -1,0 +1,161 @@
+-- One part written behind another, and lists of parts.
+use Rattle.std.proofs.Common.{◌≡◌, ℕ, zero, suc, ◌+◌, ◌-◌, ◌^◌, ◌<◌, ◌≤◌, ◌==◌, false, min, List, [], ◌∷◌, ◌++◌, length, map, get_or, take, drop, replicate, Option, Some, None, Result, Ok, Err, IfErr, IsErrAnd, encode_utf8, encode_utf8_all, if◌then◌else◌, refl, sym, ap, ◌∙◌, arith}
+use Rattle.std.specs.Io.KnownBytes.{Appends}
+use Rattle.std.specs.List.{concat, join_with_byte}
+use Rattle.std.proofs.lemmas.List.{append_assoc, append-nil, length-append, length-map, take-append-le, get_or-map, take_all, take-replicate, replicate-append-replicate}
+use Rattle.std.proofs.Math.Seq.{take-append-add}
+use Rattle.std.proofs.lemmas.Bool.Decides.{nat_tests}
+use Rattle.device.specs.Device.{Device, Took, FailedLast, StoppedAt, greatest}
+use Rattle.lines.specs.declared.bytes.TheConstants.{SPACES}
+use Rattle.lines.specs.declared.bytes.WriteFault.{WriteFault}
+use Rattle.lines.specs.Writing.{PassedOn, StoppedIn}
+
+Appends-append : (old mid new : Option (List ℕ)) (xs ys : List ℕ) → Appends old mid xs → Appends mid new ys → Appends old new (xs ++ ys)
+Appends-append None mid new xs ys first second = tt
+Appends-append (Some all) None new xs ys first second = absurd first
+Appends-append (Some all) (Some more) None xs ys first second = absurd second
+Appends-append (Some all) (Some more) (Some last) xs ys first second = second ∙ ap (λ zs. zs ++ ys) first ∙ append_assoc all xs ys
+
+Took-append : (old mid new : Device) (xs ys : List ℕ) → Took old mid xs → Took mid new ys → Took old new (xs ++ ys)
+Took-append old mid new xs ys first second = record {
+  bytes = Appends-append old.bytes mid.bytes new.bytes xs ys first.bytes second.bytes;
+  passed = omega (arith, first.passed, second.passed, length-append xs ys);
+}
+
+-- all of one part, and then
+module _ {old mid : Device} {xs : List ℕ} {done n : ℕ} (first : PassedOn xs done old mid n) {new : Device} {ys : List ℕ} where
+  -- all of another
+  pub passed-append : {m : ℕ} → PassedOn ys n mid new m → PassedOn (xs ++ ys) done old new m
+  passed-append second = record {
+    count = omega (arith, first.count, second.count, length-append xs ys);
+    wrote = (Took-append old mid new xs ys first.wrote.0 second.wrote.0, second.wrote.1 ∙ first.wrote.1);
+  }
+
+  -- a front of another
+  pub stopped-behind : {w : ℕ} → StoppedIn ys n mid new w → StoppedIn (xs ++ ys) done old new w
+  stopped-behind {w = w} second =
+      let count : w - done ≡ length xs + (w - n) = omega (arith, first.count, second.behind) in
+      let front : take (w - done) (xs ++ ys) ≡ xs ++ take (w - n) ys = ap (λ k. take k (xs ++ ys)) count ∙ take-append-add xs ys (w - n) in
+      record {
+        behind = omega (arith, first.count, second.behind);
+        stopped = (
+          omega (arith, count, second.stopped.0, length-append xs ys),
+          rw front (Took-append old mid new xs (take (w - n) ys) first.wrote.0 second.stopped.1),
+          record {
+            failures = second.stopped.2.failures ∙ ap (λ k. min (k + 1) greatest) first.wrote.1;
+            last = second.stopped.2.last;
+          },
+        );
+      }
+
+-- a front of a part is one of what begins with it
+pub stopped-before : {old new : Device} {xs : List ℕ} {done w : ℕ} (ys : List ℕ) → StoppedIn xs done old new w → StoppedIn (xs ++ ys) done old new w
+stopped-before {old = old} {new = new} {xs = xs} {done = done} {w = w} ys stopped = record {
+  behind = stopped.behind;
+  stopped = (
+    omega (arith, stopped.stopped.0, length-append xs ys),
+    rw (take-append-le (w - done) xs ys (omega (arith, stopped.stopped.0))) stopped.stopped.1,
+    stopped.stopped.2,
+  );
+}
+
+-- one list more
+concat-more : (xs : List (List ℕ)) (k : ℕ) → k < length xs → concat (take (suc k) xs) ≡ concat (take k xs) ++ get_or xs k []
+concat-more [] k short = absurd (omega arith)
+concat-more (x ∷ xs) zero short = append-nil x
+concat-more (x ∷ xs) (suc k) short =
+    ap (λ more. x ++ more) (concat-more xs k (omega (arith, short))) ∙ sym (append_assoc x (concat (take k xs)) (get_or xs k []))
+
+concat-parts : (xs : List (List ℕ)) (k : ℕ) → concat xs ≡ concat (take k xs) ++ concat (drop k xs)
+concat-parts xs zero = refl
+concat-parts [] (suc k) = refl
+concat-parts (x ∷ xs) (suc k) = ap (λ more. x ++ more) (concat-parts xs k) ∙ sym (append_assoc x (concat (take k xs)) (concat (drop k xs)))
+
+concat-next : (xs : List (List ℕ)) (k : ℕ) (x : List ℕ) → k < length xs → x ≡ get_or xs k [] → concat (take (k + 1) xs) ≡ concat (take k xs) ++ x
+concat-next xs k x within x_is =
+    let more : k + 1 ≡ suc k = omega arith in
+    ap (λ j. concat (take j xs)) more ∙ concat-more xs k within ∙ ap (λ y. concat (take k xs) ++ y) (sym x_is)
+
+-- the first k of some lists, and then the next one
+module _ (xs : List (List ℕ)) (k : ℕ) {x : List ℕ} (within : k < length xs) (x_is : x ≡ get_or xs k [])
+    {old mid : Device} {done n : ℕ} (front : PassedOn (concat (take k xs)) done old mid n) {new : Device} where
+  pub pieces-more : {m : ℕ} → PassedOn x n mid new m → PassedOn (concat (take (k + 1) xs)) done old new m
+  pieces-more next = rw (concat-next xs k x within x_is) (passed-append front next)
+
+  pub pieces-stopped : {w : ℕ} → StoppedIn x n mid new w → StoppedIn (concat xs) done old new w
+  pieces-stopped next =
+      rw (concat-parts xs (k + 1) ∙ ap (λ ys. ys ++ concat (drop (k + 1) xs)) (concat-next xs k x within x_is))
+      (stopped-before (concat (drop (k + 1) xs)) (stopped-behind front next))
+
+-- the error of a part is that of the whole
+pub same_fault : {T : Type 0} (r : Result T WriteFault) (fault : WriteFault) (Q : ℕ → Type 0) → IsErrAnd r (λ y. y ≡ fault) → Q fault.written
+    → IfErr r (λ y. Q y.written)
+same_fault (Ok x) fault Q is holds = tt
+same_fault (Err y) fault Q is holds = rw is holds
+
+-- characters, one by one
+pub encoded-whole : (cs : List ℕ) → concat (map encode_utf8 cs) ≡ encode_utf8_all cs
+encoded-whole [] = refl
+encoded-whole (c ∷ cs) = ap (λ more. encode_utf8 c ++ more) (encoded-whole cs)
+
+pub encoded-at : (cs : List ℕ) (k c : ℕ) → k < length cs → c ≡ get_or cs k c → encode_utf8 c ≡ get_or (map encode_utf8 cs) k []
+encoded-at cs k c within c_is = ap encode_utf8 c_is ∙ sym (get_or-map encode_utf8 cs k c [] within)
+
+pub encoded-within : (cs : List ℕ) (k : ℕ) → k < length cs → k < length (map encode_utf8 cs)
+encoded-within cs k within = rw (length-map cs encode_utf8) within
+
+pub encoded-all : (cs : List ℕ) (k : ℕ) → length cs ≤ k → concat (take k (map encode_utf8 cs)) ≡ encode_utf8_all cs
+encoded-all cs k past = ap concat (take_all k (map encode_utf8 cs) (rw (length-map cs encode_utf8) past)) ∙ encoded-whole cs
+
+-- lists with a space before each but the first
+abbrev pub spaced : List (List ℕ) → List (List ℕ)
+spaced [] = []
+spaced (x ∷ xs) = x ∷ map (λ (y : List ℕ). 32 ∷ y) xs
+
+spaced-behind : (x : List ℕ) (xs : List (List ℕ)) → x ++ concat (map (λ (y : List ℕ). 32 ∷ y) xs) ≡ join_with_byte 32 (x ∷ xs)
+spaced-behind x [] = append-nil x
+spaced-behind x (y ∷ xs) = ap (λ more. x ++ (32 ∷ more)) (spaced-behind y xs)
+
+pub spaced-whole : (xs : List (List ℕ)) → concat (spaced xs) ≡ join_with_byte 32 xs
+spaced-whole [] = refl
+spaced-whole (x ∷ xs) = spaced-behind x xs
+
+pub length-spaced : (xs : List (List ℕ)) → length (spaced xs) ≡ length xs
+length-spaced [] = refl
+length-spaced (x ∷ xs) = ap suc (length-map xs (λ (y : List ℕ). 32 ∷ y))
+
+pub spaced-at : (xs : List (List ℕ)) (k : ℕ) → k < length xs → (if k == 0 then [] else 32 ∷ []) ++ get_or xs k [] ≡ get_or (spaced xs) k []
+spaced-at [] k short = absurd (omega arith)
+spaced-at (x ∷ xs) zero short = refl
+spaced-at (x ∷ xs) (suc k) short =
+    let behind : (suc k == 0) ≡ false = grind (arith, nat_tests) in
+    rw behind (sym (get_or-map (λ (y : List ℕ). 32 ∷ y) xs k [] [] (omega (arith, short))))
+
+pub spaced-within : (xs : List (List ℕ)) (k : ℕ) → k < length xs → k < length (spaced xs)
+spaced-within xs k within = rw (length-spaced xs) within
+
+-- spaces
+pub some_spaces : (n : ℕ) → n ≤ 64 → take n SPACES ≡ replicate n 32
+some_spaces n within = take-replicate n 64 32 within
+
+-- so many spaces
+abbrev pub spaces : ℕ → List ℕ
+spaces n = replicate n 32
+
+spaces-add : (n m : ℕ) → spaces (n + m) ≡ spaces n ++ spaces m
+spaces-add n m = sym (replicate-append-replicate {A = ℕ} n m 32)
+
+pub more_spaces : (count left some : ℕ) → left ≤ count → some ≤ left → spaces (count - (left - some)) ≡ spaces (count - left) ++ spaces some
+more_spaces count left some within part =
+    let sum : count - (left - some) ≡ (count - left) + some = omega (arith, within, part) in
+    ap spaces sum ∙ spaces-add (count - left) some
+
+pub all_spaces : (count left some : ℕ) → left ≤ count → some ≤ left → spaces count ≡ (spaces (count - left) ++ spaces some) ++ spaces (left - some)
+all_spaces count left some within part =
+    let sum : count ≡ (count - (left - some)) + (left - some) = omega (arith, within, part) in
+    ap spaces sum ∙ spaces-add (count - (left - some)) (left - some)
+    ∙ ap (λ xs. xs ++ spaces (left - some)) (more_spaces count left some within part)
+
+-- a part in front of which nothing stands is all of it
+pub stopped-whole : {xs : List ℕ} {old new : Device} {w : ℕ} → StoppedIn xs 0 old new w → StoppedAt w xs old new
+stopped-whole {w = w} stopped = let all : w ≡ w - 0 = omega arith in rw all stopped.stopped

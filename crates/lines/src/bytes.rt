@@ -1,0 +1,320 @@
+//! The bytes of a line, passed to a sink as they are made. Each function writes a part of them behind
+//! `done` bytes, and answers how many are written then.
+ghost use Rattle.std.specs.Prelude.{◌≡◌, [], ◌∷◌, ◌++◌, ◌≤◌, ◌-◌, ◌&&◌, not, codes, length, map, replicate, encode_utf8, encode_utf8_all, slice_index, IfOk, IfErr, if◌then◌else◌};
+ghost use Rattle.bidi.specs.Runs.{AreWithin};
+ghost use Rattle.device.specs.Device.{StaysCounted};
+ghost use Rattle.std.specs.List.{join_with_byte};
+ghost use Rattle.lines.specs.Bytes.{direction_line, numbers_line, padding, shown_chars, visual_line};
+ghost use Rattle.lines.specs.Order.{is_odd};
+ghost use Rattle.lines.specs.Writing.{PassedOn, StoppedIn};
+
+use crate::print::Print;
+use crate::visual_line::VisualLine;
+use device::{Sink, write_all};
+use itoa::{Buffer, Integer};
+use thiserror::Error;
+
+/// Where a sink failed: how many of the bytes were written before.
+#[derive(Clone, Copy, Debug, PartialEq, Eq, Drop, Error)]
+#[error("cannot write after {written} bytes")]
+pub struct WriteFault {
+    pub written: u64,
+}
+
+// Spaces in front of a line.
+const SPACES: [u8; 64] = [b' '; 64];
+
+fn write_part<W: Sink>(writer: &mut W, done: u64, part: &[u8]) -> Result<u64, WriteFault>
+    requires { done ≤ (W.state writer.old).passed }
+    ensures ok { IfOk result (λ n.
+        PassedOn part.now done (W.state writer.old) (W.state writer.new) n) }
+    ensures err { IfErr result (λ fault.
+        StoppedIn part.now done (W.state writer.old) (W.state writer.new) fault.written) }
+    ensures counted { IfOk result (λ n. n ≤ (W.state writer.new).passed) }
+{
+    match write_all(writer, part) {
+        Ok(()) => Ok(done + part.len() as u64),
+        Err(written) => Err(WriteFault {
+            written: done + written as u64,
+        }),
+    }
+}
+
+fn write_char<W: Sink>(writer: &mut W, done: u64, c: char) -> Result<u64, WriteFault>
+    requires { done ≤ (W.state writer.old).passed }
+    ensures ok { IfOk result (λ n.
+        PassedOn (encode_utf8 c) done (W.state writer.old) (W.state writer.new) n) }
+    ensures err { IfErr result (λ fault.
+        StoppedIn (encode_utf8 c) done (W.state writer.old) (W.state writer.new) fault.written) }
+    ensures counted { IfOk result (λ n. n ≤ (W.state writer.new).passed) }
+{
+    let mut buffer = [0; 4];
+    write_part(writer, done, c.encode_utf8(&mut buffer).as_bytes())
+}
+
+fn write_chars<W: Sink>(writer: &mut W, done: u64, chars: &[char]) -> Result<u64, WriteFault>
+    requires { done ≤ (W.state writer.old).passed }
+    ensures ok { IfOk result (λ n. PassedOn (encode_utf8_all chars.now) done
+        (W.state writer.old) (W.state writer.new) n) }
+    ensures err { IfErr result (λ fault. StoppedIn (encode_utf8_all chars.now) done
+        (W.state writer.old) (W.state writer.new) fault.written) }
+    ensures counted { IfOk result (λ n. n ≤ (W.state writer.new).passed) }
+{
+    let mut written = done;
+    for (at, c) in chars.iter().enumerate() {
+        written = write_char(writer, written, *c)?;
+    }
+    Ok(written)
+}
+
+// The characters of a text at some places, in their order.
+fn write_places<W: Sink>(
+    writer: &mut W,
+    done: u64,
+    text: &[char],
+    places: &[u32],
+) -> Result<u64, WriteFault>
+    requires done { done ≤ (W.state writer.old).passed }
+    requires within { AreWithin (length text.now) places.now }
+    ensures ok { IfOk result (λ n.
+        PassedOn (encode_utf8_all (map (slice_index text.now) places.now)) done
+        (W.state writer.old) (W.state writer.new) n) }
+    ensures err { IfErr result (λ fault.
+        StoppedIn (encode_utf8_all (map (slice_index text.now) places.now)) done
+        (W.state writer.old) (W.state writer.new) fault.written) }
+    ensures counted { IfOk result (λ n. n ≤ (W.state writer.new).passed) }
+{
+    let mut written = done;
+    for (at, place) in places.iter().enumerate() {
+        written = write_char(writer, written, text[*place as usize])?;
+    }
+    Ok(written)
+}
+
+fn write_spaces<W: Sink>(writer: &mut W, done: u64, count: usize) -> Result<u64, WriteFault>
+    requires { done ≤ (W.state writer.old).passed }
+    ensures ok { IfOk result (λ n.
+        PassedOn (replicate count 32) done (W.state writer.old) (W.state writer.new) n) }
+    ensures err { IfErr result (λ fault.
+        StoppedIn (replicate count 32) done (W.state writer.old) (W.state writer.new) fault.written) }
+    ensures counted { IfOk result (λ n. n ≤ (W.state writer.new).passed) }
+{
+    let mut written = done;
+    let mut left = count;
+    while left > 0 {
+        let some = left.min(SPACES.len());
+        written = write_part(writer, written, &SPACES[..some])?;
+        left -= some;
+    }
+    Ok(written)
+}
+
+// A number, behind a space where it isn't the first of its line.
+fn write_number<W: Sink, I: Integer>(
+    writer: &mut W,
+    done: u64,
+    is_first: bool,
+    number: I,
+) -> Result<u64, WriteFault>
+    requires { done ≤ (W.state writer.old).passed }
+    ensures ok { IfOk result (λ n. PassedOn ((if is_first then [] else 32 ∷ []) ++ I.text number) done
+        (W.state writer.old) (W.state writer.new) n) }
+    ensures err { IfErr result (λ fault.
+        StoppedIn ((if is_first then [] else 32 ∷ []) ++ I.text number) done
+        (W.state writer.old) (W.state writer.new) fault.written) }
+    ensures counted { IfOk result (λ n. n ≤ (W.state writer.new).passed) }
+{
+    let mut digits = Buffer::new();
+    let before = if is_first {
+        done
+    } else {
+        write_part(writer, done, b" ")?
+    };
+    write_part(writer, before, digits.format(number).as_bytes())
+}
+
+fn write_row<W: Sink, I: Integer>(
+    writer: &mut W,
+    done: u64,
+    numbers: &[I],
+) -> Result<u64, WriteFault>
+    requires { done ≤ (W.state writer.old).passed }
+    ensures ok { IfOk result (λ n. PassedOn (join_with_byte 32 (map I.text numbers.now)) done
+        (W.state writer.old) (W.state writer.new) n) }
+    ensures err { IfErr result (λ fault.
+        StoppedIn (join_with_byte 32 (map I.text numbers.now)) done
+        (W.state writer.old) (W.state writer.new) fault.written) }
+    ensures counted { IfOk result (λ n. n ≤ (W.state writer.new).passed) }
+{
+    let mut written = done;
+    for (at, number) in numbers.iter().enumerate() {
+        written = write_number(writer, written, at == 0, *number)?;
+    }
+    Ok(written)
+}
+
+// The padding of a line, its characters in visual order, and its end.
+pub(crate) fn write_shown<W: Sink>(
+    writer: &mut W,
+    done: u64,
+    line: &VisualLine<'_>,
+    width: u16,
+    print: &Print,
+) -> Result<u64, WriteFault>
+    requires { done ≤ (W.state writer.old).passed }
+    ensures ok { IfOk result (λ n.
+        PassedOn (if print.now.novisual then [] else visual_line width print.now line.now) done
+        (W.state writer.old) (W.state writer.new) n) }
+    ensures err { IfErr result (λ fault.
+        StoppedIn (if print.now.novisual then [] else visual_line width print.now line.now) done
+        (W.state writer.old) (W.state writer.new) fault.written) }
+    ensures counted { IfOk result (λ n. n ≤ (W.state writer.new).passed) }
+{
+    if print.novisual {
+        return Ok(done);
+    }
+    let padded = write_spaces(writer, done, padding(line, width, print))?;
+    let shown = write_shown_chars(writer, padded, line, print)?;
+    write_part(writer, shown, b"\n")
+}
+
+// The characters of a line in visual order, mirrored or as they are.
+fn write_shown_chars<W: Sink>(
+    writer: &mut W,
+    done: u64,
+    line: &VisualLine<'_>,
+    print: &Print,
+) -> Result<u64, WriteFault>
+    requires { done ≤ (W.state writer.old).passed }
+    ensures ok { IfOk result (λ n.
+        PassedOn (encode_utf8_all (shown_chars print.now line.now)) done
+        (W.state writer.old) (W.state writer.new) n) }
+    ensures err { IfErr result (λ fault.
+        StoppedIn (encode_utf8_all (shown_chars print.now line.now)) done
+        (W.state writer.old) (W.state writer.new) fault.written) }
+    ensures counted { IfOk result (λ n. n ≤ (W.state writer.new).passed) }
+{
+    if print.nomirror {
+        write_places(writer, done, line.text, line.vtol)
+    } else {
+        write_chars(writer, done, line.chars)
+    }
+}
+
+// How many spaces stand in front of a line.
+fn padding(line: &VisualLine<'_>, width: u16, print: &Print) -> usize
+    ensures { replicate result 32 ≡ padding width print.now line.now }
+{
+    if line.base % 2 == 1 && !print.nopad {
+        (width as usize).saturating_sub(line.columns as usize)
+    } else {
+        0
+    }
+}
+
+// The direction of a paragraph, on its first line.
+pub(crate) fn write_direction<W: Sink>(
+    writer: &mut W,
+    done: u64,
+    line: &VisualLine<'_>,
+    print: &Print,
+) -> Result<u64, WriteFault>
+    requires { done ≤ (W.state writer.old).passed }
+    ensures ok { IfOk result (λ n. PassedOn
+        (if print.now.basedir && line.now.is_first then direction_line line.now.base else []) done
+        (W.state writer.old) (W.state writer.new) n) }
+    ensures err { IfErr result (λ fault. StoppedIn
+        (if print.now.basedir && line.now.is_first then direction_line line.now.base else []) done
+        (W.state writer.old) (W.state writer.new) fault.written) }
+    ensures counted { IfOk result (λ n. n ≤ (W.state writer.new).passed) }
+{
+    if !(print.basedir && line.is_first) {
+        return Ok(done);
+    }
+    let direction = if line.base % 2 == 1 {
+        b"RTL\n"
+    } else {
+        b"LTR\n"
+    };
+    write_part(writer, done, direction)
+}
+
+// A line of numbers, if it is asked for.
+fn write_numbers<W: Sink, I: Integer>(
+    writer: &mut W,
+    done: u64,
+    asked: bool,
+    numbers: &[I],
+) -> Result<u64, WriteFault>
+    requires { done ≤ (W.state writer.old).passed }
+    ensures ok { IfOk result (λ n. PassedOn
+        (if asked then join_with_byte 32 (map I.text numbers.now) ++ codes "\n" else []) done
+        (W.state writer.old) (W.state writer.new) n) }
+    ensures err { IfErr result (λ fault. StoppedIn
+        (if asked then join_with_byte 32 (map I.text numbers.now) ++ codes "\n" else []) done
+        (W.state writer.old) (W.state writer.new) fault.written) }
+    ensures counted { IfOk result (λ n. n ≤ (W.state writer.new).passed) }
+{
+    if !asked {
+        return Ok(done);
+    }
+    let written = write_row(writer, done, numbers)?;
+    write_part(writer, written, b"\n")
+}
+
+// Of each logical position the visual one.
+pub(crate) fn write_ltov<W: Sink>(
+    writer: &mut W,
+    done: u64,
+    line: &VisualLine<'_>,
+    print: &Print,
+) -> Result<u64, WriteFault>
+    requires { done ≤ (W.state writer.old).passed }
+    ensures ok { IfOk result (λ n.
+        PassedOn (if print.now.ltov then numbers_line line.now.ltov else []) done
+        (W.state writer.old) (W.state writer.new) n) }
+    ensures err { IfErr result (λ fault.
+        StoppedIn (if print.now.ltov then numbers_line line.now.ltov else []) done
+        (W.state writer.old) (W.state writer.new) fault.written) }
+    ensures counted { IfOk result (λ n. n ≤ (W.state writer.new).passed) }
+{
+    write_numbers(writer, done, print.ltov, line.ltov)
+}
+
+// Of each visual position the logical one.
+pub(crate) fn write_vtol<W: Sink>(
+    writer: &mut W,
+    done: u64,
+    line: &VisualLine<'_>,
+    print: &Print,
+) -> Result<u64, WriteFault>
+    requires { done ≤ (W.state writer.old).passed }
+    ensures ok { IfOk result (λ n.
+        PassedOn (if print.now.vtol then numbers_line line.now.vtol else []) done
+        (W.state writer.old) (W.state writer.new) n) }
+    ensures err { IfErr result (λ fault.
+        StoppedIn (if print.now.vtol then numbers_line line.now.vtol else []) done
+        (W.state writer.old) (W.state writer.new) fault.written) }
+    ensures counted { IfOk result (λ n. n ≤ (W.state writer.new).passed) }
+{
+    write_numbers(writer, done, print.vtol, line.vtol)
+}
+
+// The level of each character.
+pub(crate) fn write_levels<W: Sink>(
+    writer: &mut W,
+    done: u64,
+    line: &VisualLine<'_>,
+    print: &Print,
+) -> Result<u64, WriteFault>
+    requires { done ≤ (W.state writer.old).passed }
+    ensures ok { IfOk result (λ n.
+        PassedOn (if print.now.levels then numbers_line line.now.levels else []) done
+        (W.state writer.old) (W.state writer.new) n) }
+    ensures err { IfErr result (λ fault.
+        StoppedIn (if print.now.levels then numbers_line line.now.levels else []) done
+        (W.state writer.old) (W.state writer.new) fault.written) }
+    ensures counted { IfOk result (λ n. n ≤ (W.state writer.new).passed) }
+{
+    write_numbers(writer, done, print.levels, line.levels)
+}
