@@ -24,11 +24,14 @@ exchanged old lines = record {
   put = refl;
   taken = refl;
   widths = λ rules width other laid filled. (ap₂ (λ (l : Layout) (f : List Line). record l { lines = f }) laid filled, ap (λ (l : Layout). l.lines) laid);
-  stay = λ rules laid filled. (record {
-    width = filled.width;
-    paragraph = laid.paragraph;
-    from_scratch = ap₂ (λ (l : Layout) (f : List Line). record l { lines = f }) laid.from_scratch filled.from_scratch;
-  }, record { width = laid.width; from_scratch = ap (λ (l : Layout). l.lines) laid.from_scratch });
+  stay = λ rules laid filled. (
+    record {
+      width = filled.width;
+      paragraph = laid.paragraph;
+      from_scratch = ap₂ (λ (l : Layout) (f : List Line). record l { lines = f }) laid.from_scratch filled.from_scratch;
+    },
+    record { width = laid.width; from_scratch = ap (λ (l : Layout). l.lines) laid.from_scratch },
+  );
 }
 
 pub exchanged_by : (old new : Layout) (lines_old lines_new : List Line) → new ≡ record old { lines = lines_old } → lines_new ≡ old.lines → Exchanges old new lines_old lines_new

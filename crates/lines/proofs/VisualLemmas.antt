@@ -34,9 +34,12 @@ rise_to low n m (x ∷ xs) below rise = (rise.0, omega (arith, below, rise.1), r
 starts_rise : (nobreak : Bool) (width place left n : ℕ) (rest : List Place) → place + length rest ≡ n → Rise (place + left) n (starts nobreak width place left rest)
 starts_rise nobreak width place zero n [] e = tt
 starts_rise nobreak width place (suc left) n [] e = tt
-starts_rise nobreak width place zero n (p ∷ rest) e =
-    (omega arith, omega (arith, e), rise_from (suc place) (suc place + (line_len nobreak width (p ∷ rest) - 1)) n (starts nobreak width (suc place) (line_len nobreak width (p ∷ rest) - 1) rest) (omega arith)
-      (starts_rise nobreak width (suc place) (line_len nobreak width (p ∷ rest) - 1) n rest (omega (arith, e))))
+starts_rise nobreak width place zero n (p ∷ rest) e = (
+  omega arith,
+  omega (arith, e),
+  rise_from (suc place) (suc place + (line_len nobreak width (p ∷ rest) - 1)) n (starts nobreak width (suc place) (line_len nobreak width (p ∷ rest) - 1) rest) (omega arith)
+      (starts_rise nobreak width (suc place) (line_len nobreak width (p ∷ rest) - 1) n rest (omega (arith, e))),
+)
 starts_rise nobreak width place (suc left) n (p ∷ rest) e =
     rise_from (place + suc left) (suc place + left) n (starts nobreak width (suc place) left rest) (omega arith) (starts_rise nobreak width (suc place) left n rest (omega (arith, e)))
 
@@ -54,18 +57,22 @@ length-take-most n xs = omega (arith, length-take n xs)
 levels_most : (tables : Tables) (base : ℕ) (text levels : List ℕ) (ps : List Place) (s e : ℕ) → length (line_between tables base text levels ps s e).levels ≤ e - s
 levels_most tables base text levels ps s e =
     let span : List Place = slice_range ps s e in
-    omega (arith, length-take-most (length (shown span)) (line_levels base (map (class_of tables) (slice_range text s e)) (slice_range levels s e)),
-      length-take (length span - suffix_len (λ p. p.is_trailing) span) span, length-take-most (e - s) (drop s ps))
+    omega (
+      arith,
+      length-take-most (length (shown span)) (line_levels base (map (class_of tables) (slice_range text s e)) (slice_range levels s e)),
+      length-take (length span - suffix_len (λ p. p.is_trailing) span) span,
+      length-take-most (e - s) (drop s ps),
+    )
 
 from_within : (tables : Tables) (base : ℕ) (text levels : List ℕ) (ps : List Place) (low n : ℕ) (at : List ℕ) → n ≡ length text → Rise low n at
     → AreWithin n (lines_from tables base text levels ps at)
 from_within tables base text levels ps low n [] e rise = All-nil (λ (line : Line). line.start + length line.levels ≤ n)
 from_within tables base text levels ps low n (s ∷ []) e rise =
     All-cons (λ (line : Line). line.start + length line.levels ≤ n) (line_between tables base text levels ps s (length text)) []
-      (omega (arith, levels_most tables base text levels ps s (length text), rise.1, e)) (All-nil (λ (line : Line). line.start + length line.levels ≤ n))
+    (omega (arith, levels_most tables base text levels ps s (length text), rise.1, e)) (All-nil (λ (line : Line). line.start + length line.levels ≤ n))
 from_within tables base text levels ps low n (s ∷ t ∷ at) e rise =
     All-cons (λ (line : Line). line.start + length line.levels ≤ n) (line_between tables base text levels ps s t) (lines_from tables base text levels ps (t ∷ at))
-      (omega (arith, levels_most tables base text levels ps s t, rise.2.0, rise.2.1)) (from_within tables base text levels ps (suc s) n (t ∷ at) e rise.2)
+    (omega (arith, levels_most tables base text levels ps s t, rise.2.0, rise.2.1)) (from_within tables base text levels ps (suc s) n (t ∷ at) e rise.2)
 
 -- the lines of a paragraph stand in it
 pub lines_within : (rules : Rules) (width : ℕ) (text : List ℕ) → AreWithin (length text) (lines_of rules width text)
@@ -73,5 +80,5 @@ unfolding line_starts_of places_of
 lines_within rules width text =
     let ps : List Place = places_of rules.tables text in
     from_within rules.tables (base_of rules text) text (levels_of rules.tables text rules.option) ps 0 (length text) (line_starts_of rules.nobreak width ps) refl
-      (rise_to 0 (length ps) (length text) (line_starts_of rules.nobreak width ps) (length-places rules.tables text (marks_of rules.tables text) (cluster_ends text))
-        (starts_rise rules.nobreak width 0 0 (length ps) ps (omega arith)))
+    (rise_to 0 (length ps) (length text) (line_starts_of rules.nobreak width ps) (length-places rules.tables text (marks_of rules.tables text) (cluster_ends text))
+    (starts_rise rules.nobreak width 0 0 (length ps) ps (omega arith)))

@@ -31,7 +31,7 @@ impl Model for Laid {
     } };
 
     ghost invariant = { λ l.
-      (length l.levels.items ≡ length l.text.items) × AreWithin (length l.text.items) l.lines };
+        (length l.levels.items ≡ length l.text.items) × AreWithin (length l.text.items) l.lines };
 }
 
 impl Laid {

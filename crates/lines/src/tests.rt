@@ -129,3 +129,38 @@ fn parts_of_a_paragraph(rt: HostRuntime) -> Result<(), Fail> {
     assert!(rt; consists(&laid, &text, 1, &[1, 1, 1, 2], &marks));
     Ok(())
 }
+
+// Whether a line shows these characters, levels and orders in so many columns.
+fn is_shown(
+    laid: &Laid,
+    n: usize,
+    chars: &[char],
+    levels: &[u8],
+    orders: (&[u32], &[u32]),
+) -> bool {
+    let Some(line) = laid.line(n) else {
+        return false;
+    };
+    let (ltov, vtol) = orders;
+    line.is_first() == (n == 0)
+        && line.base() == laid.base()
+        && line.columns() as usize == chars.len()
+        && line.chars() == chars
+        && line.levels() == levels
+        && line.ltov() == ltov
+        && line.vtol() == vtol
+}
+
+#[test]
+fn lines_as_they_are_shown(rt: HostRuntime) -> Result<(), Fail> {
+    let alloc = rt.alloc();
+    let mut engine = engine(alloc, false)?;
+    // The first line's space counts for nothing at its end; the bracket is mirrored on the second.
+    let laid = lay_out(alloc, &mut engine, "\u{5D0}1 (\u{5D1}", 2)?;
+    let first = ['1', '\u{5D0}'];
+    assert!(rt; is_shown(&laid, 0, &first, &[1, 2], (&[1, 0], &[1, 0])));
+    let second = ['\u{5D1}', ')'];
+    assert!(rt; is_shown(&laid, 1, &second, &[1, 1], (&[1, 0], &[1, 0])));
+    assert!(rt; laid.line(2).is_none());
+    Ok(())
+}

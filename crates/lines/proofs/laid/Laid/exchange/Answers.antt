@@ -9,11 +9,12 @@ pub invariant_of-self : goal.invariant_of-self
 invariant_of-self c =
     let filled = c.requires.2 in
     let text : c.args.self.now.text ≡ c.self.inside.text.items = sym (ap (λ (l : Layout). l.text) c.self.view_is) in
-    let new : c.swap.new.x ≡ c.args.fill.now = c.swap.ensures.x_after in
-    (c.self.invariant.0,
+    let new : c.swap.new.x ≡ c.args.fill.now = c.swap.ensures.x_after in (
+      c.self.invariant.0,
       subst (λ (n : ℕ). AreWithin n c.swap.new.x) (ap length text)
-        (subst (λ (lines : List Line). AreWithin (length c.args.self.now.text) lines) (sym (new ∙ filled.from_scratch))
-          (lines_within c.requires.0 filled.width c.args.self.now.text)))
+          (subst (λ (lines : List Line). AreWithin (length c.args.self.now.text) lines) (sym (new ∙ filled.from_scratch))
+          (lines_within c.requires.0 filled.width c.args.self.now.text)),
+    )
 
 pub returns : goal.returns
 returns c = exchanged_by c.args.self.now _ c.args.fill.now _ (search rules) (search rules)
