@@ -5,7 +5,7 @@ ghost use Rattle.lines.specs.Layouts.{AreLinesOf, IsLaidOut};
 
 mod written;
 
-use crate::{Engine, Fill, Laid, PARAGRAPH_LIMIT};
+use crate::{Engine, Fill, Laid, PARAGRAPH_LIMIT, VisualLine};
 use bidi::Base;
 use breaks::Mark;
 use std::alloc::Global;
@@ -130,37 +130,59 @@ fn parts_of_a_paragraph(rt: HostRuntime) -> Result<(), Fail> {
     Ok(())
 }
 
-// Whether a line shows these characters, levels and orders in so many columns.
-fn is_shown(
-    laid: &Laid,
-    n: usize,
-    chars: &[char],
-    levels: &[u8],
-    orders: (&[u32], &[u32]),
-) -> bool {
-    let Some(line) = laid.line(n) else {
-        return false;
-    };
-    let (ltov, vtol) = orders;
-    line.is_first() == (n == 0)
-        && line.base() == laid.base()
-        && line.columns() as usize == chars.len()
-        && line.chars() == chars
-        && line.levels() == levels
-        && line.ltov() == ltov
-        && line.vtol() == vtol
+// A line: its characters and levels, and of each logical position the visual one and back.
+struct Row {
+    chars: &'static [char],
+    levels: &'static [u8],
+    ltov: &'static [u32],
+    vtol: &'static [u32],
+}
+
+// Of U+05D0, `1`, a space, `(` and U+05D1 at a width of 2. The first line's space counts for nothing
+// at its end; the bracket is mirrored on the second.
+const SHOWN: [Row; 2] = [
+    Row {
+        chars: &['1', '\u{5D0}'],
+        levels: &[1, 2],
+        ltov: &[1, 0],
+        vtol: &[1, 0],
+    },
+    Row {
+        chars: &['\u{5D1}', ')'],
+        levels: &[1, 1],
+        ltov: &[1, 0],
+        vtol: &[1, 0],
+    },
+];
+
+fn is_shown(line: &VisualLine<'_>, row: &Row) -> bool {
+    line.chars() == row.chars
+        && line.levels() == row.levels
+        && line.ltov() == row.ltov
+        && line.vtol() == row.vtol
+        && line.columns() as usize == row.chars.len()
+}
+
+// Whether the lines are these and no others.
+fn shows_lines(laid: &Laid, rows: &[Row]) -> bool {
+    let mut all_right = laid.line(rows.len()).is_none();
+    for (n, row) in rows.iter().enumerate() {
+        match laid.line(n) {
+            Some(line) => {
+                all_right &= is_shown(&line, row);
+                all_right &= line.is_first() == (n == 0) && line.base() == laid.base();
+            }
+            None => all_right = false,
+        }
+    }
+    all_right
 }
 
 #[test]
 fn lines_as_they_are_shown(rt: HostRuntime) -> Result<(), Fail> {
     let alloc = rt.alloc();
     let mut engine = engine(alloc, false)?;
-    // The first line's space counts for nothing at its end; the bracket is mirrored on the second.
     let laid = lay_out(alloc, &mut engine, "\u{5D0}1 (\u{5D1}", 2)?;
-    let first = ['1', '\u{5D0}'];
-    assert!(rt; is_shown(&laid, 0, &first, &[1, 2], (&[1, 0], &[1, 0])));
-    let second = ['\u{5D1}', ')'];
-    assert!(rt; is_shown(&laid, 1, &second, &[1, 1], (&[1, 0], &[1, 0])));
-    assert!(rt; laid.line(2).is_none());
+    assert!(rt; shows_lines(&laid, &SHOWN));
     Ok(())
 }

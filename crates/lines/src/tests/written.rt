@@ -57,30 +57,37 @@ fn writes(line: &VisualLine<'_>, width: u16, print: &Print, bytes: &[u8]) -> boo
     all_right
 }
 
+// A width, what is printed, and the bytes of the line.
+const ROWS: [(u16, Print, &str); 5] = [
+    (4, PLAIN, "12)\u{5D0}\n"),
+    (7, PLAIN, "   12)\u{5D0}\n"),
+    (6, ALL, "  12)\u{5D0}\nRTL\n3 2 0 1\n2 3 1 0\n1 1 2 2\n"),
+    (9, UNMIRRORED, "12(\u{5D0}\n"),
+    (80, LEVELS, "1 1 2 2\n"),
+];
+
+const UNMIRRORED: Print = Print {
+    nomirror: true,
+    nopad: true,
+    ..PLAIN
+};
+
+const LEVELS: Print = Print {
+    novisual: true,
+    levels: true,
+    ..PLAIN
+};
+
+fn writes_all(line: &VisualLine<'_>, rows: &[(u16, Print, &str)]) -> bool {
+    let mut all_right = true;
+    for (width, print, bytes) in rows {
+        all_right &= writes(line, *width, print, bytes.as_bytes());
+    }
+    all_right
+}
+
 #[test]
 fn bytes_of_a_line(rt: HostRuntime) -> Result<(), Fail> {
-    let line = line();
-    assert!(rt; writes(&line, 4, &PLAIN, "12)\u{5D0}\n".as_bytes()));
-    assert!(rt; writes(&line, 7, &PLAIN, "   12)\u{5D0}\n".as_bytes()));
-    assert!(rt;
-        writes(
-            &line,
-            6,
-            &ALL,
-            "  12)\u{5D0}\nRTL\n3 2 0 1\n2 3 1 0\n1 1 2 2\n".as_bytes()
-        )
-    );
-    let unmirrored = Print {
-        nomirror: true,
-        nopad: true,
-        ..PLAIN
-    };
-    assert!(rt; writes(&line, 9, &unmirrored, "12(\u{5D0}\n".as_bytes()));
-    let levels = Print {
-        novisual: true,
-        levels: true,
-        ..PLAIN
-    };
-    assert!(rt; writes(&line, 80, &levels, b"1 1 2 2\n"));
+    assert!(rt; writes_all(&line(), &ROWS));
     Ok(())
 }
