@@ -260,28 +260,6 @@ found_within rest test k some e =
 
 -- ---- how much of a line is shown
 
--- all is shown behind a character that counts, and no more behind one that does not
-pub length_shown_behind : (rest : List Place) (k : ℕ) → k < length rest
-    → length (shown (take (suc k) rest)) ≡ (if (place_at rest k).is_trailing then length (shown (take k rest)) else suc k)
-length_shown_behind rest k within =
-    let s : ℕ = suffix_len trails (take k rest) in
-    elim (cases_Bool (trails (place_at rest k))) [
-      | inl trailing ↦
-          let e : suc k - (1 + s) ≡ k - s = omega arith in
-          ap length (shown_to rest (suc k) (omega (arith, within)))
-          ∙ ap (λ n. length (take (suc k - n) rest)) (trailing_more rest k within trailing)
-          ∙ ap (λ n. length (take n rest)) e
-          ∙ ap length (sym (shown_to rest k (omega (arith, within))))
-          ∙ sym (cond-true (trails (place_at rest k)) (length (shown (take k rest))) (suc k) trailing)
-      | inr counts ↦
-          let e : suc k - 0 ≡ suc k = omega arith in
-          ap length (shown_to rest (suc k) (omega (arith, within)))
-          ∙ ap (λ n. length (take (suc k - n) rest)) (trailing_none rest k within counts)
-          ∙ ap (λ n. length (take n rest)) e
-          ∙ length-take-le (suc k) rest (omega (arith, within))
-          ∙ sym (cond-false (trails (place_at rest k)) (length (shown (take k rest))) (suc k) counts)
-    ]
-
 -- what is shown of the first k characters
 pub record IsShownTo (rest : List Place) (k len columns_shown columns_all : ℕ) : Type 0 where
   pub within : k ≤ length rest
@@ -290,37 +268,6 @@ pub record IsShownTo (rest : List Place) (k len columns_shown columns_all : ℕ)
   pub len_is : len ≡ length (shown (take k rest))
   pub shown_are : columns_shown ≡ columns (shown (take k rest))
   pub columns_are : columns_all ≡ columns (take k rest)
-
-pub trails_behind : (rest : List Place) (k len columns_shown columns_all new : ℕ) (p : Place) → k < length rest → p ≡ place_at rest k → p.columns ≤ 255
-    → p.is_trailing ≡ true → IsShownTo rest k len columns_shown columns_all → new ≡ columns_all + p.columns → IsShownTo rest (k + 1) len columns_shown new
-trails_behind rest k len columns_shown columns_all new p below is fits trailing so_far e =
-    let t : trails (place_at rest k) ≡ true = ap trails (sym is) ∙ trailing in
-    let one : suc k ≡ k + 1 = omega arith in
-    let c : p.columns ≡ (place_at rest k).columns = ap (λ (q : Place). q.columns) is in
-    subst (λ j. IsShownTo rest j len columns_shown new) one (record {
-      within = omega (arith, below);
-      most = omega (arith, e, fits, so_far.most);
-      len_within = omega (arith, so_far.len_within);
-      len_is = so_far.len_is ∙ sym (length_shown_behind rest k below ∙ cond-true (trails (place_at rest k)) (length (shown (take k rest))) (suc k) t);
-      shown_are = so_far.shown_are ∙ sym (shown_behind rest k below ∙ cond-true (trails (place_at rest k)) (columns (shown (take k rest))) (columns (take (suc k) rest)) t);
-      columns_are = omega (arith, e, c, so_far.columns_are, columns_behind rest k below);
-    })
-
-pub counts_behind : (rest : List Place) (k len columns_shown columns_all new : ℕ) (p : Place) → k < length rest → p ≡ place_at rest k → p.columns ≤ 255
-    → p.is_trailing ≡ false → IsShownTo rest k len columns_shown columns_all → new ≡ columns_all + p.columns → IsShownTo rest (k + 1) (k + 1) new new
-counts_behind rest k len columns_shown columns_all new p below is fits counts so_far e =
-    let t : trails (place_at rest k) ≡ false = ap trails (sym is) ∙ counts in
-    let one : suc k ≡ k + 1 = omega arith in
-    let c : p.columns ≡ (place_at rest k).columns = ap (λ (q : Place). q.columns) is in
-    let all : new ≡ columns (take (suc k) rest) = omega (arith, e, c, so_far.columns_are, columns_behind rest k below) in
-    subst (λ j. IsShownTo rest j j new new) one (record {
-      within = omega (arith, below);
-      most = omega (arith, e, fits, so_far.most);
-      len_within = omega arith;
-      len_is = sym (length_shown_behind rest k below ∙ cond-false (trails (place_at rest k)) (length (shown (take k rest))) (suc k) t);
-      shown_are = all ∙ sym (shown_behind rest k below ∙ cond-false (trails (place_at rest k)) (columns (shown (take k rest))) (columns (take (suc k) rest)) t);
-      columns_are = all;
-    })
 
 -- ---- where lines start
 
