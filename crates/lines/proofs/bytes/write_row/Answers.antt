@@ -1,4 +1,4 @@
-use Rattle.std.proofs.Common.{◌≡◌, ℕ, ◌<◌, ◌++◌, ◌==◌, List, [], ◌∷◌, length, get_or, map, take, if◌then◌else◌, sym, ap, ◌∙◌}
+use Rattle.std.proofs.Common.{◌≡◌, ℕ, ◌<◌, ◌++◌, ◌==◌, List, [], ◌∷◌, length, get_or, map, if◌then◌else◌, sym, ap, ◌∙◌}
 use Rattle.std.proofs.lemmas.List.{get_or-map, length-map, take_all}
 use Rattle.std.specs.List.{concat}
 use Rattle.lines.specs.Writing.{StoppedIn}

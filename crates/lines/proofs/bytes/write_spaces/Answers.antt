@@ -1,5 +1,5 @@
 use Rattle.std.proofs.Common.{◌≤◌, sym, arith}
-use Rattle.lines.specs.Writing.{StoppedIn, PassedOn}
+use Rattle.lines.specs.Writing.{StoppedIn}
 use Rattle.lines.proofs.WriteLemmas.{all_spaces, more_spaces, some_spaces, passed-append, stopped-before, stopped-behind, same_fault}
 use Rattle.lines.proofs.bytes.write_spaces.Goals as goal
 
