@@ -13,7 +13,7 @@ use itoa::{Buffer, Integer};
 use thiserror::Error;
 
 /// Where a sink failed: how many of the bytes were written before.
-#[derive(Clone, Copy, Debug, PartialEq, Eq, Drop, Error)]
+#[derive(Clone, Copy, Debug, PartialEq, Eq, Error)]
 #[error("cannot write after {written} bytes")]
 pub struct WriteFault {
     pub written: u64,
