@@ -1,8 +1,7 @@
 -- Rows of the definitions, worked.
-use Rattle.std.proofs.Common.{◌≡◌, ℕ, true, false, Bool, List, [], ◌∷◌, map, refl}
-use Rattle.breaks.specs.declared.mark.Mark.{Mark}
+use Rattle.std.proofs.Common.{◌≡◌, ℕ, true, false, List, [], ◌∷◌, refl}
 use Rattle.breaks.specs.declared.mark.Mark.TheVariants.{Never, May, Must}
-use Rattle.lines.specs.Filling.{columns, fits, line_len, line_starts_of, shown}
+use Rattle.lines.specs.Filling.{line_starts_of, shown}
 use Rattle.lines.specs.declared.places.Place.{Place}
 
 -- a letter, a space, and a letter at the end of the paragraph

@@ -1,5 +1,5 @@
 -- What calls of an engine do to what it shows.
-use Rattle.std.specs.Prelude.{◌≡◌, ℕ, ◌+◌, ◌≤◌, List, length, Result, Ok, Err}
+use Rattle.std.specs.Prelude.{◌≡◌, ℕ, ◌+◌, ◌≤◌}
 use Rattle.bidi.specs.Engine.{counted}
 use Rattle.lines.specs.Layouts.{Rules}
 use Rattle.lines.specs.declared.engine.Engine.{Engine}

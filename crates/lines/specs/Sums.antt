@@ -1,5 +1,5 @@
 -- What the walk along a line keeps of the characters that it has passed.
-use Rattle.std.specs.Prelude.{◌≡◌, ℕ, ◌+◌, List, if◌then◌else◌}
+use Rattle.std.specs.Prelude.{◌≡◌, ◌+◌, List, if◌then◌else◌}
 use Rattle.lines.specs.Filling.{columns, shown}
 use Rattle.lines.specs.declared.filling.Sums.{Sums}
 use Rattle.lines.specs.declared.places.Place.{Place}
