@@ -1,9 +1,10 @@
 //! The command `fribidi`: its words, its files and its streams. What they mean is in `tool`.
 #![tactic(auto)]
 
-ghost use Rattle.std.specs.Prelude.{◌≡◌, true};
+ghost use Rattle.std.specs.Prelude.{◌<◌};
 
 use device::{FromRead, ToWrite};
+use lines::Engine;
 use std::alloc::{AllocError, Global};
 use std::fs::File;
 use std::io::{ErrorKind, Read, Stdout};
@@ -39,15 +40,16 @@ fn run(rt: &HostRuntime) -> Result<(), ProgramFault> {
     };
     let settings = settings(alloc, &words).map_err(ProgramFault::Line)?;
     let tables = tables(rt, settings.ucd)?;
+    let mut engine = Engine::new(tables, settings.base, settings.nobreak);
     let mut output = ToWrite::new(rt.stdout());
     if settings.files.is_empty() {
-        return write_text(rt, rt.stdin(), &mut output, &tables, &settings);
+        return write_text(rt, rt.stdin(), &mut output, &mut engine, &settings);
     }
     for file in &settings.files {
         let Ok(file) = File::open(rt, *file) else {
             return Err(ProgramFault::Run(RunFault::Read));
         };
-        write_text(rt, file, &mut output, &tables, &settings)?;
+        write_text(rt, file, &mut output, &mut engine, &settings)?;
     }
     Ok(())
 }
@@ -111,18 +113,18 @@ fn write_text<R: Read + Drop>(
     rt: &HostRuntime,
     text: R,
     output: &mut ToWrite<Stdout>,
-    tables: &Tables,
+    engine: &mut Engine,
     settings: &Settings<'_>,
 ) -> Result<(), ProgramFault>
-    requires { settings.now.print.novisual ≡ true }
+    requires { 0 < settings.now.width }
 {
     let mut reader = FromRead::new(text);
     run_text(
         rt.alloc(),
         &mut reader,
         output,
-        tables,
-        settings.base,
+        engine,
+        settings.width,
         &settings.print,
     )
     .map_err(ProgramFault::Run)

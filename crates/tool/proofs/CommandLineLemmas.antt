@@ -1,25 +1,31 @@
--- What a parse of the command line gives: the options that it requires.
-use Rattle.std.proofs.Common.{◌≡◌, ◌∙◌, ◌<◌, ◌≤◌, ap, ap₂, arith, drop, codes, false, inl, inr, is_some, length, List, [], ◌∷◌, map, ℕ, zero, suc, None, refl, subst, sym, true}
+-- What a parse of the command line gives: what it requires, and what has a default.
+use Rattle.std.proofs.Common.{◌≡◌, ◌∙◌, ◌<◌, ◌≤◌, ap, ap₂, arith, drop, codes, false, inl, inr, is_some, length, List, [], ◌∷◌, map, ℕ, zero, suc, None, Some, refl, subst, sym, true}
 use Rattle.std.specs.List.{list_all, list_any, slice_index_or}
+use Rattle.std.specs.Prelude.{pos}
 use Rattle.std.specs.Str.{bytes_eq}
 use Rattle.std.proofs.Math.ListN.{get_or-map}
 use Rattle.std.proofs.lemmas.List.{length-map}
 use Rattle.std.proofs.lemmas.List.Folds.{list_any_at}
-use Rattle.clap.specs.Words.{App, IsParsedFrom, IsPlain, Rule, Text, app_of, args_of, first_of, found_of, is_simple, is_simple_and_free, rows_of, rule_of}
+use Rattle.clap.specs.Words.{App, IsParsedFrom, IsPlain, Rule, Text, app_of, args_of, first_of, found_of, one_of, is_simple, is_simple_and_free, rows_of, rule_of}
 use Rattle.clap.specs.Facts.{least_values, unwrap_or_range}
 use Rattle.clap.specs.Faults.{has_free_rules}
 use Rattle.clap.specs.Simple.{IsSimple, is_ready, is_ready_leaf}
-use Rattle.clap.specs.Takes.{is_given}
 use Rattle.clap.specs.declared.builder.arg.Arg.{Arg}
 use Rattle.clap.specs.declared.builder.command.Command.{Command}
 use Rattle.clap.specs.declared.builder.command.Command.TheViews.{out-Command}
 use Rattle.clap.specs.declared.parser.matches.ArgMatches.{ArgMatches}
-use Rattle.clap.proofs.CallerLemmas.{required_has_value, required_present}
+use Rattle.clap.specs.declared.parser.matches.Found.{Found}
+use Rattle.clap.proofs.CallerLemmas.{required_has_value}
 use Rattle.clap.proofs.FaultLemmas.{free_args}
 use Rattle.clap.proofs.SimpleLemmas.{all_simple, ready_simple, simple_groups}
-use Rattle.clap.proofs.TakesLemmas.{present_row}
 use Rattle.clap.proofs.WalkLemmas.{first_value-rows}
-use Rattle.tool.specs.CommandLine.{program, ucd_rule, novisual_rule}
+use Rattle.clap.specs.Facts.{WantsDefault}
+use Rattle.clap.specs.Texts.{items_of}
+use Rattle.clap.specs.Walk.{texts}
+use Rattle.clap.specs.declared.builder.value_parser.ValueParser.TheVariants.{Signed}
+use Rattle.clap.proofs.WalkLemmas.{one_text-rows}
+use Rattle.tool.specs.CommandLine.{HasWidth, program, ucd_rule, width_rule}
+use Rattle.tool.proofs.DefaultLemmas.{HasValue, default_value, number_in}
 
 pub program_is_simple : is_simple program ≡ true
 unfolding program
@@ -37,6 +43,25 @@ only_first id x d xs none (suc j) lt same =
     let any = list_any_at (λ r. bytes_eq r.id id) xs j d (omega arith) same in
     cc
 
+-- and only the second
+only_second : (id : Text) (x y d : Rule) (xs : List Rule) → bytes_eq x.id id ≡ false → list_any (λ r. bytes_eq r.id id) xs ≡ false
+    → (j : ℕ) → j < length (x ∷ y ∷ xs) → bytes_eq (slice_index_or (x ∷ y ∷ xs) j d).id id ≡ true → j ≡ 1
+only_second id x y d xs other none zero lt same = cc
+only_second id x y d xs other none (suc j) lt same =
+    let first = only_first id y d xs none j (omega arith) same in
+    omega (arith, first)
+
+-- the width's value, as the matches' rows have it
+width_of : (f : Found) (a : Arg) → a.id.now ≡ codes "width" → HasValue a (Signed (pos 1) (pos 65535)) f → HasWidth (rows_of f)
+width_of f a id value =
+    let number = number_in value.text 1 65535 (omega arith) value.accepted in
+    record {
+      text = value.text;
+      first = ap (λ (i : Text). first_of i (rows_of f)) (sym id) ∙ sym (first_value-rows f a.id.now) ∙ value.first;
+      one = ap (λ (i : Text). one_of i (rows_of f)) (sym id) ∙ sym (one_text-rows f a.id.now) ∙ value.one ∙ ap Some number.whole;
+      allowed = (number.numeral, number.least, number.most);
+    }
+
 module _ (c : Command) (same : app_of c ≡ program) where
   rules : map rule_of (args_of c) ≡ program.top.rules
   rules = ap (λ (a : App). a.top.rules) same
@@ -44,7 +69,7 @@ module _ (c : Command) (same : app_of c ≡ program) where
   rule_at : (k : ℕ) (d : Arg) → rule_of (slice_index_or (args_of c) k d) ≡ slice_index_or program.top.rules k (rule_of d)
   rule_at k d = sym (get_or-map rule_of (args_of c) k d) ∙ ap (λ xs. slice_index_or xs k (rule_of d)) rules
 
-  count : length (args_of c) ≡ 9
+  count : length (args_of c) ≡ 15
   unfolding program
   count = sym (length-map (args_of c) rule_of) ∙ ap length rules
 
@@ -64,13 +89,6 @@ module _ (c : Command) (same : app_of c ≡ program) where
   negates = ap (λ (a : App). a.top.subcommand_negates_reqs) same
 
   module _ (m : ArgMatches) (parsed : IsParsedFrom c m) where
-    novisual_given : (d : Arg) → is_given (codes "novisual") (rows_of (found_of m)) ≡ true
-    unfolding program
-    novisual_given d =
-        let rule : rule_of (slice_index_or (args_of c) 1 d) ≡ novisual_rule = rule_at 1 d in
-        let present = required_present c m parsed plain simple.globals negates 1 d (omega (arith, count)) (ap (λ (r : Rule). r.required) rule) in
-        sym (present_row (found_of m) (codes "novisual")) ∙ rw (ap (λ (r : Rule). r.id) rule) at present
-
     ucd_valued : (d : Arg) → is_some (first_of (codes "ucd") (rows_of (found_of m))) ≡ true
     unfolding program
     ucd_valued d =
@@ -91,13 +109,36 @@ module _ (c : Command) (same : app_of c ≡ program) where
         ]) in
         rw (← first_value-rows (found_of m) (codes "ucd")) (rw id at has)
 
+    -- the width's text, which may be the default
+    width_valued : (d : Arg) → HasWidth (rows_of (found_of m))
+    unfolding program
+    width_valued d =
+        let a = slice_index_or (args_of c) 1 d in
+        let lt : 1 < length (args_of c) = omega (arith, count) in
+        let rule : rule_of a ≡ width_rule = rule_at 1 d in
+        let id : a.id.now ≡ codes "width" = ap (λ (r : Rule). r.id) rule in
+        let range : a.num_vals ≡ None = ap (λ (r : Rule). r.range) rule in
+        let least : 1 ≤ least_values a = subst (λ o. 1 ≤ (unwrap_or_range o).start_inclusive) (sym range) (omega arith) in
+        let defaults : texts (items_of a.default_vals) ≡ codes "80" ∷ [] = ap (λ (r : Rule). r.defaults) rule in
+        let one_default : length (items_of a.default_vals) ≡ 1 = sym (length-map (items_of a.default_vals) (λ s. s.now)) ∙ ap length defaults in
+        let wants : WantsDefault a = ((simple.args 1 d lt).default_ifs, omega (arith, one_default)) in
+        let only : (j : ℕ) (e : Arg) → j < length (args_of c) → bytes_eq (slice_index_or (args_of c) j e).id.now a.id.now ≡ true → j ≡ 1 =
+        λ j e low twice. only_second (codes "width") ucd_rule width_rule (rule_of e) (drop 2 program.top.rules) refl refl j (omega (arith, count)) (sym (ap₂ bytes_eq (ap (λ (r : Rule). r.id) (rule_at j e)) id) ∙ twice) in
+        width_of (found_of m) a id (default_value c m parsed plain simple.globals 1 d lt wants (ap (λ (r : Rule). r.action) rule) (simple.args 1 d lt).delimiter least only
+        (λ empty. let bad : codes "width" ≡ [] = sym id ∙ empty in cc)
+        (λ auto. elim auto [
+          | inl h ↦ let bad : codes "width" ≡ codes "help" = sym id ∙ h in cc
+          | inr h ↦ let bad : codes "width" ≡ codes "version" = sym id ∙ h in cc
+        ])
+        (Signed (pos 1) (pos 65535)) (ap (λ (r : Rule). r.parser) rule))
+
 some_arg : (xs : List Arg) → 0 < length xs → Arg
 some_arg [] lt = absurd (omega arith)
 some_arg (x ∷ xs) lt = x
 
--- what is required is there
+-- what is required or has a default is there
 pub required_there : (c : Command) (m : ArgMatches) → app_of c ≡ program → IsParsedFrom c m
-    → (is_some (first_of (codes "ucd") (rows_of (found_of m))) ≡ true) × (is_given (codes "novisual") (rows_of (found_of m)) ≡ true)
+    → (is_some (first_of (codes "ucd") (rows_of (found_of m))) ≡ true) × HasWidth (rows_of (found_of m))
 required_there c m same parsed =
     let d = some_arg (args_of c) (omega (arith, count c same)) in
-    (ucd_valued c same m parsed d, novisual_given c same m parsed d)
+    (ucd_valued c same m parsed d, width_valued c same m parsed d)

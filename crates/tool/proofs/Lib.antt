@@ -1,5 +1,7 @@
 pub mod CommandLineLemmas
+pub mod DefaultLemmas
 pub mod Devices
 pub mod Front
-pub mod LevelsLines
 pub mod Lines
+pub mod PageLemmas
+pub mod PieceLemmas

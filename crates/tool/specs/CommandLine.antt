@@ -1,11 +1,13 @@
 -- The command line as `clap` is told of it, and what its words ask for.
-use Rattle.std.specs.Prelude.{◌≡◌, Bool, true, false, List, [], map, codes, Option, Some, None, is_some, unwrap_or}
+use Rattle.std.specs.Prelude.{◌≡◌, ◌≤◌, ℕ, pos, Bool, true, false, List, [], ◌∷◌, ◌++◌, map, fold, codes, Option, Some, None, is_some, option_map, unwrap_or}
+use Rattle.std.specs.Str.Parse.{IsNumeral, digits_value, without_leading_plus}
 use Rattle.bidi.specs.declared.base.Base.{Base}
 use Rattle.bidi.specs.declared.base.Base.TheVariants as base
-use Rattle.clap.specs.Words.{App, IsAmong, Row, Rule, Text, all_of, fault_of, first_of, found_of, kind_of, matches_of, new_app, new_rule, rows_of, with_rule}
+use Rattle.clap.specs.Words.{App, IsAmong, Row, Rule, Text, all_of, fault_of, first_of, found_of, kind_of, matches_of, new_app, new_rule, one_of, rows_of, with_rule}
 use Rattle.clap.specs.Simple.{on_top}
 use Rattle.clap.specs.Takes.{is_given}
 use Rattle.clap.specs.declared.builder.action.ArgAction.TheVariants.{Append, Set, SetTrue}
+use Rattle.clap.specs.declared.builder.value_parser.ValueParser.TheVariants.{Signed}
 use Rattle.clap.specs.declared.parser.matches.ArgMatches.{ArgMatches}
 use Rattle.tool.specs.declared.options.LineFault.{LineFault}
 use Rattle.tool.specs.declared.options.LineFault.TheVariants.{Words, Directions, NoMemory}
@@ -18,22 +20,33 @@ flag_rule name = record (new_rule name) { long = Some name; action = Some SetTru
 abbrev pub ucd_rule : Rule
 ucd_rule = record (new_rule (codes "ucd")) { long = Some (codes "ucd"); value_names = 1; required = true; action = Some Set }
 
-abbrev pub novisual_rule : Rule
-novisual_rule = record (flag_rule (codes "novisual")) { required = true }
+-- a number of columns from 1 to 65,535, or 80 where the words have none
+abbrev pub width_rule : Rule
+width_rule = record (new_rule (codes "width")) {
+  long = Some (codes "width");
+  value_names = 1;
+  action = Some Set;
+  parser = Some (Signed (pos 1) (pos 65535));
+  defaults = codes "80" ∷ [];
+}
 
 -- any number of texts
 abbrev pub files_rule : Rule
 files_rule = record (new_rule (codes "files")) { value_names = 1; action = Some Append }
+
+-- the options without a value
+abbrev pub flags : List Text
+flags =
+    codes "rtl" ∷ codes "ltr" ∷ codes "wrtl" ∷ codes "wltr"
+    ∷ codes "nobreak" ∷ codes "nopad" ∷ codes "nomirror"
+    ∷ codes "novisual" ∷ codes "basedir" ∷ codes "ltov" ∷ codes "vtol" ∷ codes "levels" ∷ []
 
 -- the command line: the words behind the program's name, with these options, and texts
 abbrev pub start : App
 start = on_top (λ s. record s { no_binary_name = true }) (new_app (codes "fribidi"))
 
 unfoldable pub program : App
-program =
-    with_rule (with_rule (with_rule (with_rule (with_rule (with_rule (with_rule (with_rule (with_rule start
-    ucd_rule) novisual_rule) (flag_rule (codes "basedir"))) (flag_rule (codes "levels"))) (flag_rule (codes "rtl")))
-    (flag_rule (codes "ltr"))) (flag_rule (codes "wrtl"))) (flag_rule (codes "wltr"))) files_rule
+program = fold with_rule start ((ucd_rule ∷ width_rule ∷ map flag_rule flags) ++ files_rule ∷ [])
 
 -- how base levels are found: by the one option that is set, or by the first strong character
 abbrev pub base_by : Bool → Bool → Bool → Bool → Option Base
@@ -48,22 +61,40 @@ abbrev pub base_of : List Row → Option Base
 base_of rows =
     base_by (is_given (codes "rtl") rows) (is_given (codes "ltr") rows) (is_given (codes "wrtl") rows) (is_given (codes "wltr") rows)
 
+-- the number that a text of decimal digits writes
+abbrev pub number_of : Text → ℕ
+number_of text = digits_value 10 (without_leading_plus text)
+
 -- the settings are what the matches of the words hold, and nothing is wrong with the words
 pub record AreSettings (words : List Text) (settings : Settings) : Type 0 where
   pub taken : fault_of program words ≡ []
   pub ucd : first_of (codes "ucd") (matches_of program words) ≡ Some settings.ucd.now
   pub base : base_of (matches_of program words) ≡ Some settings.base
+  pub width : option_map number_of (first_of (codes "width") (matches_of program words)) ≡ Some settings.width
+  pub wide : (1 ≤ settings.width) × (settings.width ≤ 65535)
+  pub nobreak : settings.nobreak ≡ is_given (codes "nobreak") (matches_of program words)
   pub novisual : settings.print.novisual ≡ is_given (codes "novisual") (matches_of program words)
   pub basedir : settings.print.basedir ≡ is_given (codes "basedir") (matches_of program words)
+  pub ltov : settings.print.ltov ≡ is_given (codes "ltov") (matches_of program words)
+  pub vtol : settings.print.vtol ≡ is_given (codes "vtol") (matches_of program words)
   pub levels : settings.print.levels ≡ is_given (codes "levels") (matches_of program words)
+  pub nopad : settings.print.nopad ≡ is_given (codes "nopad") (matches_of program words)
+  pub nomirror : settings.print.nomirror ≡ is_given (codes "nomirror") (matches_of program words)
   pub files : map (λ file. file.now) settings.files.items ≡ unwrap_or (all_of (codes "files") (matches_of program words)) []
 
--- the matches are those of words with which nothing is wrong, so that what is required is there
+-- the width's text, which is a number of columns that is allowed
+pub record HasWidth (rows : List Row) : Type 0 where
+  pub text : Text
+  pub first : first_of (codes "width") rows ≡ Some text
+  pub one : one_of (codes "width") rows ≡ Some text
+  pub allowed : IsNumeral 10 (without_leading_plus text) × (1 ≤ number_of text) × (number_of text ≤ 65535)
+
+-- the matches are those of words with which nothing is wrong, so that what is required or has a default is there
 pub record AreMatches (words : List Text) (matches : ArgMatches) : Type 0 where
   pub taken : fault_of program words ≡ []
   pub rows : rows_of (found_of matches) ≡ matches_of program words
   pub ucd : is_some (first_of (codes "ucd") (rows_of (found_of matches))) ≡ true
-  pub novisual : is_given (codes "novisual") (rows_of (found_of matches)) ≡ true
+  pub width : HasWidth (rows_of (found_of matches))
 
 -- `clap` refuses the words, for this kind of error; or it takes them, and more than one direction is set
 abbrev pub IsLineFault : List Text → LineFault → Type 0

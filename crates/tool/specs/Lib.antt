@@ -1,3 +1,4 @@
 pub mod CommandLine
+pub mod Pages
 pub mod Program
 pub mod TextRun

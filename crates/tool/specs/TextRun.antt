@@ -1,21 +1,18 @@
 -- What is written for a text, and how its run ends.
-use Rattle.std.specs.Prelude.{◌≡◌, ℕ, ◌+◌, ◌-◌, ◌==◌, nat_le, not, Bool, List, [], ◌++◌, length, take, drop, map, codes, take_while, Option, Some, None, IfSome, ⊤, is_some, is_none, Result, Ok, Err, if◌then◌else◌}
-use Rattle.std.specs.Fmt.{decimal}
-use Rattle.std.specs.List.{flat_map, join_with_byte, list_all}
+use Rattle.std.specs.Prelude.{◌≡◌, ℕ, ◌+◌, ◌-◌, ◌==◌, nat_le, not, Bool, List, length, take, drop, take_while, Option, Some, None, IfSome, ⊤, is_some, is_none, Result, Ok, Err, if◌then◌else◌}
+use Rattle.std.specs.List.{enumerate_from, flat_map, list_all}
 use Rattle.std.specs.Str.{chars}
 use Rattle.std.specs.Str.Lossy.{utf8_valid_len, utf8_error_len}
 use Rattle.std.specs.Io.KnownBytes.{Consumes, IsAtEnd}
-use Rattle.ucd.specs.Tables.{class_of}
-use Rattle.ucd.specs.declared.tables.Tables.{Tables}
-use Rattle.bidi.specs.declared.base.Base.{Base}
-use Rattle.bidi.specs.Base.{base_level_of}
-use Rattle.bidi.specs.Cuts.{cut, paragraphs}
-use Rattle.bidi.specs.Levels.{levels_of}
+use Rattle.bidi.specs.Cuts.{paragraphs}
+use Rattle.lines.specs.Bytes.{line_bytes}
+use Rattle.lines.specs.Layouts.{Layout, Rules, cut_by, layout_of}
+use Rattle.lines.specs.Visual.{visual_of}
+use Rattle.lines.specs.declared.print.Print.{Print}
 use Rattle.tool.specs.declared.faults.RunFault.{RunFault}
 use Rattle.tool.specs.declared.faults.RunFault.TheVariants as fault
 use Rattle.tool.specs.declared.text.Ending.{Ending}
 use Rattle.tool.specs.declared.text.Ending.TheVariants.{AtEnd, AtFailure}
-use Rattle.tool.specs.declared.print.Print.{Print}
 use Rattle.device.specs.Device.{Device, FailedLast, Wrote, StoppedAt}
 
 -- the characters in front of the first byte that is not UTF-8
@@ -49,39 +46,34 @@ abbrev pub ending_of : List (List ℕ) → Option RunFault → Option RunFault
 ending_of pars wrong = if are_within pars then wrong else Some fault.ParagraphTooLong
 
 -- the paragraphs of the front of an input
-abbrev pub front_paragraphs : Tables → List ℕ → List (List ℕ)
-front_paragraphs tables bytes = paragraphs (cut (class_of tables)) (front_of bytes)
+abbrev pub front_paragraphs : Rules → List ℕ → List (List ℕ)
+front_paragraphs rules bytes = paragraphs (cut_by rules) (front_of bytes)
 
--- what is printed of a paragraph's direction, by its base level
-abbrev pub direction_line : ℕ → List ℕ
-direction_line level = if level == 0 then codes "LTR\n" else codes "RTL\n"
+-- what is printed of a paragraph that is laid out: the bytes of its lines, in order
+abbrev pub layout_bytes : ℕ → Print → Layout → List ℕ
+layout_bytes width print layout =
+    flat_map (λ nth. line_bytes width print (visual_of layout.base layout.text nth.0 nth.1)) (enumerate_from 0 layout.lines)
 
--- and of its levels: decimal numbers, with one space between
-abbrev pub levels_line : List ℕ → List ℕ
-levels_line levels = join_with_byte 32 (map decimal levels) ++ codes "\n"
+module _ (rules : Rules) (width : ℕ) (print : Print) where
+  -- what is printed of a paragraph
+  abbrev pub paragraph_bytes : List ℕ → List ℕ
+  paragraph_bytes text = layout_bytes width print (layout_of rules width text)
 
-module _ (tables : Tables) (base : Base) (print : Print) where
-  -- what is printed for a paragraph: a line of its direction, and one of its levels, where they are asked for
-  abbrev pub line_of : List ℕ → List ℕ
-  line_of paragraph =
-      (if print.basedir then direction_line (base_level_of (map (class_of tables) paragraph) base) else [])
-      ++ (if print.levels then levels_line (levels_of tables paragraph base) else [])
-
-  -- what is printed for paragraphs, in order
+  -- and of several, in order
   abbrev pub page : List (List ℕ) → List ℕ
-  page pars = flat_map line_of pars
+  page pars = flat_map paragraph_bytes pars
 
 -- the lines of paragraphs as they are written, and whether one of them is too long
-abbrev pub IsLinesOf : Tables → Base → Print → List (List ℕ) → Bool → List ℕ → Bool → Type 0
-IsLinesOf tables base print pars is_whole lines is_long =
-    (lines ≡ page tables base print (written_of pars is_whole)) × (is_long ≡ not (are_within pars))
+abbrev pub IsLinesOf : Rules → ℕ → Print → List (List ℕ) → Bool → List ℕ → Bool → Type 0
+IsLinesOf rules width print pars is_whole lines is_long =
+    (lines ≡ page rules width print (written_of pars is_whole)) × (is_long ≡ not (are_within pars))
 
 -- the bytes that are written for an input, and how its run ends
-abbrev pub IsOutputOf : Tables → Base → Print → List ℕ → Ending → List ℕ → Option RunFault → Type 0
-IsOutputOf tables base print bytes ending lines end =
-    let pars = front_paragraphs tables bytes in
+abbrev pub IsOutputOf : Rules → ℕ → Print → List ℕ → Ending → List ℕ → Option RunFault → Type 0
+IsOutputOf rules width print bytes ending lines end =
+    let pars = front_paragraphs rules bytes in
     let wrong = input_fault ending bytes in
-    (lines ≡ page tables base print (written_of pars (is_none wrong))) × (end ≡ ending_of pars wrong)
+    (lines ≡ page rules width print (written_of pars (is_none wrong))) × (end ≡ ending_of pars wrong)
 
 -- what a source gave between two states: all that it had, or, where it failed, the bytes that passed before
 abbrev pub Gave : Device → Device → Ending → List ℕ → Type 0
@@ -105,10 +97,10 @@ HasReadAll None old new bytes = IsAtEnd new.bytes × (new.passed ≡ old.passed 
 HasReadAll (Some wrong) old new bytes = ⊤
 
 -- The run of a text: what the reader gave has a front, whose paragraphs are written as far as they go.
-abbrev pub IsTextRun : Tables → Base → Print → Device → Device → Device → Device → Result (Unit {0}) RunFault → Type 0
-IsTextRun tables base print reader_old reader_new writer_old writer_new result =
+abbrev pub IsTextRun : Rules → ℕ → Print → Device → Device → Device → Device → Result (Unit {0}) RunFault → Type 0
+IsTextRun rules width print reader_old reader_new writer_old writer_new result =
     (ending : Ending) × (bytes : List ℕ) × Gave reader_old reader_new ending bytes
     × HasReadAll (fault_of result) reader_old reader_new bytes
-    × (let pars = front_paragraphs tables bytes in
+    × (let pars = front_paragraphs rules bytes in
     let wrong = input_fault ending bytes in
-    EndsWith (page tables base print) (written_of pars (is_none wrong)) (ending_of pars wrong) writer_old writer_new (fault_of result))
+    EndsWith (page rules width print) (written_of pars (is_none wrong)) (ending_of pars wrong) writer_old writer_new (fault_of result))

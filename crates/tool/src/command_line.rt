@@ -2,15 +2,15 @@
 ghost use Rattle.std.specs.Prelude.{◌≡◌, map, true, false, IfOk, IfErr};
 ghost use Rattle.clap.specs.Words.{app_of, found_of, rows_of, rule_of};
 ghost use Rattle.clap.specs.Takes.{is_given};
-ghost use Rattle.tool.specs.CommandLine.{program, ucd_rule, files_rule, flag_rule, base_by};
+ghost use Rattle.tool.specs.CommandLine.{program, ucd_rule, width_rule, files_rule, flag_rule, base_by};
 ghost use Rattle.tool.specs.CommandLine.{AreMatches, AreSettings, IsLineFault};
 
 use crate::options::{LineFault, Settings as Options};
-use crate::print::Print;
 use bidi::Base;
 use clap::error::ErrorKind;
 use clap::parser::ValueSource;
-use clap::{Arg, ArgAction, ArgMatches, Command};
+use clap::{Arg, ArgAction, ArgMatches, Command, value_parser};
+use lines::Print;
 use std::alloc::{AllocError, Global};
 
 // The options and the texts that the program takes.
@@ -19,23 +19,41 @@ fn command<'a>(alloc: Global) -> Result<Command<'a>, AllocError>
 {
     Command::new(alloc, "fribidi")
         .no_binary_name(true)
-        .about("Prints the base direction and the levels of each paragraph")
+        .about("Prints text as visual lines")
         .arg(ucd(alloc))?
-        .arg(flag(alloc, "novisual", "print no visual lines").required(true))?
-        .arg(flag(alloc, "basedir", "print the direction of each paragraph"))?
-        .arg(flag(alloc, "levels", "print the level of each character"))?
+        .arg(width(alloc))?
         .arg(flag(alloc, "rtl", "from right to left"))?
         .arg(flag(alloc, "ltr", "from left to right"))?
         .arg(flag(
             alloc,
             "wrtl",
-            "where no character is strong, from right to left",
+            "from right to left where no character is strong",
         ))?
         .arg(flag(
             alloc,
             "wltr",
-            "where no character is strong, from left to right",
+            "from left to right where no character is strong, which is the default",
         ))?
+        .arg(flag(alloc, "nobreak", "end lines at mandatory breaks only"))?
+        .arg(flag(
+            alloc,
+            "nopad",
+            "no spaces in front of lines from right to left",
+        ))?
+        .arg(flag(
+            alloc,
+            "nomirror",
+            "characters as they are, not their mirrors",
+        ))?
+        .arg(flag(alloc, "novisual", "no visual lines"))?
+        .arg(flag(alloc, "basedir", "print the direction of each paragraph"))?
+        .arg(flag(alloc, "ltov", "print the visual position of each character"))?
+        .arg(flag(
+            alloc,
+            "vtol",
+            "print the logical position of each visual one",
+        ))?
+        .arg(flag(alloc, "levels", "print the level of each character"))?
         .arg(files(alloc))
 }
 
@@ -50,6 +68,20 @@ fn ucd<'a>(alloc: Global) -> Arg<'a>
         .required(true)
         .action(ArgAction::Set)
         .help("the folder of the Unicode table files")
+}
+
+// How many columns a line may take.
+fn width<'a>(alloc: Global) -> Arg<'a>
+    ensures rule { rule_of result ≡ width_rule }
+    ensures local { result.global ≡ false }
+{
+    Arg::new(alloc, "width")
+        .long("width")
+        .value_name("N")
+        .action(ArgAction::Set)
+        .value_parser(value_parser!(u16).range(1..))
+        .default_value("80")
+        .help("the columns of a line, 1 to 65535")
 }
 
 // The texts.
@@ -112,7 +144,6 @@ fn parse<'a>(alloc: Global, words: &'a [&'a str]) -> Result<ArgMatches<'a>, Line
 /// Reads the words behind the program's name.
 pub fn settings<'a>(alloc: Global, words: &'a [&'a str]) -> Result<Options<'a>, LineFault>
     ensures ok { IfOk result (AreSettings (map (λ word. word.now) words.entry.now)) }
-    ensures novisual { IfOk result (λ settings. settings.print.novisual ≡ true) }
     ensures err { IfErr result (IsLineFault (map (λ word. word.now) words.entry.now)) }
 {
     let matches = parse(alloc, words)?;
@@ -127,9 +158,17 @@ pub fn settings<'a>(alloc: Global, words: &'a [&'a str]) -> Result<Options<'a>, 
     let print = Print {
         novisual: is_set(&matches, "novisual"),
         basedir: is_set(&matches, "basedir"),
+        ltov: is_set(&matches, "ltov"),
+        vtol: is_set(&matches, "vtol"),
         levels: is_set(&matches, "levels"),
+        nopad: is_set(&matches, "nopad"),
+        nomirror: is_set(&matches, "nomirror"),
     };
+    let nobreak = is_set(&matches, "nobreak");
     let Some(ucd) = matches.get_str("ucd") else {
+        unreachable!()
+    };
+    let Some(width) = matches.get_one::<u16>("width") else {
         unreachable!()
     };
     let Ok(files) = Vec::from_slice(alloc, matches.get_strs("files").unwrap_or(&[])) else {
@@ -137,7 +176,9 @@ pub fn settings<'a>(alloc: Global, words: &'a [&'a str]) -> Result<Options<'a>, 
     };
     Ok(Options {
         ucd,
+        width,
         base,
+        nobreak,
         print,
         files,
     })

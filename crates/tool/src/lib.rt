@@ -4,16 +4,15 @@
 mod command_line;
 mod faults;
 mod options;
-mod print;
+mod page;
 mod program;
 mod text;
 
 pub use command_line::settings;
 pub use faults::RunFault;
 pub use options::{LineFault, Settings};
-pub use print::Print;
 pub use program::ProgramFault;
-pub use text::{PARAGRAPH_LIMIT, run_text};
+pub use text::run_text;
 
 #[cfg(test)]
 mod levels_tests;

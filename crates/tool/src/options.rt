@@ -1,6 +1,6 @@
 //! What a command line asks for, and why one is refused.
-use crate::print::Print;
 use bidi::Base;
+use lines::Print;
 use thiserror::Error;
 
 /// What the words of a command line ask for.
@@ -8,9 +8,13 @@ use thiserror::Error;
 pub struct Settings<'a> {
     /// The folder of the table files.
     pub ucd: &'a str,
+    /// How many columns a line may take, 1 to 65,535.
+    pub width: u16,
     /// How base levels are found.
     pub base: Base,
-    /// Which lines are printed.
+    /// Whether lines end at mandatory breaks only.
+    pub nobreak: bool,
+    /// What is printed of each line.
     pub print: Print,
     /// The texts, in order, or none for standard input.
     pub files: Vec<&'a str>,

@@ -1,23 +1,21 @@
 //! The run of a text: its bytes are read and checked, its paragraphs found, and lines written for
 //! each. What is written and how the run ends is one function of what the source gives.
-ghost use Rattle.std.specs.Prelude.{◌≡◌, ◌+◌, true, take, length, IfOk, OnErr, vec_len};
+ghost use Rattle.std.specs.Prelude.{◌≡◌, ◌+◌, ◌<◌, true, take, length, IfOk, OnErr, vec_len};
 ghost use Rattle.std.specs.Io.KnownBytes.{IsAtEnd};
 ghost use Rattle.std.specs.Str.{chars};
 ghost use Rattle.std.specs.Str.Lossy.{utf8_valid_len};
-ghost use Rattle.ucd.specs.Tables.{class_of};
-ghost use Rattle.bidi.specs.Cuts.{cut, paragraphs};
+ghost use Rattle.bidi.specs.Cuts.{paragraphs};
+ghost use Rattle.lines.specs.Engine.{rules_of, SameRules};
+ghost use Rattle.lines.specs.Layouts.{cut_by};
 ghost use Rattle.tool.specs.TextRun.{Gave, input_fault};
 ghost use Rattle.tool.specs.TextRun.{IsLinesOf, IsOutputOf, IsTextRun};
 
 use crate::faults::RunFault;
-use crate::print::{Print, push_line};
-use bidi::{Base, first_cut};
+use crate::page::{Page, push_paragraph};
+use bidi::paragraphs_are_pieces;
 use device::{Sink, Source, write_all};
+use lines::{Engine, PARAGRAPH_LIMIT, Print};
 use std::alloc::{AllocError, Global};
-use ucd::Tables;
-
-/// How many characters a paragraph may have.
-pub const PARAGRAPH_LIMIT: usize = 1_048_576;
 
 /// How many bytes are asked of a source at a time.
 const PIECE: usize = 65_536;
@@ -87,32 +85,35 @@ fn front(bytes: &[u8], ending: Ending) -> (&str, Option<RunFault>)
 // paragraph is left out where the text is not whole.
 fn lines_of(
     alloc: Global,
-    tables: &Tables,
-    base: Base,
+    engine: &mut Engine,
+    width: u16,
     print: &Print,
     text: &[char],
     is_whole: bool,
-) -> Result<(Vec<u8>, bool), AllocError>
-    ensures { IfOk result (λ r. IsLinesOf tables.now base print.now
-        (paragraphs (cut (class_of tables.now)) text.now) is_whole r.0.items r.1) }
+) -> Result<(Page, bool), AllocError>
+    requires { 0 < width }
+    ensures lines { IfOk result (λ r. IsLinesOf (rules_of engine.old) width print.now
+        (paragraphs (cut_by (rules_of engine.old)) text.now) is_whole r.0.bytes.items r.1) }
+    ensures rules { SameRules engine.old engine.new }
 {
-    let mut lines = Vec::new(alloc);
+    paragraphs_are_pieces();
+    let mut page = Page::new(alloc);
     let mut rest = text;
-    while let Some(end) = first_cut(tables, rest) {
+    while let Some(end) = engine.first_cut(rest) {
         if end > PARAGRAPH_LIMIT {
-            return Ok((lines, true));
+            return Ok((page, true));
         }
         let (paragraph, behind) = rest.split_at(end);
-        push_line(alloc, &mut lines, tables, base, print, paragraph)?;
+        push_paragraph(alloc, &mut page, engine, width, print, paragraph)?;
         rest = behind;
     }
     if rest.len() > PARAGRAPH_LIMIT {
-        return Ok((lines, true));
+        return Ok((page, true));
     }
     if is_whole && !rest.is_empty() {
-        push_line(alloc, &mut lines, tables, base, print, rest)?;
+        push_paragraph(alloc, &mut page, engine, width, print, rest)?;
     }
-    Ok((lines, false))
+    Ok((page, false))
 }
 
 // The characters of a text.
@@ -125,45 +126,48 @@ fn characters(alloc: Global, text: &str) -> Result<Vec<char>, AllocError>
 // What is written for an input, and how the run then ends.
 fn output_of(
     alloc: Global,
-    tables: &Tables,
-    base: Base,
+    engine: &mut Engine,
+    width: u16,
     print: &Print,
     bytes: &[u8],
     ending: Ending,
-) -> Result<(Vec<u8>, Option<RunFault>), AllocError>
-    ensures { IfOk result (λ r.
-        IsOutputOf tables.now base print.now bytes.now ending r.0.items r.1) }
+) -> Result<(Page, Option<RunFault>), AllocError>
+    requires { 0 < width }
+    ensures output { IfOk result (λ r.
+        IsOutputOf (rules_of engine.old) width print.now bytes.now ending r.0.bytes.items r.1) }
+    ensures rules { SameRules engine.old engine.new }
 {
     let (text, wrong) = front(bytes, ending);
     let characters = characters(alloc, text)?;
-    let (lines, is_long) = lines_of(alloc, tables, base, print, &characters, wrong.is_none())?;
+    let (page, is_long) = lines_of(alloc, engine, width, print, &characters, wrong.is_none())?;
     if is_long {
-        Ok((lines, Some(RunFault::ParagraphTooLong)))
+        Ok((page, Some(RunFault::ParagraphTooLong)))
     } else {
-        Ok((lines, wrong))
+        Ok((page, wrong))
     }
 }
 
-/// Writes the lines of a text's paragraphs.
+/// Writes the lines of a text's paragraphs at a width in columns, which is not 0.
 pub fn run_text<R: Source, W: Sink>(
     alloc: Global,
     reader: &mut R,
     writer: &mut W,
-    tables: &Tables,
-    base: Base,
+    engine: &mut Engine,
+    width: u16,
     print: &Print,
 ) -> Result<(), RunFault>
-    requires { print.now.novisual ≡ true }
-    ensures { IsTextRun tables.now base print.now
+    requires { 0 < width }
+    ensures run { IsTextRun (rules_of engine.old) width print.now
         (R.state reader.old) (R.state reader.new) (W.state writer.old) (W.state writer.new) result }
+    ensures rules { SameRules engine.old engine.new }
 {
     let Ok((bytes, ending)) = read_all(alloc, reader) else {
         return Err(RunFault::Memory);
     };
-    let Ok((lines, end)) = output_of(alloc, tables, base, print, &bytes, ending) else {
+    let Ok((page, end)) = output_of(alloc, engine, width, print, &bytes, ending) else {
         return Err(RunFault::Memory);
     };
-    if let Err(written) = write_all(writer, &lines) {
+    if let Err(written) = write_all(writer, page.bytes()) {
         return Err(RunFault::Write(written as u64));
     }
     match end {

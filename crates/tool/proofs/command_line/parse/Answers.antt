@@ -16,7 +16,7 @@ returns-in-Ok-try_get_matches_from-clause-ok c =
       taken = ap (λ app. fault_of app words) (sym same) ∙ h.kinds (ap is_simple_and_free same ∙ program_is_free);
       rows = (h.matches (ap is_simple same ∙ program_is_simple)).0 ∙ ap (λ app. matches_of app words) same;
       ucd = there.0;
-      novisual = there.1;
+      width = there.1;
     }
 
 pub returns-in-Err-2-clause-err : goal.returns-in-Err-2-clause-err

@@ -1,8 +1,11 @@
-use Rattle.std.proofs.Common.{◌≡◌, ◌∙◌, Bor, List, [], Option, Some, None, ap, codes, is_some, map, option_map, refl, sym, true≢false, unwrap_or}
-use Rattle.clap.specs.Words.{Text, all_of, first_of, found_of}
+use Rattle.std.proofs.Common.{◌≡◌, ◌∙◌, ℕ, Bor, List, Result, arith, [], Option, Some, None, ap, codes, is_some, map, option_map, refl, sym, true≢false, unwrap_or}
+use Rattle.clap.specs.Words.{ReadsOne, Text, all_of, first_of, found_of, one_text, rows_of}
+use Rattle.clap.specs.declared.parser.matches.Found.{Found}
 use Rattle.clap.specs.Takes.{is_given}
-use Rattle.clap.proofs.WalkLemmas.{first_value-rows, raw_values-rows}
-use Rattle.tool.specs.CommandLine.{base_by}
+use Rattle.clap.proofs.WalkLemmas.{first_value-rows, one_text-rows, raw_values-rows}
+use Rattle.std.specs.Str.Parse.{ParsesUnsigned, ExplainsUnsignedError, HasUnsignedDigitsIfOk}
+use Rattle.tool.specs.CommandLine.{HasWidth, base_by, number_of}
+use Rattle.tool.proofs.DefaultLemmas.{number_read}
 use Rattle.tool.proofs.command_line.settings.Goals as goal
 
 -- the texts of a list that may be missing
@@ -16,6 +19,21 @@ unreachable-requires c =
     let found = found_of c.in_ok-matches.matches in
     true≢false (sym (ap is_some (c.in_default-get_str.ensures ∙ first_value-rows found (codes "ucd")) ∙ c.in_ok-matches.ensures.ok.ucd))
 
+-- the width's text is read as the number that it writes
+read_width : (E : Type 0) (Gives : Text → Result ℕ E → Type 0) → ((t : Text) (x : Result ℕ E) → Gives t x → ParsesUnsigned 16 10 t x)
+    → (f : Found) (r : Option ℕ) → HasWidth (rows_of f) → ((t : Text) → one_text f (codes "width") ≡ Some t → ReadsOne Gives t r)
+    → option_map number_of (first_of (codes "width") (rows_of f)) ≡ r
+read_width E Gives parses f r width read =
+    ap (option_map number_of) width.first
+    ∙ sym (number_read E Gives 16 65535 width.text r (read width.text (one_text-rows f (codes "width") ∙ width.one)) parses (omega arith) width.allowed.0 width.allowed.2)
+
+pub unreachable-requires-in_default-get_one : goal.unreachable-requires-in_default-get_one
+unreachable-requires-in_default-get_one c =
+    let found = found_of c.in_ok-matches.matches in
+    let width = c.in_ok-matches.ensures.ok.width in
+    let none = sym (ap (option_map number_of) width.first) ∙ read_width _ (λ t r. ParsesUnsigned 16 10 t r × ExplainsUnsignedError 10 t r × HasUnsignedDigitsIfOk t r) (λ t r gives. gives.0) found None width c.in_default-get_one.ensures.value in
+    true≢false (ap is_some none)
+
 pub returns-clause-ok : goal.returns-clause-ok
 returns-clause-ok c =
     let found = found_of c.in_ok-matches.matches in
@@ -25,13 +43,22 @@ returns-clause-ok c =
     let ltr = c.is_set-2.ensures ∙ given (codes "ltr") in
     let wrtl = c.is_set-3.ensures ∙ given (codes "wrtl") in
     let wltr = c.is_set-4.ensures ∙ given (codes "wltr") in
+    let width = read_width _ (λ t r. ParsesUnsigned 16 10 t r × ExplainsUnsignedError 10 t r × HasUnsignedDigitsIfOk t r) (λ t r gives. gives.0) found (Some c.in-Some-get_one.width) m.width c.in-Some-get_one.ensures.value in
+    let is_width : number_of m.width.text ≡ c.in-Some-get_one.width = ap (λ o. unwrap_or o 0) (sym (ap (option_map number_of) m.width.first) ∙ width) in
     record {
       taken = m.taken;
       ucd = sym (c.in-Some-get_str.ensures ∙ first_value-rows found (codes "ucd") ∙ ap (first_of (codes "ucd")) m.rows);
       base = sym (c.in-Some.ensures ∙ (λ i. base_by (rtl i) (ltr i) (wrtl i) (wltr i)));
+      width = ap (λ rows. option_map number_of (first_of (codes "width") rows)) (sym m.rows) ∙ width;
+      wide = (omega (arith, is_width, m.width.allowed.1), omega (arith, is_width, m.width.allowed.2));
       novisual = c.is_set-5.ensures ∙ given (codes "novisual");
       basedir = c.is_set-6.ensures ∙ given (codes "basedir");
-      levels = c.is_set-7.ensures ∙ given (codes "levels");
+      ltov = c.is_set-7.ensures ∙ given (codes "ltov");
+      vtol = c.is_set-8.ensures ∙ given (codes "vtol");
+      levels = c.is_set-9.ensures ∙ given (codes "levels");
+      nopad = c.is_set-10.ensures ∙ given (codes "nopad");
+      nomirror = c.is_set-11.ensures ∙ given (codes "nomirror");
+      nobreak = c.is_set-nobreak.ensures ∙ given (codes "nobreak");
       files = ap (map (λ s. s.now)) c.in-Ok.ensures.items ∙ ap (λ (s : Bor (List (Bor Text))). map (λ v. v.now) s.now) c.unwrap_or.ensures
           ∙ texts_or_none c.get_strs.result _ refl
           ∙ ap (λ texts. unwrap_or texts []) (c.get_strs.ensures ∙ raw_values-rows found (codes "files") ∙ ap (all_of (codes "files")) m.rows);

@@ -4,7 +4,7 @@ use Rattle.tool.proofs.Devices.{Took-nothing, known-bytes}
 use Rattle.tool.proofs.text.run_text.Goals as goal
 
 -- memory ran out before the source failed, and nothing is written
-pub returns-in_default : goal.returns-in_default
-returns-in_default g c =
+pub returns-in_default-clause-run : goal.returns-in_default-clause-run
+returns-in_default-clause-run g c =
     let old = g.R.Source.state c.args.reader.now in
     (AtEnd, unwrap_or old.bytes [], (known-bytes old.bytes, c.in_default.ensures.err), tt, (0, (Took-nothing (g.W.Sink.state c.args.writer.now), refl)))
