@@ -1,9 +1,10 @@
 //! Worked rows: texts and what is written for them, command lines and messages.
-ghost use Rattle.std.specs.Prelude.{◌≡◌, true};
+ghost use Rattle.std.specs.Prelude.{◌<◌};
 
-use crate::{LineFault, Print, ProgramFault, RunFault, run_text, settings};
+use crate::{LineFault, ProgramFault, RunFault, run_text, settings};
 use bidi::Base;
 use device::{FromRead, ToWrite};
+use lines::{Engine, Print};
 use std::alloc::{AllocError, Global};
 use std::io;
 use std::io::{ErrorKind, Read, Write};
@@ -105,33 +106,36 @@ fn files_with(bidi_class: &[u8]) -> UcdFiles<'_> {
     }
 }
 
-const DIRECTIONS: Print = Print {
-    novisual: true,
-    basedir: true,
-    levels: false,
-};
-
-const LEVELS: Print = Print {
-    novisual: true,
+const LINES: Print = Print {
+    novisual: false,
     basedir: false,
-    levels: true,
+    ltov: false,
+    vtol: false,
+    levels: false,
+    nopad: false,
+    nomirror: false,
 };
 
-const BOTH_LINES: Print = Print {
-    levels: true,
-    ..DIRECTIONS
-};
+pub fn tables(alloc: Global) -> Result<Tables, Fail> {
+    Ok(Tables::read(alloc, &FILES)?)
+}
 
-// The lines that are written for a text, and how its run ends.
+fn engine(alloc: Global, base: Base, nobreak: bool) -> Result<Engine, Fail> {
+    Ok(Engine::new(tables(alloc)?, base, nobreak))
+}
+
+// What is written for a text, and how its run ends.
+type Written = (Vec<u8>, Result<(), RunFault>);
+
 fn lines_of<R: Read + Drop>(
     alloc: Global,
-    tables: &Tables,
-    base: Base,
+    engine: &mut Engine,
+    width: u16,
     print: &Print,
     text: R,
     room: usize,
-) -> (Vec<u8>, Result<(), RunFault>)
-    requires { print.now.novisual ≡ true }
+) -> Written
+    requires { 0 < width }
 {
     let mut taken = Vec::new(alloc);
     let mut reader = FromRead::new(text);
@@ -139,188 +143,172 @@ fn lines_of<R: Read + Drop>(
         taken: &mut taken,
         room,
     });
-    let result = run_text(alloc, &mut reader, &mut writer, tables, base, print);
+    let result = run_text(alloc, &mut reader, &mut writer, engine, width, print);
     drop(writer);
     (taken, result)
 }
 
-pub fn tables(alloc: Global) -> Result<Tables, Fail> {
-    Ok(Tables::read(alloc, &FILES)?)
-}
-
-// A text behind its name, how base levels are found, what is written, and how the run ends.
-type Case<'a> = (&'a str, &'a [u8], Base, &'a [u8], Result<(), RunFault>);
-
-fn check_pieces(
-    rt: &impl Abort,
+// What the command writes by the words of its command line, which have spaces between, from a
+// reader that gives so many bytes at a time to a writer with so much room.
+fn written(
     alloc: Global,
-    tables: &Tables,
-    print: &Print,
-    case: &Case<'_>,
+    options: &str,
+    bytes: &[u8],
     size: usize,
-)
-    requires { print.now.novisual ≡ true }
-{
-    let (name, bytes, base, lines, end) = *case;
-    let pieces = Pieces {
-        bytes,
-        size,
-        fails: false,
-    };
-    let (taken, result) = lines_of(alloc, tables, base, print, pieces, 1000);
-    assert_eq!(rt; taken.as_slice(), lines, "{name:?} by {size}");
-    assert_eq!(rt; result, end, "{name:?} by {size}");
-}
-
-fn check_text(rt: &impl Abort, alloc: Global, tables: &Tables, print: &Print, case: &Case<'_>)
-    requires { print.now.novisual ≡ true }
-{
-    for size in [1, 2, 3, 65_536] {
-        check_pieces(rt, alloc, tables, print, case, size);
+    room: usize,
+) -> Result<Written, Fail> {
+    let words: Vec<&str> = options.split_whitespace().collect(alloc)?;
+    let settings = settings(alloc, &words)?;
+    let mut engine = engine(alloc, settings.base, settings.nobreak)?;
+    let fails = false;
+    let pieces = Pieces { bytes, size, fails };
+    let (width, print) = (settings.width, settings.print);
+    if width == 0 {
+        return Err(Fail::new("no width"));
     }
+    Ok(lines_of(alloc, &mut engine, width, &print, pieces, room))
 }
 
-const DIRECTION_CASES: [Case<'_>; 14] = [
-    ("nothing", b"", Base::WeakLtr, b"", Ok(())),
-    ("latin", b"abc\n", Base::WeakLtr, b"LTR\n", Ok(())),
-    ("two", b"\xd7\x90\na", Base::WeakLtr, b"RTL\nLTR\n", Ok(())),
-    ("no strong", b"1", Base::WeakRtl, b"RTL\n", Ok(())),
+// Options, a text, and its lines.
+type Row<'a> = (&'a str, &'a str, &'a str);
+
+const ROWS: [Row<'_>; 30] = [
+    ("--ucd D", "", ""),
+    ("--ucd D", "abc\n", "abc\n"),
+    ("--ucd D", "abc", "abc\n"),
     (
-        "isolate",
-        b"\xe2\x81\xa7a\xe2\x81\xa9\xd7\x90",
-        Base::WeakLtr,
-        b"RTL\n",
-        Ok(()),
+        "--ucd D --width 5 --levels",
+        "\u{5d0}\u{5d1}\u{5d2}",
+        "  \u{5d2}\u{5d1}\u{5d0}\n1 1 1\n",
     ),
     (
-        "open isolate",
-        b"\xe2\x81\xa7a\nb",
-        Base::WeakRtl,
-        b"RTL\nLTR\n",
-        Ok(()),
-    ),
-    ("forced", b"\xd7\x90\na", Base::Ltr, b"LTR\nLTR\n", Ok(())),
-    (
-        "forced back",
-        b"\xd7\x90\na",
-        Base::Rtl,
-        b"RTL\nRTL\n",
-        Ok(()),
-    ),
-    ("joined", b"\r\n", Base::WeakLtr, b"LTR\n", Ok(())),
-    ("apart", b"\n\r", Base::WeakLtr, b"LTR\nLTR\n", Ok(())),
-    (
-        "bad byte",
-        b"a\nb\xff",
-        Base::WeakLtr,
-        b"LTR\n",
-        Err(RunFault::NotUtf8(3)),
+        "--ucd D --nopad --levels",
+        "\u{5d0}\u{5d1} (x) \u{5d2}",
+        "\u{5d2} (x) \u{5d1}\u{5d0}\n1 1 1 1 2 1 1 1\n",
     ),
     (
-        "bad early",
-        b"a\n\xff",
-        Base::WeakLtr,
-        b"",
-        Err(RunFault::NotUtf8(2)),
+        "--ucd D --nopad --levels --nomirror",
+        "\u{5d0}\u{5d1} (x) \u{5d2}",
+        "\u{5d2} )x( \u{5d1}\u{5d0}\n1 1 1 1 2 1 1 1\n",
     ),
     (
-        "cut off",
-        b"a\nb\xe4\xb8",
-        Base::WeakLtr,
-        b"LTR\n",
-        Err(RunFault::NotUtf8(3)),
+        "--ucd D --nopad --levels",
+        "\u{627} 1",
+        "1 \u{627}\n1 1 2\n",
     ),
-    ("arabic", b"1 \xd8\xa7", Base::WeakLtr, b"RTL\n", Ok(())),
+    ("--ucd D --nopad --levels", "1", "1\n0\n"),
+    ("--ucd D --nopad --levels --wrtl", "1", "1\n2\n"),
+    (
+        "--ucd D --wrtl --novisual --basedir --levels",
+        "\u{2067}a\nb",
+        "RTL\n1 4\nLTR\n0\n",
+    ),
+    ("--ucd D --width 3", "abcdefgh", "abc\ndef\ngh\n"),
+    ("--ucd D --width 3 --nobreak", "abcdefgh", "abcdefgh\n"),
+    ("--ucd D --width 3", "abc   def", "abc\ndef\n"),
+    (
+        "--ucd D --width 1",
+        "\u{4e00}\u{4e00}",
+        "\u{4e00}\n\u{4e00}\n",
+    ),
+    (
+        "--ucd D --nopad --basedir --ltov --vtol --levels",
+        "\u{5d0} 12",
+        "12 \u{5d0}\nRTL\n3 2 0 1\n2 3 1 0\n1 1 2 2\n",
+    ),
+    (
+        "--ucd D --ltr --width 2 --levels",
+        "\u{627}\u{2003}\u{627}",
+        "\u{627}\u{2003}\n1 0\n\u{627}\n1\n",
+    ),
+    ("--ucd D --basedir", "a\u{2028}b", "a\nLTR\nb\n"),
+    ("--ucd D --rtl --width 4 --levels", "\n", "    \n\n"),
+    (
+        "--ucd D --width 1",
+        "e\u{300}e\u{300}e",
+        "e\u{300}\ne\u{300}\ne\n",
+    ),
+    (
+        "--ucd D --ltov --vtol",
+        "ab\u{5d0}\u{5d1}c",
+        "ab\u{5d1}\u{5d0}c\n0 1 3 2 4\n0 1 3 2 4\n",
+    ),
+    (
+        "--ucd D --width 5 --levels",
+        "\u{5d0}  ",
+        "    \u{5d0}\n1\n",
+    ),
+    ("--ucd D --novisual --basedir", "\u{5d0}\na", "RTL\nLTR\n"),
+    ("--ucd D --novisual --basedir --wrtl", "1", "RTL\n"),
+    (
+        "--ucd D --novisual --basedir",
+        "\u{2067}a\u{2069}\u{5d0}",
+        "RTL\n",
+    ),
+    (
+        "--ucd D --novisual --basedir --wrtl",
+        "\u{2067}a\nb",
+        "RTL\nLTR\n",
+    ),
+    (
+        "--ucd D --novisual --basedir --ltr",
+        "\u{5d0}\na",
+        "LTR\nLTR\n",
+    ),
+    (
+        "--ucd D --novisual --basedir --rtl",
+        "\u{5d0}\na",
+        "RTL\nRTL\n",
+    ),
+    ("--ucd D --novisual --basedir", "\r\n", "LTR\n"),
+    ("--ucd D --novisual --basedir", "\n\r", "LTR\nLTR\n"),
+    ("--ucd D --novisual --basedir", "1 \u{627}", "RTL\n"),
 ];
 
-fn check_directions(rt: &impl Abort, alloc: Global, cases: &[Case<'_>]) -> Result<(), Fail> {
-    let tables = tables(alloc)?;
-    for case in cases {
-        check_text(rt, alloc, &tables, &DIRECTIONS, case);
-    }
-    Ok(())
-}
-
-#[test]
-fn directions_of_texts(rt: HostRuntime) -> Result<(), Fail> {
-    check_directions(&rt, rt.alloc(), &DIRECTION_CASES)
-}
-
-// What the command writes for a text, by the words of its command line.
-fn check_words(
-    rt: &impl Abort,
-    alloc: Global,
-    tables: &Tables,
-    words: &[&str],
-    text: &str,
-    lines: &str,
-) -> Result<(), Fail> {
-    let settings = settings(alloc, words)?;
-    let case = (
-        text,
-        text.as_bytes(),
-        settings.base,
+// A reader that gives so many bytes at a time.
+fn check_size(rt: &impl Abort, alloc: Global, row: &Row<'_>, size: usize) -> Result<(), Fail> {
+    let (options, text, lines) = *row;
+    let (taken, result) = written(alloc, options, text.as_bytes(), size, 1000)?;
+    assert_eq!(rt;
+        taken.as_slice(),
         lines.as_bytes(),
-        Ok(()),
+        "{options} {text:?} by {size}"
     );
-    check_text(rt, alloc, tables, &settings.print, &case);
+    assert_eq!(rt; result, Ok(()), "{options} {text:?} by {size}");
     Ok(())
 }
 
-// A text, the word of a direction, and the lines of its levels.
-type LevelRow<'a> = (&'a str, &'a str, &'a str);
-
-const LEVEL_ROWS: [LevelRow<'_>; 17] = [
-    ("", "--wltr", ""),
-    ("\u{5d0}\n", "--wltr", "1 1\n"),
-    ("\u{627} 1", "--wltr", "1 1 2\n"),
-    ("1", "--wrtl", "2\n"),
-    ("\u{5d0}1+2", "--wltr", "1 2 2 2\n"),
-    ("\u{5d0}1++2", "--wltr", "1 2 1 1 2\n"),
-    ("\u{5d0} $1", "--wltr", "1 1 2 2\n"),
-    ("\u{627}$1", "--wltr", "1 1 2\n"),
-    ("a1$\u{5d0}", "--rtl", "2 2 2 1\n"),
-    ("\u{202e}a\n", "--wltr", "0 1 0\n"),
-    ("\u{5d0}\u{5d1} (x) \u{5d2}", "--wltr", "1 1 1 1 2 1 1 1\n"),
-    ("a(\u{5d0})b", "--wltr", "0 0 1 0 0\n"),
-    ("\u{5d0}(a)", "--ltr", "1 0 0 0\n"),
-    ("\u{5d0}(\u{5d1})", "--ltr", "1 1 1 1\n"),
-    ("\u{5d0}(\u{5d1}(a)", "--ltr", "1 1 1 0 0 0\n"),
-    ("a\u{2329}b\u{3009}", "--rtl", "2 2 2 2\n"),
-    ("a(b)\u{300}", "--rtl", "2 2 2 2 2\n"),
-];
-
-fn check_level_row(
-    rt: &impl Abort,
-    alloc: Global,
-    tables: &Tables,
-    row: &LevelRow<'_>,
-) -> Result<(), Fail> {
-    let (text, direction, lines) = *row;
-    let words = ["--ucd", "D", "--novisual", "--levels", direction];
-    check_words(rt, alloc, tables, &words, text, lines)
+// A writer that fails behind so many bytes.
+fn check_room(rt: &impl Abort, alloc: Global, row: &Row<'_>, room: usize) -> Result<(), Fail> {
+    let (options, text, lines) = *row;
+    let (taken, result) = written(alloc, options, text.as_bytes(), 65_536, room)?;
+    let front = lines.as_bytes().get(..room).unwrap_or_default();
+    assert_eq!(rt; taken.as_slice(), front, "{options} {text:?} up to {room}");
+    let fault = RunFault::Write(room as u64);
+    assert_eq!(rt; result, Err(fault), "{options} {text:?} up to {room}");
+    Ok(())
 }
 
-fn check_level_rows(rt: &impl Abort, alloc: Global, rows: &[LevelRow<'_>]) -> Result<(), Fail> {
-    let tables = tables(alloc)?;
+fn check_row(rt: &impl Abort, alloc: Global, row: &Row<'_>) -> Result<(), Fail> {
+    for size in [1, 2, 3, 65_536] {
+        check_size(rt, alloc, row, size)?;
+    }
+    for room in 0..row.2.len() {
+        check_room(rt, alloc, row, room)?;
+    }
+    Ok(())
+}
+
+fn check_rows(rt: &impl Abort, alloc: Global, rows: &[Row<'_>]) -> Result<(), Fail> {
     for row in rows {
-        check_level_row(rt, alloc, &tables, row)?;
+        check_row(rt, alloc, row)?;
     }
     Ok(())
 }
 
 #[test]
-fn levels_of_texts(rt: HostRuntime) -> Result<(), Fail> {
-    check_level_rows(&rt, rt.alloc(), &LEVEL_ROWS)
-}
-
-#[test]
-fn both_lines_of_texts(rt: HostRuntime) -> Result<(), Fail> {
-    let alloc = rt.alloc();
-    let tables = tables(alloc)?;
-    let words = ["--ucd=D", "--novisual", "--levels", "--wrtl", "--basedir"];
-    let lines = "RTL\n1 4 1\nLTR\n0\n";
-    check_words(&rt, alloc, &tables, &words, "\u{2067}a\nb", lines)
+fn lines_of_texts(rt: HostRuntime) -> Result<(), Fail> {
+    check_rows(&rt, rt.alloc(), &ROWS)
 }
 
 // The bytes with a piece so many times behind them, and then some more.
@@ -339,86 +327,122 @@ pub fn repeated(
     Ok(bytes)
 }
 
+// Options, bytes, what is written for them, and how the run ends.
+type Case<'a> = (&'a str, &'a [u8], &'a [u8], Result<(), RunFault>);
+
+fn check_case(rt: &impl Abort, alloc: Global, case: &Case<'_>, size: usize) -> Result<(), Fail> {
+    let (options, bytes, lines, end) = *case;
+    let (taken, result) = written(alloc, options, bytes, size, 2_000_000)?;
+    assert!(rt; taken.as_slice() == lines, "{options} by {size}");
+    assert_eq!(rt; result, end, "{options} by {size}");
+    Ok(())
+}
+
+fn check_cases(rt: &impl Abort, alloc: Global, cases: &[Case<'_>]) -> Result<(), Fail> {
+    for case in cases {
+        for size in [1, 2, 3, 65_536] {
+            check_case(rt, alloc, case, size)?;
+        }
+    }
+    Ok(())
+}
+
+// Only a paragraph of which the character behind its cut was read is complete.
+const BAD_CASES: [Case<'_>; 5] = [
+    ("--ucd D", b"a\nb\xff", b"a\n", Err(RunFault::NotUtf8(3))),
+    ("--ucd D", b"a\n\xff", b"", Err(RunFault::NotUtf8(2))),
+    (
+        "--ucd D",
+        b"a\nb\xe4\xb8",
+        b"a\n",
+        Err(RunFault::NotUtf8(3)),
+    ),
+    ("--ucd D", b"\xff", b"", Err(RunFault::NotUtf8(0))),
+    (
+        "--ucd D --nopad",
+        b"\xd7\x90\n\na\xed\xa0\x80",
+        b"\xd7\x90\n\n",
+        Err(RunFault::NotUtf8(5)),
+    ),
+];
+
+#[test]
+fn bytes_that_are_no_text(rt: HostRuntime) -> Result<(), Fail> {
+    check_cases(&rt, rt.alloc(), &BAD_CASES)
+}
+
 fn check_embeddings(
     rt: &impl Abort,
     alloc: Global,
-    tables: &Tables,
     depth: usize,
     inside: &str,
     levels: &[u8],
 ) -> Result<(), Fail> {
     let text = repeated(alloc, b"", "\u{202b}".as_bytes(), depth, inside.as_bytes())?;
     let lines = repeated(alloc, b"", b"0 ", depth, levels)?;
-    let case = (
-        inside,
-        text.as_slice(),
-        Base::WeakLtr,
-        lines.as_slice(),
-        Ok(()),
-    );
-    check_text(rt, alloc, tables, &LEVELS, &case);
-    Ok(())
+    let options = "--ucd D --nobreak --novisual --levels";
+    check_case(rt, alloc, &(options, &text, &lines, Ok(())), 65_536)
 }
 
 // Embeddings down to the greatest depth, and one more, which opens nothing.
 #[test]
 fn levels_of_deep_embeddings(rt: HostRuntime) -> Result<(), Fail> {
     let alloc = rt.alloc();
-    let tables = tables(alloc)?;
     let inside = "a\u{202c}b\u{202c}c";
-    check_embeddings(&rt, alloc, &tables, 64, inside, b"126 126 126 126 124\n")?;
+    check_embeddings(&rt, alloc, 64, inside, b"126 126 126 126 124\n")?;
     let inside = "a\u{202c}b\u{202c}c\u{202c}d";
-    check_embeddings(
-        &rt,
-        alloc,
-        &tables,
-        65,
-        inside,
-        b"126 126 126 126 126 126 124\n",
-    )
+    check_embeddings(&rt, alloc, 65, inside, b"126 126 126 126 126 126 124\n")
 }
 
-// Brackets inside one another between `x` and `a`, all openers at level 2.
+// Brackets inside one another between `x` and `a`, and the line with its levels.
 fn check_brackets(
     rt: &impl Abort,
     alloc: Global,
-    tables: &Tables,
     depth: usize,
+    line: &[u8],
     closer_level: &[u8],
 ) -> Result<(), Fail> {
     let front = repeated(alloc, b"x", b"(", depth, b"a")?;
     let text = repeated(alloc, &front, b")", depth, b"")?;
-    let front = repeated(alloc, b"2 2", b" 2", depth, b"")?;
-    let line = repeated(alloc, &front, closer_level, depth, b"\n")?;
-    let case = (
-        "brackets",
-        text.as_slice(),
-        Base::Rtl,
-        line.as_slice(),
-        Ok(()),
-    );
-    check_text(rt, alloc, tables, &LEVELS, &case);
-    Ok(())
+    let front = repeated(alloc, line, b"2 ", depth + 1, b"2")?;
+    let lines = repeated(alloc, &front, closer_level, depth, b"\n")?;
+    let options = "--ucd D --rtl --nopad --width 200 --levels";
+    check_case(rt, alloc, &(options, &text, &lines, Ok(())), 65_536)
 }
 
-// As many openers as are held, and one more, at which the pairing stops.
+// As many openers as are held, which are paired and so at level 2, as is all.
 #[test]
-fn levels_of_deep_brackets(rt: HostRuntime) -> Result<(), Fail> {
+fn brackets_that_are_paired(rt: HostRuntime) -> Result<(), Fail> {
     let alloc = rt.alloc();
-    let tables = tables(alloc)?;
-    check_brackets(&rt, alloc, &tables, 63, b" 2")?;
-    check_brackets(&rt, alloc, &tables, 64, b" 1")
+    let front = repeated(alloc, b"x", b"(", 63, b"a")?;
+    let line = repeated(alloc, &front, b")", 63, b"\n")?;
+    check_brackets(&rt, alloc, 63, &line, b" 2")
+}
+
+// One more, at which the pairing stops: the closers are at level 1, in front and mirrored.
+#[test]
+fn brackets_that_are_not_paired(rt: HostRuntime) -> Result<(), Fail> {
+    let alloc = rt.alloc();
+    let front = repeated(alloc, b"", b"(", 64, b"x")?;
+    let line = repeated(alloc, &front, b"(", 64, b"a\n")?;
+    check_brackets(&rt, alloc, 64, &line, b" 1")
 }
 
 // A read that fails behind so many bytes of a text.
-fn check_failing_read(rt: &impl Abort, alloc: Global, tables: &Tables, at: usize, lines: &[u8]) {
+fn check_failing_read(
+    rt: &impl Abort,
+    alloc: Global,
+    engine: &mut Engine,
+    at: usize,
+    lines: &[u8],
+) {
     let text = b"a\nb\xe4\xb8\x80\n\n\xff".as_slice();
     let pieces = Pieces {
         bytes: &text[..at.min(text.len())],
         size: 2,
         fails: true,
     };
-    let (taken, result) = lines_of(alloc, tables, Base::WeakLtr, &DIRECTIONS, pieces, 1000);
+    let (taken, result) = lines_of(alloc, engine, 80, &LINES, pieces, 1000);
     assert_eq!(rt; taken.as_slice(), lines, "behind {at}");
     let end = if at == 9 {
         RunFault::NotUtf8(8)
@@ -428,67 +452,43 @@ fn check_failing_read(rt: &impl Abort, alloc: Global, tables: &Tables, at: usize
     assert_eq!(rt; result, Err(end), "behind {at}");
 }
 
-// A read that fails once, and would go on.
-fn check_read_that_fails_once(rt: &impl Abort, alloc: Global, tables: &Tables) {
-    let once = FailsOnce {
-        before: b"a\nb",
-        behind: b"\ncd",
-        has_failed: false,
-    };
-    let (taken, result) = lines_of(alloc, tables, Base::WeakLtr, &DIRECTIONS, once, 1000);
-    assert_eq!(rt; taken.as_slice(), b"LTR\n".as_slice());
-    assert_eq!(rt; result, Err(RunFault::Read));
-}
-
-// A write that fails behind so many bytes.
-fn check_failing_write(
-    rt: &impl Abort,
-    alloc: Global,
-    tables: &Tables,
-    room: usize,
-    written: &[u8],
-) {
-    let pieces = Pieces {
-        bytes: b"a\n\xd7\x90",
-        size: 3,
-        fails: false,
-    };
-    let (taken, result) = lines_of(alloc, tables, Base::WeakLtr, &BOTH_LINES, pieces, room);
-    assert_eq!(rt; taken.as_slice(), written, "room for {room}");
-    assert_eq!(rt;
-        result,
-        Err(RunFault::Write(room as u64)),
-        "room for {room}"
-    );
-}
-
 // What is written where a read fails behind each beginning of a text.
 const BEFORE_FAILURES: [&[u8]; 10] = [
     b"",
     b"",
     b"",
-    b"LTR\n",
-    b"LTR\n",
-    b"LTR\n",
-    b"LTR\n",
-    b"LTR\n",
-    b"LTR\nLTR\n",
-    b"LTR\nLTR\n",
+    b"a\n",
+    b"a\n",
+    b"a\n",
+    b"a\n",
+    b"a\n",
+    b"a\nb\xe4\xb8\x80\n",
+    b"a\nb\xe4\xb8\x80\n",
 ];
 
-// A read that fails behind each beginning of a text, and a write that fails behind each number of bytes.
 #[test]
-fn devices_that_fail(rt: HostRuntime) -> Result<(), Fail> {
+fn reads_that_fail(rt: HostRuntime) -> Result<(), Fail> {
     let alloc = rt.alloc();
-    let tables = tables(alloc)?;
+    let mut engine = engine(alloc, Base::WeakLtr, false)?;
     for (at, lines) in BEFORE_FAILURES.iter().enumerate() {
-        check_failing_read(&rt, alloc, &tables, at, lines);
+        check_failing_read(&rt, alloc, &mut engine, at, lines);
     }
-    check_read_that_fails_once(&rt, alloc, &tables);
-    let lines = b"LTR\n0 0\nRTL\n1\n";
-    for room in 0..14usize {
-        check_failing_write(&rt, alloc, &tables, room, &lines[..room]);
-    }
+    Ok(())
+}
+
+// A read that fails once, and would go on.
+#[test]
+fn read_that_fails_once(rt: HostRuntime) -> Result<(), Fail> {
+    let alloc = rt.alloc();
+    let mut engine = engine(alloc, Base::WeakLtr, false)?;
+    let once = FailsOnce {
+        before: b"a\nb",
+        behind: b"\ncd",
+        has_failed: false,
+    };
+    let (taken, result) = lines_of(alloc, &mut engine, 80, &LINES, once, 1000);
+    assert_eq!(rt; taken.as_slice(), b"a\n".as_slice());
+    assert_eq!(rt; result, Err(RunFault::Read));
     Ok(())
 }
 
@@ -496,24 +496,21 @@ fn devices_that_fail(rt: HostRuntime) -> Result<(), Fail> {
 fn check_letters(
     rt: &impl Abort,
     alloc: Global,
-    tables: &Tables,
     letters: usize,
     lines: &[u8],
     end: Result<(), RunFault>,
 ) -> Result<(), Fail> {
     let text = repeated(alloc, b"\n", b"a", letters, b"")?;
-    let case = ("letters", text.as_slice(), Base::WeakLtr, lines, end);
-    check_pieces(rt, alloc, tables, &DIRECTIONS, &case, 65_536);
-    Ok(())
+    check_case(rt, alloc, &("--ucd D --nobreak", &text, lines, end), 65_536)
 }
 
 #[test]
 fn long_paragraphs(rt: HostRuntime) -> Result<(), Fail> {
     let alloc = rt.alloc();
-    let tables = tables(alloc)?;
-    check_letters(&rt, alloc, &tables, 1_048_576, b"LTR\nLTR\n", Ok(()))?;
+    let lines = repeated(alloc, b"\n", b"a", 1_048_576, b"\n")?;
+    check_letters(&rt, alloc, 1_048_576, &lines, Ok(()))?;
     let end = Err(RunFault::ParagraphTooLong);
-    check_letters(&rt, alloc, &tables, 1_048_577, b"LTR\n", end)
+    check_letters(&rt, alloc, 1_048_577, b"\n", end)
 }
 
 fn tables_with(alloc: Global, bidi_class: &[u8]) -> Result<Tables, Fail> {
@@ -544,24 +541,6 @@ fn classes_of_files(rt: HostRuntime) -> Result<(), Fail> {
         ('A', BidiClass::AL),
     ];
     check_classes(&rt, rt.alloc(), CLASSES, &rows)
-}
-
-// Where no line is asked for, none is written.
-#[test]
-fn no_lines(rt: HostRuntime) -> Result<(), Fail> {
-    let alloc = rt.alloc();
-    let tables = tables_with(alloc, CLASSES)?;
-    let mut taken = Vec::new(alloc);
-    let mut reader = FromRead::new(b"a\nb".as_slice());
-    let mut writer = ToWrite::new(&mut taken);
-    let print = Print {
-        basedir: false,
-        ..DIRECTIONS
-    };
-    run_text(alloc, &mut reader, &mut writer, &tables, Base::Rtl, &print)?;
-    drop(writer);
-    assert!(rt; taken.is_empty());
-    Ok(())
 }
 
 fn check_fault(
@@ -670,14 +649,12 @@ fn messages_of_runs(rt: HostRuntime) -> Result<(), Fail> {
 
 #[test]
 fn command_lines(rt: HostRuntime) -> Result<(), Fail> {
-    let alloc = rt.alloc();
-    let found = settings(alloc, &["--ucd", "D", "--novisual"])?;
+    let found = settings(rt.alloc(), &["--ucd", "D"])?;
     assert_eq!(rt; found.ucd, "D");
+    assert_eq!(rt; found.width, 80);
     assert_eq!(rt; found.base, Base::WeakLtr);
-    assert!(rt; found.print.novisual && found.files.is_empty());
-    assert!(rt; !found.print.basedir && !found.print.levels);
-    let found = settings(alloc, &["--ucd", "D", "--levels", "--novisual"])?;
-    assert!(rt; !found.print.basedir && found.print.levels);
+    assert_eq!(rt; found.print, LINES);
+    assert!(rt; !found.nobreak && found.files.is_empty());
     Ok(())
 }
 
@@ -685,7 +662,7 @@ fn check_direction(rt: &impl Abort, alloc: Global, word: &str, base: Base) -> Re
     let words = ["-", "--basedir", word, "--novisual", "--ucd=E", "b"];
     let found = settings(alloc, &words)?;
     assert_eq!(rt; found.base, base);
-    assert!(rt; found.print.basedir && found.ucd == "E");
+    assert!(rt; found.print.novisual && found.print.basedir && found.ucd == "E");
     assert_eq!(rt; found.files.as_slice(), ["-", "b"].as_slice());
     Ok(())
 }
@@ -699,30 +676,150 @@ fn command_lines_with_a_direction(rt: HostRuntime) -> Result<(), Fail> {
     check_direction(&rt, alloc, "--wltr", Base::WeakLtr)
 }
 
-fn refused(rt: &impl Abort, alloc: Global, words: &[&str]) -> ProgramFault {
-    ProgramFault::Line(settings(alloc, words).expect_err(rt, "refused"))
+// An option without a value, and what it sets.
+const OPTIONS: [(&str, Print, bool); 8] = [
+    (
+        "--novisual",
+        Print {
+            novisual: true,
+            ..LINES
+        },
+        false,
+    ),
+    (
+        "--basedir",
+        Print {
+            basedir: true,
+            ..LINES
+        },
+        false,
+    ),
+    (
+        "--ltov",
+        Print {
+            ltov: true,
+            ..LINES
+        },
+        false,
+    ),
+    (
+        "--vtol",
+        Print {
+            vtol: true,
+            ..LINES
+        },
+        false,
+    ),
+    (
+        "--levels",
+        Print {
+            levels: true,
+            ..LINES
+        },
+        false,
+    ),
+    (
+        "--nopad",
+        Print {
+            nopad: true,
+            ..LINES
+        },
+        false,
+    ),
+    (
+        "--nomirror",
+        Print {
+            nomirror: true,
+            ..LINES
+        },
+        false,
+    ),
+    ("--nobreak", LINES, true),
+];
+
+fn check_option(rt: &impl Abort, alloc: Global, option: &(&str, Print, bool)) -> Result<(), Fail> {
+    let (word, print, nobreak) = *option;
+    let words = ["--ucd", "D", word];
+    let found = settings(alloc, &words)?;
+    assert_eq!(rt; found.print, print, "{word}");
+    assert_eq!(rt; found.nobreak, nobreak, "{word}");
+    Ok(())
+}
+
+fn check_options(
+    rt: &impl Abort,
+    alloc: Global,
+    options: &[(&str, Print, bool)],
+) -> Result<(), Fail> {
+    for option in options {
+        check_option(rt, alloc, option)?;
+    }
+    Ok(())
 }
 
 #[test]
-fn refused_command_lines(rt: HostRuntime) -> Result<(), Fail> {
+fn options_of_command_lines(rt: HostRuntime) -> Result<(), Fail> {
+    check_options(&rt, rt.alloc(), &OPTIONS)
+}
+
+fn check_width(rt: &impl Abort, alloc: Global, word: &str, width: u16) -> Result<(), Fail> {
+    let words = ["--width", word, "--ucd", "D"];
+    let found = settings(alloc, &words)?;
+    assert_eq!(rt; found.width, width, "{word}");
+    Ok(())
+}
+
+#[test]
+fn widths_of_command_lines(rt: HostRuntime) -> Result<(), Fail> {
     let alloc = rt.alloc();
-    let two = ["--ucd", "D", "--novisual", "--rtl", "--ltr"];
+    check_width(&rt, alloc, "1", 1)?;
+    check_width(&rt, alloc, "65535", 65_535)?;
+    check_width(&rt, alloc, "007", 7)
+}
+
+// The status of a command line that is refused; one that is not has none.
+fn check_refused(rt: &impl Abort, alloc: Global, words: &str, status: u8) -> Result<(), Fail> {
+    let words: Vec<&str> = words.split_whitespace().collect(alloc)?;
+    let found = match settings(alloc, &words) {
+        Ok(_) => None,
+        Err(fault) => Some(ProgramFault::Line(fault).status()),
+    };
+    assert_eq!(rt; found, Some(status), "{words:?}");
+    Ok(())
+}
+
+const REFUSED: [&str; 11] = [
+    "--novisual",
+    "--ucd",
+    "--ucd D --clean",
+    "--ucd D --ucd E",
+    "--ucd D --rtl --ltr",
+    "--ucd D --width 0",
+    "--ucd D --width 65536",
+    "--ucd D --width x",
+    "--ucd D --width -1",
+    "--ucd D --width",
+    "--ucd D --width 3 --width 3",
+];
+
+fn check_all_refused(rt: &impl Abort, alloc: Global, rows: &[&str]) -> Result<(), Fail> {
+    for words in rows {
+        check_refused(rt, alloc, words, 2)?;
+    }
+    Ok(())
+}
+
+#[test]
+fn command_lines_that_are_refused(rt: HostRuntime) -> Result<(), Fail> {
+    let alloc = rt.alloc();
+    check_all_refused(&rt, alloc, &REFUSED)?;
+    check_refused(&rt, alloc, "--help", 0)?;
+    let directions = ProgramFault::Line(LineFault::Directions);
     check_fault(
         &rt,
         alloc,
-        &refused(&rt, alloc, &two),
+        &directions,
         "fribidi: more than one base direction",
         2,
-    )?;
-    let wrong: [(&[&str], u8); 5] = [
-        (&["--novisual"], 2),
-        (&["--ucd", "D"], 2),
-        (&["--ucd", "D", "--novisual", "--ltov"], 2),
-        (&["--ucd", "D", "--novisual", "--ucd", "E"], 2),
-        (&["--help"], 0),
-    ];
-    for (words, status) in wrong {
-        assert_eq!(rt; refused(&rt, alloc, words).status(), status);
-    }
-    Ok(())
+    )
 }

@@ -125,4 +125,4 @@ returns-clause-levels c =
 pub returns-clause-len : goal.returns-clause-len
 returns-clause-len c =
     IfOk-weaker c.put_back.result (λ levels. levels.items ≡ levels_of c.args.tables.now c.args.text.now c.args.base) (λ levels. length levels.items ≡ length c.args.text.now)
-      (λ levels e. ap length e ∙ length-levels_of c.args.tables.now c.args.text.now c.args.base) (returns-clause-levels c)
+    (λ levels e. ap length e ∙ length-levels_of c.args.tables.now c.args.text.now c.args.base) (returns-clause-levels c)
