@@ -3,7 +3,7 @@
 # make demo   both, and the command on the sample text
 # make test   the gate: every proof from nothing, the must-fail edits, the tests and the stored run
 # make bench  the time of the command beside that of Debian's fribidi, edits a second of a session, and the time
-#             of levels and of break marks by what a text is made of
+#             of levels, of break marks and of filling by what a text is made of
 
 UNICODE = /usr/share/unicode
 
@@ -28,7 +28,9 @@ ucd:
 demo: program ucd
 	@cat demo/sample.txt
 	@echo
-	bin/fribidi --ucd ucd --novisual --basedir --levels demo/sample.txt
+	bin/fribidi --ucd ucd --width 44 --basedir demo/sample.txt
+	@echo
+	bin/fribidi --ucd ucd --width 22 demo/sample.txt
 
 test:
 	rt ci
@@ -40,3 +42,4 @@ bench: program ucd
 	bench/edits
 	bench/levels
 	bench/marks
+	bench/fill
