@@ -404,7 +404,7 @@ fn check_brackets(
 ) -> Result<(), Fail> {
     let front = repeated(alloc, b"x", b"(", depth, b"a")?;
     let text = repeated(alloc, &front, b")", depth, b"")?;
-    let front = repeated(alloc, line, b"2 ", depth + 1, b"2")?;
+    let front = repeated(alloc, line, b"2 ", depth, b"2 2")?;
     let lines = repeated(alloc, &front, closer_level, depth, b"\n")?;
     let options = "--ucd D --rtl --nopad --width 200 --levels";
     check_case(rt, alloc, &(options, &text, &lines, Ok(())), 65_536)
