@@ -7,8 +7,8 @@ use Rattle.std.proofs.lemmas.List.{get_or_default, get_or-set_same, get_or-set_o
 use Rattle.std.proofs.lemmas.List.FromFn.{get_or-range_with_len, get_or-map-range_with_len, length-range_with_len, length-map-range_with_len}
 use Rattle.std.proofs.lemmas.List.Sorted.{Contains-permutation, length_permutation, sum_by-IsPermutation}
 use Rattle.std.proofs.lemmas.List.Sums.{get_or-le-sum_by, position_or_len_is, sum_by-cons, sum_by-take-drop}
-use Rattle.lines.specs.Order.{AreInverse}
-use Rattle.lines.proofs.OrderLemmas.{permuted_within}
+use Rattle.lines.specs.Order.{ltov_of, vtol_of, AreInverse}
+use Rattle.lines.proofs.OrderLemmas.{permuted_within, vtol_permutes}
 
 -- one, for a place that is k
 abbrev one : ℕ → ℕ → ℕ
@@ -134,3 +134,22 @@ Placed-positions n vtol ltov k p w past =
     get_or_default ltov j d 0 h ∙ at_place n vtol ltov k there.0 j w past there.1 there.2
     ∙ sym (first_at n vtol there.0 j p there.1 there.2)
     ∙ sym (get_or-map-range_with_len position 0 n j j d within (omega arith)))
+
+-- the first indexes of the places are where they stand
+pub first_positions : (n : ℕ) (vtol : List ℕ) → ArePlaces n vtol → Placed vtol (map (λ j. position_or_len (λ x. x == j) vtol) (range_with_len 0 n)) n
+first_positions n vtol p =
+    let position = λ (j : ℕ). position_or_len (λ x. x == j) vtol in
+    record {
+      sizes = length-map-range_with_len position 0 n ∙ sym p.sizes;
+      done = λ m h.
+          get_or-map-range_with_len position 0 n (get_or vtol m 0) (get_or vtol m 0) 0 (p.within m h) (omega arith)
+          ∙ first_at n vtol m (get_or vtol m 0) p h refl;
+    }
+
+-- so the two maps of a line are inverse
+pub inverse_maps : (levels : List ℕ) → AreInverse (length levels) (vtol_of levels) (ltov_of levels)
+unfolding ltov_of
+inverse_maps levels =
+    let n : ℕ = length levels in
+    let p : ArePlaces n (vtol_of levels) = permuted_places n (vtol_of levels) (vtol_permutes levels) in
+    Placed-inverse n (vtol_of levels) (map (λ j. position_or_len (λ x. x == j) (vtol_of levels)) (range_with_len 0 n)) n p (first_positions n (vtol_of levels) p) (omega arith)

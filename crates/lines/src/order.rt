@@ -1,6 +1,6 @@
 //! The visual order of one line (UAX #9, L2).
 ghost use Rattle.std.specs.Prelude.{◌≡◌, ◌<◌, ◌≤◌, ◌==◌, min, if◌then◌else◌};
-ghost use Rattle.std.specs.Prelude.{[], length, map, unwrap_or, IfSome};
+ghost use Rattle.std.specs.Prelude.{ℕ, List, [], length, map, unwrap_or, IfSome};
 ghost use Rattle.std.specs.List.{position_or_len, prefix_len, range_with_len};
 ghost use Rattle.std.specs.List.Sorted.{IsPermutation};
 ghost use Rattle.bidi.specs.Runs.{AreWithin};
@@ -22,6 +22,11 @@ pub fn order(levels: &[u8], vtol: &mut [u32], ltov: &mut [u32])
     reverse_levels(levels, vtol);
     invert(vtol, ltov);
 }
+
+/// The two maps of a line are inverse, whatever its levels are: a law, which takes no time.
+pub fn maps_are_inverse()
+    ensures { (levels : List ℕ) → AreInverse (length levels) (vtol_of levels) (ltov_of levels) }
+{}
 
 // Writes 0, 1, and so on.
 fn identity(items: &mut [u32])

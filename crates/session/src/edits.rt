@@ -4,9 +4,6 @@ use thiserror::Error;
 /// How many characters a text may have.
 pub const TEXT_LIMIT: usize = 16_777_216;
 
-/// How many characters a paragraph may have.
-pub const PARAGRAPH_LIMIT: usize = 1_048_576;
-
 /// A change of a text. Positions count characters (Unicode scalar values).
 #[derive(Clone, Copy, Debug)]
 pub enum Edit<'a> {

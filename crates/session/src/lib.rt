@@ -8,7 +8,7 @@ mod scan;
 mod touched;
 
 pub use base_session::BaseSession;
-pub use edits::{Edit, EditFault, PARAGRAPH_LIMIT, ParDamage, TEXT_LIMIT};
+pub use edits::{Edit, EditFault, ParDamage, TEXT_LIMIT};
 
 #[cfg(test)]
 mod tests;

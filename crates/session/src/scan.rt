@@ -3,8 +3,8 @@ ghost use Rattle.std.specs.Prelude.{◌≡◌, ℕ, Bool, List, [], ◌∷◌, �
 ghost use Rattle.std.specs.Str.{chars};
 ghost use Rattle.bidi.specs.Engine.{cut_of};
 
-use crate::edits::PARAGRAPH_LIMIT;
 use bidi::BaseEngine;
+use lines::PARAGRAPH_LIMIT;
 
 /// What is known of the characters so far.
 #[derive(Clone, Copy, Debug)]
