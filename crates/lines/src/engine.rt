@@ -174,7 +174,8 @@ impl Engine {
         width: u16,
     ) -> Result<Fill, AllocError>
         requires base { base ≡ base_of (rules_of self.now) text.now }
-        requires levels { levels.now ≡ levels_of (rules_of self.now).tables text.now (rules_of self.now).option }
+        requires levels { levels.now
+            ≡ levels_of (rules_of self.now).tables text.now (rules_of self.now).option }
         requires len { length levels.now ≡ length text.now }
         requires marks { marks.now ≡ marks_of (rules_of self.now).tables text.now }
         requires within { length text.now ≤ 1048576 }

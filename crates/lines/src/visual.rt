@@ -26,7 +26,8 @@ pub(crate) struct Shown {
     pub(crate) columns: u32,
 }
 
-/// The lines of a paragraph at some width. What belongs to a line stands at the place of the line's characters.
+/// The lines of a paragraph at some width. What belongs to a line stands at the place of the line's
+/// characters.
 #[derive(Debug, Drop)]
 pub struct Fill {
     pub(crate) starts: Vec<u32>,
@@ -44,7 +45,8 @@ impl Model for Fill {
 
     ghost Value = { List Line };
 
-    ghost view = { λ f. lines_in f.starts.items f.shown.items f.levels.items f.ltov.items f.vtol.items f.chars.items };
+    ghost view = { λ f.
+        lines_in f.starts.items f.shown.items f.levels.items f.ltov.items f.vtol.items f.chars.items };
 
     ghost invariant = { λ f.
         IsSound f.starts.items f.shown.items f.levels.items f.ltov.items f.vtol.items f.chars.items };

@@ -18,3 +18,5 @@ pub use text::run_text;
 mod levels_tests;
 #[cfg(test)]
 mod tests;
+#[cfg(test)]
+mod words_tests;

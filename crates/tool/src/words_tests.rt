@@ -1,0 +1,328 @@
+//! Worked rows: table files, messages and command lines.
+use crate::tests::{FILES, LINES};
+use crate::{LineFault, ProgramFault, RunFault, settings};
+use bidi::Base;
+use lines::Print;
+use std::alloc::Global;
+use std::process::Abort;
+use std::test::Fail;
+use ucd::{BidiClass, Cause, TableFault, Tables, UcdFiles};
+
+// The table files of the tests with another file of classes.
+fn files_with(bidi_class: &[u8]) -> UcdFiles<'_> {
+    UcdFiles {
+        bidi_class,
+        ..FILES
+    }
+}
+
+fn tables_with(alloc: Global, bidi_class: &[u8]) -> Result<Tables, Fail> {
+    Ok(Tables::read(alloc, &files_with(bidi_class))?)
+}
+
+const CLASSES: &[u8] = b"D800..E000;R\nD800;L\n0041;AL\r";
+
+fn check_classes(
+    rt: &impl Abort,
+    alloc: Global,
+    file: &[u8],
+    rows: &[(char, BidiClass)],
+) -> Result<(), Fail> {
+    let tables = tables_with(alloc, file)?;
+    for (character, class) in rows {
+        assert_eq!(rt; tables.bidi_class(*character), *class, "{character:?}");
+    }
+    Ok(())
+}
+
+#[test]
+fn classes_of_files(rt: HostRuntime) -> Result<(), Fail> {
+    let rows = [
+        ('\u{E000}', BidiClass::R),
+        ('\u{D7FF}', BidiClass::L),
+        ('\u{E001}', BidiClass::L),
+        ('A', BidiClass::AL),
+    ];
+    check_classes(&rt, rt.alloc(), CLASSES, &rows)
+}
+
+fn check_fault(
+    rt: &impl Abort,
+    alloc: Global,
+    fault: &ProgramFault,
+    message: &str,
+    status: u8,
+) -> Result<(), Fail> {
+    assert_eq!(rt; fault.to_string(alloc)?.as_str(), message);
+    assert_eq!(rt; fault.status(), status, "{message}");
+    Ok(())
+}
+
+// What the program says of a table file, and its status; no words mean that the file is good.
+fn check_table(rt: &impl Abort, alloc: Global, file: &[u8], message: &str) -> Result<(), Fail> {
+    match Tables::read(alloc, &files_with(file)) {
+        Ok(_) => {
+            assert_eq!(rt; "", message);
+            Ok(())
+        }
+        Err(fault) => check_fault(rt, alloc, &ProgramFault::Table(fault), message, 1),
+    }
+}
+
+const TABLE_ROWS: [(&[u8], &str); 14] = [
+    (b"0041..0030;L", "fribidi: DerivedBidiClass.txt:1: cause 3"),
+    (
+        b"0041;L\n0041;R",
+        "fribidi: DerivedBidiClass.txt:2: cause 6",
+    ),
+    (b"0041;Q", "fribidi: DerivedBidiClass.txt:1: cause 5"),
+    (b"41;L", "fribidi: DerivedBidiClass.txt:1: cause 2"),
+    (b"110000;L", "fribidi: DerivedBidiClass.txt:1: cause 2"),
+    (b"41;L;x", "fribidi: DerivedBidiClass.txt:1: cause 4"),
+    (b"0041..0030;Q", "fribidi: DerivedBidiClass.txt:1: cause 3"),
+    (b"\x80#", "fribidi: DerivedBidiClass.txt:1: cause 1"),
+    (
+        b"0041..005A;L\n0050;R",
+        "fribidi: DerivedBidiClass.txt:2: cause 6",
+    ),
+    (b"#\x80", ""),
+    (b"D800..E000;R\nD800;L", ""),
+    (b"0041;R\r", ""),
+    (b" \t0041 ; R\t# x\n\n", ""),
+    (
+        b"D800..E000;R\nE000;L",
+        "fribidi: DerivedBidiClass.txt:2: cause 6",
+    ),
+];
+
+fn check_tables(rt: &impl Abort, alloc: Global, rows: &[(&[u8], &str)]) -> Result<(), Fail> {
+    for (file, message) in rows {
+        check_table(rt, alloc, file, message)?;
+    }
+    Ok(())
+}
+
+#[test]
+fn faults_of_tables(rt: HostRuntime) -> Result<(), Fail> {
+    check_tables(&rt, rt.alloc(), &TABLE_ROWS)
+}
+
+const MEMORY: TableFault = TableFault {
+    file: 0,
+    line: 0,
+    cause: Cause::Memory,
+};
+
+#[test]
+fn messages_of_runs(rt: HostRuntime) -> Result<(), Fail> {
+    let alloc = rt.alloc();
+    let rows = [
+        (ProgramFault::Table(MEMORY), "fribidi: out of memory"),
+        (ProgramFault::Run(RunFault::Read), "fribidi: cannot read"),
+        (
+            ProgramFault::Run(RunFault::Write(7)),
+            "fribidi: cannot write after 7 bytes",
+        ),
+        (
+            ProgramFault::Run(RunFault::NotUtf8(3)),
+            "fribidi: not UTF-8 at byte 3",
+        ),
+        (
+            ProgramFault::Run(RunFault::ParagraphTooLong),
+            "fribidi: paragraph too long",
+        ),
+        (
+            ProgramFault::Run(RunFault::Memory),
+            "fribidi: out of memory",
+        ),
+        (
+            ProgramFault::Line(LineFault::NoMemory),
+            "fribidi: out of memory",
+        ),
+        (
+            ProgramFault::TableFile("LineBreak.txt"),
+            "fribidi: cannot read LineBreak.txt",
+        ),
+    ];
+    for (fault, message) in rows {
+        check_fault(&rt, alloc, &fault, message, 1)?;
+    }
+    Ok(())
+}
+
+#[test]
+fn command_lines(rt: HostRuntime) -> Result<(), Fail> {
+    let found = settings(rt.alloc(), &["--ucd", "D"])?;
+    assert_eq!(rt; found.ucd, "D");
+    assert_eq!(rt; found.width, 80);
+    assert_eq!(rt; found.base, Base::WeakLtr);
+    assert_eq!(rt; found.print, LINES);
+    assert!(rt; !found.nobreak && found.files.is_empty());
+    Ok(())
+}
+
+fn check_direction(rt: &impl Abort, alloc: Global, word: &str, base: Base) -> Result<(), Fail> {
+    let words = ["-", "--basedir", word, "--novisual", "--ucd=E", "b"];
+    let found = settings(alloc, &words)?;
+    assert_eq!(rt; found.base, base);
+    assert!(rt; found.print.novisual && found.print.basedir && found.ucd == "E");
+    assert_eq!(rt; found.files.as_slice(), ["-", "b"].as_slice());
+    Ok(())
+}
+
+#[test]
+fn command_lines_with_a_direction(rt: HostRuntime) -> Result<(), Fail> {
+    let alloc = rt.alloc();
+    check_direction(&rt, alloc, "--rtl", Base::Rtl)?;
+    check_direction(&rt, alloc, "--ltr", Base::Ltr)?;
+    check_direction(&rt, alloc, "--wrtl", Base::WeakRtl)?;
+    check_direction(&rt, alloc, "--wltr", Base::WeakLtr)
+}
+
+// An option without a value, and what it sets.
+const OPTIONS: [(&str, Print, bool); 8] = [
+    (
+        "--novisual",
+        Print {
+            novisual: true,
+            ..LINES
+        },
+        false,
+    ),
+    (
+        "--basedir",
+        Print {
+            basedir: true,
+            ..LINES
+        },
+        false,
+    ),
+    (
+        "--ltov",
+        Print {
+            ltov: true,
+            ..LINES
+        },
+        false,
+    ),
+    (
+        "--vtol",
+        Print {
+            vtol: true,
+            ..LINES
+        },
+        false,
+    ),
+    (
+        "--levels",
+        Print {
+            levels: true,
+            ..LINES
+        },
+        false,
+    ),
+    (
+        "--nopad",
+        Print {
+            nopad: true,
+            ..LINES
+        },
+        false,
+    ),
+    (
+        "--nomirror",
+        Print {
+            nomirror: true,
+            ..LINES
+        },
+        false,
+    ),
+    ("--nobreak", LINES, true),
+];
+
+fn check_option(rt: &impl Abort, alloc: Global, option: &(&str, Print, bool)) -> Result<(), Fail> {
+    let (word, print, nobreak) = *option;
+    let words = ["--ucd", "D", word];
+    let found = settings(alloc, &words)?;
+    assert_eq!(rt; found.print, print, "{word}");
+    assert_eq!(rt; found.nobreak, nobreak, "{word}");
+    Ok(())
+}
+
+fn check_options(
+    rt: &impl Abort,
+    alloc: Global,
+    options: &[(&str, Print, bool)],
+) -> Result<(), Fail> {
+    for option in options {
+        check_option(rt, alloc, option)?;
+    }
+    Ok(())
+}
+
+#[test]
+fn options_of_command_lines(rt: HostRuntime) -> Result<(), Fail> {
+    check_options(&rt, rt.alloc(), &OPTIONS)
+}
+
+fn check_width(rt: &impl Abort, alloc: Global, word: &str, width: u16) -> Result<(), Fail> {
+    let words = ["--width", word, "--ucd", "D"];
+    let found = settings(alloc, &words)?;
+    assert_eq!(rt; found.width, width, "{word}");
+    Ok(())
+}
+
+#[test]
+fn widths_of_command_lines(rt: HostRuntime) -> Result<(), Fail> {
+    let alloc = rt.alloc();
+    check_width(&rt, alloc, "1", 1)?;
+    check_width(&rt, alloc, "65535", 65_535)?;
+    check_width(&rt, alloc, "007", 7)
+}
+
+// The status of a command line that is refused; one that is not has none.
+fn check_refused(rt: &impl Abort, alloc: Global, words: &str, status: u8) -> Result<(), Fail> {
+    let words: Vec<&str> = words.split_whitespace().collect(alloc)?;
+    let found = match settings(alloc, &words) {
+        Ok(_) => None,
+        Err(fault) => Some(ProgramFault::Line(fault).status()),
+    };
+    assert_eq!(rt; found, Some(status), "{words:?}");
+    Ok(())
+}
+
+const REFUSED: [&str; 11] = [
+    "--novisual",
+    "--ucd",
+    "--ucd D --clean",
+    "--ucd D --ucd E",
+    "--ucd D --rtl --ltr",
+    "--ucd D --width 0",
+    "--ucd D --width 65536",
+    "--ucd D --width x",
+    "--ucd D --width -1",
+    "--ucd D --width",
+    "--ucd D --width 3 --width 3",
+];
+
+fn check_all_refused(rt: &impl Abort, alloc: Global, rows: &[&str]) -> Result<(), Fail> {
+    for words in rows {
+        check_refused(rt, alloc, words, 2)?;
+    }
+    Ok(())
+}
+
+#[test]
+fn command_lines_that_are_refused(rt: HostRuntime) -> Result<(), Fail> {
+    let alloc = rt.alloc();
+    check_all_refused(&rt, alloc, &REFUSED)?;
+    check_refused(&rt, alloc, "--help", 0)?;
+    let directions = ProgramFault::Line(LineFault::Directions);
+    check_fault(
+        &rt,
+        alloc,
+        &directions,
+        "fribidi: more than one base direction",
+        2,
+    )
+}
