@@ -7,5 +7,6 @@ pub mod Entries
 pub mod Files
 pub mod Grammar
 pub mod LineClasses
+pub mod Properties
 pub mod Tables
 pub mod Widths

@@ -12,6 +12,7 @@ mod fault;
 mod file;
 mod grammar;
 mod line_class;
+mod properties;
 mod range_table;
 mod tables;
 mod width;
@@ -20,6 +21,7 @@ pub use bidi_class::BidiClass;
 pub use bracket::Bracket;
 pub use fault::{Cause, FILE_NAMES, TableFault};
 pub use line_class::LineClass;
+pub use properties::Properties;
 pub use tables::{Tables, UcdFiles};
 
 #[cfg(test)]

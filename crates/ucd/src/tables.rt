@@ -14,6 +14,7 @@ use crate::fault::TableFault;
 use crate::file::read_file;
 use crate::grammar::Property;
 use crate::line_class::LineClass;
+use crate::properties::Properties;
 use crate::range_table::RangeTable;
 use crate::width::Width;
 use std::alloc::Global;
@@ -75,6 +76,8 @@ fn read_table<V: Property>(
 }
 
 impl Tables {
+    ghost use Rattle.ucd.specs.Properties.{properties_of};
+
     /// Reads the files. The first line at fault, in the order of the files and of their lines, is
     /// answered, with the first cause that holds (docs/PROFILE.md).
     pub fn read(alloc: Global, files: &UcdFiles<'_>) -> Result<Tables, TableFault>
@@ -140,6 +143,21 @@ impl Tables {
         ensures { result ≡ is_future_pictograph_in self.now c }
     {
         self.pictographs.get(u32::from(c)).is_some() && self.category(c) == Category::Unassigned
+    }
+
+    /// All of this but which bracket and which mirror, looked up once.
+    pub fn properties(&self, c: char) -> Properties
+        ensures { result ≡ properties_of self.now c }
+    {
+        Properties {
+            bidi_class: self.bidi_class(c),
+            line_class: self.line_class(c),
+            is_wide: self.is_wide(c),
+            is_mark: self.is_mark(c),
+            is_future_pictograph: self.is_future_pictograph(c),
+            has_bracket: self.bracket(c).is_some(),
+            has_mirror: self.mirror(c).is_some(),
+        }
     }
 
     fn category(&self, c: char) -> Category
