@@ -12,6 +12,8 @@ mod fault;
 mod file;
 mod grammar;
 mod line_class;
+mod pages;
+mod points;
 mod properties;
 mod range_table;
 mod tables;
