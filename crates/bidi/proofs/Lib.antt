@@ -6,6 +6,7 @@ pub mod LeastLemmas
 mod LevelLemmas
 mod MatchLemmas
 mod NeighbourLemmas
+mod NeutralLemmas
 mod OpenersLemmas
 pub mod PairLemmas
 mod PiecesLemmas

@@ -14,6 +14,7 @@ pub mod Openers
 pub mod Paragraphs
 pub mod Pieces
 pub mod Resolving
+pub mod Rows
 pub mod Rules
 pub mod Runs
 pub mod Sequences

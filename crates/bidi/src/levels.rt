@@ -2,22 +2,19 @@
 ghost use Rattle.std.specs.Prelude.{◌≡◌, ◌<◌, ◌≤◌, false, map, replicate, length, slice_index};
 ghost use Rattle.std.specs.Prelude.{IfSome, IfOk, OnOk};
 ghost use Rattle.ucd.specs.Tables.{class_of, bracket_of};
-ghost use Rattle.bidi.specs.Brackets.{brackets};
 ghost use Rattle.bidi.specs.Classes.{class_at};
-ghost use Rattle.bidi.specs.Levels.{levels_of, put, put_back, resolved};
-ghost use Rattle.bidi.specs.Neutral.{implicit_level, neutral};
+ghost use Rattle.bidi.specs.Levels.{levels_of, put, put_back, resolved, sequence_levels};
 ghost use Rattle.bidi.specs.Paragraphs.{AreSides, IsReady, Takes, resolved_by, write_by};
 ghost use Rattle.bidi.specs.Runs.{AreWithin, marked};
-ghost use Rattle.bidi.specs.Sequences.{direction, stayed};
+ghost use Rattle.bidi.specs.Sequences.{stayed};
 ghost use Rattle.bidi.specs.Stayed.{HasAll};
-ghost use Rattle.bidi.specs.Weak.{weak};
 
 use crate::base::{Base, base_level};
 use crate::brackets::{Pairs, copy_types};
 use crate::classes::is_removed;
 use crate::explicit::{Stayed, explicit};
 use crate::isolates::{directed, matches};
-use crate::neutral::{implicit_level, resolve_neutral};
+use crate::neutral::resolve_neutral;
 use crate::sequences::{direction, eos, gather, next_run, run_end, sos};
 use crate::weak::resolve_weak;
 use std::alloc::{AllocError, Global};
@@ -63,14 +60,13 @@ fn take_characters(
 }
 
 // Writes the level of each character of a sequence to its place.
-fn put_levels(levels: &mut [u8], places: &[usize], level: u8, types: &[BidiClass])
+fn put_levels(levels: &mut [u8], places: &[usize], values: &[u8])
     requires within { AreWithin (length levels.old) places.now }
-    requires length { length types.now ≡ length places.now }
-    requires bounded { level ≤ 125 }
-    ensures { levels.new ≡ put levels.old places.now (map (implicit_level level) types.now) }
+    requires length { length values.now ≡ length places.now }
+    ensures { levels.new ≡ put levels.old places.now values.now }
 {
     for (at, place) in places.iter().enumerate() {
-        levels[*place] = implicit_level(level, types[at]);
+        levels[*place] = values[at];
     }
 }
 
@@ -110,7 +106,7 @@ fn sides_of(paragraph: &Paragraph<'_>, places: &[usize]) -> Sides
     }
 }
 
-// The rules over the types of a sequence, from the weak to the neutral ones.
+// The levels of a sequence, by all rules over its types, from the weak to the implicit ones.
 fn resolve_types(
     tables: &Tables,
     characters: &[char],
@@ -118,22 +114,30 @@ fn resolve_types(
     types: &mut [BidiClass],
     pairs: &mut Pairs,
     sides: Sides,
+    levels: &mut [u8],
 ) -> Result<(), AllocError>
     requires characters { length characters.now ≡ length types.old }
     requires explicit { explicit.now ≡ types.old }
-    ensures { OnOk result (types.new ≡ neutral (direction sides.level) sides.sos sides.eos
-        (brackets (bracket_of tables.now) (direction sides.level) sides.sos characters.now explicit.now
-        (weak sides.sos types.old))) }
+    requires levels { length levels.old ≡ length types.old }
+    requires bounded { sides.level ≤ 125 }
+    ensures { OnOk result (levels.new
+        ≡ sequence_levels (bracket_of tables.now) sides.level sides.sos sides.eos characters.now types.old) }
 {
-    let embedding = direction(sides.level);
     resolve_weak(types, sides.sos);
-    pairs.resolve(tables, characters, explicit, types, embedding, sides.sos)?;
-    resolve_neutral(types, embedding, sides.sos, sides.eos);
+    pairs.resolve(
+        tables,
+        characters,
+        explicit,
+        types,
+        direction(sides.level),
+        sides.sos,
+    )?;
+    resolve_neutral(types, sides.level, sides.sos, sides.eos, levels);
     Ok(())
 }
 
 // What the levels of a sequence are found in, used again for each sequence: the places of its
-// characters, these, their explicit types and their types.
+// characters, these, their explicit types, their types and their levels.
 #[derive(Drop)]
 struct Sequence {
     places: Vec<usize>,
@@ -141,6 +145,7 @@ struct Sequence {
     explicit: Vec<BidiClass>,
     types: Vec<BidiClass>,
     pairs: Pairs,
+    levels: Vec<u8>,
 }
 
 impl Sequence {
@@ -152,6 +157,7 @@ impl Sequence {
             explicit: Vec::with_capacity(alloc, capacity)?,
             types: Vec::with_capacity(alloc, capacity)?,
             pairs: Pairs::with_capacity(alloc, capacity)?,
+            levels: Vec::with_capacity(alloc, capacity)?,
         })
     }
 
@@ -188,6 +194,7 @@ impl Sequence {
     {
         self.take(paragraph, start)?;
         let sides = sides_of(paragraph, &self.places);
+        self.levels.resize(self.types.len(), 0)?;
         resolve_types(
             paragraph.tables,
             &self.characters,
@@ -195,8 +202,9 @@ impl Sequence {
             &mut self.types,
             &mut self.pairs,
             sides,
+            &mut self.levels,
         )?;
-        put_levels(resolved, &self.places, sides.level, &self.types);
+        put_levels(resolved, &self.places, &self.levels);
         Ok(())
     }
 }

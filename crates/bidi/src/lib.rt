@@ -8,6 +8,7 @@ mod classes;
 mod cuts;
 mod engine;
 mod explicit;
+mod fill;
 mod isolates;
 mod levels;
 mod neutral;
