@@ -11,6 +11,8 @@ mod OpenersLemmas
 pub mod PairLemmas
 mod PiecesLemmas
 mod RunLemmas
+mod WaitingLemmas
+mod WeakLemmas
 mod WorkedBrackets
 mod WorkedLevels
 mod WorkedRows

@@ -19,4 +19,5 @@ pub mod Rules
 pub mod Runs
 pub mod Sequences
 pub mod Stayed
+pub mod Waiting
 pub mod Weak

@@ -5,7 +5,7 @@ use Rattle.bidi.proofs.neutral.resolve_neutral.Goals as goal
 use Rattle.bidi.proofs.neutral.resolve_neutral.Goals.{then-not-is_neutral, else-not-is_neutral}
 
 pub loop-at-init : goal.loop-at-init
-loop-at-init c = record { sizes = c.requires.length; order = omega arith; whole = refl; }
+loop-at-init c = record { sizes = c.requires.length; order = omega arith; whole = refl }
 
 pub loop-at-preserved : goal.loop-at-preserved
 loop-at-preserved c =
