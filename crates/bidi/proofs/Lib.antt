@@ -11,6 +11,9 @@ mod OpenersLemmas
 pub mod PairLemmas
 mod PiecesLemmas
 mod RunLemmas
+mod FlatLemmas
+mod NoBracketLemmas
+mod PlainLemmas
 mod WaitingLemmas
 mod WeakLemmas
 mod WorkedBrackets

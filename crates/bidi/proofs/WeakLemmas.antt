@@ -20,20 +20,20 @@ carry-is rule by_nearest test other same front (item ∷ items) =
     ∙ ap (λ xs. by_nearest (nearest test other front) item items ∷ xs) (carry-is rule by_nearest test other same (item ∷ front) items)
 
 -- the rules as such
-abbrev separator_type : BidiClass → BidiClass → List BidiClass → BidiClass
+abbrev pub separator_type : BidiClass → BidiClass → List BidiClass → BidiClass
 separator_type before type behind = w4_at (before ∷ []) type behind
 
-abbrev any : BidiClass → Bool
+abbrev pub any : BidiClass → Bool
 any type = true
 
-abbrev ends_row : BidiClass → Bool
+abbrev pub ends_row : BidiClass → Bool
 ends_row type = not (is_terminator type)
 
-abbrev terminator_type : BidiClass → BidiClass → List BidiClass → BidiClass
+abbrev pub terminator_type : BidiClass → BidiClass → List BidiClass → BidiClass
 terminator_type before type behind =
     if is_terminator type then (if is_number before || is_number (nearest ends_row ON behind) then EN else ET) else type
 
-abbrev left_type : BidiClass → BidiClass → List BidiClass → BidiClass
+abbrev pub left_type : BidiClass → BidiClass → List BidiClass → BidiClass
 left_type strong type behind = if is_number type && is_left strong then L else type
 
 w1-by : (sos : BidiClass) (front : List BidiClass) (type : BidiClass) (behind : List BidiClass) → w1_at sos front type behind ≡ mark_type (nearest (λ t. not (is_mark t)) sos front) type
@@ -68,11 +68,11 @@ w7-by sos front EN behind = refl
 w7-by sos front _ behind = refl
 
 -- W4 to W7, behind the types that they look back at
-abbrev later : BidiClass → BidiClass → BidiClass → List BidiClass → List BidiClass
+abbrev pub later : BidiClass → BidiClass → BidiClass → List BidiClass → List BidiClass
 later before number strong types =
     carry left_type is_strong strong (map w6_type (carry terminator_type ends_row number (carry separator_type any before types)))
 
-weak-later : (sos : BidiClass) (types : List BidiClass) → weak sos types ≡ later ON ON sos (read_types sos sos types)
+pub weak-later : (sos : BidiClass) (types : List BidiClass) → weak sos types ≡ later ON ON sos (read_types sos sos types)
 weak-later sos types =
     let first = w1 sos types in
     let second = w2 sos first in

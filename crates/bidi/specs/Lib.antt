@@ -13,6 +13,7 @@ pub mod Neutral
 pub mod Openers
 pub mod Paragraphs
 pub mod Pieces
+pub mod Plain
 pub mod Resolving
 pub mod Rows
 pub mod Rules
