@@ -14,7 +14,7 @@ use Rattle.bidi.specs.Explicit.{directed, is_first_strong, level_at, open_after,
 use Rattle.bidi.specs.Levels.{levels_by, paragraph_levels, put_back, resolved, sequence_levels}
 use Rattle.bidi.specs.Neighbours.{nearest}
 use Rattle.bidi.specs.Neutral.{agree, implicit_level, is_neutral, neutral, side}
-use Rattle.bidi.specs.Plain.{is_level}
+use Rattle.bidi.specs.Plain.{is_flat}
 use Rattle.bidi.specs.Rows.{levels_behind, row_level}
 use Rattle.bidi.specs.Sequences.{direction, is_removed, stayed}
 use Rattle.bidi.specs.Waiting.{carry, digit_type, mark_type, read_types}
@@ -30,7 +30,7 @@ Passes test types = All (λ type. test type ≡ true) types
 
 -- what is left of such a paragraph: before W1, behind it, behind W6, and behind W7
 abbrev is_first : BidiClass → Bool
-is_first type = is_level type && not (is_removed type)
+is_first type = is_flat type && not (is_removed type)
 
 abbrev is_marked : BidiClass → Bool
 is_marked L = true
@@ -266,7 +266,7 @@ sequence_levels-zero bracket characters types first =
     let paired = brackets bracket L L characters types (weak L types) in
     let now : IsCalm (length types) paired =
     fold-calm (length types) (map is_mark types) (closer_of (pairs_of bracket characters (weak L types))) (range_with_len 0 (length (weak L types))) (weak L types)
-    (record { calm = weak-calm types first; size = length-weak types; }) in
+    (record { calm = weak-calm types first; size = length-weak types }) in
     sym (levels_behind-is 0 L L paired) ∙ calm_levels 0 paired now.calm ∙ ap zeros (zero-add (length paired) ∙ now.size)
 
 -- the levels put back are 0 too
@@ -282,27 +282,27 @@ put_back-zero (class ∷ classes) (suc m) =
     ]
 
 -- what such a class is
-level-closed : (class : BidiClass) → is_level class ≡ true → open_after [] class ≡ []
-level-closed LRE e = absurd (cc)
-level-closed LRO e = absurd (cc)
-level-closed RLE e = absurd (cc)
-level-closed RLO e = absurd (cc)
-level-closed LRI e = absurd (cc)
-level-closed RLI e = absurd (cc)
-level-closed class e = refl
+flat-closed : (class : BidiClass) → is_flat class ≡ true → open_after [] class ≡ []
+flat-closed LRE e = absurd (cc)
+flat-closed LRO e = absurd (cc)
+flat-closed RLE e = absurd (cc)
+flat-closed RLO e = absurd (cc)
+flat-closed LRI e = absurd (cc)
+flat-closed RLI e = absurd (cc)
+flat-closed class e = refl
 
-level-directed : (class : BidiClass) → is_level class ≡ true → is_first_strong class ≡ false
-level-directed FSI e = absurd (cc)
-level-directed class e = refl
+flat-directed : (class : BidiClass) → is_flat class ≡ true → is_first_strong class ≡ false
+flat-directed FSI e = absurd (cc)
+flat-directed class e = refl
 
-level-other : (class : BidiClass) → is_level class ≡ true → is_initiator class ≡ false
-level-other LRI e = absurd (cc)
-level-other RLI e = absurd (cc)
-level-other FSI e = absurd (cc)
-level-other class e = refl
+flat-other : (class : BidiClass) → is_flat class ≡ true → is_initiator class ≡ false
+flat-other LRI e = absurd (cc)
+flat-other RLI e = absurd (cc)
+flat-other FSI e = absurd (cc)
+flat-other class e = refl
 
-level-first : (class : BidiClass) → is_level class ≡ true → not (is_removed class) ≡ true → is_first class ≡ true
-level-first class e f = ap (λ b. b && not (is_removed class)) e ∙ f
+flat-first : (class : BidiClass) → is_flat class ≡ true → not (is_removed class) ≡ true → is_first class ≡ true
+flat-first class e f = ap (λ b. b && not (is_removed class)) e ∙ f
 
 first-other : (class : BidiClass) → is_first class ≡ true → is_initiator class ≡ false
 first-other LRI e = absurd (cc)
@@ -310,17 +310,17 @@ first-other RLI e = absurd (cc)
 first-other FSI e = absurd (cc)
 first-other class e = refl
 
-level_at-place : (classes : List BidiClass) → Passes is_level classes → (k : ℕ) → is_level (class_at classes k) ≡ true
-level_at-place classes level k =
+flat_at : (classes : List BidiClass) → Passes is_flat classes → (k : ℕ) → is_flat (class_at classes k) ≡ true
+flat_at classes level k =
     elim (cases_lt k (length classes)) [
-      | inl within ↦ All-get_or (λ t. is_level t ≡ true) classes k ON within level
-      | inr past ↦ ap is_level (get_or_past classes k ON past)
+      | inl within ↦ All-get_or (λ t. is_flat t ≡ true) classes k ON within level
+      | inr past ↦ ap is_flat (get_or_past classes k ON past)
     ]
 
-pub zero_levels : (bracket : ℕ → Option Bracket) (text : List ℕ) (classes : List BidiClass) → Passes is_level classes → paragraph_levels bracket text classes 0 ≡ replicate (length classes) 0
+pub zero_levels : (bracket : ℕ → Option Bracket) (text : List ℕ) (classes : List BidiClass) → Passes is_flat classes → paragraph_levels bracket text classes 0 ≡ replicate (length classes) 0
 zero_levels bracket text classes level =
-    let closed = All-weaker (λ c. is_level c ≡ true) (λ c. open_after [] c ≡ []) level-closed classes level in
-    let same : directed classes ≡ classes = directed-none classes (All-weaker (λ c. is_level c ≡ true) (λ c. is_first_strong c ≡ false) level-directed classes level) in
+    let closed = All-weaker (λ c. is_flat c ≡ true) (λ c. open_after [] c ≡ []) flat-closed classes level in
+    let same : directed classes ≡ classes = directed-none classes (All-weaker (λ c. is_flat c ≡ true) (λ c. is_first_strong c ≡ false) flat-directed classes level) in
     let places = stayed classes in
     let n = length places in
     let characters = map (slice_index text) places in
@@ -331,7 +331,7 @@ zero_levels bracket text classes level =
     let first : Passes is_first left =
     All-map (λ t. is_first t ≡ true) (class_at classes) places (
     All-weaker (λ k. not (is_removed (class_at classes k)) ≡ true) (λ k. is_first (class_at classes k) ≡ true)
-    (λ k stays. level-first (class_at classes k) (level_at-place classes level k) stays)
+    (λ k stays. flat-first (class_at classes k) (flat_at classes level k) stays)
     places (filter_passes (λ k. not (is_removed (class_at classes k))) (range_with_len 0 (length classes)))) in
     let all_zero : sequence_levels bracket 0 L L characters left ≡ replicate n 0 = sequence_levels-zero bracket characters left first ∙ ap zeros size in
     let done : resolved bracket 0 characters left (replicate n 0) left ≡ replicate n 0 =

@@ -3,6 +3,7 @@ mod ExplicitLemmas
 mod IsolateLemmas
 mod JumpLemmas
 pub mod LeastLemmas
+mod LengthLemmas
 mod LevelLemmas
 mod MatchLemmas
 mod NeighbourLemmas
@@ -10,6 +11,7 @@ mod NeutralLemmas
 mod OpenersLemmas
 pub mod PairLemmas
 mod PiecesLemmas
+mod ResolverLemmas
 mod RunLemmas
 mod FlatLemmas
 mod NoBracketLemmas

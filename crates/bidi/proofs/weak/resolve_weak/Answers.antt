@@ -8,7 +8,7 @@ use Rattle.bidi.proofs.weak.resolve_weak.Goals as goal
 use Rattle.bidi.proofs.weak.resolve_weak.Goals.{then-completes, else-completes}
 
 pub loop-at-init : goal.loop-at-init
-loop-at-init c = record { sizes = refl; order = omega arith; rest = refl; waiting = refl; whole = refl; }
+loop-at-init c = record { sizes = refl; order = omega arith; rest = refl; waiting = refl; whole = refl }
 
 pub loop-at-preserved : goal.loop-at-preserved
 loop-at-preserved c =

@@ -5,8 +5,8 @@ use Rattle.ucd.specs.declared.bidi_class.BidiClass.{BidiClass}
 use Rattle.ucd.specs.declared.bidi_class.BidiClass.TheVariants.{L, ON}
 use Rattle.bidi.specs.Classes.{class_at, is_initiator, is_pdi}
 use Rattle.bidi.proofs.MatchLemmas.{Opens, Opens-up, Opens-down, Opens-down_none, Opens-flat, Opens-end}
-use Rattle.bidi.proofs.isolates.matches.Goals as goal
-use Rattle.bidi.proofs.isolates.matches.Goals.{then-is_initiator+in_ok-push, else-is_initiator+then-is_pdi, else-is_initiator+else-is_pdi}
+use Rattle.bidi.proofs.isolates.find_matches.Goals as goal
+use Rattle.bidi.proofs.isolates.find_matches.Goals.{then-is_initiator+in_ok-push, else-is_initiator+then-is_pdi, else-is_initiator+else-is_pdi}
 
 -- what was answered of the class at a place
 told : (p : BidiClass → Bool) (classes : List BidiClass) (k : ℕ) (answer : Bool) → k < length classes → answer ≡ p (get_or classes k L) → p (class_at classes k) ≡ answer

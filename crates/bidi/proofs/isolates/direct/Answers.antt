@@ -7,7 +7,7 @@ use Rattle.ucd.specs.declared.bidi_class.BidiClass.{BidiClass}
 use Rattle.ucd.specs.declared.bidi_class.BidiClass.TheVariants.{ON, FSI}
 use Rattle.bidi.specs.Classes.{class_at}
 use Rattle.bidi.specs.Explicit.{directed, directed_at, is_first_strong}
-use Rattle.bidi.proofs.isolates.directed.Goals as goal
+use Rattle.bidi.proofs.isolates.direct.Goals as goal
 
 directed_at-other : (classes : List BidiClass) (k : ℕ) (class : BidiClass) → is_first_strong class ≡ false → directed_at classes k class ≡ class
 directed_at-other classes k FSI other = absurd (cc)
@@ -26,11 +26,11 @@ abbrev acting : List BidiClass → ℕ → BidiClass
 acting classes k = directed_at classes k (class_at classes k)
 
 pub returns-then-not-has_first_strong : goal.returns-then-not-has_first_strong
-returns-then-not-has_first_strong c = directed-none c.args.classes.items (ap (list_any is_first_strong) (sym c.deref.ensures.value) ∙ sym c.if-not-has_first_strong.ensures)
+returns-then-not-has_first_strong c = c.in_ok-copy_types.ensures ∙ directed-none c.args.classes.now (sym c.if-not-has_first_strong.ensures)
 
 pub loop-at-preserved : goal.loop-at-preserved
 loop-at-preserved c =
     c.in_ok-push.ensures.items
     ∙ ap (λ items. items ++ c.acting_class.result ∷ []) c.loop-at.invariant
-    ∙ ap (λ class. map (acting c.args.classes.items) (range_with_len 0 c.loop-at.at) ++ class ∷ []) (rw c.deref-in-loop-at.ensures.value at c.acting_class.ensures)
-    ∙ sym (map-range_with_len_more (acting c.args.classes.items) 0 c.loop-at.at c.loop-at.at (omega arith))
+    ∙ ap (λ class. map (acting c.args.classes.now) (range_with_len 0 c.loop-at.at) ++ class ∷ []) c.acting_class.ensures
+    ∙ sym (map-range_with_len_more (acting c.args.classes.now) 0 c.loop-at.at c.loop-at.at (omega arith))
