@@ -3,13 +3,21 @@ mod ExplicitLemmas
 mod IsolateLemmas
 mod JumpLemmas
 pub mod LeastLemmas
+mod LengthLemmas
 mod LevelLemmas
 mod MatchLemmas
 mod NeighbourLemmas
+mod NeutralLemmas
 mod OpenersLemmas
 pub mod PairLemmas
 mod PiecesLemmas
+mod ResolverLemmas
 mod RunLemmas
+mod FlatLemmas
+mod NoBracketLemmas
+mod PlainLemmas
+mod WaitingLemmas
+mod WeakLemmas
 mod WorkedBrackets
 mod WorkedLevels
 mod WorkedRows

@@ -1,6 +1,7 @@
 -- Kinds of bidirectional classes (UAX #9, section 3.2, and BD8).
 use Rattle.std.specs.Prelude.{ℕ, Bool, true, false, List, slice_index_or}
 use Rattle.ucd.specs.declared.bidi_class.BidiClass.{BidiClass}
+use Rattle.ucd.specs.declared.properties.Properties.{Properties}
 use Rattle.ucd.specs.declared.bidi_class.BidiClass.TheVariants.{L, R, AL, B, ON, LRI, RLI, FSI, PDI}
 
 abbrev pub is_strong : BidiClass → Bool
@@ -28,3 +29,7 @@ is_separator _ = false
 -- the class at an index
 abbrev pub class_at : List BidiClass → ℕ → BidiClass
 class_at classes k = slice_index_or classes k ON
+
+-- the class in what tables say of a character
+abbrev pub class_in : Properties → BidiClass
+class_in properties = properties.bidi_class

@@ -13,9 +13,12 @@ pub mod Neutral
 pub mod Openers
 pub mod Paragraphs
 pub mod Pieces
+pub mod Plain
 pub mod Resolving
+pub mod Rows
 pub mod Rules
 pub mod Runs
 pub mod Sequences
 pub mod Stayed
+pub mod Waiting
 pub mod Weak

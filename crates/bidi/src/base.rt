@@ -2,9 +2,9 @@
 ghost use Rattle.std.specs.Prelude.{◌≡◌, ◌+◌, ◌-◌, ◌<◌, map, if◌then◌else◌};
 ghost use Rattle.ucd.specs.Tables.{class_of};
 ghost use Rattle.bidi.specs.Base.{base_level_of, first_strong_level, strong_level};
-ghost use Rattle.bidi.specs.Classes.{is_initiator, is_pdi, is_strong};
+ghost use Rattle.bidi.specs.Classes.{class_in, is_initiator, is_pdi, is_strong};
 
-use ucd::{BidiClass, Tables};
+use ucd::{BidiClass, Properties, Tables};
 
 /// How the base level of a paragraph is found.
 #[derive(Clone, Copy, Debug, PartialEq, Eq)]
@@ -39,6 +39,33 @@ fn first_strong_level(tables: &Tables, text: &[char]) -> Option<u8>
     let mut depth = 0;
     for c in text {
         let class = tables.bidi_class(*c);
+        let level = strong_level(class);
+        if depth == 0 && level.is_some() {
+            return level;
+        }
+        depth = depth_after(class, depth);
+    }
+    None
+}
+
+/// The base level of one paragraph, 0 or 1, by what the tables say of its characters.
+pub fn base_level_by(properties: &[Properties], base: Base) -> u8
+    ensures { result ≡ base_level_of (map class_in properties.now) base }
+{
+    match base {
+        Base::Rtl => 1,
+        Base::Ltr => 0,
+        Base::WeakRtl => first_strong_level_by(properties).unwrap_or(1),
+        Base::WeakLtr => first_strong_level_by(properties).unwrap_or(0),
+    }
+}
+
+fn first_strong_level_by(properties: &[Properties]) -> Option<u8>
+    ensures { result ≡ first_strong_level (map class_in properties.now) }
+{
+    let mut depth = 0;
+    for one in properties {
+        let class = one.bidi_class();
         let level = strong_level(class);
         if depth == 0 && level.is_some() {
             return level;

@@ -94,19 +94,18 @@ fn fill(closers: &mut Vec<usize>, len: usize) -> Result<(), AllocError>
 
 /// What the pairs of a sequence are found in: its types before N0, and at each place that of its
 /// closer. It is used again for each sequence.
-#[derive(Drop)]
+#[derive(Debug, Drop)]
 pub(crate) struct Pairs {
     before: Vec<BidiClass>,
     closers: Vec<usize>,
 }
 
 impl Pairs {
-    /// Nothing yet, with room for a sequence of so many characters.
-    pub fn with_capacity(alloc: Global, capacity: usize) -> Result<Pairs, AllocError> {
-        Ok(Pairs {
-            before: Vec::with_capacity(alloc, capacity)?,
-            closers: Vec::with_capacity(alloc, capacity)?,
-        })
+    pub fn new(alloc: Global) -> Pairs {
+        Pairs {
+            before: Vec::new(alloc),
+            closers: Vec::new(alloc),
+        }
     }
 
     /// N0 over the types of a sequence, by its characters and by its types before W1.

@@ -1,5 +1,5 @@
 //! Explicit levels and types (UAX #9, X1 to X9), in one walk with a stack of the openers that are open.
-ghost use Rattle.std.specs.Prelude.{◌≡◌, ◌≤◌, ◌∷◌, [], ◌++◌, OnOk, IfOk, unwrap_or, if◌then◌else◌};
+ghost use Rattle.std.specs.Prelude.{◌≡◌, ◌≤◌, ◌∷◌, [], ◌++◌, OnOk, unwrap_or, if◌then◌else◌};
 ghost use Rattle.bidi.specs.Classes.{is_pdi, is_separator};
 ghost use Rattle.bidi.specs.Explicit.{level_above, override_of, close_embedding, close_isolate, open_after};
 ghost use Rattle.bidi.specs.Openers.{Holds, IsInnermost, Follows, AreOpeners, ClosesIsolate};
@@ -17,7 +17,7 @@ const MAX_DEPTH: u8 = 125;
 const MAX_ENTRIES: usize = 127;
 
 /// What X9 leaves of a paragraph: of each character that stays, in order, its class, its explicit
-/// level and its explicit type.
+/// level and its explicit type. The lists are used again for each paragraph.
 #[derive(Debug, Drop)]
 pub(crate) struct Stayed {
     pub classes: Vec<BidiClass>,
@@ -26,17 +26,22 @@ pub(crate) struct Stayed {
 }
 
 impl Stayed {
-    // Nothing yet, with room for so many characters.
-    fn with_capacity(alloc: Global, capacity: usize) -> Result<Stayed, AllocError>
-        ensures classes { IfOk result (λ stayed. stayed.classes.items ≡ []) }
-        ensures levels { IfOk result (λ stayed. stayed.levels.items ≡ []) }
-        ensures types { IfOk result (λ stayed. stayed.types.items ≡ []) }
+    pub fn new(alloc: Global) -> Stayed {
+        Stayed {
+            classes: Vec::new(alloc),
+            levels: Vec::new(alloc),
+            types: Vec::new(alloc),
+        }
+    }
+
+    fn clear(&mut self)
+        ensures classes { self.new.classes.items ≡ [] }
+        ensures levels { self.new.levels.items ≡ [] }
+        ensures types { self.new.types.items ≡ [] }
     {
-        Ok(Stayed {
-            classes: Vec::with_capacity(alloc, capacity)?,
-            levels: Vec::with_capacity(alloc, capacity)?,
-            types: Vec::with_capacity(alloc, capacity)?,
-        })
+        self.classes.clear();
+        self.levels.clear();
+        self.types.clear();
     }
 
     fn push(&mut self, class: BidiClass, level: u8, explicit: BidiClass) -> Result<(), AllocError>
@@ -232,20 +237,24 @@ fn push_character(
     }
 }
 
-/// The characters of a paragraph that stay, by its classes without FSI.
-pub(crate) fn explicit(alloc: Global, classes: &[BidiClass], base: u8) -> Result<Stayed, AllocError>
+/// The characters of a paragraph that stay, by its classes without FSI, in place of what `stayed` has.
+pub(crate) fn explicit(
+    classes: &[BidiClass],
+    base: u8,
+    stayed: &mut Stayed,
+) -> Result<(), AllocError>
     requires { base ≤ 1 }
-    ensures { IfOk result (IsStayed classes.now base) }
+    ensures { OnOk result (IsStayed classes.now base stayed.new) }
 {
-    let mut stayed = Stayed::with_capacity(alloc, classes.len())?;
+    stayed.clear();
     let mut openers = Openers::new(base);
     for class in classes {
         let class = *class;
         openers.reach(class);
         if !is_removed(class) {
-            push_character(&mut stayed, openers.status(), class, base)?;
+            push_character(stayed, openers.status(), class, base)?;
         }
         openers.pass(class);
     }
-    Ok(stayed)
+    Ok(())
 }

@@ -1,6 +1,6 @@
 //! Isolate initiators: their matching PDIs (UAX #9, BD9), and the direction of those by the first
 //! strong character (X5c).
-ghost use Rattle.std.specs.Prelude.{◌≡◌, ◌+◌, ◌-◌, ◌<◌, ◌==◌, true, IfOk, if◌then◌else◌};
+ghost use Rattle.std.specs.Prelude.{◌≡◌, ◌+◌, ◌-◌, ◌<◌, ◌==◌, true, OnOk, if◌then◌else◌};
 ghost use Rattle.std.specs.Prelude.{length, take, slice_index, slice_set};
 ghost use Rattle.std.specs.List.{list_any};
 ghost use Rattle.bidi.specs.Base.{first_strong_level};
@@ -9,27 +9,50 @@ ghost use Rattle.bidi.specs.Explicit.{directed, directed_at, is_first_strong, sp
 ghost use Rattle.bidi.specs.Isolates.{matches_of};
 
 use crate::base::strong_level;
+use crate::brackets::copy_types;
 use crate::classes::{is_initiator, is_pdi};
 use std::alloc::{AllocError, Global};
 use ucd::BidiClass;
 
-/// For each index the match of the initiator there, or the length where there is no initiator or
-/// it has no match.
-pub(crate) fn matches(alloc: Global, classes: &[BidiClass]) -> Result<Vec<usize>, AllocError>
-    ensures matches { IfOk result (λ found. found.items ≡ matches_of classes.now) }
-    ensures length { IfOk result (λ found. length found.items ≡ length classes.now) }
+/// The matches of a list's initiators, found in lists that are used again: for each index the match
+/// of the initiator there, or the length where there is no initiator or it has no match; and the
+/// initiators that wait for theirs.
+#[derive(Debug, Drop)]
+pub(crate) struct Isolates {
+    pub found: Vec<usize>,
+    pub pending: Vec<usize>,
+}
+
+impl Isolates {
+    pub fn new(alloc: Global) -> Isolates {
+        Isolates {
+            found: Vec::new(alloc),
+            pending: Vec::new(alloc),
+        }
+    }
+}
+
+/// Finds the matches of a list's initiators.
+pub(crate) fn find_matches(
+    classes: &[BidiClass],
+    found: &mut Vec<usize>,
+    pending: &mut Vec<usize>,
+) -> Result<(), AllocError>
+    ensures matches { OnOk result (found.new.items ≡ matches_of classes.now) }
+    ensures length { OnOk result (length found.new.items ≡ length classes.now) }
 {
-    let mut found = vec![in alloc; classes.len(); classes.len()]?;
-    let mut pending = Vec::new(alloc);
+    found.clear();
+    found.resize(classes.len(), classes.len())?;
+    pending.clear();
     for at in 0..classes.len() {
         let class = classes[at];
         if is_initiator(class) {
             pending.push(at)?;
         } else if is_pdi(class) {
-            close(&mut found, &mut pending, at);
+            close(found, pending, at);
         }
     }
-    Ok(found)
+    Ok(())
 }
 
 // Gives its match to the initiator that was opened last, and takes it off.
@@ -46,18 +69,23 @@ fn close(found: &mut [usize], pending: &mut Vec<usize>, at: usize)
 }
 
 /// The classes of a paragraph, each FSI as the initiator that it acts as (X5c).
-pub(crate) fn directed(alloc: Global, classes: Vec<BidiClass>) -> Result<Vec<BidiClass>, AllocError>
-    ensures { IfOk result (λ acting. acting.items ≡ directed classes.items) }
+pub(crate) fn direct(
+    classes: &[BidiClass],
+    isolates: &mut Isolates,
+    acting: &mut Vec<BidiClass>,
+) -> Result<(), AllocError>
+    ensures { OnOk result (acting.new.items ≡ directed classes.now) }
 {
-    if !has_first_strong(&classes) {
-        return Ok(classes);
+    if !has_first_strong(classes) {
+        copy_types(classes, acting)?;
+        return Ok(());
     }
-    let matches = matches(alloc, &classes)?;
-    let mut acting = Vec::with_capacity(alloc, classes.len())?;
+    find_matches(classes, &mut isolates.found, &mut isolates.pending)?;
+    acting.clear();
     for at in 0..classes.len() {
-        acting.push(acting_class(&classes, &matches, at))?;
+        acting.push(acting_class(classes, &isolates.found, at))?;
     }
-    Ok(acting)
+    Ok(())
 }
 
 fn has_first_strong(classes: &[BidiClass]) -> bool

@@ -1,34 +1,24 @@
 //! The levels of a paragraph's characters before L1 (UAX #9, X1 to I2).
-ghost use Rattle.std.specs.Prelude.{◌≡◌, ◌<◌, ◌≤◌, false, map, replicate, length, slice_index};
-ghost use Rattle.std.specs.Prelude.{IfSome, IfOk, OnOk};
-ghost use Rattle.ucd.specs.Tables.{class_of, bracket_of};
-ghost use Rattle.bidi.specs.Brackets.{brackets};
+ghost use Rattle.std.specs.Prelude.{◌≡◌, ◌<◌, ◌≤◌, true, false, map, replicate, length, slice_index};
+ghost use Rattle.std.specs.Prelude.{All, IfSome, OnOk};
+ghost use Rattle.ucd.specs.Tables.{bracket_of};
 ghost use Rattle.bidi.specs.Classes.{class_at};
-ghost use Rattle.bidi.specs.Levels.{levels_of, put, put_back, resolved};
-ghost use Rattle.bidi.specs.Neutral.{implicit_level, neutral};
+ghost use Rattle.bidi.specs.Levels.{levels_by, paragraph_levels, put, put_back, resolved, sequence_levels};
+ghost use Rattle.bidi.specs.Plain.{is_plain};
 ghost use Rattle.bidi.specs.Paragraphs.{AreSides, IsReady, Takes, resolved_by, write_by};
 ghost use Rattle.bidi.specs.Runs.{AreWithin, marked};
-ghost use Rattle.bidi.specs.Sequences.{direction, stayed};
+ghost use Rattle.bidi.specs.Sequences.{stayed};
 ghost use Rattle.bidi.specs.Stayed.{HasAll};
-ghost use Rattle.bidi.specs.Weak.{weak};
 
-use crate::base::{Base, base_level};
 use crate::brackets::{Pairs, copy_types};
 use crate::classes::is_removed;
 use crate::explicit::{Stayed, explicit};
-use crate::isolates::{directed, matches};
-use crate::neutral::{implicit_level, resolve_neutral};
+use crate::isolates::{Isolates, direct, find_matches};
+use crate::neutral::resolve_neutral;
 use crate::sequences::{direction, eos, gather, next_run, run_end, sos};
 use crate::weak::resolve_weak;
 use std::alloc::{AllocError, Global};
 use ucd::{BidiClass, Tables};
-
-// The classes of characters.
-fn classes_of(alloc: Global, tables: &Tables, text: &[char]) -> Result<Vec<BidiClass>, AllocError>
-    ensures { IfOk result (λ classes. classes.items ≡ map (class_of tables.now) text.now) }
-{
-    text.iter().map(|c| tables.bidi_class(*c)).collect(alloc)
-}
 
 // The types of a sequence, at its places.
 fn take_types(
@@ -63,14 +53,13 @@ fn take_characters(
 }
 
 // Writes the level of each character of a sequence to its place.
-fn put_levels(levels: &mut [u8], places: &[usize], level: u8, types: &[BidiClass])
+fn put_levels(levels: &mut [u8], places: &[usize], values: &[u8])
     requires within { AreWithin (length levels.old) places.now }
-    requires length { length types.now ≡ length places.now }
-    requires bounded { level ≤ 125 }
-    ensures { levels.new ≡ put levels.old places.now (map (implicit_level level) types.now) }
+    requires length { length values.now ≡ length places.now }
+    ensures { levels.new ≡ put levels.old places.now values.now }
 {
     for (at, place) in places.iter().enumerate() {
-        levels[*place] = implicit_level(level, types[at]);
+        levels[*place] = values[at];
     }
 }
 
@@ -110,7 +99,7 @@ fn sides_of(paragraph: &Paragraph<'_>, places: &[usize]) -> Sides
     }
 }
 
-// The rules over the types of a sequence, from the weak to the neutral ones.
+// The levels of a sequence, by all rules over its types, from the weak to the implicit ones.
 fn resolve_types(
     tables: &Tables,
     characters: &[char],
@@ -118,41 +107,48 @@ fn resolve_types(
     types: &mut [BidiClass],
     pairs: &mut Pairs,
     sides: Sides,
+    has_brackets: bool,
+    levels: &mut [u8],
 ) -> Result<(), AllocError>
     requires characters { length characters.now ≡ length types.old }
+    requires brackets { has_brackets ≡ false → All (λ c. bracket_of tables.now c ≡ None) characters.now }
     requires explicit { explicit.now ≡ types.old }
-    ensures { OnOk result (types.new ≡ neutral (direction sides.level) sides.sos sides.eos
-        (brackets (bracket_of tables.now) (direction sides.level) sides.sos characters.now explicit.now
-        (weak sides.sos types.old))) }
+    requires levels { length levels.old ≡ length types.old }
+    requires bounded { sides.level ≤ 125 }
+    ensures { OnOk result (levels.new
+        ≡ sequence_levels (bracket_of tables.now) sides.level sides.sos sides.eos characters.now types.old) }
 {
-    let embedding = direction(sides.level);
     resolve_weak(types, sides.sos);
-    pairs.resolve(tables, characters, explicit, types, embedding, sides.sos)?;
-    resolve_neutral(types, embedding, sides.sos, sides.eos);
+    if has_brackets {
+        let embedding = direction(sides.level);
+        pairs.resolve(tables, characters, explicit, types, embedding, sides.sos)?;
+    }
+    resolve_neutral(types, sides.level, sides.sos, sides.eos, levels);
     Ok(())
 }
 
 // What the levels of a sequence are found in, used again for each sequence: the places of its
-// characters, these, their explicit types and their types.
-#[derive(Drop)]
+// characters, these, their explicit types, their types and their levels.
+#[derive(Debug, Drop)]
 struct Sequence {
     places: Vec<usize>,
     characters: Vec<char>,
     explicit: Vec<BidiClass>,
     types: Vec<BidiClass>,
     pairs: Pairs,
+    levels: Vec<u8>,
 }
 
 impl Sequence {
-    // Nothing yet, with room for so many characters.
-    fn with_capacity(alloc: Global, capacity: usize) -> Result<Sequence, AllocError> {
-        Ok(Sequence {
-            places: Vec::with_capacity(alloc, capacity)?,
-            characters: Vec::with_capacity(alloc, capacity)?,
-            explicit: Vec::with_capacity(alloc, capacity)?,
-            types: Vec::with_capacity(alloc, capacity)?,
-            pairs: Pairs::with_capacity(alloc, capacity)?,
-        })
+    fn new(alloc: Global) -> Sequence {
+        Sequence {
+            places: Vec::new(alloc),
+            characters: Vec::new(alloc),
+            explicit: Vec::new(alloc),
+            types: Vec::new(alloc),
+            pairs: Pairs::new(alloc),
+            levels: Vec::new(alloc),
+        }
     }
 
     // Takes the sequence that begins at `start`.
@@ -188,6 +184,7 @@ impl Sequence {
     {
         self.take(paragraph, start)?;
         let sides = sides_of(paragraph, &self.places);
+        self.levels.resize(self.types.len(), 0)?;
         resolve_types(
             paragraph.tables,
             &self.characters,
@@ -195,8 +192,10 @@ impl Sequence {
             &mut self.types,
             &mut self.pairs,
             sides,
+            true,
+            &mut self.levels,
         )?;
-        put_levels(resolved, &self.places, sides.level, &self.types);
+        put_levels(resolved, &self.places, &self.levels);
         Ok(())
     }
 }
@@ -236,63 +235,92 @@ fn resolve_runs(
     Ok(())
 }
 
-// The levels of the characters that X9 leaves.
+// What the levels of a paragraph are found in: the characters that X9 leaves, the matches of their
+// initiators, the places at which a run begins in which an earlier one continues, one sequence after
+// another, and the levels so far.
+#[derive(Debug, Drop)]
+pub(crate) struct Work {
+    stayed: Stayed,
+    characters: Vec<char>,
+    isolates: Isolates,
+    continued: Vec<bool>,
+    sequence: Sequence,
+    resolved: Vec<u8>,
+}
+
+impl Work {
+    pub fn new(alloc: Global) -> Work {
+        Work {
+            stayed: Stayed::new(alloc),
+            characters: Vec::new(alloc),
+            isolates: Isolates::new(alloc),
+            continued: Vec::new(alloc),
+            sequence: Sequence::new(alloc),
+            resolved: Vec::new(alloc),
+        }
+    }
+}
+
+// Finds the levels of the characters that X9 leaves.
 fn resolve_stayed(
-    alloc: Global,
     tables: &Tables,
     characters: &[char],
     stayed: &Stayed,
     base: u8,
-) -> Result<Vec<u8>, AllocError>
+    isolates: &mut Isolates,
+    continued: &mut Vec<bool>,
+    sequence: &mut Sequence,
+    done: &mut Vec<u8>,
+) -> Result<(), AllocError>
     requires stayed { HasAll stayed.now }
     requires characters { length characters.now ≡ length stayed.now.levels.items }
-    ensures { IfOk result (λ levels. levels.items ≡ resolved (bracket_of tables.now) base characters.now
+    ensures { OnOk result (done.new.items ≡ resolved (bracket_of tables.now) base characters.now
         stayed.now.classes.items stayed.now.levels.items stayed.now.types.items) }
 {
-    let matches = matches(alloc, &stayed.classes)?;
-    let mut continued = vec![in alloc; false; stayed.levels.len()]?;
-    let mut resolved = Vec::from_slice(alloc, &stayed.levels)?;
-    let mut sequence = Sequence::with_capacity(alloc, stayed.levels.len())?;
+    find_matches(&stayed.classes, &mut isolates.found, &mut isolates.pending)?;
+    continued.clear();
+    continued.resize(stayed.levels.len(), false)?;
+    done.clear();
+    done.extend_from_slice(&stayed.levels)?;
     let paragraph = Paragraph {
         tables,
         base,
         characters,
         stayed,
-        matches: &matches,
+        matches: &isolates.found,
     };
-    resolve_runs(&paragraph, &mut sequence, &mut continued, &mut resolved)?;
-    Ok(resolved)
+    resolve_runs(&paragraph, sequence, continued, done)
 }
 
 // The characters that X9 leaves.
 fn stayed_characters(
-    alloc: Global,
     text: &[char],
     classes: &[BidiClass],
-) -> Result<Vec<char>, AllocError>
+    characters: &mut Vec<char>,
+) -> Result<(), AllocError>
     requires { length text.now ≡ length classes.now }
-    ensures { IfOk result (λ characters. characters.items ≡ map (slice_index text.now) (stayed classes.now)) }
+    ensures { OnOk result (characters.new.items ≡ map (slice_index text.now) (stayed classes.now)) }
 {
-    let mut characters = Vec::with_capacity(alloc, text.len())?;
+    characters.clear();
     for at in 0..text.len() {
         if !is_removed(classes[at]) {
             characters.push(text[at])?;
         }
     }
-    Ok(characters)
+    Ok(())
 }
 
 // The levels of all characters: one that X9 took out has the level of the nearest one before it
 // that stayed, else the paragraph level.
 fn put_back(
-    alloc: Global,
     classes: &[BidiClass],
     base: u8,
     resolved: &[u8],
-) -> Result<Vec<u8>, AllocError>
-    ensures { IfOk result (λ levels. levels.items ≡ put_back base classes.now resolved.now) }
+    levels: &mut Vec<u8>,
+) -> Result<(), AllocError>
+    ensures { OnOk result (levels.new.items ≡ put_back base classes.now resolved.now) }
 {
-    let mut levels = Vec::with_capacity(alloc, classes.len())?;
+    levels.clear();
     let mut level = base;
     let mut rest = resolved;
     for class in classes {
@@ -304,24 +332,92 @@ fn put_back(
         }
         levels.push(level)?;
     }
-    Ok(levels)
+    Ok(())
 }
 
-/// The level of each character of one paragraph before L1, from 0 to 126 (UAX #9, X1 to I2). The
-/// list may be any, also one that is no paragraph.
-pub fn resolve(
-    alloc: Global,
+/// The levels of a paragraph by all rules, by its classes without FSI.
+pub(crate) fn resolve_acting(
     tables: &Tables,
     text: &[char],
-    base: Base,
-) -> Result<Vec<u8>, AllocError>
-    ensures levels { IfOk result (λ levels. levels.items ≡ levels_of tables.now text.now base) }
-    ensures len { IfOk result (λ levels. length levels.items ≡ length text.now) }
+    acting: &[BidiClass],
+    base: u8,
+    work: &mut Work,
+    levels: &mut Vec<u8>,
+) -> Result<(), AllocError>
+    requires sizes { length text.now ≡ length acting.now }
+    requires low { base ≤ 1 }
+    ensures { OnOk result (levels.new.items ≡ levels_by (bracket_of tables.now) text.now acting.now base) }
 {
-    let classes = directed(alloc, classes_of(alloc, tables, text)?)?;
-    let base = base_level(tables, text, base);
-    let stayed = explicit(alloc, &classes, base)?;
-    let characters = stayed_characters(alloc, text, &classes)?;
-    let resolved = resolve_stayed(alloc, tables, &characters, &stayed, base)?;
-    put_back(alloc, &classes, base, &resolved)
+    explicit(acting, base, &mut work.stayed)?;
+    stayed_characters(text, acting, &mut work.characters)?;
+    resolve_stayed(
+        tables,
+        &work.characters,
+        &work.stayed,
+        base,
+        &mut work.isolates,
+        &mut work.continued,
+        &mut work.sequence,
+        &mut work.resolved,
+    )?;
+    put_back(acting, base, &work.resolved, levels)?;
+    Ok(())
+}
+
+/// The levels of a paragraph by all rules, by its classes.
+pub(crate) fn resolve_classes(
+    tables: &Tables,
+    text: &[char],
+    classes: &[BidiClass],
+    base: u8,
+    acting: &mut Vec<BidiClass>,
+    work: &mut Work,
+    levels: &mut Vec<u8>,
+) -> Result<(), AllocError>
+    requires sizes { length text.now ≡ length classes.now }
+    requires low { base ≤ 1 }
+    ensures { OnOk result (levels.new.items ≡ paragraph_levels (bracket_of tables.now) text.now classes.now base) }
+{
+    direct(classes, &mut work.isolates, acting)?;
+    resolve_acting(tables, text, acting, base, work, levels)
+}
+
+/// The levels of a paragraph in which nothing is opened, closed or taken out: it is one sequence as
+/// it stands.
+pub(crate) fn resolve_plain(
+    tables: &Tables,
+    text: &[char],
+    classes: &[BidiClass],
+    base: u8,
+    has_brackets: bool,
+    work: &mut Work,
+    levels: &mut Vec<u8>,
+) -> Result<(), AllocError>
+    requires sizes { length text.now ≡ length classes.now }
+    requires low { base ≤ 1 }
+    requires plain { All (λ class. is_plain class ≡ true) classes.now }
+    requires brackets { has_brackets ≡ false → All (λ c. bracket_of tables.now c ≡ None) text.now }
+    ensures { OnOk result (levels.new.items ≡ paragraph_levels (bracket_of tables.now) text.now classes.now base) }
+{
+    let sequence = &mut work.sequence;
+    copy_types(classes, &mut sequence.types)?;
+    levels.clear();
+    levels.resize(classes.len(), base)?;
+    let side = direction(base);
+    let sides = Sides {
+        level: base,
+        sos: side,
+        eos: side,
+    };
+    resolve_types(
+        tables,
+        text,
+        classes,
+        &mut sequence.types,
+        &mut sequence.pairs,
+        sides,
+        has_brackets,
+        levels,
+    )?;
+    Ok(())
 }

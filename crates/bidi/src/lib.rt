@@ -8,13 +8,15 @@ mod classes;
 mod cuts;
 mod engine;
 mod explicit;
+mod fill;
 mod isolates;
 mod levels;
 mod neutral;
+mod resolver;
 mod sequences;
 mod weak;
 
-pub use base::{Base, base_level};
+pub use base::{Base, base_level, base_level_by};
 pub use cuts::{first_cut, is_cut, paragraphs_are_pieces};
 pub use engine::BaseEngine;
-pub use levels::resolve;
+pub use resolver::{Resolver, resolve};

@@ -1,34 +1,48 @@
 //! The neutral and implicit rules (UAX #9, N1, N2, I1 and I2), over the types of one isolating run sequence.
-ghost use Rattle.std.specs.Prelude.{◌≡◌, ℕ, ◌<◌, ◌≤◌, true, false, length};
-ghost use Rattle.bidi.specs.Classes.{class_at};
+ghost use Rattle.std.specs.Prelude.{◌≡◌, ◌≤◌, length, map};
 ghost use Rattle.bidi.specs.Neutral.{is_neutral, between, neutral, implicit_level};
+ghost use Rattle.bidi.specs.Rows.{row_level};
+ghost use Rattle.bidi.specs.Sequences.{direction};
 
-use crate::weak::type_or;
+use crate::fill::fill;
+use crate::sequences::direction;
 use ucd::BidiClass;
 
-/// N1 and N2: neutrals take the direction of both their sides, or else the embedding direction.
+/// N1, N2, I1 and I2 in one walk: neutrals in a row take the direction of both their sides, or else
+/// the embedding direction; they wait until the type behind them is read, and then their levels are
+/// written.
 pub(crate) fn resolve_neutral(
-    types: &mut [BidiClass],
-    embedding: BidiClass,
+    types: &[BidiClass],
+    level: u8,
     sos: BidiClass,
     eos: BidiClass,
+    levels: &mut [u8],
 )
-    ensures { types.new ≡ neutral embedding sos eos types.old }
+    requires length { length levels.old ≡ length types.now }
+    requires bounded { level ≤ 125 }
+    ensures { levels.new ≡ map (implicit_level level) (neutral (direction level) sos eos types.now) }
 {
+    // The nearest type that is no neutral, and the place behind it, where a row may begin.
     let mut before = sos;
-    // The nearest place behind that has no neutral, where it isn't passed yet.
-    let mut end = 0;
+    let mut start = 0;
     for at in 0..types.len() {
         let class = types[at];
-        if is_neutral(class) {
-            if end <= at {
-                end = behind_neutrals(types, at + 1);
-            }
-            types[at] = between(embedding, before, type_or(types, end, eos));
-        } else {
+        if !is_neutral(class) {
+            fill(levels, start, at, row_level(level, before, class));
+            levels[at] = implicit_level(level, class);
             before = class;
+            start = at + 1;
         }
     }
+    fill(levels, start, types.len(), row_level(level, before, eos));
+}
+
+// The level of neutrals in a row, by the types on both sides.
+fn row_level(level: u8, before: BidiClass, behind: BidiClass) -> u8
+    requires { level ≤ 125 }
+    ensures { result ≡ row_level level before behind }
+{
+    implicit_level(level, between(direction(level), before, behind))
 }
 
 fn is_neutral(class: BidiClass) -> bool
@@ -45,21 +59,6 @@ fn is_neutral(class: BidiClass) -> bool
             | BidiClass::FSI
             | BidiClass::PDI
     )
-}
-
-// The least place from `from` on that has no neutral, or the length.
-fn behind_neutrals(types: &[BidiClass], from: usize) -> usize
-    requires { from ≤ length types.now }
-    ensures reached { from ≤ result }
-    ensures bounded { result ≤ length types.now }
-    ensures passed { (m : ℕ) → from ≤ m → m < result → is_neutral (class_at types.now m) ≡ true }
-    ensures stops { result < length types.now → is_neutral (class_at types.now result) ≡ false }
-{
-    let mut at = from;
-    while at < types.len() && is_neutral(types[at]) {
-        at += 1;
-    }
-    at
 }
 
 // The direction of what stands between two types that are no neutrals.

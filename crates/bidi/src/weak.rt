@@ -1,43 +1,140 @@
-//! The weak rules (UAX #9, W1 to W7), each a pass over the types of one isolating run sequence.
-ghost use Rattle.std.specs.Prelude.{◌≡◌, ℕ, ◌<◌, ◌≤◌, true, false, ◌&&◌, ◌||◌, not, if◌then◌else◌};
-ghost use Rattle.std.specs.Prelude.{[], ◌∷◌, length, slice_index_or};
-ghost use Rattle.bidi.specs.Classes.{is_strong, class_at};
-ghost use Rattle.bidi.specs.Weak.{is_mark, is_terminator, is_number, is_arabic, is_left};
-ghost use Rattle.bidi.specs.Weak.{mark_behind, w1, w2, w3, w4, w5, w6, w7, weak, w3_type, w4_at, w6_type};
+//! The weak rules (UAX #9, W1 to W7), in one walk over the types of one isolating run sequence.
+ghost use Rattle.std.specs.Prelude.{◌≡◌, ◌<◌, not, if◌then◌else◌};
+ghost use Rattle.bidi.specs.Classes.{is_strong};
+ghost use Rattle.bidi.specs.Waiting.{mark_type, digit_type, number_type, written, completes, row_after};
+ghost use Rattle.bidi.specs.Waiting.{start_after};
+ghost use Rattle.bidi.specs.Weak.{is_mark, is_left, mark_behind, w3_type, weak};
 
+use crate::fill::fill;
 use ucd::BidiClass;
 
-/// The weak rules in their order, over the types of a sequence.
+// What stands in front of a place, and which types there wait for the type at it.
+#[derive(Clone, Copy, Debug, PartialEq, Eq)]
+enum Row {
+    // None that matters.
+    Nothing,
+    // A European number.
+    European,
+    // An Arabic number.
+    Arabic,
+    // European terminators behind a European number: numbers by now.
+    EuropeanTerminators,
+    // A separator behind a European number, which waits for another.
+    EuropeanSeparator,
+    // A common separator behind an Arabic number, which waits for another.
+    ArabicSeparator,
+    // European terminators in a row, which wait for a European number.
+    Terminators,
+}
+
+/// W1 to W7 in one walk over the types of a sequence, each read once. A separator or terminator that
+/// the next types may make a number waits as ON, with those in its row.
 pub(crate) fn resolve_weak(types: &mut [BidiClass], sos: BidiClass)
     ensures { types.new ≡ weak sos types.old }
 {
-    w1(types, sos);
-    w2(types, sos);
-    w3(types);
-    w4(types);
-    w5(types);
-    w6(types);
-    w7(types, sos);
-}
-
-// W1: a mark takes the type of what stands in front of it.
-fn w1(types: &mut [BidiClass], sos: BidiClass)
-    ensures { types.new ≡ w1 sos types.old }
-{
+    // The nearest type that is no mark, and the nearest strong one, as they were before W2.
     let mut before = sos;
-    for slot in types.iter_mut() {
-        let class = *slot;
-        *slot = w1_type(class, before);
+    let mut strong = sos;
+    let mut row = Row::Nothing;
+    // Where the types begin that wait.
+    let mut start = 0;
+    for at in 0..types.len() {
+        let class = types[at];
+        let marked = mark_type(before, class);
+        let number = w3_type(digit_type(strong, marked));
+        let value = written(row, is_left(strong), number);
+        if completes(row, number) {
+            fill(types, start, at, value);
+        }
+        types[at] = value;
+        start = start_after(row, number, start, at);
+        row = row_after(row, number);
         before = unmarked_after(class, before);
+        strong = strong_after(marked, strong);
     }
 }
 
-fn w1_type(class: BidiClass, before: BidiClass) -> BidiClass
-    ensures { result ≡ (if is_mark class then mark_behind before else class) }
+// W1: a mark takes the type of what stands in front of it.
+fn mark_type(before: BidiClass, class: BidiClass) -> BidiClass
+    ensures { result ≡ mark_type before class }
 {
     match class {
         BidiClass::NSM => mark_behind(before),
         _ => class,
+    }
+}
+
+// W2: a European number behind AL becomes an Arabic number.
+fn digit_type(strong: BidiClass, class: BidiClass) -> BidiClass
+    ensures { result ≡ digit_type strong class }
+{
+    match (class, strong) {
+        (BidiClass::EN, BidiClass::AL) => BidiClass::AN,
+        _ => class,
+    }
+}
+
+fn is_left(class: BidiClass) -> bool
+    ensures { result ≡ is_left class }
+{
+    matches!(class, BidiClass::L)
+}
+
+// W7: a European number behind L becomes L.
+fn number_type(left: bool) -> BidiClass
+    ensures { result ≡ number_type left }
+{
+    if left { BidiClass::L } else { BidiClass::EN }
+}
+
+// W5 to W7 of a type: what waits is ON meanwhile.
+fn written(row: Row, left: bool, class: BidiClass) -> BidiClass
+    ensures { result ≡ written row left class }
+{
+    match (class, row) {
+        (BidiClass::EN, _) | (BidiClass::ET, Row::European | Row::EuropeanTerminators) => {
+            number_type(left)
+        }
+        (BidiClass::ES | BidiClass::CS | BidiClass::ET, _) => BidiClass::ON,
+        _ => class,
+    }
+}
+
+// W4 and W5: whether a type makes numbers of those that wait.
+fn completes(row: Row, class: BidiClass) -> bool
+    ensures { result ≡ completes row class }
+{
+    matches!(
+        (row, class),
+        (Row::EuropeanSeparator | Row::Terminators, BidiClass::EN)
+            | (Row::ArabicSeparator, BidiClass::AN)
+    )
+}
+
+// What stands in front of the next type.
+fn row_after(row: Row, class: BidiClass) -> Row
+    ensures { result ≡ row_after row class }
+{
+    match (class, row) {
+        (BidiClass::EN, _) => Row::European,
+        (BidiClass::AN, _) => Row::Arabic,
+        (BidiClass::ET, Row::European | Row::EuropeanTerminators) => Row::EuropeanTerminators,
+        (BidiClass::ET, _) => Row::Terminators,
+        (BidiClass::ES | BidiClass::CS, Row::European) => Row::EuropeanSeparator,
+        (BidiClass::CS, Row::Arabic) => Row::ArabicSeparator,
+        _ => Row::Nothing,
+    }
+}
+
+// Where the types begin that wait, behind the type at a place.
+fn start_after(row: Row, class: BidiClass, start: usize, at: usize) -> usize
+    requires { at < usize.MAX }
+    ensures { result ≡ start_after row class start at }
+{
+    match (row_after(row, class), row) {
+        (Row::Terminators, Row::Terminators) => start,
+        (Row::Terminators | Row::EuropeanSeparator | Row::ArabicSeparator, _) => at,
+        _ => at + 1,
     }
 }
 
@@ -60,27 +157,6 @@ fn unmarked_after(class: BidiClass, before: BidiClass) -> BidiClass
     }
 }
 
-// W2: a European number behind AL becomes an Arabic number.
-fn w2(types: &mut [BidiClass], sos: BidiClass)
-    ensures { types.new ≡ w2 sos types.old }
-{
-    let mut strong = sos;
-    for slot in types.iter_mut() {
-        let class = *slot;
-        *slot = w2_type(class, strong);
-        strong = strong_after(class, strong);
-    }
-}
-
-fn w2_type(class: BidiClass, strong: BidiClass) -> BidiClass
-    ensures { result ≡ (if is_number class && is_arabic strong then BidiClass.AN else class) }
-{
-    match (class, strong) {
-        (BidiClass::EN, BidiClass::AL) => BidiClass::AN,
-        _ => class,
-    }
-}
-
 // The nearest strong type, behind a character of this type.
 fn strong_after(class: BidiClass, strong: BidiClass) -> BidiClass
     ensures { result ≡ (if is_strong class then class else strong) }
@@ -91,140 +167,11 @@ fn strong_after(class: BidiClass, strong: BidiClass) -> BidiClass
     }
 }
 
-// W3: AL becomes R.
-fn w3(types: &mut [BidiClass])
-    ensures { types.new ≡ w3 types.old }
-{
-    for slot in types.iter_mut() {
-        *slot = w3_type(*slot);
-    }
-}
-
 fn w3_type(class: BidiClass) -> BidiClass
     ensures { result ≡ w3_type class }
 {
     match class {
         BidiClass::AL => BidiClass::R,
-        _ => class,
-    }
-}
-
-// W4: a single separator between two numbers becomes such a number.
-fn w4(types: &mut [BidiClass])
-    ensures { types.new ≡ w4 types.old }
-{
-    let mut before = BidiClass::ON;
-    for at in 0..types.len() {
-        let class = types[at];
-        let behind = type_or(types, at + 1, BidiClass::ON);
-        types[at] = w4_type(before, class, behind);
-        before = class;
-    }
-}
-
-fn w4_type(before: BidiClass, class: BidiClass, behind: BidiClass) -> BidiClass
-    ensures { result ≡ w4_at (before ∷ []) class (behind ∷ []) }
-{
-    match (before, class, behind) {
-        (BidiClass::EN, BidiClass::ES | BidiClass::CS, BidiClass::EN) => BidiClass::EN,
-        (BidiClass::AN, BidiClass::CS, BidiClass::AN) => BidiClass::AN,
-        _ => class,
-    }
-}
-
-/// The type at an index, or another behind the end.
-pub(crate) fn type_or(types: &[BidiClass], at: usize, other: BidiClass) -> BidiClass
-    ensures { result ≡ slice_index_or types.now at other }
-{
-    if at < types.len() { types[at] } else { other }
-}
-
-// W5: European terminators in a row, next to a European number, become European numbers.
-fn w5(types: &mut [BidiClass])
-    ensures { types.new ≡ w5 types.old }
-{
-    let mut before = BidiClass::ON;
-    // The nearest place behind that has no terminator, where it isn't passed yet.
-    let mut end = 0;
-    for at in 0..types.len() {
-        let class = types[at];
-        if is_terminator(class) {
-            if end <= at {
-                end = behind_terminators(types, at + 1);
-            }
-            types[at] = w5_type(before, type_or(types, end, BidiClass::ON));
-        } else {
-            before = class;
-        }
-    }
-}
-
-fn is_terminator(class: BidiClass) -> bool
-    ensures { result ≡ is_terminator class }
-{
-    matches!(class, BidiClass::ET)
-}
-
-// The least place from `from` on that has no terminator, or the length.
-fn behind_terminators(types: &[BidiClass], from: usize) -> usize
-    requires { from ≤ length types.now }
-    ensures reached { from ≤ result }
-    ensures bounded { result ≤ length types.now }
-    ensures passed { (m : ℕ) → from ≤ m → m < result → is_terminator (class_at types.now m) ≡ true }
-    ensures stops { result < length types.now → is_terminator (class_at types.now result) ≡ false }
-{
-    let mut at = from;
-    while at < types.len() && is_terminator(types[at]) {
-        at += 1;
-    }
-    at
-}
-
-// What a terminator becomes between two types.
-fn w5_type(before: BidiClass, behind: BidiClass) -> BidiClass
-    ensures { result ≡ (if is_number before || is_number behind then BidiClass.EN else BidiClass.ET) }
-{
-    match (before, behind) {
-        (BidiClass::EN, _) | (_, BidiClass::EN) => BidiClass::EN,
-        _ => BidiClass::ET,
-    }
-}
-
-// W6: all other separators and terminators become ON.
-fn w6(types: &mut [BidiClass])
-    ensures { types.new ≡ w6 types.old }
-{
-    for slot in types.iter_mut() {
-        *slot = w6_type(*slot);
-    }
-}
-
-fn w6_type(class: BidiClass) -> BidiClass
-    ensures { result ≡ w6_type class }
-{
-    match class {
-        BidiClass::ES | BidiClass::ET | BidiClass::CS => BidiClass::ON,
-        _ => class,
-    }
-}
-
-// W7: a European number behind L becomes L.
-fn w7(types: &mut [BidiClass], sos: BidiClass)
-    ensures { types.new ≡ w7 sos types.old }
-{
-    let mut strong = sos;
-    for slot in types.iter_mut() {
-        let class = *slot;
-        *slot = w7_type(class, strong);
-        strong = strong_after(class, strong);
-    }
-}
-
-fn w7_type(class: BidiClass, strong: BidiClass) -> BidiClass
-    ensures { result ≡ (if is_number class && is_left strong then BidiClass.L else class) }
-{
-    match (class, strong) {
-        (BidiClass::EN, BidiClass::L) => BidiClass::L,
         _ => class,
     }
 }

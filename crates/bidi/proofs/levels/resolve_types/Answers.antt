@@ -1,11 +1,23 @@
-use Rattle.std.proofs.Common.{ap, ◌∙◌}
-use Rattle.bidi.specs.Neutral.{neutral}
+use Rattle.std.proofs.Common.{◌≡◌, length, map, sym, ap, ◌∙◌}
+use Rattle.ucd.specs.Tables.{bracket_of}
+use Rattle.bidi.specs.Brackets.{brackets}
+use Rattle.bidi.specs.Neutral.{implicit_level, neutral}
 use Rattle.bidi.specs.Sequences.{direction}
+use Rattle.bidi.specs.Weak.{weak}
+use Rattle.bidi.proofs.NoBracketLemmas.{brackets-none}
 use Rattle.bidi.proofs.levels.resolve_types.Goals as goal
+use Rattle.bidi.proofs.levels.resolve_types.Goals.{then-has_brackets+in_ok-resolve, else-has_brackets}
 
 pub returns : goal.returns
 returns c =
     let sides = c.args.sides in
-    let resolved = rw (c.direction-embedding.ensures, c.resolve_weak.ensures) at c.in_ok-resolve.ensures in
-    (rw c.direction-embedding.ensures at c.resolve_neutral.ensures)
-    ∙ ap (neutral (direction sides.level) sides.sos sides.eos) resolved
+    let old = c.args.types.now in
+    let embedding = direction sides.level in
+    let paired : c.if-has_brackets.types ≡ brackets (bracket_of c.args.tables.now) embedding sides.sos c.args.characters.now old (weak sides.sos old) =
+    elim c.if-has_brackets.branch [
+      | then-has_brackets+in_ok-resolve w ↦ w.types-is ∙ rw (w.direction-embedding.ensures, c.requires.explicit, c.resolve_weak.ensures) at w.in_ok-resolve.ensures
+      | else-has_brackets w ↦ w.types-is ∙ c.resolve_weak.ensures
+          ∙ sym (brackets-none (bracket_of c.args.tables.now) c.args.characters.now (weak sides.sos old) (c.requires.brackets w.if-has_brackets.false) embedding sides.sos old
+          (c.requires.characters ∙ sym c.resolve_weak.auto.types ∙ ap length c.resolve_weak.ensures))
+    ] in
+    c.resolve_neutral.ensures ∙ ap (λ types. map (implicit_level sides.level) (neutral embedding sides.sos sides.eos types)) paired

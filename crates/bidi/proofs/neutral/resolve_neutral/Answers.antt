@@ -1,28 +1,27 @@
-use Rattle.std.proofs.Common.{◌<◌, length, refl, sym, ap, ◌∙◌, arith}
-use Rattle.ucd.specs.declared.bidi_class.BidiClass.TheVariants.{L, ON}
-use Rattle.bidi.specs.Neutral.{is_neutral, between, neutral_at}
-use Rattle.bidi.proofs.NeighbourLemmas.{Sided-next, Sided-kept, Ahead-here}
+use Rattle.std.proofs.Common.{refl, sym, ap, ◌∙◌, arith, length, replicate, take, ◌++◌, ◌-◌}
+use Rattle.ucd.specs.declared.bidi_class.BidiClass.TheVariants.{L}
+use Rattle.bidi.proofs.NeutralLemmas.{levels-row, levels-other, levels-end}
 use Rattle.bidi.proofs.neutral.resolve_neutral.Goals as goal
-use Rattle.bidi.proofs.neutral.resolve_neutral.Goals.{then-is_neutral, then-end-at, else-end-at, else-is_neutral}
+use Rattle.bidi.proofs.neutral.resolve_neutral.Goals.{then-not-is_neutral, else-not-is_neutral}
+
+pub loop-at-init : goal.loop-at-init
+loop-at-init c = record { sizes = c.requires.length; order = omega arith; whole = refl }
 
 pub loop-at-preserved : goal.loop-at-preserved
 loop-at-preserved c =
-    let within : c.loop-at.at < length c.loop-at.types = omega arith in
-    elim c.if-is_neutral.branch [
-      | then-is_neutral w ↦
-          rw (w.types-is, w.before-is, w.end-is) (
-          Sided-next (neutral_at c.args.embedding c.args.sos c.args.eos) is_neutral (between c.args.embedding) c.args.sos c.args.eos ON L _ _ _ _ _ _ (λ front item behind. refl) c.loop-at.invariant within (sym c.is_neutral.ensures ∙ w.if-is_neutral.true) _
-          (elim w.if-end-at.branch [
-            | then-end-at w' ↦ rw w'.end-is (record {
-              reached = w'.behind_neutrals-end.ensures.reached;
-              bounded = w'.behind_neutrals-end.ensures.bounded;
-              passed = w'.behind_neutrals-end.ensures.passed;
-              stops = w'.behind_neutrals-end.ensures.stops;
-            })
-            | else-end-at w' ↦ rw w'.end-is (Ahead-here _ _ _ _ _ c.loop-at.invariant.ahead w'.if-end-at.false)
-          ])
-          (w.between.ensures ∙ ap (between c.args.embedding c.loop-at.before) w.type_or.ensures))
-      | else-is_neutral w ↦
-          rw (w.types-is, w.before-is, w.end-is) (
-          Sided-kept (neutral_at c.args.embedding c.args.sos c.args.eos) is_neutral (between c.args.embedding) c.args.sos c.args.eos ON L _ _ _ _ _ (λ front item behind. refl) c.loop-at.invariant within (sym c.is_neutral.ensures ∙ w.if-is_neutral.false))
+    elim c.if-not-is_neutral.branch [
+      | then-not-is_neutral w ↦
+          rw (w.levels-is, w.before-is, w.start-is) (
+          levels-other c.args.level c.args.sos c.args.eos c.loop-at.invariant L w.fill.new.items w.implicit_level.result c.loop-at-test.true
+          (sym c.is_neutral.ensures ∙ w.if-not-is_neutral.true) w.fill.auto.items
+          (w.fill.ensures.front ∙ ap (λ n. take c.loop-at.start c.loop-at.levels ++ replicate (c.loop-at.at - c.loop-at.start) n) w.row_level.ensures)
+          w.implicit_level.ensures)
+      | else-not-is_neutral w ↦
+          rw (w.levels-is, w.before-is, w.start-is) (
+          levels-row c.args.level c.args.sos c.args.eos c.loop-at.invariant L c.loop-at-test.true (sym c.is_neutral.ensures ∙ w.if-not-is_neutral.false))
     ]
+
+pub returns : goal.returns
+returns c =
+    levels-end c.args.level c.args.sos c.args.eos c.loop-at.invariant L c.fill-2.new.items c.loop-at-test.false (omega arith) c.fill-2.auto.items
+    (c.fill-2.ensures.front ∙ ap (λ n. take c.loop-at.start c.loop-at.levels ++ replicate (length c.args.types.now - c.loop-at.start) n) c.row_level-2.ensures)

@@ -1,13 +1,10 @@
 use Rattle.std.proofs.Common.{◌≡◌, length, map, slice_index, ap, ◌∙◌}
 use Rattle.std.proofs.lemmas.List.{with_items_is}
 use Rattle.ucd.specs.Tables.{bracket_of}
-use Rattle.bidi.specs.Brackets.{brackets}
 use Rattle.bidi.specs.Classes.{class_at}
-use Rattle.bidi.specs.Levels.{put}
-use Rattle.bidi.specs.Neutral.{implicit_level, neutral}
+use Rattle.bidi.specs.Levels.{put, sequence_levels}
 use Rattle.bidi.specs.Paragraphs.{AreSides, Takes, sequence_in}
-use Rattle.bidi.specs.Sequences.{direction, eos, first_of, sos}
-use Rattle.bidi.specs.Weak.{weak}
+use Rattle.bidi.specs.Sequences.{eos, first_of, sos}
 use Rattle.bidi.proofs.levels.Sequence.resolve.Goals as goal
 
 pub returns : goal.returns
@@ -28,12 +25,11 @@ returns c =
     let characters : c.deref-2.result.now ≡ map (slice_index p.characters.now) sequence =
     c.deref-2.ensures.value ∙ taken.characters_are ∙ ap (map (slice_index p.characters.now)) taken.places_are in
     let found : c.take.new.self.explicit.items ≡ map (class_at explicit) sequence = taken.explicit_are ∙ ap (map (class_at explicit)) taken.places_are in
-    let first : c.deref-3.result.now ≡ map (class_at explicit) sequence = c.deref-3.ensures.value ∙ found in
     let types : c.deref_mut.result.now ≡ map (class_at explicit) sequence = c.deref_mut.ensures.value ∙ taken.types_are ∙ found in
-    let made : c.resolve_types.new.types ≡ neutral (direction sides.level) sides.sos sides.eos
-    (brackets (bracket_of p.tables.now) (direction sides.level) sides.sos c.deref-2.result.now c.deref-3.result.now (weak sides.sos c.deref_mut.result.now)) = c.in_ok-resolve_types.ensures in
-    let kept : length c.resolve_types.new.types ≡ length c.deref_mut.result.now = c.resolve_types.auto.types in
-    let after : c.deref-5.result.now ≡ c.resolve_types.new.types =
-    c.deref-5.ensures.value ∙ with_items_is c.take.new.self.types c.resolve_types.new.types (kept ∙ c.deref_mut.ensures.len) in
-    let written : c.put_levels.new.levels ≡ put c.args.resolved.now c.deref-4.result.now (map (implicit_level sides.level) c.deref-5.result.now) = c.put_levels.ensures in
-    rw (after, made, places, characters, first, types, level, before, behind) at written
+    let made : c.resolve_types.new.levels ≡ sequence_levels (bracket_of p.tables.now) sides.level sides.sos sides.eos c.deref-2.result.now c.deref_mut.result.now =
+    c.in_ok-resolve_types.ensures in
+    let kept : length c.resolve_types.new.levels ≡ length c.deref_mut-2.result.now = c.resolve_types.auto.levels in
+    let after : c.deref-5.result.now ≡ c.resolve_types.new.levels =
+    c.deref-5.ensures.value ∙ with_items_is c.resize.new.self c.resolve_types.new.levels (kept ∙ c.deref_mut-2.ensures.len) in
+    let written : c.put_levels.new.levels ≡ put c.args.resolved.now c.deref-4.result.now c.deref-5.result.now = c.put_levels.ensures in
+    rw (after, made, places, characters, types, level, before, behind) at written

@@ -1,0 +1,64 @@
+-- What the tables say of a text's characters, as the resolver reads it.
+use Rattle.std.proofs.Common.{◌≡◌, ℕ, ◌<◌, Bool, true, false, List, [], ◌∷◌, length, get_or, map, replicate, Option, Some, None, is_some, refl, sym, ap, ◌∙◌, inl, inr}
+use Rattle.std.specs.List.{All, list_all, list_any}
+use Rattle.std.proofs.lemmas.Bool.{cases_Bool, both_ways}
+use Rattle.std.proofs.lemmas.List.{get_or-map, length-map}
+use Rattle.std.proofs.lemmas.List.Folds.{list_all-map, list_all_at, list_any_at}
+use Rattle.ucd.specs.Properties.{properties_of}
+use Rattle.ucd.specs.Tables.{bracket_of, class_of}
+use Rattle.ucd.specs.declared.bracket.Bracket.{Bracket}
+use Rattle.ucd.specs.declared.properties.Properties.{Properties}
+use Rattle.ucd.specs.declared.tables.Tables.{Tables}
+use Rattle.bidi.specs.declared.base.Base.{Base}
+use Rattle.bidi.specs.Base.{base_level_of}
+use Rattle.bidi.specs.Classes.{class_in}
+use Rattle.bidi.specs.Levels.{levels_of, paragraph_levels}
+use Rattle.bidi.specs.Plain.{has_bracket_in, is_flat}
+use Rattle.bidi.proofs.FlatLemmas.{zero_levels}
+
+all_from : {X : Type 0} (p : X → Bool) (xs : List X) → list_all p xs ≡ true → All (λ x. p x ≡ true) xs
+all_from p xs e k d within =
+    elim (cases_Bool (p (get_or xs k d))) [
+      | inl passes ↦ passes
+      | inr fails ↦ absurd (both_ways (list_all p xs) (list_all_at p xs k d within fails) e)
+    ]
+
+pub classes_are : (tables : Tables) (text : List ℕ) → map class_in (map (properties_of tables) text) ≡ map (class_of tables) text
+classes_are tables [] = refl
+classes_are tables (c ∷ text) = ap (λ xs. class_of tables c ∷ xs) (classes_are tables text)
+
+is_none-from : (bracket : Option Bracket) → is_some bracket ≡ false → bracket ≡ None
+is_none-from None e = refl
+is_none-from (Some bracket) e = absurd (cc)
+
+pub no_brackets : (tables : Tables) (text : List ℕ) → list_any has_bracket_in (map (properties_of tables) text) ≡ false → All (λ c. bracket_of tables c ≡ None) text
+no_brackets tables text none k d within =
+    let properties = map (properties_of tables) text in
+    let there : k < length properties = rw length-map within in
+    is_none-from (bracket_of tables (get_or text k d)) (
+    elim (cases_Bool (is_some (bracket_of tables (get_or text k d)))) [
+      | inl found ↦ absurd (both_ways (list_any has_bracket_in properties) none (list_any_at has_bracket_in properties k (properties_of tables 0) there
+          (ap has_bracket_in (get_or-map (properties_of tables) text k d (properties_of tables 0) within) ∙ found)))
+      | inr free ↦ free
+    ])
+
+module _ (tables : Tables) (text : List ℕ) (properties : List Properties) (base : Base) (level : ℕ) (are : properties ≡ map (properties_of tables) text)
+    (is : level ≡ base_level_of (map class_in properties) base) where
+  classes : map class_in properties ≡ map (class_of tables) text
+  classes = ap (map class_in) are ∙ classes_are tables text
+
+  pub level-is : level ≡ base_level_of (map (class_of tables) text) base
+  level-is = is ∙ ap (λ cs. base_level_of cs base) classes
+
+  pub raised-are : (levels : List ℕ) → levels ≡ paragraph_levels (bracket_of tables) text (map class_in properties) level → levels ≡ levels_of tables text base
+  raised-are levels e =
+      e ∙ ap (λ cs. paragraph_levels (bracket_of tables) text cs level) classes ∙ ap (paragraph_levels (bracket_of tables) text (map (class_of tables) text)) level-is
+
+  pub zeros-are : (levels : List ℕ) → levels ≡ replicate (length properties) 0 → level ≡ 0 → list_all (λ one. is_flat (class_in one)) properties ≡ true → levels ≡ levels_of tables text base
+  zeros-are levels e low flat =
+      let all : list_all is_flat (map (class_of tables) text) ≡ true = ap (list_all is_flat) (sym classes) ∙ list_all-map is_flat class_in properties ∙ flat in
+      let size : length properties ≡ length (map (class_of tables) text) = sym (length-map properties class_in) ∙ ap length classes in
+      let zeros : ℕ → List ℕ = λ n. replicate n 0 in
+      e ∙ ap zeros size
+      ∙ sym (zero_levels (bracket_of tables) text (map (class_of tables) text) (all_from is_flat (map (class_of tables) text) all))
+      ∙ ap (paragraph_levels (bracket_of tables) text (map (class_of tables) text)) (sym low ∙ level-is)

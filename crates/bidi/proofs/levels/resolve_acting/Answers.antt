@@ -1,0 +1,58 @@
+use Rattle.std.proofs.Common.{◌≡◌, ℕ, ◌≤◌, List, length, map, get_or, slice_index, Option, sym, ap, ◌∙◌, inl, inr, arith}
+use Rattle.std.proofs.lemmas.Bool.{cases_lt}
+use Rattle.std.proofs.lemmas.List.{get_or-map, get_or_past, length-map}
+use Rattle.ucd.specs.Tables.{bracket_of}
+use Rattle.ucd.specs.declared.bracket.Bracket.{Bracket}
+use Rattle.ucd.specs.declared.bidi_class.BidiClass.{BidiClass}
+use Rattle.bidi.specs.declared.explicit.Stayed.{Stayed}
+use Rattle.bidi.specs.Classes.{class_at}
+use Rattle.bidi.specs.Explicit.{level_at, type_at}
+use Rattle.bidi.specs.Levels.{levels_by, put_back, resolved}
+use Rattle.bidi.specs.Sequences.{stayed}
+use Rattle.bidi.specs.Stayed.{HasAll, IsStayed}
+use Rattle.bidi.proofs.ExplicitLemmas.{level_at-bound}
+use Rattle.bidi.proofs.levels.resolve_acting.Goals as goal
+
+-- what the walk leaves is whole
+whole : (classes : List BidiClass) (base : ℕ) (left : Stayed) → base ≤ 1 → IsStayed classes base left → HasAll left
+whole classes base left low kept =
+    let places = stayed classes in
+    let size : length left.levels.items ≡ length places = ap length kept.levels_are ∙ length-map places (level_at base classes) in
+    record {
+      classes = ap length kept.classes_are ∙ length-map places (class_at classes) ∙ sym size;
+      types = ap length kept.types_are ∙ length-map places (type_at base classes) ∙ sym size;
+      bounded = λ k. elim (cases_lt k (length places)) [
+        | inl within ↦ rw (ap (λ levels. get_or levels k 0) kept.levels_are ∙ get_or-map (level_at base classes) places k 0 0 within) (level_at-bound base classes (get_or places k 0) low)
+        | inr past ↦ rw (get_or_past left.levels.items k 0 (omega arith)) (omega arith)
+      ];
+    }
+
+-- the levels of what stayed, put back
+all_levels : (bracket : ℕ → Option Bracket) (text : List ℕ) (classes : List BidiClass) (base : ℕ) (characters : List ℕ) (left : Stayed) (done : List ℕ) → IsStayed classes base left
+    → characters ≡ map (slice_index text) (stayed classes) → done ≡ resolved bracket base characters left.classes.items left.levels.items left.types.items
+    → put_back base classes done ≡ levels_by bracket text classes base
+all_levels bracket text classes base characters left done kept there e =
+    ap (put_back base classes) (
+    e
+    ∙ ap (λ xs. resolved bracket base xs left.classes.items left.levels.items left.types.items) there
+    ∙ ap (λ xs. resolved bracket base (map (slice_index text) (stayed classes)) xs left.levels.items left.types.items) kept.classes_are
+    ∙ ap (λ xs. resolved bracket base (map (slice_index text) (stayed classes)) (map (class_at classes) (stayed classes)) xs left.types.items) kept.levels_are
+    ∙ ap (resolved bracket base (map (slice_index text) (stayed classes)) (map (class_at classes) (stayed classes)) (map (level_at base classes) (stayed classes))) kept.types_are
+    )
+
+pub resolve_stayed-requires-clause-stayed : goal.resolve_stayed-requires-clause-stayed
+resolve_stayed-requires-clause-stayed c = whole c.args.acting.now c.args.base c.explicit.new.stayed c.requires.low c.in_ok-explicit.ensures
+
+pub resolve_stayed-requires-clause-characters : goal.resolve_stayed-requires-clause-characters
+resolve_stayed-requires-clause-characters c =
+    let kept : IsStayed c.args.acting.now c.args.base c.explicit.new.stayed = c.in_ok-explicit.ensures in
+    ap length (c.deref.ensures.value ∙ c.in_ok-stayed_characters.ensures) ∙ length-map (stayed c.args.acting.now) (slice_index c.args.text.now)
+    ∙ sym (ap length kept.levels_are ∙ length-map (stayed c.args.acting.now) (level_at c.args.base c.args.acting.now))
+
+pub returns : goal.returns
+returns c =
+    let kept : IsStayed c.args.acting.now c.args.base c.explicit.new.stayed = c.in_ok-explicit.ensures in
+    c.in_ok-put_back.ensures
+    ∙ ap (put_back c.args.base c.args.acting.now) c.deref-2.ensures.value
+    ∙ all_levels (bracket_of c.args.tables.now) c.args.text.now c.args.acting.now c.args.base c.deref.result.now c.explicit.new.stayed _ kept
+    (c.deref.ensures.value ∙ c.in_ok-stayed_characters.ensures) c.in_ok-resolve_stayed.ensures

@@ -1,6 +1,0 @@
-use Rattle.std.proofs.Common.{◌≡◌, ◌++◌, map, take, drop}
-use Rattle.bidi.specs.Weak.{w6_type}
-use Rattle.bidi.proofs.weak.w6.Given as goal
-
-abbrev pub invariant-loop-slot : goal.invariant-loop-slot
-invariant-loop-slot l = l.types ≡ map w6_type (take l.slot-index l.fn.types) ++ drop l.slot-index l.fn.types

@@ -1,0 +1,39 @@
+-- Paragraphs that need fewer rules than others (UAX #9, X1 to X10 and N0).
+use Rattle.std.specs.Prelude.{Bool, true, false}
+use Rattle.ucd.specs.declared.bidi_class.BidiClass.{BidiClass}
+use Rattle.ucd.specs.declared.properties.Properties.{Properties}
+use Rattle.ucd.specs.declared.bidi_class.BidiClass.TheVariants.{R, AL, AN, BN, LRE, LRO, RLE, RLO, PDF, LRI, RLI, FSI, PDI}
+
+-- A character that opens nothing, closes nothing and stays: a paragraph of such is one isolating run sequence as it stands.
+abbrev pub is_plain : BidiClass → Bool
+is_plain BN = false
+is_plain LRE = false
+is_plain LRO = false
+is_plain RLE = false
+is_plain RLO = false
+is_plain PDF = false
+is_plain LRI = false
+is_plain RLI = false
+is_plain FSI = false
+is_plain PDI = false
+is_plain class = true
+
+-- A character that raises no level above 0: in a paragraph of such, at paragraph level 0, all levels are 0.
+abbrev pub is_flat : BidiClass → Bool
+is_flat R = false
+is_flat AL = false
+is_flat AN = false
+is_flat LRE = false
+is_flat LRO = false
+is_flat RLE = false
+is_flat RLO = false
+is_flat PDF = false
+is_flat LRI = false
+is_flat RLI = false
+is_flat FSI = false
+is_flat PDI = false
+is_flat class = true
+
+-- whether a character is a bracket, in what tables say of it
+abbrev pub has_bracket_in : Properties → Bool
+has_bracket_in properties = properties.has_bracket

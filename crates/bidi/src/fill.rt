@@ -1,0 +1,14 @@
+//! One value written over a part of a list.
+ghost use Rattle.std.specs.Prelude.{◌≡◌, ◌-◌, ◌≤◌, ◌++◌, length, take, drop, replicate};
+
+/// Writes a value to each place from `start` up to `end`.
+pub(crate) fn fill<T: Copy>(items: &mut [T], start: usize, end: usize, value: T)
+    requires order { start ≤ end }
+    requires within { end ≤ length items.old }
+    ensures front { take end items.new ≡ take start items.old ++ replicate (end - start) value }
+    ensures rest { drop end items.new ≡ drop end items.old }
+{
+    for at in start..end {
+        items[at] = value;
+    }
+}

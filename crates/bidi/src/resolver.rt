@@ -1,0 +1,191 @@
+//! The levels of paragraphs before L1 (UAX #9, X1 to I2), found in lists that are used again for each.
+ghost use Rattle.std.specs.Prelude.{◌≡◌, ◌≤◌, false, map, length, replicate, IfOk, OnOk};
+ghost use Rattle.std.specs.List.{list_all, list_any};
+ghost use Rattle.ucd.specs.Properties.{properties_of};
+ghost use Rattle.ucd.specs.Tables.{class_of, bracket_of};
+ghost use Rattle.bidi.specs.Base.{base_level_of};
+ghost use Rattle.bidi.specs.Classes.{class_in};
+ghost use Rattle.bidi.specs.Levels.{levels_of, paragraph_levels};
+ghost use Rattle.bidi.specs.Plain.{has_bracket_in, is_flat, is_plain};
+
+use crate::base::{Base, base_level_by};
+use crate::levels::{Work, resolve_classes, resolve_plain};
+use std::alloc::{AllocError, Global};
+use ucd::{BidiClass, Properties, Tables};
+
+// Whether a character opens nothing, closes nothing and stays.
+fn is_plain(class: BidiClass) -> bool
+    ensures { result ≡ is_plain class }
+{
+    !matches!(
+        class,
+        BidiClass::BN
+            | BidiClass::LRE
+            | BidiClass::LRO
+            | BidiClass::RLE
+            | BidiClass::RLO
+            | BidiClass::PDF
+            | BidiClass::LRI
+            | BidiClass::RLI
+            | BidiClass::FSI
+            | BidiClass::PDI
+    )
+}
+
+// Whether a character raises no level above 0.
+fn is_flat(class: BidiClass) -> bool
+    ensures { result ≡ is_flat class }
+{
+    !matches!(
+        class,
+        BidiClass::R
+            | BidiClass::AL
+            | BidiClass::AN
+            | BidiClass::LRE
+            | BidiClass::LRO
+            | BidiClass::RLE
+            | BidiClass::RLO
+            | BidiClass::PDF
+            | BidiClass::LRI
+            | BidiClass::RLI
+            | BidiClass::FSI
+            | BidiClass::PDI
+    )
+}
+
+fn are_plain(classes: &[BidiClass]) -> bool
+    ensures { result ≡ list_all is_plain classes.now }
+{
+    classes.iter().all(|class| is_plain(*class))
+}
+
+fn are_flat(properties: &[Properties]) -> bool
+    ensures { result ≡ list_all (λ one. is_flat (class_in one)) properties.now }
+{
+    properties.iter().all(|one| is_flat(one.bidi_class()))
+}
+
+fn has_brackets(properties: &[Properties]) -> bool
+    ensures { result ≡ list_any has_bracket_in properties.now }
+{
+    properties.iter().any(|one| one.has_bracket())
+}
+
+// The classes in what the tables say of characters.
+fn take_classes(properties: &[Properties], classes: &mut Vec<BidiClass>) -> Result<(), AllocError>
+    ensures { OnOk result (classes.new.items ≡ map class_in properties.now) }
+{
+    classes.clear();
+    for one in properties {
+        classes.push(one.bidi_class())?;
+    }
+    Ok(())
+}
+
+// So many levels 0, in place of what the list has.
+fn put_zeros(levels: &mut Vec<u8>, len: usize) -> Result<(), AllocError>
+    ensures { OnOk result (levels.new.items ≡ replicate len 0) }
+{
+    levels.clear();
+    levels.resize(len, 0)?;
+    Ok(())
+}
+
+/// Finds the levels of paragraphs, in lists that are emptied and used again: a paragraph for which
+/// they have room takes no memory.
+#[derive(Debug, Drop)]
+pub struct Resolver {
+    classes: Vec<BidiClass>,
+    acting: Vec<BidiClass>,
+    work: Work,
+}
+
+impl Resolver {
+    /// One whose lists are empty, which takes no memory.
+    pub fn new(alloc: Global) -> Resolver {
+        Resolver {
+            classes: Vec::new(alloc),
+            acting: Vec::new(alloc),
+            work: Work::new(alloc),
+        }
+    }
+
+    /// The base level of one paragraph, 0 or 1, and in place of what `levels` has the level of each
+    /// of its characters before L1, from 0 to 126, by what the tables say of them. The list may be
+    /// any, also one that is no paragraph. After want of memory the resolver serves as before, and
+    /// nothing is known of `levels`.
+    pub fn resolve(
+        &mut self,
+        tables: &Tables,
+        text: &[char],
+        properties: &[Properties],
+        base: Base,
+        levels: &mut Vec<u8>,
+    ) -> Result<u8, AllocError>
+        requires { properties.now ≡ map (properties_of tables.now) text.now }
+        ensures level { IfOk result (λ level. level ≡ base_level_of (map (class_of tables.now) text.now) base) }
+        ensures levels { OnOk result (levels.new.items ≡ levels_of tables.now text.now base) }
+        ensures len { OnOk result (length levels.new.items ≡ length text.now) }
+    {
+        let level = base_level_by(properties, base);
+        if level == 0 && are_flat(properties) {
+            put_zeros(levels, properties.len())?;
+        } else {
+            self.resolve_raised(tables, text, properties, level, levels)?;
+        }
+        Ok(level)
+    }
+
+    // The levels of a paragraph of a base level, whatever its characters.
+    fn resolve_raised(
+        &mut self,
+        tables: &Tables,
+        text: &[char],
+        properties: &[Properties],
+        base: u8,
+        levels: &mut Vec<u8>,
+    ) -> Result<(), AllocError>
+        requires properties { properties.now ≡ map (properties_of tables.now) text.now }
+        requires low { base ≤ 1 }
+        ensures { OnOk result (levels.new.items
+            ≡ paragraph_levels (bracket_of tables.now) text.now (map class_in properties.now) base) }
+    {
+        let classes = &mut self.classes;
+        take_classes(properties, classes)?;
+        let work = &mut self.work;
+        if are_plain(classes) {
+            let has_brackets = has_brackets(properties);
+            resolve_plain(tables, text, classes, base, has_brackets, work, levels)
+        } else {
+            resolve_classes(tables, text, classes, base, &mut self.acting, work, levels)
+        }
+    }
+}
+
+// What the tables say of the characters of a text.
+fn properties_of(
+    alloc: Global,
+    tables: &Tables,
+    text: &[char],
+) -> Result<Vec<Properties>, AllocError>
+    ensures { IfOk result (λ properties. properties.items ≡ map (properties_of tables.now) text.now) }
+{
+    text.iter().map(|c| tables.properties(*c)).collect(alloc)
+}
+
+/// The level of each character of one paragraph before L1, from 0 to 126 (UAX #9, X1 to I2). The
+/// list may be any, also one that is no paragraph.
+pub fn resolve(
+    alloc: Global,
+    tables: &Tables,
+    text: &[char],
+    base: Base,
+) -> Result<Vec<u8>, AllocError>
+    ensures levels { IfOk result (λ levels. levels.items ≡ levels_of tables.now text.now base) }
+    ensures len { IfOk result (λ levels. length levels.items ≡ length text.now) }
+{
+    let properties = properties_of(alloc, tables, text)?;
+    let mut levels = Vec::new(alloc);
+    Resolver::new(alloc).resolve(tables, text, &properties, base, &mut levels)?;
+    Ok(levels)
+}
