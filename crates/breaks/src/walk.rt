@@ -1,0 +1,69 @@
+//! One walk over the characters of a paragraph.
+ghost use Rattle.std.specs.Prelude.{◌≡◌, ◌≤◌, List, []};
+ghost use Rattle.breaks.specs.Bases.{Base, alone};
+ghost use Rattle.breaks.specs.Symbols.{character_by};
+ghost use Rattle.breaks.specs.Walk.{Stands, Passes, mark_at};
+
+use crate::mark::Mark;
+use crate::symbol::{JOINER, symbol_of};
+use crate::table::{MUST, NEVER, PARTS, START, STAYS, UNLESS, entry};
+use ucd::Properties;
+
+/// What the walk keeps of the bases before a position.
+#[derive(Clone, Copy)]
+pub struct Walk {
+    // The row of the table.
+    row: u16,
+    // LB8a: whether the last character is a ZWJ.
+    is_joined: bool,
+    // LB30b: whether the last base is a pictograph to come.
+    is_pictograph: bool,
+}
+
+impl Walk {
+    /// What stands before the second position of a text that begins with this character.
+    pub fn start(first: Properties) -> Walk
+        ensures stands { Stands result (alone (character_by first)) [] }
+        ensures within { result.row ≤ 1440 }
+    {
+        let symbol = symbol_of(first);
+        Walk {
+            row: entry(START, symbol) / PARTS,
+            is_joined: symbol == JOINER,
+            is_pictograph: first.is_future_pictograph(),
+        }
+    }
+
+    /// The mark of the position in front of the next character, which is one of those before it
+    /// from then on.
+    pub fn pass(&mut self, next: Properties) -> Mark
+        requires { self.old.row ≤ 1440 }
+        ensures passes { (last : Base) (others : List Base) → Stands self.old last others
+            → Passes self.new last others (character_by next) result }
+        ensures within { self.new.row ≤ 1440 }
+    {
+        let symbol = symbol_of(next);
+        let entry = entry(self.row, symbol);
+        let outcome = entry % PARTS;
+        let mark = mark_of(outcome, self.is_joined, self.is_pictograph);
+        self.row = entry / PARTS;
+        self.is_joined = symbol == JOINER;
+        if outcome != STAYS {
+            self.is_pictograph = next.is_future_pictograph();
+        }
+        mark
+    }
+}
+
+// What a line does, where the last character may be a ZWJ and the last base a pictograph to come.
+fn mark_of(outcome: u16, is_joined: bool, is_pictograph: bool) -> Mark
+    ensures { result ≡ mark_at outcome is_joined is_pictograph }
+{
+    if is_joined || outcome <= NEVER || (outcome == UNLESS && is_pictograph) {
+        Mark::Never
+    } else if outcome == MUST {
+        Mark::Must
+    } else {
+        Mark::May
+    }
+}
