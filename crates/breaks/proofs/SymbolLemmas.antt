@@ -8,7 +8,7 @@ use Rattle.breaks.specs.Bases.{resolved, base_class}
 use Rattle.breaks.specs.Classes.{is_same, is_one_of}
 use Rattle.breaks.specs.Rules.{rules}
 use Rattle.ucd.specs.declared.properties.Properties.{Properties}
-use Rattle.ucd.specs.Properties.{line_index}
+use Rattle.ucd.specs.Answers.{line_index}
 use Rattle.breaks.specs.Symbols.{character_by, shown, told}
 use Rattle.breaks.specs.declared.character.Character.{Character}
 use Rattle.breaks.specs.declared.symbol.TheConstants.{JOINER, SYMBOLS}

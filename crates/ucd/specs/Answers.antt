@@ -71,4 +71,5 @@ pub record AreBits (bits : ℕ) : Type 0 where
 
 -- what line breaking reads, as one number
 abbrev pub line_index : Answers → ℕ
-line_index a = 8 * line_tag a.line_class + 4 * bit a.is_wide + 2 * bit a.is_mark + bit a.is_future_pictograph
+line_index a =
+    line_tag a.line_class * 8 + (if a.is_wide then 4 else 0) + (if a.is_mark then 2 else 0) + (if a.is_future_pictograph then 1 else 0)

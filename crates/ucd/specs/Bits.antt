@@ -1,5 +1,5 @@
 -- The bits of answers, and the answers that bits hold.
-use Rattle.std.proofs.Common.{◌≡◌, ℕ, ◌/◌, ◌%◌, ◌<◌, ◌==◌, map, get_or, refl, sym, ◌∙◌, ap, arith, zero-add, lit<, ◌⊎◌, inl, inr, zero, suc}
+use Rattle.std.proofs.Common.{◌*◌, ◌+◌, ◌==◌, if◌then◌else◌, ◌≡◌, ℕ, ◌/◌, ◌%◌, ◌<◌, ◌==◌, map, get_or, refl, sym, ◌∙◌, ap, arith, zero-add, lit<, ◌⊎◌, inl, inr, zero, suc}
 use Rattle.std.specs.List.{range_with_len}
 use Rattle.std.proofs.lemmas.List.FromFn.{get_or-range_with_len, get_or-map-range_with_len}
 use Rattle.ucd.specs.declared.bidi_class.BidiClass.{BidiClass}
@@ -44,6 +44,10 @@ cases_zero (suc n) = inr (omega arith)
 bit_of : (n : ℕ) → n < 2 → bit (n == 1) ≡ n
 bit_of n lt = elim (cases_zero n) [ | inl none ↦ rw none refl | inr some ↦ (let one : n ≡ 1 = omega arith in rw one refl) ]
 
+-- a bit that stands for a number
+times : (k n : ℕ) → n < 2 → (if n == 1 then k else 0) ≡ k * n
+times k n lt = elim (cases_zero n) [ | inl none ↦ rw none (omega arith) | inr some ↦ (let one : n ≡ 1 = omega arith in rw one (omega arith)) ]
+
 -- the answers in bits have these bits
 pub bits_of-answers_in : (bits : ℕ) → AreBits bits → bits_of (answers_in bits) ≡ bits
 bits_of-answers_in bits are =
@@ -60,7 +64,7 @@ bits_of-answers_in bits are =
 pub line_index_in : (bits : ℕ) → AreBits bits → bits / 128 ≡ line_index (answers_in bits)
 line_index_in bits are =
     let line = line_tag_at (bits / 1024) are.line in
-    let pictograph = bit_of (bits / 128 % 2) (omega arith) in
-    let mark = bit_of (bits / 256 % 2) (omega arith) in
-    let wide = bit_of (bits / 512 % 2) (omega arith) in
+    let pictograph = times 1 (bits / 128 % 2) (omega arith) in
+    let mark = times 2 (bits / 256 % 2) (omega arith) in
+    let wide = times 4 (bits / 512 % 2) (omega arith) in
     rw (line, wide, mark, pictograph) (omega arith)
