@@ -28,6 +28,15 @@ read_types before strong types =
 abbrev pub number_type : Bool → BidiClass
 number_type left = if left then L else EN
 
+-- whether W4 to W7 make anything of a type
+abbrev pub is_weak : BidiClass → Bool
+is_weak EN = true
+is_weak ES = true
+is_weak ET = true
+is_weak AN = true
+is_weak CS = true
+is_weak type = false
+
 -- whether a row of ET that begins here stands behind a European number
 abbrev pub is_behind_number : Row → Bool
 is_behind_number European = true

@@ -71,15 +71,23 @@ fn has_brackets(properties: &[Properties]) -> bool
     properties.iter().any(|one| one.has_bracket())
 }
 
-// The classes in what the tables say of characters.
+// The classes in what the tables say of characters, in place of what the list has.
 fn take_classes(properties: &[Properties], classes: &mut Vec<BidiClass>) -> Result<(), AllocError>
     ensures { OnOk result (classes.new.items ≡ map class_in properties.now) }
 {
     classes.clear();
-    for one in properties {
-        classes.push(one.bidi_class())?;
-    }
+    classes.resize(properties.len(), BidiClass::L)?;
+    put_classes(properties, classes);
     Ok(())
+}
+
+fn put_classes(properties: &[Properties], classes: &mut [BidiClass])
+    requires { length classes.old ≡ length properties.now }
+    ensures { classes.new ≡ map class_in properties.now }
+{
+    for at in 0..properties.len() {
+        classes[at] = properties[at].bidi_class();
+    }
 }
 
 // So many levels 0, in place of what the list has.
@@ -162,8 +170,8 @@ impl Resolver {
     }
 }
 
-// What the tables say of the characters of a text.
-fn properties_of(
+/// What the tables say of the characters of a text.
+pub(crate) fn properties_of(
     alloc: Global,
     tables: &Tables,
     text: &[char],
