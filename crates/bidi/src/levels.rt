@@ -376,7 +376,8 @@ pub(crate) fn resolve_classes(
 ) -> Result<(), AllocError>
     requires sizes { length text.now ≡ length classes.now }
     requires low { base ≤ 1 }
-    ensures { OnOk result (levels.new.items ≡ paragraph_levels (bracket_of tables.now) text.now classes.now base) }
+    ensures { OnOk result (levels.new.items
+        ≡ paragraph_levels (bracket_of tables.now) text.now classes.now base) }
 {
     direct(classes, &mut work.isolates, acting)?;
     resolve_acting(tables, text, acting, base, work, levels)
@@ -397,7 +398,8 @@ pub(crate) fn resolve_plain(
     requires low { base ≤ 1 }
     requires plain { All (λ class. is_plain class ≡ true) classes.now }
     requires brackets { has_brackets ≡ false → All (λ c. bracket_of tables.now c ≡ None) text.now }
-    ensures { OnOk result (levels.new.items ≡ paragraph_levels (bracket_of tables.now) text.now classes.now base) }
+    ensures { OnOk result (levels.new.items
+        ≡ paragraph_levels (bracket_of tables.now) text.now classes.now base) }
 {
     let sequence = &mut work.sequence;
     copy_types(classes, &mut sequence.types)?;

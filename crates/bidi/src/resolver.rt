@@ -131,7 +131,8 @@ impl Resolver {
         levels: &mut Vec<u8>,
     ) -> Result<u8, AllocError>
         requires { properties.now ≡ map (properties_of tables.now) text.now }
-        ensures level { IfOk result (λ level. level ≡ base_level_of (map (class_of tables.now) text.now) base) }
+        ensures level { IfOk result (λ level. level
+            ≡ base_level_of (map (class_of tables.now) text.now) base) }
         ensures levels { OnOk result (levels.new.items ≡ levels_of tables.now text.now base) }
         ensures len { OnOk result (length levels.new.items ≡ length text.now) }
     {
