@@ -161,12 +161,22 @@ impl Resolver {
     {
         let classes = &mut self.classes;
         take_classes(properties, classes)?;
+        let has_brackets = has_brackets(properties);
         let work = &mut self.work;
         if are_plain(classes) {
-            let has_brackets = has_brackets(properties);
             resolve_plain(tables, text, classes, base, has_brackets, work, levels)
         } else {
-            resolve_classes(tables, text, classes, base, &mut self.acting, work, levels)
+            let acting = &mut self.acting;
+            resolve_classes(
+                tables,
+                text,
+                classes,
+                base,
+                has_brackets,
+                acting,
+                work,
+                levels,
+            )
         }
     }
 }

@@ -104,6 +104,7 @@ fn general_levels(
             text,
             &classes,
             level,
+            true,
             &mut acting,
             &mut work,
             &mut levels,
