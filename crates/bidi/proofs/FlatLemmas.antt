@@ -1,24 +1,24 @@
 -- A paragraph at level 0 in which no character raises a level has level 0 throughout.
-use Rattle.std.proofs.Common.{◌≡◌, ℕ, zero, suc, ◌+◌, ◌-◌, ◌<◌, ◌≤◌, Bool, true, false, ◌&&◌, ◌||◌, not, if◌then◌else◌, List, [], ◌∷◌, ◌++◌, length, get_or, take, drop, map, filter, fold, replicate, slice_index, slice_range, Option, Some, None, refl, sym, ap, subst, ◌∙◌, inl, inr, arith, add-zero, zero-add}
-use Rattle.std.specs.List.{range_with_len, list_any, All}
+use Rattle.std.proofs.Common.{◌≡◌, ℕ, zero, suc, ◌+◌, ◌-◌, ◌<◌, Bool, true, false, ◌&&◌, ◌||◌, not, if◌then◌else◌, List, [], ◌∷◌, ◌++◌, length, get_or, drop, map, fold, replicate, slice_index, slice_range, Option, Some, None, refl, sym, ap, subst, ◌∙◌, inl, inr, arith, add-zero, zero-add}
+use Rattle.std.specs.List.{range_with_len, All}
 use Rattle.std.proofs.lemmas.Bool.{cond-true, cond-false, cases_Bool, cases_lt}
 use Rattle.std.proofs.lemmas.List.{get_or_past, length-map, length-replicate, replicate-append-replicate}
 use Rattle.std.proofs.lemmas.List.Elements.{All-nil, All-cons, All-head, All-tail, All-map, All-take, All-drop, All-weaker, All-get_or, filter_passes}
 use Rattle.std.proofs.lemmas.List.Folds.{list_any_none}
 use Rattle.ucd.specs.declared.bidi_class.BidiClass.{BidiClass}
-use Rattle.ucd.specs.declared.bidi_class.BidiClass.TheVariants.{L, R, AL, EN, ES, ET, AN, CS, NSM, BN, B, S, WS, ON, LRE, LRO, RLE, RLO, PDF, LRI, RLI, FSI, PDI}
+use Rattle.ucd.specs.declared.bidi_class.BidiClass.TheVariants.{L, R, AL, EN, ES, ET, AN, CS, NSM, B, S, WS, ON, LRE, LRO, RLE, RLO, LRI, RLI, FSI, PDI}
 use Rattle.ucd.specs.declared.bracket.Bracket.{Bracket}
-use Rattle.bidi.specs.Brackets.{brackets, closer_of, is_set_with, is_toward, pair_direction, pair_step, pairs_of, set_pair, set_with, stands, context}
+use Rattle.bidi.specs.Brackets.{brackets, closer_of, is_set_with, is_toward, pair_step, pairs_of, set_pair, set_with, stands, context}
 use Rattle.bidi.specs.Classes.{class_at, is_initiator, is_strong}
 use Rattle.bidi.specs.Explicit.{directed, is_first_strong, level_at, open_after, type_at}
 use Rattle.bidi.specs.Levels.{levels_by, paragraph_levels, put_back, resolved, sequence_levels}
 use Rattle.bidi.specs.Neighbours.{nearest}
-use Rattle.bidi.specs.Neutral.{agree, implicit_level, is_neutral, neutral, side}
+use Rattle.bidi.specs.Neutral.{agree, side}
 use Rattle.bidi.specs.Plain.{is_flat}
-use Rattle.bidi.specs.Rows.{levels_behind, row_level}
-use Rattle.bidi.specs.Sequences.{direction, is_removed, stayed}
-use Rattle.bidi.specs.Waiting.{carry, digit_type, mark_type, read_types}
-use Rattle.bidi.specs.Weak.{is_arabic, is_left, is_mark, is_number, is_terminator, mark_behind, w3_type, w4_at, w6_type, weak}
+use Rattle.bidi.specs.Rows.{levels_behind}
+use Rattle.bidi.specs.Sequences.{is_removed, stayed}
+use Rattle.bidi.specs.Waiting.{carry, digit_type, mark_type}
+use Rattle.bidi.specs.Weak.{is_left, is_mark, is_number, mark_behind, w3_type, w6_type, weak}
 use Rattle.bidi.proofs.BracketLemmas.{length-set_with}
 use Rattle.bidi.proofs.NeutralLemmas.{levels_behind-is}
 use Rattle.bidi.proofs.PlainLemmas.{directed-none, level_at-base, map-agree, map-same, resolved-one, type_at-class}

@@ -15,6 +15,7 @@ mod ResolverLemmas
 mod RunLemmas
 mod FlatLemmas
 mod NoBracketLemmas
+mod PartLemmas
 mod PlainLemmas
 mod WaitingLemmas
 mod WeakLemmas

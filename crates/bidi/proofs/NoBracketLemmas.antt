@@ -1,10 +1,10 @@
 -- Without brackets N0 changes nothing.
-use Rattle.std.proofs.Common.{◌≡◌, ℕ, zero, suc, ◌+◌, ◌<◌, ◌≤◌, nat_le, Bool, false, ◌&&◌, if◌then◌else◌, List, [], ◌∷◌, ◌++◌, length, map, fold, slice_index, count_by, Option, None, unwrap_or, refl, ap, ◌∙◌, arith}
+use Rattle.std.proofs.Common.{◌≡◌, ℕ, zero, suc, ◌<◌, ◌≤◌, nat_le, Bool, false, ◌&&◌, if◌then◌else◌, List, [], ◌∷◌, ◌++◌, length, map, fold, slice_index, count_by, Option, None, unwrap_or, refl, ap, ◌∙◌, arith}
 use Rattle.std.specs.List.{range_with_len, All}
 use Rattle.std.proofs.lemmas.Bool.{and_left, and_right, cond-false}
 use Rattle.ucd.specs.declared.bidi_class.BidiClass.{BidiClass}
 use Rattle.ucd.specs.declared.bracket.Bracket.{Bracket}
-use Rattle.bidi.specs.Brackets.{Pair, brackets, closer_of, fits, greatest, is_live, is_closer, is_closing, is_full, is_opener, is_opening, is_other, pair_step, paired_with, pairs_before, pairs_of, resolve_pairs}
+use Rattle.bidi.specs.Brackets.{brackets, closer_of, fits, greatest, is_live, is_closer, is_closing, is_full, is_opener, is_opening, is_other, pair_step, paired_with, pairs_before, pairs_of, resolve_pairs}
 use Rattle.bidi.specs.Classes.{class_at}
 use Rattle.bidi.specs.Least.{least}
 use Rattle.bidi.specs.Weak.{is_mark}

@@ -1,17 +1,17 @@
 -- A paragraph in which nothing is opened, closed or taken out is one isolating run sequence as it stands.
-use Rattle.std.proofs.Common.{◌≡◌, ℕ, zero, suc, ◌+◌, ◌-◌, ◌<◌, ◌≤◌, ◌==◌, max, is_none, Bool, true, false, ◌&&◌, not, if◌then◌else◌, List, [], ◌∷◌, ◌++◌, length, get_or, set, take, drop, map, filter, fold, replicate, unwrap_or, slice_index, Option, refl, sym, ap, subst, ◌∙◌, inl, inr, arith, append_assoc, zero-add}
+use Rattle.std.proofs.Common.{◌≡◌, ℕ, zero, suc, ◌+◌, ◌-◌, ◌<◌, ◌==◌, max, is_none, Bool, true, false, ◌&&◌, not, if◌then◌else◌, List, [], ◌∷◌, ◌++◌, length, get_or, set, take, map, filter, fold, replicate, unwrap_or, slice_index, Option, refl, sym, ap, ◌∙◌, inl, inr, arith, append_assoc, zero-add}
 use Rattle.std.specs.List.{range_with_len, All}
-use Rattle.std.proofs.lemmas.Bool.{cond-true, cond-false, cases_Bool, cases_lt, eq-eqb, not_from_false}
-use Rattle.std.proofs.lemmas.List.{append-nil, get_or-replicate, get_or_default, get_or_past, length-replicate, length-set, nil_from_length, same_lists, take_all, take_more_set}
+use Rattle.std.proofs.lemmas.Bool.{cond-true, cond-false, cases_lt, eq-eqb, not_from_false}
+use Rattle.std.proofs.lemmas.List.{append-nil, get_or-replicate, get_or_default, length-replicate, length-set, nil_from_length, same_lists, take_all, take_more_set}
 use Rattle.std.proofs.lemmas.List.Elements.{All-get_or, All-head, All-tail, All-weaker}
 use Rattle.std.proofs.lemmas.List.FromFn.{get_or-map-range_with_len, length-map-range_with_len, length-range_with_len}
 use Rattle.ucd.specs.declared.bidi_class.BidiClass.{BidiClass}
-use Rattle.ucd.specs.declared.bidi_class.BidiClass.TheVariants.{L, R, ON, BN, LRE, LRO, RLE, RLO, PDF, LRI, RLI, FSI, PDI}
+use Rattle.ucd.specs.declared.bidi_class.BidiClass.TheVariants.{ON, BN, LRE, LRO, RLE, RLO, PDF, LRI, RLI, FSI}
 use Rattle.ucd.specs.declared.bracket.Bracket.{Bracket}
 use Rattle.bidi.specs.Base.{match_of}
 use Rattle.bidi.specs.Classes.{class_at, is_initiator, is_pdi, is_separator}
 use Rattle.bidi.specs.Cuts.{paragraphs}
-use Rattle.bidi.specs.Explicit.{directed, directed_at, inside, inside_at, is_first_strong, level_at, open_after, open_chain, type_at}
+use Rattle.bidi.specs.Explicit.{directed, directed_at, inside, is_first_strong, level_at, open_after, type_at}
 use Rattle.bidi.specs.Levels.{levels_by, levels_in, paragraph_levels, put, put_back, resolved, sequence_levels}
 use Rattle.bidi.specs.Plain.{is_plain}
 use Rattle.bidi.specs.Runs.{IsRunEnd, runs_from}

@@ -8,7 +8,7 @@ use Rattle.bidi.specs.declared.weak.Row.{Row}
 use Rattle.bidi.specs.declared.weak.Row.TheVariants.{Nothing, European, Arabic, EuropeanTerminators, EuropeanSeparator, ArabicSeparator, Terminators}
 use Rattle.bidi.specs.Classes.{is_strong}
 use Rattle.bidi.specs.Weak.{is_mark, is_left, w3_type, weak}
-use Rattle.bidi.specs.Waiting.{mark_type, digit_type, read_types, waits, lengthens, completes, written, row_after, start_after, types_behind, AreTypesSoFar}
+use Rattle.bidi.specs.Waiting.{is_weak, mark_type, digit_type, read_types, waits, lengthens, completes, written, row_after, start_after, types_behind, AreTypesSoFar}
 use Rattle.bidi.proofs.WeakLemmas.{left-w3, weak-is}
 
 -- the strong type behind a type, before W3 and after it
@@ -212,6 +212,52 @@ module _ (sos : BidiClass) (old current : List BidiClass) (before strong : BidiC
           | inr w ↦ subst P (sym (cond-false (waits (row_after row type)) at (at + 1) w)) (settled e w)
         ])
       ])
+
+-- a type of which these rules make nothing ends the row
+other-written : (row : Row) (left : Bool) (type : BidiClass) → is_weak type ≡ false → written row left type ≡ type
+other-written row left EN e = absurd (cc)
+other-written row left ES e = absurd (cc)
+other-written row left ET e = absurd (cc)
+other-written row left AN e = absurd (cc)
+other-written row left CS e = absurd (cc)
+other-written row left _ e = refl
+
+other-completes : (row : Row) (type : BidiClass) → is_weak type ≡ false → completes row type ≡ false
+other-completes EuropeanSeparator EN e = absurd (cc)
+other-completes EuropeanSeparator _ e = refl
+other-completes ArabicSeparator AN e = absurd (cc)
+other-completes ArabicSeparator _ e = refl
+other-completes Terminators EN e = absurd (cc)
+other-completes Terminators _ e = refl
+other-completes _ type e = refl
+
+other-lengthens : (row : Row) (type : BidiClass) → is_weak type ≡ false → lengthens row type ≡ false
+other-lengthens Terminators ET e = absurd (cc)
+other-lengthens Terminators _ e = refl
+other-lengthens _ type e = refl
+
+other-row : (row : Row) (type : BidiClass) → is_weak type ≡ false → row_after row type ≡ Nothing
+other-row row EN e = absurd (cc)
+other-row row ES e = absurd (cc)
+other-row row ET e = absurd (cc)
+other-row row AN e = absurd (cc)
+other-row row CS e = absurd (cc)
+other-row row _ e = refl
+
+pub types-other : (sos : BidiClass) (old current : List BidiClass) (before strong : BidiClass) (row : Row) (start at : ℕ) → AreTypesSoFar sos old current before strong row start at
+    → (d : BidiClass) → at < length current → (marked type : BidiClass) → marked ≡ mark_type before (get_or current at d) → type ≡ w3_type (digit_type strong marked) → is_weak type ≡ false
+    → AreTypesSoFar sos old (set current at type) (if not (is_mark (get_or current at d)) then get_or current at d else before) (if is_strong marked then marked else strong) Nothing (at + 1) (at + 1)
+types-other sos old current before strong row start at so_far d within marked type is_marked is_type other =
+    let P : Row → Type 0 =
+    λ r. AreTypesSoFar sos old (set current at type) (if not (is_mark (get_or current at d)) then get_or current at d else before) (if is_strong marked then marked else strong) r (at + 1) (at + 1) in
+    let begins : start_after row type start at ≡ at + 1 =
+    ap (λ b. if b then start else (if waits (row_after row type) then at else at + 1)) (other-lengthens row type other)
+    ∙ ap (λ r. if waits r then at else at + 1) (other-row row type other) in
+    let front : take at current ≡ take start current ++ replicate (at - start) (if completes row type then type else ON) =
+    so_far.waiting ∙ ap (λ t. take start current ++ replicate (at - start) t) (sym (cond-false (completes row type) type ON (other-completes row type other))) in
+    subst P (other-row row type other) (
+    types-next sos old current before strong row start at so_far d within marked type type current is_marked is_type (sym (other-written row (is_left strong) type other))
+    refl refl front (at + 1) (sym begins))
 
 -- at the end, what waits stays ON
 pub types-end : (sos : BidiClass) (old current : List BidiClass) (before strong : BidiClass) (row : Row) (start at : ℕ) → AreTypesSoFar sos old current before strong row start at

@@ -3,11 +3,10 @@ use Rattle.std.proofs.Common.{◌≡◌, ℕ, zero, suc, ◌+◌, Bool, true, fa
 use Rattle.std.proofs.lemmas.List.{append-nil, replicate_more}
 use Rattle.ucd.specs.declared.bidi_class.BidiClass.{BidiClass}
 use Rattle.ucd.specs.declared.bidi_class.BidiClass.TheVariants.{L, R, AL, EN, ES, ET, AN, CS, NSM, ON}
-use Rattle.bidi.specs.declared.weak.Row.{Row}
 use Rattle.bidi.specs.declared.weak.Row.TheVariants.{Nothing, European, Arabic, EuropeanTerminators, EuropeanSeparator, ArabicSeparator, Terminators}
 use Rattle.bidi.specs.Classes.{is_strong}
 use Rattle.bidi.specs.Neighbours.{each_by, nearest}
-use Rattle.bidi.specs.Weak.{is_mark, mark_behind, is_number, is_arabic, is_left, is_terminator, w1_at, w1, w2_at, w2, w3, w3_type, w4_at, w4, w5_at, w5, w6, w6_type, w7_at, w7, weak}
+use Rattle.bidi.specs.Weak.{is_mark, is_number, is_left, is_terminator, w1_at, w1, w2_at, w2, w3, w3_type, w4_at, w4, w5_at, w5, w6, w6_type, w7_at, weak}
 use Rattle.bidi.specs.Waiting.{carry, mark_type, digit_type, read_types, number_type, types_behind}
 
 -- a rule that looks back at the nearest such item

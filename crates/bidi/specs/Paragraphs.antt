@@ -1,5 +1,5 @@
 -- What is found of the characters that X9 leaves before their sequences are resolved, and what is then written.
-use Rattle.std.specs.Prelude.{◌≡◌, ℕ, ◌<◌, List, length, map, slice_index}
+use Rattle.std.specs.Prelude.{◌≡◌, ℕ, ◌<◌, false, None, All, List, length, map, slice_index}
 use Rattle.ucd.specs.Tables.{bracket_of}
 use Rattle.bidi.specs.Classes.{class_at}
 use Rattle.bidi.specs.Isolates.{matches_of}
@@ -17,6 +17,7 @@ pub record IsReady (p : Paragraph) : Type 0 where
   pub characters : length p.characters.now ≡ length p.stayed.now.levels.items
   pub matches : p.matches.now ≡ matches_of p.stayed.now.classes.items
   pub found : length p.matches.now ≡ length p.stayed.now.levels.items
+  pub brackets : p.has_brackets ≡ false → All (λ c. bracket_of p.tables.now c ≡ None) p.characters.now
 
 abbrev pub sequence_in : Paragraph → ℕ → List ℕ
 sequence_in p start = sequence_at p.stayed.now.classes.items p.stayed.now.levels.items start

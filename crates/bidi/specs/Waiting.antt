@@ -1,5 +1,5 @@
 -- What the one walk of the weak rules keeps: types that wait for what stands behind them, and what W1 to W3 and W7 look back at.
-use Rattle.std.specs.Prelude.{◌≡◌, ℕ, ◌+◌, ◌-◌, ◌≤◌, Bool, true, false, ◌&&◌, ◌||◌, not, List, [], ◌∷◌, ◌++◌, length, map, take, drop, replicate, if◌then◌else◌}
+use Rattle.std.specs.Prelude.{◌≡◌, ℕ, ◌+◌, ◌-◌, ◌≤◌, Bool, true, false, ◌&&◌, not, List, [], ◌∷◌, ◌++◌, length, map, take, drop, replicate, if◌then◌else◌}
 use Rattle.ucd.specs.declared.bidi_class.BidiClass.{BidiClass}
 use Rattle.ucd.specs.declared.bidi_class.BidiClass.TheVariants.{L, EN, ES, ET, AN, CS, ON}
 use Rattle.bidi.specs.declared.weak.Row.{Row}
@@ -27,6 +27,15 @@ read_types before strong types =
 -- W7 of a European number
 abbrev pub number_type : Bool → BidiClass
 number_type left = if left then L else EN
+
+-- whether W4 to W7 make anything of a type
+abbrev pub is_weak : BidiClass → Bool
+is_weak EN = true
+is_weak ES = true
+is_weak ET = true
+is_weak AN = true
+is_weak CS = true
+is_weak type = false
 
 -- whether a row of ET that begins here stands behind a European number
 abbrev pub is_behind_number : Row → Bool

@@ -67,6 +67,7 @@ fn put_levels(levels: &mut [u8], places: &[usize], values: &[u8])
 #[derive(Clone, Copy)]
 struct Paragraph<'a> {
     tables: &'a Tables,
+    has_brackets: bool,
     base: u8,
     characters: &'a [char],
     stayed: &'a Stayed,
@@ -192,7 +193,7 @@ impl Sequence {
             &mut self.types,
             &mut self.pairs,
             sides,
-            true,
+            paragraph.has_brackets,
             &mut self.levels,
         )?;
         put_levels(resolved, &self.places, &self.levels);
@@ -264,6 +265,7 @@ impl Work {
 // Finds the levels of the characters that X9 leaves.
 fn resolve_stayed(
     tables: &Tables,
+    has_brackets: bool,
     characters: &[char],
     stayed: &Stayed,
     base: u8,
@@ -274,6 +276,8 @@ fn resolve_stayed(
 ) -> Result<(), AllocError>
     requires stayed { HasAll stayed.now }
     requires characters { length characters.now ≡ length stayed.now.levels.items }
+    requires brackets { has_brackets ≡ false
+        → All (λ c. bracket_of tables.now c ≡ None) characters.now }
     ensures { OnOk result (done.new.items ≡ resolved (bracket_of tables.now) base characters.now
         stayed.now.classes.items stayed.now.levels.items stayed.now.types.items) }
 {
@@ -284,6 +288,7 @@ fn resolve_stayed(
     done.extend_from_slice(&stayed.levels)?;
     let paragraph = Paragraph {
         tables,
+        has_brackets,
         base,
         characters,
         stayed,
@@ -341,17 +346,20 @@ pub(crate) fn resolve_acting(
     text: &[char],
     acting: &[BidiClass],
     base: u8,
+    has_brackets: bool,
     work: &mut Work,
     levels: &mut Vec<u8>,
 ) -> Result<(), AllocError>
     requires sizes { length text.now ≡ length acting.now }
     requires low { base ≤ 1 }
+    requires brackets { has_brackets ≡ false → All (λ c. bracket_of tables.now c ≡ None) text.now }
     ensures { OnOk result (levels.new.items ≡ levels_by (bracket_of tables.now) text.now acting.now base) }
 {
     explicit(acting, base, &mut work.stayed)?;
     stayed_characters(text, acting, &mut work.characters)?;
     resolve_stayed(
         tables,
+        has_brackets,
         &work.characters,
         &work.stayed,
         base,
@@ -370,16 +378,19 @@ pub(crate) fn resolve_classes(
     text: &[char],
     classes: &[BidiClass],
     base: u8,
+    has_brackets: bool,
     acting: &mut Vec<BidiClass>,
     work: &mut Work,
     levels: &mut Vec<u8>,
 ) -> Result<(), AllocError>
     requires sizes { length text.now ≡ length classes.now }
     requires low { base ≤ 1 }
-    ensures { OnOk result (levels.new.items ≡ paragraph_levels (bracket_of tables.now) text.now classes.now base) }
+    requires brackets { has_brackets ≡ false → All (λ c. bracket_of tables.now c ≡ None) text.now }
+    ensures { OnOk result (levels.new.items
+        ≡ paragraph_levels (bracket_of tables.now) text.now classes.now base) }
 {
     direct(classes, &mut work.isolates, acting)?;
-    resolve_acting(tables, text, acting, base, work, levels)
+    resolve_acting(tables, text, acting, base, has_brackets, work, levels)
 }
 
 /// The levels of a paragraph in which nothing is opened, closed or taken out: it is one sequence as
@@ -397,7 +408,8 @@ pub(crate) fn resolve_plain(
     requires low { base ≤ 1 }
     requires plain { All (λ class. is_plain class ≡ true) classes.now }
     requires brackets { has_brackets ≡ false → All (λ c. bracket_of tables.now c ≡ None) text.now }
-    ensures { OnOk result (levels.new.items ≡ paragraph_levels (bracket_of tables.now) text.now classes.now base) }
+    ensures { OnOk result (levels.new.items
+        ≡ paragraph_levels (bracket_of tables.now) text.now classes.now base) }
 {
     let sequence = &mut work.sequence;
     copy_types(classes, &mut sequence.types)?;

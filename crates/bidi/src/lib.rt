@@ -12,6 +12,8 @@ mod fill;
 mod isolates;
 mod levels;
 mod neutral;
+#[cfg(test)]
+mod passes;
 mod resolver;
 mod sequences;
 mod weak;
@@ -20,3 +22,6 @@ pub use base::{Base, base_level, base_level_by};
 pub use cuts::{first_cut, is_cut, paragraphs_are_pieces};
 pub use engine::BaseEngine;
 pub use resolver::{Resolver, resolve};
+
+#[cfg(test)]
+mod tests;

@@ -28,7 +28,9 @@ pub(crate) fn resolve_neutral(
     for at in 0..types.len() {
         let class = types[at];
         if !is_neutral(class) {
-            fill(levels, start, at, row_level(level, before, class));
+            if start < at {
+                fill(levels, start, at, row_level(level, before, class));
+            }
             levels[at] = implicit_level(level, class);
             before = class;
             start = at + 1;

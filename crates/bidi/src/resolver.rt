@@ -71,15 +71,23 @@ fn has_brackets(properties: &[Properties]) -> bool
     properties.iter().any(|one| one.has_bracket())
 }
 
-// The classes in what the tables say of characters.
+// The classes in what the tables say of characters, in place of what the list has.
 fn take_classes(properties: &[Properties], classes: &mut Vec<BidiClass>) -> Result<(), AllocError>
     ensures { OnOk result (classes.new.items ≡ map class_in properties.now) }
 {
     classes.clear();
-    for one in properties {
-        classes.push(one.bidi_class())?;
-    }
+    classes.resize(properties.len(), BidiClass::L)?;
+    put_classes(properties, classes);
     Ok(())
+}
+
+fn put_classes(properties: &[Properties], classes: &mut [BidiClass])
+    requires { length classes.old ≡ length properties.now }
+    ensures { classes.new ≡ map class_in properties.now }
+{
+    for at in 0..properties.len() {
+        classes[at] = properties[at].bidi_class();
+    }
 }
 
 // So many levels 0, in place of what the list has.
@@ -123,7 +131,8 @@ impl Resolver {
         levels: &mut Vec<u8>,
     ) -> Result<u8, AllocError>
         requires { properties.now ≡ map (properties_of tables.now) text.now }
-        ensures level { IfOk result (λ level. level ≡ base_level_of (map (class_of tables.now) text.now) base) }
+        ensures level { IfOk result (λ level. level
+            ≡ base_level_of (map (class_of tables.now) text.now) base) }
         ensures levels { OnOk result (levels.new.items ≡ levels_of tables.now text.now base) }
         ensures len { OnOk result (length levels.new.items ≡ length text.now) }
     {
@@ -152,18 +161,28 @@ impl Resolver {
     {
         let classes = &mut self.classes;
         take_classes(properties, classes)?;
+        let has_brackets = has_brackets(properties);
         let work = &mut self.work;
         if are_plain(classes) {
-            let has_brackets = has_brackets(properties);
             resolve_plain(tables, text, classes, base, has_brackets, work, levels)
         } else {
-            resolve_classes(tables, text, classes, base, &mut self.acting, work, levels)
+            let acting = &mut self.acting;
+            resolve_classes(
+                tables,
+                text,
+                classes,
+                base,
+                has_brackets,
+                acting,
+                work,
+                levels,
+            )
         }
     }
 }
 
-// What the tables say of the characters of a text.
-fn properties_of(
+/// What the tables say of the characters of a text.
+pub(crate) fn properties_of(
     alloc: Global,
     tables: &Tables,
     text: &[char],

@@ -2,7 +2,7 @@
 ghost use Rattle.std.specs.Prelude.{◌≡◌, ◌<◌, not, if◌then◌else◌};
 ghost use Rattle.bidi.specs.Classes.{is_strong};
 ghost use Rattle.bidi.specs.Waiting.{mark_type, digit_type, number_type, written, completes, row_after};
-ghost use Rattle.bidi.specs.Waiting.{start_after};
+ghost use Rattle.bidi.specs.Waiting.{is_weak, start_after};
 ghost use Rattle.bidi.specs.Weak.{is_mark, is_left, mark_behind, w3_type, weak};
 
 use crate::fill::fill;
@@ -42,16 +42,32 @@ pub(crate) fn resolve_weak(types: &mut [BidiClass], sos: BidiClass)
         let class = types[at];
         let marked = mark_type(before, class);
         let number = w3_type(digit_type(strong, marked));
-        let value = written(row, is_left(strong), number);
-        if completes(row, number) {
-            fill(types, start, at, value);
+        if is_weak(number) {
+            let value = written(row, is_left(strong), number);
+            if completes(row, number) {
+                fill(types, start, at, value);
+            }
+            types[at] = value;
+            start = start_after(row, number, start, at);
+            row = row_after(row, number);
+        } else {
+            types[at] = number;
+            start = at + 1;
+            row = Row::Nothing;
         }
-        types[at] = value;
-        start = start_after(row, number, start, at);
-        row = row_after(row, number);
         before = unmarked_after(class, before);
         strong = strong_after(marked, strong);
     }
+}
+
+// Whether W4 to W7 make anything of a type.
+fn is_weak(class: BidiClass) -> bool
+    ensures { result ≡ is_weak class }
+{
+    matches!(
+        class,
+        BidiClass::EN | BidiClass::ES | BidiClass::ET | BidiClass::AN | BidiClass::CS
+    )
 }
 
 // W1: a mark takes the type of what stands in front of it.

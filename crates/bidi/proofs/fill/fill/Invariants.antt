@@ -1,4 +1,4 @@
-use Rattle.std.proofs.Common.{◌≡◌, ◌-◌, ◌++◌, length, take, drop, replicate}
+use Rattle.std.proofs.Common.{◌≡◌, ◌-◌, ◌++◌, take, drop, replicate}
 use Rattle.bidi.proofs.fill.fill.Given as goal
 
 abbrev pub invariant-loop-at : goal.invariant-loop-at

@@ -1,4 +1,4 @@
-use Rattle.std.proofs.Common.{◌≡◌, ℕ, ◌≤◌, List, length, map, get_or, slice_index, Option, sym, ap, ◌∙◌, inl, inr, arith}
+use Rattle.std.proofs.Common.{◌≡◌, ℕ, ◌≤◌, List, length, map, get_or, slice_index, not, None, Option, sym, ap, subst, ◌∙◌, inl, inr, arith}
 use Rattle.std.proofs.lemmas.Bool.{cases_lt}
 use Rattle.std.proofs.lemmas.List.{get_or-map, get_or_past, length-map}
 use Rattle.ucd.specs.Tables.{bracket_of}
@@ -8,8 +8,10 @@ use Rattle.bidi.specs.declared.explicit.Stayed.{Stayed}
 use Rattle.bidi.specs.Classes.{class_at}
 use Rattle.bidi.specs.Explicit.{level_at, type_at}
 use Rattle.bidi.specs.Levels.{levels_by, put_back, resolved}
-use Rattle.bidi.specs.Sequences.{stayed}
+use Rattle.bidi.specs.Sequences.{is_removed, stayed}
 use Rattle.bidi.specs.Stayed.{HasAll, IsStayed}
+use Rattle.std.specs.List.{All}
+use Rattle.bidi.proofs.PartLemmas.{All-kept}
 use Rattle.bidi.proofs.ExplicitLemmas.{level_at-bound}
 use Rattle.bidi.proofs.levels.resolve_acting.Goals as goal
 
@@ -48,6 +50,12 @@ resolve_stayed-requires-clause-characters c =
     let kept : IsStayed c.args.acting.now c.args.base c.explicit.new.stayed = c.in_ok-explicit.ensures in
     ap length (c.deref.ensures.value ∙ c.in_ok-stayed_characters.ensures) ∙ length-map (stayed c.args.acting.now) (slice_index c.args.text.now)
     ∙ sym (ap length kept.levels_are ∙ length-map (stayed c.args.acting.now) (level_at c.args.base c.args.acting.now))
+
+pub resolve_stayed-requires-clause-brackets : goal.resolve_stayed-requires-clause-brackets
+resolve_stayed-requires-clause-brackets c = λ none.
+    let P : ℕ → Type 0 = λ b. bracket_of c.args.tables.now b ≡ None in
+    subst (All P) (sym (c.deref.ensures.value ∙ c.in_ok-stayed_characters.ensures))
+    (All-kept P c.args.text.now (length c.args.acting.now) (λ k. not (is_removed (class_at c.args.acting.now k))) c.requires.sizes (c.requires.brackets none))
 
 pub returns : goal.returns
 returns c =

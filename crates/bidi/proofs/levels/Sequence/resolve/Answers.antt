@@ -1,4 +1,7 @@
-use Rattle.std.proofs.Common.{◌≡◌, length, map, slice_index, ap, ◌∙◌}
+use Rattle.std.proofs.Common.{◌≡◌, ℕ, None, length, map, slice_index, sym, ap, subst, ◌∙◌}
+use Rattle.std.specs.List.{All}
+use Rattle.bidi.specs.Runs.{AreWithin}
+use Rattle.bidi.proofs.PartLemmas.{All-places}
 use Rattle.std.proofs.lemmas.List.{with_items_is}
 use Rattle.ucd.specs.Tables.{bracket_of}
 use Rattle.bidi.specs.Classes.{class_at}
@@ -6,6 +9,15 @@ use Rattle.bidi.specs.Levels.{put, sequence_levels}
 use Rattle.bidi.specs.Paragraphs.{AreSides, Takes, sequence_in}
 use Rattle.bidi.specs.Sequences.{eos, first_of, sos}
 use Rattle.bidi.proofs.levels.Sequence.resolve.Goals as goal
+
+pub resolve_types-requires-clause-brackets : goal.resolve_types-requires-clause-brackets
+resolve_types-requires-clause-brackets c = λ none.
+    let p = c.args.paragraph.now in
+    let P : ℕ → Type 0 = λ b. bracket_of p.tables.now b ≡ None in
+    let taken : Takes p c.args.start c.take.new.self = c.in_ok-take.ensures in
+    let size : length p.stayed.now.levels.items ≡ length p.characters.now = sym c.requires.paragraph.characters in
+    let within : AreWithin (length p.characters.now) c.take.new.self.places.items = subst (λ (n : ℕ). AreWithin n c.take.new.self.places.items) size taken.within in
+    subst (All P) (sym (c.deref-2.ensures.value ∙ taken.characters_are)) (All-places P p.characters.now c.take.new.self.places.items (c.requires.paragraph.brackets none) within)
 
 pub returns : goal.returns
 returns c =
