@@ -83,14 +83,14 @@ pub const MUST: u16 = 4;
 pub const PARTS: u16 = 8;
 
 /// The row of a text's start, at which a line begins as behind BK.
-pub const START: u16 = 0;
+pub const START: usize = 0;
 
 /// The entry of a row for a symbol.
-pub fn entry(row: u16, symbol: u8) -> u16
+pub fn entry(row: usize, symbol: u8) -> u16
     requires { row + symbol < 1480 }
     ensures { result ≡ slice_index TABLE (row + symbol) }
 {
-    TABLE[row as usize + symbol as usize]
+    TABLE[row + symbol as usize]
 }
 
 const S: u16 = STAYS;
