@@ -161,7 +161,9 @@ macro_rules! table {
     };
 }
 
-// A row of 40 entries for each state.
+// A row of 40 entries for each state. The columns are
+// BK CR LF NL SP ZW WJ GL CL CP CP EX IS SY OP OP QU B2 CB BA HY NS BB IN NU AL HL PR PO ID EB EM JL JV JT
+// H2 H3 RI CM ZWJ, where the second CP and the second OP are the wide ones.
 static TABLE: [u16; 1480] = table! {
     // BK
     SP BA HY RI AL:

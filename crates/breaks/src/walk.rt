@@ -1,5 +1,5 @@
 //! One walk over the characters of a paragraph.
-ghost use Rattle.std.specs.Prelude.{◌≡◌, ◌<◌, ◌≤◌, List, []};
+ghost use Rattle.std.specs.Prelude.{◌≡◌, ◌<◌, ◌≤◌, ◌==◌, if◌then◌else◌, List, []};
 ghost use Rattle.breaks.specs.Bases.{Base, alone};
 ghost use Rattle.breaks.specs.Symbols.{character_by};
 ghost use Rattle.breaks.specs.Walk.{Stands, Passes, mark_at};
@@ -48,11 +48,17 @@ impl Walk {
         let mark = mark_of(outcome, self.is_joined, self.is_pictograph);
         self.row = (entry / PARTS) as usize;
         self.is_joined = symbol == JOINER;
-        if outcome != STAYS {
-            self.is_pictograph = next.is_future_pictograph();
-        }
+        let is_pictograph = next.is_future_pictograph();
+        self.is_pictograph = is_now_pictograph(outcome, self.is_pictograph, is_pictograph);
         mark
     }
+}
+
+// Whether the last base is a pictograph to come: with a character attached it is what it was.
+fn is_now_pictograph(outcome: u16, before: bool, next: bool) -> bool
+    ensures { result ≡ (if outcome == STAYS then before else next) }
+{
+    if outcome == STAYS { before } else { next }
 }
 
 // What a line does, where the last character may be a ZWJ and the last base a pictograph to come.
