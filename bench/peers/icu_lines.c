@@ -1,8 +1,8 @@
-/* Visual lines of 80 columns over ICU4C: the work of `bin/fribidi --width 80`, as a user of ICU would do it. Standard
- * input is UTF-8. Each of its paragraphs goes through ubidi and through ubrk's line breaks. A line takes as many of the
- * pieces between breaks as fit, where spaces at its end count for nothing; a piece that is longer than a line is cut
- * between grapheme clusters. A line is written in visual order with mirrors, from a paragraph of right-to-left
- * direction behind so many spaces that it ends at the last column. */
+/* Visual lines of 80 columns over ICU4C: the work of `bin/fribidi --width 80`, as a user of ICU would do it.
+ * Standard input is UTF-8. Each of its paragraphs goes through ubidi and through ubrk's line breaks. A line
+ * takes as many of the pieces between breaks as fit, where spaces at its end count for nothing; a piece that
+ * is longer than a line is cut between grapheme clusters. A line is written in visual order with mirrors,
+ * from a paragraph of right-to-left direction behind so many spaces that it ends at the last column. */
 #include <stdio.h>
 #include <stdlib.h>
 #include <unicode/ubidi.h>
@@ -108,7 +108,8 @@ static void put_line(int32_t from, int32_t to) {
             visual = more(visual, visual_size * sizeof(UChar));
         }
         ubidi_setLine(para, from, to, line, &status);
-        int32_t length = ubidi_writeReordered(line, visual, visual_size, UBIDI_DO_MIRRORING, &status);
+        int32_t length =
+            ubidi_writeReordered(line, visual, visual_size, UBIDI_DO_MIRRORING, &status);
         check(status);
         put_text(visual, length);
     }
