@@ -88,7 +88,8 @@ carried bases =
     ∷ is_spaced (class.CL ∷ class.CP ∷ []) bases ∷ is_spaced (class.B2 ∷ []) bases
     ∷ ends_in_odd_run bases ∷ []
 
--- what a walk keeps of bases of which the nearest is the last one, to which a character may still be attached
+-- What a walk keeps of bases of which the nearest is the last one, to which a character may still be attached: the row of a state whose
+-- bases have the same answers, carry the same and take a CM or ZWJ where these do; and of the last base the two bits that aren't in it.
 pub record Stands (walk : Walk) (last : Base) (others : List Base) : Type 0 where
   pub state : ℕ
   pub below : state < 37
