@@ -52,9 +52,3 @@ is_within a b h = grind (arith, nat_tests)
 
 pub is_equal : (a b : ℕ) → (a == b) ≡ true → a ≡ b
 is_equal a b h = grind (arith, nat_tests)
-
-pub is_unequal : (a b : ℕ) → (a ≡ b → ⊥) → (a == b) ≡ false
-is_unequal a b h = grind (arith, nat_tests)
-
-pub is_equal_test : (a b : ℕ) → a ≡ b → (a == b) ≡ true
-is_equal_test a b h = grind (arith, nat_tests)

@@ -14,7 +14,7 @@ use Rattle.breaks.specs.declared.mark.Mark.TheVariants.{Never, May, Must}
 use Rattle.breaks.specs.declared.symbol.TheConstants.{JOINER}
 use Rattle.breaks.specs.declared.table.TheConstants.{PARTS, STAYS, TABLE}
 use Rattle.breaks.specs.declared.walk.Walk.{Walk}
-use Rattle.breaks.proofs.BoolLemmas.{both, same, same_is, all_same, all_same_is, all_below, below, is_below, is_within, is_equal, is_equal_test, is_unequal}
+use Rattle.breaks.proofs.BoolLemmas.{both, same, same_is, all_same, all_same_is, all_below, below, is_below, is_within, is_equal}
 use Rattle.breaks.proofs.Computed.{decide, marks_by_rule, behinds, answered_with, is_mark, stays, is_as, gives, gives_each, leads, is_right, table_is_right, entries_are_within}
 use Rattle.breaks.proofs.StepLemmas.{end_attached, marked, answers_attached, carried_attached, answers_same, carried_same, answers_told, carried_told}
 use Rattle.breaks.proofs.SymbolLemmas.{is_joiner, behinds_told}
@@ -203,12 +203,6 @@ starts symbol entry c symbol_lt shows reads =
 pub passes_as : (walk : Walk) (symbol entry : ℕ) (c : Character) (is_pictograph : Bool) (mark : Mark) → symbol < 40 → shown symbol ≡ told c → entry ≡ get_or TABLE (walk.row + symbol) 0 → kept walk (entry % PARTS) c ≡ is_pictograph → mark ≡ mark_at (entry % PARTS) walk.is_joined walk.is_pictograph → (last : Base) (others : List Base) → Stands walk last others → Passes (record { row = entry / PARTS; is_joined = symbol == JOINER; is_pictograph = is_pictograph }) last others c mark
 passes_as walk symbol entry c is_pictograph mark symbol_lt shows reads keeps marked last others stands =
     rw (← keeps, marked) (passes walk symbol entry c symbol_lt shows reads last others stands)
-
-pub kept_new : (walk : Walk) (outcome : ℕ) (c : Character) → (outcome ≡ STAYS → ⊥) → kept walk outcome c ≡ c.is_future_pictograph
-kept_new walk outcome c begun = rw (is_unequal outcome STAYS begun) refl
-
-pub kept_old : (walk : Walk) (outcome : ℕ) (c : Character) → outcome ≡ STAYS → kept walk outcome c ≡ walk.is_pictograph
-kept_old walk outcome c stay = rw (is_equal_test outcome STAYS stay) refl
 
 -- each entry's next row is one of the table
 pub row_within : (place entry : ℕ) → place < 1480 → entry ≡ get_or TABLE place 0 → entry / PARTS ≤ 1440

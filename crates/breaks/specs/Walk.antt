@@ -1,6 +1,6 @@
 -- What one walk over the characters keeps of the bases before a position: a state stands for some bases where the rules can't tell them
 -- from those of `bases_at`. Only the code speaks of these: that its marks are those of Marks.antt is what `marks` ensures.
-use Rattle.std.specs.Prelude.{◌≡◌, ℕ, ◌*◌, ◌<◌, nat_le, Bool, false, ◌||◌, ◌&&◌, ◌==◌, ◌++◌, List, [], ◌∷◌, map, MatchBool, get_or, if◌then◌else◌}
+use Rattle.std.specs.Prelude.{◌≡◌, ℕ, ◌*◌, ◌<◌, Bool, false, ◌||◌, ◌&&◌, ◌==◌, ◌++◌, List, [], ◌∷◌, map, MatchBool, get_or, if◌then◌else◌}
 use Rattle.ucd.specs.declared.line_class.LineClass.{LineClass}
 use Rattle.ucd.specs.declared.line_class.LineClass.TheVariants as class
 use Rattle.breaks.specs.Bases.{Base, alone, end_of, stays_with}
@@ -9,8 +9,9 @@ use Rattle.breaks.specs.Rules.{rules, mark_by, is, is_spaced, ends_in_odd_run}
 use Rattle.breaks.specs.Symbols.{narrow}
 use Rattle.breaks.specs.declared.character.Character.{Character}
 use Rattle.breaks.specs.declared.mark.Mark.{Mark}
-use Rattle.breaks.specs.declared.mark.Mark.TheVariants.{Never, May, Must}
-use Rattle.breaks.specs.declared.table.TheConstants.{NEVER, UNLESS, MUST}
+use Rattle.breaks.specs.declared.mark.Mark.TheVariants.{Never}
+use Rattle.breaks.specs.declared.table.TheConstants.{NEVER, UNLESS}
+use Rattle.breaks.specs.declared.walk.TheConstants.{MARKS}
 use Rattle.breaks.specs.declared.walk.Walk.{Walk}
 
 abbrev base : LineClass → Base
@@ -64,8 +65,7 @@ bases_at number = get_or states number []
 -- what a line does by an outcome, where the last character is a ZWJ or the last base a pictograph to come
 abbrev pub mark_at : ℕ → Bool → Bool → Mark
 mark_at outcome is_joined is_pictograph =
-    if is_joined || (nat_le outcome NEVER || ((outcome == UNLESS) && is_pictograph)) then Never
-    else if outcome == MUST then Must else May
+    get_or MARKS (if is_joined || ((outcome == UNLESS) && is_pictograph) then NEVER else outcome) Never
 
 -- LB9: the classes to which no CM or ZWJ is attached
 abbrev pub unattached : List LineClass
@@ -88,7 +88,8 @@ carried bases =
     ∷ is_spaced (class.CL ∷ class.CP ∷ []) bases ∷ is_spaced (class.B2 ∷ []) bases
     ∷ ends_in_odd_run bases ∷ []
 
--- what a walk keeps of bases of which the nearest is the last one, to which a character may still be attached
+-- What a walk keeps of bases of which the nearest is the last one, to which a character may still be attached: the row of a state whose
+-- bases have the same answers, carry the same and take a CM or ZWJ where these do; and of the last base the two bits that aren't in it.
 pub record Stands (walk : Walk) (last : Base) (others : List Base) : Type 0 where
   pub state : ℕ
   pub below : state < 37

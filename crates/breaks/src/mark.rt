@@ -41,7 +41,6 @@ pub fn marks_into(
     ensures marks { OnOk result (marks.new.items ≡ marks_of tables.now text.now) }
     ensures len { OnOk result (length marks.new.items ≡ length text.now) }
 {
-    marks.clear();
     marks.resize(properties.len(), Mark::Must)?;
     mark_properties(tables, text, properties, marks);
     Ok(())
@@ -70,10 +69,11 @@ fn mark_properties(tables: &Tables, text: &[char], properties: &[Properties], ma
         return;
     };
     let mut walk = Walk::start(*first);
-    for i in 0..rest.len() {
+    let last = rest.len();
+    for i in 0..last {
         marks[i] = walk.pass(read(rest, i));
     }
-    marks[rest.len()] = Mark::Must;
+    marks[last] = Mark::Must;
 }
 
 fn read(properties: &[Properties], i: usize) -> Properties

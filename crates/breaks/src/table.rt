@@ -83,14 +83,14 @@ pub const MUST: u16 = 4;
 pub const PARTS: u16 = 8;
 
 /// The row of a text's start, at which a line begins as behind BK.
-pub const START: u16 = 0;
+pub const START: usize = 0;
 
 /// The entry of a row for a symbol.
-pub fn entry(row: u16, symbol: u8) -> u16
+pub fn entry(row: usize, symbol: u8) -> u16
     requires { row + symbol < 1480 }
     ensures { result ≡ slice_index TABLE (row + symbol) }
 {
-    TABLE[row as usize + symbol as usize]
+    TABLE[row + symbol as usize]
 }
 
 const S: u16 = STAYS;
@@ -161,7 +161,9 @@ macro_rules! table {
     };
 }
 
-// A row of 40 entries for each state.
+// A row of 40 entries for each state. The columns are
+// BK CR LF NL SP ZW WJ GL CL CP CP EX IS SY OP OP QU B2 CB BA HY NS BB IN NU AL HL PR PO ID EB EM JL JV JT
+// H2 H3 RI CM ZWJ, where the second CP and the second OP are the wide ones.
 static TABLE: [u16; 1480] = table! {
     // BK
     SP BA HY RI AL:
