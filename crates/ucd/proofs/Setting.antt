@@ -8,8 +8,13 @@ use Rattle.ucd.specs.Bits.{bidi_at_tag, bidi_tag_below, line_at_tag, line_tag_be
 -- the answers by their parts
 answers_by : (bits bidi bracket mirror pictograph mark wide line : ℕ) → bits % 32 ≡ bidi → bits / 32 % 2 ≡ bracket → bits / 64 % 2 ≡ mirror → bits / 128 % 2 ≡ pictograph → bits / 256 % 2 ≡ mark → bits / 512 % 2 ≡ wide → bits / 1024 ≡ line →
     answers_in bits ≡ record {
-      bidi_class = bidi_class_at bidi; has_bracket = bracket == 1; has_mirror = mirror == 1; is_future_pictograph = pictograph == 1;
-      is_mark = mark == 1; is_wide = wide == 1; line_class = line_class_at line;
+      bidi_class = bidi_class_at bidi;
+      has_bracket = bracket == 1;
+      has_mirror = mirror == 1;
+      is_future_pictograph = pictograph == 1;
+      is_mark = mark == 1;
+      is_wide = wide == 1;
+      line_class = line_class_at line;
     }
 answers_by bits bidi bracket mirror pictograph mark wide line is_bidi is_bracket is_mirror is_pictograph is_mark is_wide is_line = rw (is_bidi, is_bracket, is_mirror, is_pictograph, is_mark, is_wide, is_line) refl
 

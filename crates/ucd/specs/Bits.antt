@@ -42,11 +42,11 @@ cases_zero zero = inl refl
 cases_zero (suc n) = inr (omega arith)
 
 bit_of : (n : ℕ) → n < 2 → bit (n == 1) ≡ n
-bit_of n lt = elim (cases_zero n) [ | inl none ↦ rw none refl | inr some ↦ (let one : n ≡ 1 = omega arith in rw one refl) ]
+bit_of n lt = elim (cases_zero n) [ inl none ↦ rw none refl | inr some ↦ (let one : n ≡ 1 = omega arith in rw one refl) ]
 
 -- a bit that stands for a number
 times : (k n : ℕ) → n < 2 → (if n == 1 then k else 0) ≡ k * n
-times k n lt = elim (cases_zero n) [ | inl none ↦ rw none (omega arith) | inr some ↦ (let one : n ≡ 1 = omega arith in rw one (omega arith)) ]
+times k n lt = elim (cases_zero n) [ inl none ↦ rw none (omega arith) | inr some ↦ (let one : n ≡ 1 = omega arith in rw one (omega arith)) ]
 
 -- the answers in bits have these bits
 pub bits_of-answers_in : (bits : ℕ) → AreBits bits → bits_of (answers_in bits) ≡ bits

@@ -1,6 +1,7 @@
 //! The entries of a file, in the order of its lines, and which characters they name.
 ghost use Rattle.std.specs.Prelude.{◌≡◌, ◌<◌, ◌≤◌, nat_le, nat_lt, ◌&&◌, if◌then◌else◌, IsTrue};
-ghost use Rattle.std.specs.Prelude.{ℕ, List, [], true, false, length, slice_index_or, IfOk, IfErr, OnOk, ◌⊎◌, IsErrOf};
+ghost use Rattle.std.specs.Prelude.{ℕ, List, [], true, false, length, slice_index_or};
+ghost use Rattle.std.specs.Prelude.{IfOk, IfErr, OnOk, ◌⊎◌, IsErrOf};
 ghost use Rattle.ucd.specs.declared.grammar.Entry.{Entry};
 ghost use Rattle.ucd.specs.Entries.{AddsEntry, AddsCharacters, AreApart, AreNamed, IsMet, IsTaken};
 

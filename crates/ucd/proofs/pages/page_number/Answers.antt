@@ -9,7 +9,7 @@ returns-then-are_equal c =
     let start = c.len-end.result - 256 in
     let same : take (length entries - start) (drop start entries) ≡ c.args.page.now = rw c.deref.ensures.value at (c.are_equal.ensures c.if-are_equal.true) in
     has_last entries c.args.page.now c.len-end.result (omega (arith, c.len-end.ensures)) c.requires.whole c.if-end-ge-PAGE.true
-        (sym (take_all (length entries - start) (drop start entries) (omega (arith, length-drop start entries))) ∙ same)
+    (sym (take_all (length entries - start) (drop start entries) (omega (arith, length-drop start entries))) ∙ same)
 
 pub returns : goal.returns
 returns c =
