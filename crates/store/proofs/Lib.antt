@@ -1,0 +1,2 @@
+mod ExchangeLemmas
+mod ListLemmas

@@ -1,0 +1,86 @@
+-- Lists that are cut into parts and turned around.
+use Rattle.std.proofs.Common.{◌≡◌, ℕ, ◌+◌, ◌-◌, ◌<◌, ◌≤◌, List, [], ◌∷◌, ◌++◌, length, take, drop, slice_range, get_or, sym, ap, ◌∙◌, arith, add-one, set, length-append, length-drop, append_assoc}
+use Rattle.std.specs.List.{splice}
+use Rattle.std.proofs.Math.Seq.{take-append_seam, drop-append_seam, drop-append-add, drop-cons, get_or-append_right}
+use Rattle.std.proofs.Math.ListN.{drop_of_length-le}
+use Rattle.std.proofs.lemmas.List.{append-nil, take_all, take-append-drop, length-take-le, drop-drop, take-append-le, take-take, take_more, set_split, get_or-drop}
+
+module _ {A : Type 0} where
+  -- a list is what stands before, at and behind one of its places
+  pub at_place : (xs : List A) (i : ℕ) (x : A) → i < length xs → x ≡ get_or xs i x → xs ≡ take i xs ++ x ∷ drop (i + 1) xs
+  at_place xs i x h e =
+      let f : drop i xs ≡ get_or xs i x ∷ drop (i + 1) xs = rw (add-one) (drop-cons xs i x h) in
+      sym (take-append-drop i xs) ∙ ap (λ ys. take i xs ++ ys) (f ∙ ap (λ y. y ∷ drop (i + 1) xs) (sym e))
+
+  -- a list is what stands before, in and behind a range
+  pub at_range : (xs : List A) (i j : ℕ) → i ≤ j → xs ≡ take i xs ++ (slice_range xs i j ++ drop j xs)
+  at_range xs i j h =
+      let e : i + (j - i) ≡ j = omega arith in
+      let f : drop (j - i) (drop i xs) ≡ drop j xs = drop-drop (j - i) i xs ∙ ap (λ k. drop k xs) e in
+      sym (take-append-drop i xs) ∙ ap (λ ys. take i xs ++ ys) (sym (take-append-drop (j - i) (drop i xs)) ∙ ap (λ ys. slice_range xs i j ++ ys) f)
+
+  pub length-slice_range : (xs : List A) (i j : ℕ) → i ≤ j → j ≤ length xs → length (slice_range xs i j) ≡ j - i
+  length-slice_range xs i j h k =
+      let e : j - i ≤ length (drop i xs) = omega (arith, length-drop i xs) in
+      length-take-le (j - i) (drop i xs) e
+
+  -- two neighbouring parts of a list change places
+  pub rotated : (a b c xs : List A) (i j : ℕ) → xs ≡ a ++ (b ++ c) → i ≡ length a → j ≡ length a + length b
+      → take i xs ++ (drop j xs ++ slice_range xs i j) ≡ a ++ (c ++ b)
+  rotated a b c xs i j e f g =
+      let n : length a + length b - length a ≡ length b = omega arith in
+      rw (e, f, g, n) (simp (take-append_seam, drop-append-add, drop-append_seam))
+
+  -- `replace` in a plain list: the new items are put behind all, and brought to their place
+  pub replaced : (xs ys all turned kept moved result : List A) (i j n : ℕ) → i ≤ j → j ≤ length xs → n + length ys ≡ length kept → all ≡ xs ++ ys
+      → turned ≡ take i all ++ (drop j all ++ slice_range all i j)
+      → kept ≡ take (length turned - (j - i)) turned → moved ≡ drop (length turned - (j - i)) turned
+      → result ≡ take i kept ++ (drop n kept ++ slice_range kept i n)
+      → (result ≡ splice xs i j ys) × (moved ≡ slice_range xs i j)
+  replaced xs ys all turned kept moved result i j n h k n_is all_is turned_is kept_is moved_is result_is =
+      let a = take i xs in
+      let b = slice_range xs i j in
+      let c = drop j xs in
+      let la : length a ≡ i = length-take-le i xs (omega arith) in
+      let lb : length b ≡ j - i = length-slice_range xs i j h k in
+      let all_parts : all ≡ a ++ (b ++ (c ++ ys)) =
+      all_is ∙ ap (λ zs. zs ++ ys) (at_range xs i j h) ∙ append_assoc a (b ++ c) ys ∙ ap (λ zs. a ++ zs) (append_assoc b c ys) in
+      let turned_parts : turned ≡ (a ++ (c ++ ys)) ++ b =
+      turned_is ∙ rotated a b (c ++ ys) all i j all_parts (sym la) (omega arith) ∙ sym (append_assoc a (c ++ ys) b) in
+      let cut : length turned - (j - i) ≡ length (a ++ (c ++ ys)) = omega (arith, ap length turned_parts, length-append (a ++ (c ++ ys)) b) in
+      let kept_parts : kept ≡ a ++ (c ++ ys) = kept_is ∙ (rw (cut, turned_parts) (take-append_seam (a ++ (c ++ ys)) b)) in
+      let moved_parts : moved ≡ b = moved_is ∙ (rw (cut, turned_parts) (drop-append_seam (a ++ (c ++ ys)) b)) in
+      let end_is : n ≡ length a + length c =
+      omega (arith, ap length kept_parts, length-append a (c ++ ys), length-append c ys) in
+      (result_is ∙ rotated a c ys kept i n kept_parts (sym la) end_is, moved_parts)
+
+  -- one more item of a list is as in another one
+  pub set_next : (made xs now : List A) (k : ℕ) (y : A) → length made ≡ length xs → k < length xs
+      → now ≡ take k made ++ drop k xs → y ≡ get_or made k y → set now k y ≡ take (k + 1) made ++ drop (k + 1) xs
+  set_next made xs now k y l h now_is y_is =
+      let lt : length (take k made) ≡ k = length-take-le k made (omega arith) in
+      let front : take k now ≡ take k made = rw now_is (take-append-le k (take k made) (drop k xs) (omega arith) ∙ take-take k k made (omega arith)) in
+      let within : k < length now = omega (arith, ap length now_is, length-append (take k made) (drop k xs), length-drop k xs) in
+      let behind : drop (k + 1) now ≡ drop (k + 1) xs =
+      rw now_is (ap (λ n. drop (n + 1) (take k made ++ drop k xs)) (sym lt) ∙ drop-append-add (take k made) (drop k xs) 1 ∙ drop-drop 1 k xs) in
+      let more : take (k + 1) made ≡ take k made ++ y ∷ [] =
+      take_more made k y (omega arith) ∙ ap (λ z. take k made ++ z ∷ []) (sym y_is) in
+      set_split now k y within ∙ rw (← add-one) (ap (λ zs. zs ++ y ∷ drop (k + 1) now) front ∙ ap (λ zs. take k made ++ y ∷ zs) behind
+      ∙ sym (append_assoc (take k made) (y ∷ []) (drop (k + 1) xs)) ∙ ap (λ zs. zs ++ drop (k + 1) xs) (sym more))
+
+  pub get_next : (made xs now : List A) (k : ℕ) (d : A) → length made ≡ length xs → k < length xs
+      → now ≡ take k made ++ drop k xs → get_or now k d ≡ get_or xs k d
+  get_next made xs now k d l h now_is =
+      let lt : length (take k made) ≡ k = length-take-le k made (omega arith) in
+      let e : k + (k - length (take k made)) ≡ k = omega arith in
+      rw now_is (get_or-append_right (take k made) (drop k xs) k d (omega arith) ∙ get_or-drop k xs (k - length (take k made)) d
+      ∙ ap (λ (n : ℕ). get_or xs n d) e)
+
+  pub made_all : (made xs : List A) (k : ℕ) → length made ≡ length xs → length xs ≤ k → take k made ++ drop k xs ≡ made
+  made_all made xs k l h =
+      ap (λ ys. take k made ++ ys) (drop_of_length-le xs h) ∙ append-nil (take k made) ∙ take_all k made (omega arith)
+
+  -- what is left of a list whose front of the same length was written over
+  pub overwritten : (now old : List A) (n : ℕ) → length now ≡ length old → n ≡ length old → take n (now ++ drop (length now) old) ≡ now
+  overwritten now old n l n_is =
+      ap (λ ys. take n (now ++ ys)) (drop_of_length-le old (omega arith)) ∙ ap (λ ys. take n ys) (append-nil now) ∙ take_all n now (omega arith)
