@@ -1,2 +1,6 @@
 mod ExchangeLemmas
+mod FindLemmas
+mod FitsLemmas
 mod ListLemmas
+mod SubtreeLemmas
+mod TreeLemmas

@@ -1,9 +1,9 @@
 -- Lists that are cut into parts and turned around.
-use Rattle.std.proofs.Common.{◌≡◌, ℕ, ◌+◌, ◌-◌, ◌<◌, ◌≤◌, List, [], ◌∷◌, ◌++◌, length, take, drop, slice_range, get_or, sym, ap, ◌∙◌, arith, add-one, set, length-append, length-drop, append_assoc}
+use Rattle.std.proofs.Common.{◌≡◌, ℕ, ◌+◌, ◌-◌, ◌<◌, ◌≤◌, List, [], ◌∷◌, ◌++◌, length, take, drop, reverse, slice_range, get_or, sym, ap, ◌∙◌, arith, add-one, suc, set, length-append, length-take, length-drop, append_assoc}
 use Rattle.std.specs.List.{splice}
-use Rattle.std.proofs.Math.Seq.{take-append_seam, drop-append_seam, drop-append-add, drop-cons, get_or-append_right}
+use Rattle.std.proofs.Math.Seq.{take-append_seam, drop-append_seam, take-append-add, drop-append-add, drop-cons, get_or-append_right}
 use Rattle.std.proofs.Math.ListN.{drop_of_length-le}
-use Rattle.std.proofs.lemmas.List.{append-nil, take_all, take-append-drop, length-take-le, drop-drop, take-append-le, take-take, take_more, set_split, get_or-drop}
+use Rattle.std.proofs.lemmas.List.{append-nil, reverse-append, take_all, take-append-drop, length-take-le, drop-drop, take-append-le, drop-append-le, take-take, take_more, set_split, get_or-drop}
 
 module _ {A : Type 0} where
   -- a list is what stands before, at and behind one of its places
@@ -84,3 +84,38 @@ module _ {A : Type 0} where
   pub overwritten : (now old : List A) (n : ℕ) → length now ≡ length old → n ≡ length old → take n (now ++ drop (length now) old) ≡ now
   overwritten now old n l n_is =
       ap (λ ys. take n (now ++ ys)) (drop_of_length-le old (omega arith)) ∙ ap (λ ys. take n ys) (append-nil now) ∙ take_all n now (omega arith)
+
+  -- a list that is taken from behind: some items, one more, and some more
+  pub taken : (xs front rest : List A) (top : A) (m b r : ℕ) → b + 1 + r ≡ m → m ≤ length xs → take (length xs - b) xs ≡ front
+      → front ≡ rest ++ top ∷ []
+      → (length rest + 1 ≡ length xs - b) × (take (length rest - r) rest ≡ take (length xs - m) xs)
+      × (reverse (drop (length xs - m) xs) ≡ reverse (drop (length xs - b) xs) ++ top ∷ reverse (drop (length rest - r) rest))
+      × (reverse xs ≡ (reverse (drop (length xs - b) xs) ++ top ∷ []) ++ reverse rest)
+  taken xs front rest top m b r sum h front_is parts =
+      let back = drop (length xs - b) xs in
+      let k = length xs - m in
+      let whole : xs ≡ rest ++ (top ∷ back) =
+      sym (take-append-drop (length xs - b) xs) ∙ ap (λ ys. ys ++ back) (front_is ∙ parts) ∙ append_assoc rest (top ∷ []) back in
+      let l : length rest + 1 ≡ length xs - b =
+      omega (arith, ap length (front_is ∙ parts), length-append rest (top ∷ []), length-take (length xs - b) xs) in
+      let e : length rest - r ≡ k = omega arith in
+      let within : k ≤ length rest = omega arith in
+      let cut : drop k xs ≡ drop k rest ++ (top ∷ back) = ap (λ ys. drop k ys) whole ∙ drop-append-le k rest (top ∷ back) within in
+      let turned : (ys : List A) → reverse (ys ++ (top ∷ back)) ≡ (reverse back ++ top ∷ []) ++ reverse ys =
+      λ ys. reverse-append ys (top ∷ back) ∙ ap (λ zs. zs ++ reverse ys) (reverse-append (top ∷ []) back) in (
+        l,
+        rw e (sym (ap (λ ys. take k ys) whole ∙ take-append-le k rest (top ∷ back) within)),
+        rw e (ap reverse cut ∙ turned (drop k rest) ∙ append_assoc (reverse back) (top ∷ []) (reverse (drop k rest))),
+        ap reverse whole ∙ turned rest,
+      )
+
+  -- a list that is cut behind one of its places
+  pub take_far : (l r : List A) (x : A) (n : ℕ) → length l < n → take n (l ++ x ∷ r) ≡ l ++ x ∷ take (n - length l - 1) r
+  take_far l r x n h =
+      let e : n ≡ length l + suc (n - length l - 1) = omega arith in
+      ap (λ (m : ℕ). take m (l ++ x ∷ r)) e ∙ take-append-add l (x ∷ r) (suc (n - length l - 1))
+
+  pub drop_far : (l r : List A) (x : A) (n : ℕ) → length l < n → drop n (l ++ x ∷ r) ≡ drop (n - length l - 1) r
+  drop_far l r x n h =
+      let e : n ≡ length l + suc (n - length l - 1) = omega arith in
+      ap (λ (m : ℕ). drop m (l ++ x ∷ r)) e ∙ drop-append-add l (x ∷ r) (suc (n - length l - 1))

@@ -1,4 +1,8 @@
 //! What a search in a store answers.
+ghost use Rattle.std.specs.Prelude.{◌≡◌};
+ghost use Rattle.store.specs.Finding.{measure};
+
+use crate::measured::Measured;
 
 /// Where a character or a line stands.
 #[derive(Clone, Copy, Debug, PartialEq, Eq)]
@@ -18,4 +22,16 @@ pub struct Found {
 pub(crate) enum Unit {
     Char,
     Line,
+}
+
+impl Unit {
+    /// How many of the counted an item has.
+    pub(crate) fn size_of<P: Measured>(self, item: &P) -> usize
+        ensures { result ≡ measure P.chars P.lines self item.now }
+    {
+        match self {
+            Unit::Char => item.chars(),
+            Unit::Line => item.lines(),
+        }
+    }
 }

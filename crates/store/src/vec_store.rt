@@ -49,16 +49,6 @@ fn sums<P: Measured>(items: &[P]) -> (usize, usize)
     (chars, lines)
 }
 
-// How many of the counted an item has.
-fn size_of<P: Measured>(item: &P, unit: Unit) -> usize
-    ensures { result ≡ measure P.chars P.lines unit item.now }
-{
-    match unit {
-        Unit::Char => item.chars(),
-        Unit::Line => item.lines(),
-    }
-}
-
 // Walks to the item in which number `n` of the counted stands.
 fn find<P: Measured>(items: &[P], unit: Unit, n: usize) -> Found
     requires within { n < sum_by (measure P.chars P.lines unit) items.now }
@@ -69,7 +59,7 @@ fn find<P: Measured>(items: &[P], unit: Unit, n: usize) -> Found
     let mut rest = n;
     let mut lines_before = 0;
     for (index, item) in items.iter().enumerate() {
-        let size = size_of(item, unit);
+        let size = unit.size_of(item);
         if rest < size {
             return Found {
                 index,
