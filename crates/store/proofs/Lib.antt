@@ -3,4 +3,5 @@ mod FindLemmas
 mod FitsLemmas
 mod ListLemmas
 mod SubtreeLemmas
+mod TestLemmas
 mod TreeLemmas

@@ -1,6 +1,7 @@
 -- Lists that are cut into parts and turned around.
-use Rattle.std.proofs.Common.{◌≡◌, ℕ, ◌+◌, ◌-◌, ◌<◌, ◌≤◌, List, [], ◌∷◌, ◌++◌, length, take, drop, reverse, slice_range, get_or, sym, ap, ◌∙◌, arith, add-one, suc, set, length-append, length-take, length-drop, append_assoc}
+use Rattle.std.proofs.Common.{◌≡◌, ℕ, ◌+◌, ◌-◌, ◌<◌, ◌≤◌, List, [], ◌∷◌, ◌++◌, length, take, drop, reverse, slice_range, sum_by, get_or, sym, ap, ◌∙◌, arith, add-one, suc, set, length-append, length-take, length-drop, append_assoc}
 use Rattle.std.specs.List.{splice}
+use Rattle.std.proofs.lemmas.List.Sums.{sum_by-append}
 use Rattle.std.proofs.Math.Seq.{take-append_seam, drop-append_seam, take-append-add, drop-append-add, drop-cons, get_or-append_right}
 use Rattle.std.proofs.Math.ListN.{drop_of_length-le}
 use Rattle.std.proofs.lemmas.List.{append-nil, reverse-append, take_all, take-append-drop, length-take-le, drop-drop, take-append-le, drop-append-le, take-take, take_more, set_split, get_or-drop}
@@ -119,3 +120,15 @@ module _ {A : Type 0} where
   drop_far l r x n h =
       let e : n ≡ length l + suc (n - length l - 1) = omega arith in
       ap (λ (m : ℕ). drop m (l ++ x ∷ r)) e ∙ drop-append-add l (x ∷ r) (suc (n - length l - 1))
+
+-- a sum after a replacement
+pub sum_of_splice : {A : Type 0} (f : A → ℕ) (xs : List A) (i j : ℕ) (ys : List A) → i ≤ j → sum_by f (splice xs i j ys) ≤ sum_by f xs + sum_by f ys
+sum_of_splice f xs i j ys h =
+    omega (
+      arith,
+      sum_by-append f (take i xs) (ys ++ drop j xs),
+      sum_by-append f ys (drop j xs),
+      ap (sum_by f) (at_range xs i j h),
+      sum_by-append f (take i xs) (slice_range xs i j ++ drop j xs),
+      sum_by-append f (slice_range xs i j) (drop j xs),
+    )

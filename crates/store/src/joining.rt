@@ -1,5 +1,6 @@
 //! Balanced trees that are joined and split: no memory is taken, and the work is that of their heights.
-ghost use Rattle.std.specs.Prelude.{◌≡◌, ℕ, ◌+◌, ◌^◌, ◌<◌, ◌≤◌, length, sum_by, [], ◌∷◌, ◌++◌, take, drop, max};
+ghost use Rattle.std.specs.Prelude.{◌≡◌, ◌+◌, ◌^◌, ◌<◌, ◌≤◌, ◌∷◌, ◌++◌};
+ghost use Rattle.std.specs.Prelude.{ℕ, length, sum_by, [], take, drop, max};
 ghost use Rattle.std.specs.Prelude.{map, reverse, MatchOption, vec_capacity, ◌-◌};
 ghost use Rattle.store.specs.Subtrees.{Fits};
 ghost use Rattle.store.specs.Trees.{Empty, Fork, height, in_order, IsBalanced};

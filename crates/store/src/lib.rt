@@ -15,3 +15,6 @@ pub use measured::{Exchange, Measured};
 pub use paragraph_store::ParagraphStore;
 pub use tree_store::TreeStore;
 pub use vec_store::VecStore;
+
+#[cfg(test)]
+mod tests;

@@ -1,5 +1,6 @@
 //! Stores of items: a list with its sums, whatever holds it.
-ghost use Rattle.std.specs.Prelude.{◌≡◌, ℕ, ◌^◌, ◌<◌, ◌≤◌, List, [], length, slice_get, slice_range, option_map, sum_by};
+ghost use Rattle.std.specs.Prelude.{◌≡◌, ◌^◌, ◌<◌, ◌≤◌};
+ghost use Rattle.std.specs.Prelude.{ℕ, List, [], length, slice_get, slice_range, option_map, sum_by};
 ghost use Rattle.std.specs.Prelude.{IfOk, IfErr, OnOk, OnErr};
 ghost use Rattle.std.specs.List.{splice, AllZip};
 ghost use Rattle.store.specs.Exchanging.{pairwise};
@@ -55,8 +56,10 @@ pub trait ParagraphStore<P: Exchange> {
     ) -> Result<Vec<P>, (Vec<P>, AllocError)>
         requires ordered { range.start ≤ range.end }
         requires in_bounds { range.end ≤ length (items self.old) }
-        requires chars_fit { sum_by P.chars (splice (items self.old) range.start range.end new_items.items) < 2 ^ 64 }
-        requires lines_fit { sum_by P.lines (splice (items self.old) range.start range.end new_items.items) < 2 ^ 64 }
+        requires chars_fit { sum_by P.chars
+            (splice (items self.old) range.start range.end new_items.items) < 2 ^ 64 }
+        requires lines_fit { sum_by P.lines
+            (splice (items self.old) range.start range.end new_items.items) < 2 ^ 64 }
         ensures ok { OnOk result (items self.new ≡ splice (items self.old) range.start range.end new_items.items) }
         ensures old { IfOk result (λ old. old.items ≡ slice_range (items self.old) range.start range.end) }
         ensures err { OnErr result (self.new ≡ self.old) }

@@ -1,5 +1,6 @@
 //! The balanced store: a tree that keeps the sums of its items in every node.
-ghost use Rattle.std.specs.Prelude.{◌≡◌, ℕ, ◌+◌, ◌-◌, ◌/◌, ◌^◌, ◌<◌, ◌≤◌, List, [], ◌++◌, length, reverse, drop, take};
+ghost use Rattle.std.specs.Prelude.{◌≡◌, ◌+◌, ◌-◌, ◌/◌, ◌^◌, ◌<◌, ◌≤◌, ◌++◌};
+ghost use Rattle.std.specs.Prelude.{ℕ, List, [], length, reverse, drop, take};
 ghost use Rattle.std.specs.Prelude.{slice_range, sum_by, vec_capacity};
 ghost use Rattle.std.specs.Prelude.{IfOk, IfErr, OnOk, OnErr};
 ghost use Rattle.std.specs.List.{splice, AllZip};
@@ -133,8 +134,10 @@ impl<P: Exchange> ParagraphStore<P> for TreeStore<P> {
     ) -> Result<Vec<P>, (Vec<P>, AllocError)>
         requires ordered { range.start ≤ range.end }
         requires in_bounds { range.end ≤ length (in_order self.old) }
-        requires chars_fit { sum_by P.chars (splice (in_order self.old) range.start range.end new_items.items) < 2 ^ 64 }
-        requires lines_fit { sum_by P.lines (splice (in_order self.old) range.start range.end new_items.items) < 2 ^ 64 }
+        requires chars_fit { sum_by P.chars
+            (splice (in_order self.old) range.start range.end new_items.items) < 2 ^ 64 }
+        requires lines_fit { sum_by P.lines
+            (splice (in_order self.old) range.start range.end new_items.items) < 2 ^ 64 }
         ensures ok { OnOk result (in_order self.new ≡ splice (in_order self.old) range.start range.end new_items.items) }
         ensures old { IfOk result (λ old. old.items ≡ slice_range (in_order self.old) range.start range.end) }
         ensures err { OnErr result (self.new ≡ self.old) }

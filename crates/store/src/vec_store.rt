@@ -1,5 +1,6 @@
 //! The plain store: a list with its sums beside it.
-ghost use Rattle.std.specs.Prelude.{◌≡◌, ℕ, ◌+◌, ◌-◌, ◌^◌, ◌<◌, ◌≤◌, List, [], ◌++◌, length, take, drop, reverse};
+ghost use Rattle.std.specs.Prelude.{◌≡◌, ◌+◌, ◌-◌, ◌^◌, ◌<◌, ◌≤◌, ◌++◌};
+ghost use Rattle.std.specs.Prelude.{ℕ, List, [], length, take, drop, reverse};
 ghost use Rattle.std.specs.Prelude.{slice_get, slice_range, option_map, sum_by, vec_len, vec_capacity};
 ghost use Rattle.std.specs.Prelude.{IfOk, IfErr, OnOk, OnErr};
 ghost use Rattle.std.specs.List.{splice, AllZip};
@@ -194,8 +195,10 @@ impl<P: Exchange> ParagraphStore<P> for VecStore<P> {
     ) -> Result<Vec<P>, (Vec<P>, AllocError)>
         requires ordered { range.start ≤ range.end }
         requires in_bounds { range.end ≤ length self.old }
-        requires chars_fit { sum_by P.chars (splice self.old range.start range.end new_items.items) < 2 ^ 64 }
-        requires lines_fit { sum_by P.lines (splice self.old range.start range.end new_items.items) < 2 ^ 64 }
+        requires chars_fit { sum_by P.chars
+            (splice self.old range.start range.end new_items.items) < 2 ^ 64 }
+        requires lines_fit { sum_by P.lines
+            (splice self.old range.start range.end new_items.items) < 2 ^ 64 }
         ensures ok { OnOk result (self.new ≡ splice self.old range.start range.end new_items.items) }
         ensures old { IfOk result (λ old. old.items ≡ slice_range self.old range.start range.end) }
         ensures err { OnErr result (self.new ≡ self.old) }
