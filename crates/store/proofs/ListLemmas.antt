@@ -121,9 +121,10 @@ module _ {A : Type 0} where
       let e : n ≡ length l + suc (n - length l - 1) = omega arith in
       ap (λ (m : ℕ). drop m (l ++ x ∷ r)) e ∙ drop-append-add l (x ∷ r) (suc (n - length l - 1))
 
--- a sum after a replacement
-pub sum_of_splice : {A : Type 0} (f : A → ℕ) (xs : List A) (i j : ℕ) (ys : List A) → i ≤ j → sum_by f (splice xs i j ys) ≤ sum_by f xs + sum_by f ys
-sum_of_splice f xs i j ys h =
+-- a sum before and after a replacement
+pub sum_around_splice : {A : Type 0} (f : A → ℕ) (xs : List A) (i j : ℕ) (ys : List A) → i ≤ j
+    → sum_by f (splice xs i j ys) + sum_by f (slice_range xs i j) ≡ sum_by f xs + sum_by f ys
+sum_around_splice f xs i j ys h =
     omega (
       arith,
       sum_by-append f (take i xs) (ys ++ drop j xs),
@@ -132,3 +133,35 @@ sum_of_splice f xs i j ys h =
       sum_by-append f (take i xs) (slice_range xs i j ++ drop j xs),
       sum_by-append f (slice_range xs i j) (drop j xs),
     )
+
+pub sum_of_splice : {A : Type 0} (f : A → ℕ) (xs : List A) (i j : ℕ) (ys : List A) → i ≤ j → sum_by f (splice xs i j ys) ≤ sum_by f xs + sum_by f ys
+sum_of_splice f xs i j ys h = omega (arith, sum_around_splice f xs i j ys h)
+
+module _ {A : Type 0} (f : A → ℕ) where
+  -- a range's sum is within that of all
+  pub range_within : (xs old : List A) (i j kept : ℕ) → i ≤ j → kept ≡ sum_by f xs → old ≡ slice_range xs i j → sum_by f old ≤ kept
+  range_within xs old i j kept h kept_is old_is =
+      omega (
+        arith,
+        kept_is,
+        ap (sum_by f) old_is,
+        ap (sum_by f) (at_range xs i j h),
+        sum_by-append f (take i xs) (slice_range xs i j ++ drop j xs),
+        sum_by-append f (slice_range xs i j) (drop j xs),
+      )
+
+  -- the sum of all after a replacement
+  pub sum_after : (xs ys zs old new : List A) (i j kept o n : ℕ) → i ≤ j → kept ≡ sum_by f xs → old ≡ slice_range xs i j → o ≡ sum_by f old
+      → zs ≡ ys → n ≡ sum_by f zs → new ≡ splice xs i j ys → kept - o + n ≡ sum_by f new
+  sum_after xs ys zs old new i j kept o n h kept_is old_is o_is zs_is n_is new_is =
+      omega (
+        arith,
+        kept_is,
+        o_is,
+        n_is,
+        ap (sum_by f) zs_is,
+        ap (sum_by f) old_is,
+        ap (sum_by f) new_is,
+        range_within xs old i j kept h kept_is old_is,
+        sum_around_splice f xs i j ys h,
+      )

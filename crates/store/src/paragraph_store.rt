@@ -60,7 +60,8 @@ pub trait ParagraphStore<P: Exchange> {
             (splice (items self.old) range.start range.end new_items.items) < 2 ^ 64 }
         requires lines_fit { sum_by P.lines
             (splice (items self.old) range.start range.end new_items.items) < 2 ^ 64 }
-        ensures ok { OnOk result (items self.new ≡ splice (items self.old) range.start range.end new_items.items) }
+        ensures ok { OnOk result
+            (items self.new ≡ splice (items self.old) range.start range.end new_items.items) }
         ensures old { IfOk result (λ old. old.items ≡ slice_range (items self.old) range.start range.end) }
         ensures err { OnErr result (self.new ≡ self.old) }
         ensures back { IfErr result (λ e. e.0.items ≡ new_items.items) };

@@ -138,7 +138,8 @@ impl<P: Exchange> ParagraphStore<P> for TreeStore<P> {
             (splice (in_order self.old) range.start range.end new_items.items) < 2 ^ 64 }
         requires lines_fit { sum_by P.lines
             (splice (in_order self.old) range.start range.end new_items.items) < 2 ^ 64 }
-        ensures ok { OnOk result (in_order self.new ≡ splice (in_order self.old) range.start range.end new_items.items) }
+        ensures ok { OnOk result
+            (in_order self.new ≡ splice (in_order self.old) range.start range.end new_items.items) }
         ensures old { IfOk result (λ old. old.items ≡ slice_range (in_order self.old) range.start range.end) }
         ensures err { OnErr result (self.new ≡ self.old) }
         ensures back { IfErr result (λ e. e.0.items ≡ new_items.items) }

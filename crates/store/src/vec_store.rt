@@ -213,6 +213,7 @@ impl<P: Exchange> ParagraphStore<P> for VecStore<P> {
             old.destroy_empty();
             return Err((new_items, AllocError));
         }
+        let (new_chars, new_lines) = sums(&new_items);
         put_in(
             &mut self.items,
             range.start,
@@ -221,9 +222,9 @@ impl<P: Exchange> ParagraphStore<P> for VecStore<P> {
             &mut old,
         );
         new_items.destroy_empty();
-        let (chars, lines) = sums(&self.items);
-        self.chars = chars;
-        self.lines = lines;
+        let (old_chars, old_lines) = sums(&old);
+        self.chars = self.chars - old_chars + new_chars;
+        self.lines = self.lines - old_lines + new_lines;
         Ok(old)
     }
 
