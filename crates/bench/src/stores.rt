@@ -1,6 +1,6 @@
 //! How long it takes to make a store of paragraphs, to replace one of them at a place that looks random,
 //! and to search for a character.
-ghost use Rattle.std.specs.Prelude.{◌<◌};
+ghost use Rattle.std.specs.Prelude.{◌^◌, ◌<◌};
 
 use crate::numbers::Numbers;
 use anyhow::{Result, bail};
