@@ -2,8 +2,8 @@
 use Rattle.std.proofs.Common.{◌≡◌, ℕ, zero, suc, ◌+◌, ◌-◌, ◌<◌, ◌≤◌, ◌==◌, false, min, List, [], ◌∷◌, ◌++◌, length, map, get_or, take, drop, replicate, Option, Some, None, Result, Ok, Err, IfErr, IsErrAnd, encode_utf8, encode_utf8_all, if◌then◌else◌, refl, sym, ap, ◌∙◌, arith}
 use Rattle.std.specs.Io.KnownBytes.{Appends}
 use Rattle.std.specs.List.{concat, join_with_byte}
-use Rattle.std.proofs.lemmas.List.{append_assoc, append-nil, length-append, length-map, take-append-le, get_or-map, take_all, take-replicate, replicate-append-replicate}
-use Rattle.std.proofs.Math.Seq.{take-append-add}
+use Rattle.std.proofs.lemmas.List.{append_assoc, append-nil, length-append, length-map, take-append-le, get_or-map, take_all, take_more, take-append-drop, take-replicate, replicate-append-replicate}
+use Rattle.std.proofs.Math.Seq.{take-add, take-append-add}
 use Rattle.std.proofs.lemmas.Bool.Decides.{nat_tests}
 use Rattle.device.specs.Device.{Device, Took, StoppedAt, greatest}
 use Rattle.lines.specs.declared.bytes.TheConstants.{SPACES}
@@ -106,6 +106,25 @@ encoded-within cs k within = rw (length-map cs encode_utf8) within
 
 pub encoded-all : (cs : List ℕ) (k : ℕ) → length cs ≤ k → concat (take k (map encode_utf8 cs)) ≡ encode_utf8_all cs
 encoded-all cs k past = ap concat (take_all k (map encode_utf8 cs) (rw (length-map cs encode_utf8) past)) ∙ encoded-whole cs
+
+-- characters, some at a time
+pub encoded-append : (xs ys : List ℕ) → encode_utf8_all (xs ++ ys) ≡ encode_utf8_all xs ++ encode_utf8_all ys
+encoded-append [] ys = refl
+encoded-append (x ∷ xs) ys = ap (λ more. encode_utf8 x ++ more) (encoded-append xs ys) ∙ sym (append_assoc (encode_utf8 x) (encode_utf8_all xs) (encode_utf8_all ys))
+
+pub encoded-more : (cs : List ℕ) (k c : ℕ) → k < length cs → c ≡ get_or cs k c → encode_utf8_all (take (k + 1) cs) ≡ encode_utf8_all (take k cs) ++ encode_utf8 c
+encoded-more cs k c within is =
+    ap encode_utf8_all (take_more cs k c within ∙ ap (λ d. take k cs ++ d ∷ []) (sym is))
+    ∙ encoded-append (take k cs) (c ∷ []) ∙ ap (λ more. encode_utf8_all (take k cs) ++ more) (append-nil (encode_utf8 c))
+
+pub encoded-part : (cs : List ℕ) (at to : ℕ) → at ≤ to
+    → encode_utf8_all (take to cs) ≡ encode_utf8_all (take at cs) ++ encode_utf8_all (take (to - at) (drop at cs))
+encoded-part cs at to le =
+    let whole : at + (to - at) ≡ to = omega arith in
+    ap encode_utf8_all (ap (λ n. take n cs) (sym whole) ∙ take-add at (to - at) cs) ∙ encoded-append (take at cs) (take (to - at) (drop at cs))
+
+pub encoded-rest : (cs : List ℕ) (at : ℕ) → encode_utf8_all cs ≡ encode_utf8_all (take at cs) ++ encode_utf8_all (drop at cs)
+encoded-rest cs at = ap encode_utf8_all (sym (take-append-drop at cs)) ∙ encoded-append (take at cs) (drop at cs)
 
 -- lists with a space before each but the first
 abbrev pub spaced : List (List ℕ) → List (List ℕ)

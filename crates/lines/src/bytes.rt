@@ -1,7 +1,7 @@
 //! The bytes of a line, passed to a sink as they are made. Each function writes a part of them behind
 //! `done` bytes, and answers how many are written then.
 ghost use Rattle.std.specs.Prelude.{◌≡◌, [], ◌∷◌, ◌++◌, ◌≤◌, ◌&&◌, IfOk, IfErr, if◌then◌else◌};
-ghost use Rattle.std.specs.Prelude.{codes, length, map, replicate, encode_utf8, encode_utf8_all, slice_index};
+ghost use Rattle.std.specs.Prelude.{◌+◌, ◌*◌, take, codes, length, map, replicate, encode_utf8, encode_utf8_all, slice_index};
 ghost use Rattle.bidi.specs.Runs.{AreWithin};
 ghost use Rattle.std.specs.List.{join_with_byte};
 ghost use Rattle.lines.specs.Bytes.{direction_line, numbers_line, padding, shown_chars, visual_line};
@@ -51,6 +51,9 @@ fn write_char<W: Sink>(writer: &mut W, done: u64, c: char) -> Result<u64, WriteF
     write_part(writer, done, c.encode_utf8(&mut buffer).as_bytes())
 }
 
+// How many characters are written at a time.
+const PIECE: usize = 64;
+
 fn write_chars<W: Sink>(writer: &mut W, done: u64, chars: &[char]) -> Result<u64, WriteFault>
     requires { done ≤ (W.state writer.old).passed }
     ensures ok { IfOk result (λ n. PassedOn (encode_utf8_all chars.now) done
@@ -59,11 +62,44 @@ fn write_chars<W: Sink>(writer: &mut W, done: u64, chars: &[char]) -> Result<u64
         (W.state writer.old) (W.state writer.new) fault.written) }
     ensures counted { IfOk result (λ n. n ≤ (W.state writer.new).passed) }
 {
+    let mut buffer = [0; 4 * PIECE];
     let mut written = done;
-    for (at, c) in chars.iter().enumerate() {
-        written = write_char(writer, written, *c)?;
+    let mut at = 0;
+    while at < chars.len() {
+        let end = chars.len().min(at + PIECE);
+        let len = encode(&chars[at..end], &mut buffer);
+        written = write_part(writer, written, &buffer[..len])?;
+        at = end;
     }
     Ok(written)
+}
+
+// Puts the bytes of some characters to the front of a buffer, and says how many they are.
+fn encode(piece: &[char], buffer: &mut [u8]) -> usize
+    requires { 4 * length piece.now ≤ length buffer.old }
+    ensures within { result ≤ length buffer.old }
+    ensures bytes { take result buffer.new ≡ encode_utf8_all piece.now }
+{
+    let mut len = 0;
+    for c in piece {
+        len = encode_behind(*c, buffer, len);
+    }
+    len
+}
+
+// Puts the bytes of a character to a place of a buffer, and says where they end.
+fn encode_behind(c: char, buffer: &mut [u8], at: usize) -> usize
+    requires { at + 4 ≤ length buffer.old }
+    ensures within { result ≤ at + 4 }
+    ensures bytes { take result buffer.new ≡ take at buffer.old ++ encode_utf8 c }
+{
+    let mut bytes = [0; 4];
+    let mut end = at;
+    for byte in c.encode_utf8(&mut bytes).as_bytes() {
+        buffer[end] = *byte;
+        end += 1;
+    }
+    end
 }
 
 // The characters of a text at some places, in their order.

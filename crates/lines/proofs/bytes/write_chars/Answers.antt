@@ -1,24 +1,27 @@
-use Rattle.std.proofs.Common.{sym}
-use Rattle.lines.proofs.WriteLemmas.{encoded-all, encoded-at, encoded-whole, encoded-within, pieces-more, pieces-stopped, same_fault}
-use Rattle.lines.specs.Writing.{StoppedIn}
+use Rattle.std.proofs.Common.{◌≡◌, ◌-◌, ◌++◌, take, drop, encode_utf8_all, ap, sym, ◌∙◌, arith}
+use Rattle.lines.specs.Writing.{PassedOn, StoppedIn}
+use Rattle.lines.proofs.WriteLemmas.{encoded-part, encoded-rest, passed-append, same_fault, stopped-before, stopped-behind}
 use Rattle.lines.proofs.bytes.write_chars.Goals as goal
 
--- one character more
+-- one piece more
 pub loop-at-preserved : goal.loop-at-preserved
 loop-at-preserved g c =
-    let within = encoded-within c.args.chars.now c.loop-at.at c.loop-at-test.true in
-    let next = encoded-at c.args.chars.now c.loop-at.at _ c.loop-at-test.true c.index-chars-at.is in
+    let chars = c.args.chars.now in
+    let at = c.loop-at.at in
+    let «end» = c.min-end.result in
     record {
-      passed = pieces-more _ c.loop-at.at within next c.loop-at.invariant.passed c.in_ok-written.ensures.ok;
+      within = omega (arith, c.min-end.ensures);
+      passed = rw (encoded-part chars at «end» (omega (arith, c.min-end.ensures, c.loop-at-test.true)), ← c.encode-len.ensures.bytes) (passed-append c.loop-at.invariant.passed c.in_ok-written.ensures.ok);
       counted = c.in_ok-written.ensures.counted;
     }
 
 pub returns-in_err-written-clause-err : goal.returns-in_err-written-clause-err
 returns-in_err-written-clause-err g c =
-    let within = encoded-within c.args.chars.now c.loop-at.at c.loop-at-test.true in
-    let next = encoded-at c.args.chars.now c.loop-at.at _ c.loop-at-test.true c.index-chars-at.is in
-    let stopped = pieces-stopped _ c.loop-at.at within next c.loop-at.invariant.passed c.in_err-written.ensures.err in
-    same_fault _ _ (StoppedIn _ c.args.done _ _) c.from_residual.ensures.1 (rw (sym (encoded-whole c.args.chars.now)) stopped)
-
-pub returns-clause-ok : goal.returns-clause-ok
-returns-clause-ok g c = rw (sym (encoded-all c.args.chars.now c.loop-at.at c.loop-at-test.false)) c.loop-at.invariant.passed
+    let chars = c.args.chars.now in
+    let at = c.loop-at.at in
+    let «end» = c.min-end.result in
+    let bytes : encode_utf8_all chars ≡ (encode_utf8_all (take at chars) ++ take c.encode-len.result c.encode-len.new.buffer) ++ encode_utf8_all (drop «end» chars) =
+        encoded-rest chars «end» ∙ ap (λ front. front ++ encode_utf8_all (drop «end» chars))
+        (encoded-part chars at «end» (omega (arith, c.min-end.ensures, c.loop-at-test.true)) ∙ ap (λ part. encode_utf8_all (take at chars) ++ part) (sym c.encode-len.ensures.bytes)) in
+    same_fault _ _ (StoppedIn _ c.args.done _ _) c.from_residual.ensures.1
+    (rw bytes (stopped-before (encode_utf8_all (drop «end» chars)) (stopped-behind c.loop-at.invariant.passed c.in_err-written.ensures.err)))
