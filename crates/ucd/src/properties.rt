@@ -180,7 +180,7 @@ impl Properties {
     }
 }
 
-const BIDI_CLASSES: [BidiClass; 23] = [
+static BIDI_CLASSES: [BidiClass; 23] = [
     BidiClass::L,
     BidiClass::R,
     BidiClass::AL,
@@ -206,7 +206,7 @@ const BIDI_CLASSES: [BidiClass; 23] = [
     BidiClass::PDI,
 ];
 
-const LINE_CLASSES: [LineClass; 43] = [
+static LINE_CLASSES: [LineClass; 43] = [
     LineClass::BK,
     LineClass::CM,
     LineClass::CR,
