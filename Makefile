@@ -2,8 +2,8 @@
 # make ucd    the seven table files of Unicode 15.0, from Debian's package unicode-data, into ucd/
 # make demo   both, and the command on the sample text
 # make test   the gate: every proof from nothing, the must-fail edits, the tests and the stored run
-# make bench  the time of the command beside that of Debian's fribidi, edits a second of a session, and the time
-#             of levels, of break marks and of filling by what a text is made of
+# make bench  the time of the command beside that of Debian's fribidi and of ICU, edits a second of a session, and the time
+#             of levels, of break marks and of filling by what a text is made of, and of stores
 
 UNICODE = /usr/share/unicode
 
@@ -43,3 +43,4 @@ bench: program ucd
 	bench/levels
 	bench/marks
 	bench/fill
+	bench/store

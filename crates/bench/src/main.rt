@@ -5,6 +5,8 @@
 //!   kinds, with the table files of the folder UCD.
 //! - `bench marks UCD CHARACTERS` prints the same of break marks.
 //! - `bench fill UCD CHARACTERS` prints how long a paragraph takes to be laid out and filled again.
+//! - `bench store KIND PARAGRAPHS TIMES` prints how long a store of paragraphs takes, a `list` or a
+//!   `tree`, to be made, and for a replacement and for a search.
 #![tactic(auto)]
 
 mod edits;
@@ -13,6 +15,7 @@ mod levels;
 mod marks;
 mod numbers;
 mod paragraphs;
+mod stores;
 
 use anyhow::{Result, bail};
 use std::env;
@@ -28,6 +31,14 @@ fn main(rt: HostRuntime) -> Result<()> {
             let paragraphs = number(words.next());
             let edits = number(words.next());
             edits::run(&rt, paragraphs, edits)
+        }
+        "store" => {
+            let Some(kind) = words.next() else {
+                bail!("a list or a tree?");
+            };
+            let paragraphs = number(words.next());
+            let times = number(words.next());
+            stores::run(&rt, kind.as_str(), paragraphs, times)
         }
         "levels" | "marks" | "fill" => {
             let Some(folder) = words.next() else {

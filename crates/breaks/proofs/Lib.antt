@@ -1,5 +1,7 @@
-pub mod ClassLemmas
-pub mod RuleLemmas
-pub mod SumLemmas
+pub mod BoolLemmas
+pub mod Computed
+pub mod PassLemmas
+pub mod StepLemmas
+pub mod SymbolLemmas
 pub mod WalkLemmas
 mod WorkedRows

@@ -1,17 +1,21 @@
 -- The marks that a walk over the characters finds are those of the bases.
-use Rattle.std.proofs.Common.{◌≡◌, ℕ, suc, ◌+◌, ◌<◌, length, get_or, drop, arith, List, [], ◌∷◌, ◌++◌, map, if◌then◌else◌, refl, sym, ap, ◌∙◌, append_assoc, append-nil, inl, inr}
+use Rattle.std.proofs.Common.{◌≡◌, ℕ, suc, ◌+◌, ◌<◌, length, get_or, take, drop, arith, List, [], ◌∷◌, ◌++◌, map, if◌then◌else◌, refl, sym, ap, ◌∙◌, append_assoc, append-nil, inl, inr}
+use Rattle.std.proofs.Math.ListN.{set}
 use Rattle.std.proofs.lemmas.Bool.{cases_Bool}
-use Rattle.std.proofs.lemmas.List.{at_drop_more, length-map}
+use Rattle.std.proofs.lemmas.List.{at_drop_more, drop_all, length-map, length-set, take_all, take_more_set}
 use Rattle.breaks.specs.Bases.{Base, alone, joined, stays_with, bases_of, end_of, character}
 use Rattle.breaks.specs.Marks.{marks_behind, marks_of}
 use Rattle.breaks.specs.Rules.{rules, mark_by}
-use Rattle.breaks.specs.Walk.{Passes, Sums, with_attached}
-use Rattle.breaks.specs.declared.before.Before.{Before}
+use Rattle.breaks.specs.Symbols.{character_by}
+use Rattle.breaks.specs.Walk.{Passes, Stands, with_attached}
 use Rattle.breaks.specs.declared.character.Character.{Character}
 use Rattle.breaks.specs.declared.mark.Mark.{Mark}
 use Rattle.breaks.specs.declared.mark.Mark.TheVariants.{Never, Must}
+use Rattle.breaks.specs.declared.walk.Walk.{Walk}
+use Rattle.ucd.specs.declared.properties.Properties.{Properties}
 use Rattle.ucd.specs.declared.tables.Tables.{Tables}
-use Rattle.breaks.proofs.SumLemmas.{end_attached}
+use Rattle.ucd.specs.Properties.{properties_of}
+use Rattle.breaks.proofs.StepLemmas.{end_attached}
 
 -- the marks from the position behind the last character so far on, where others are to come
 abbrev pub walk : List Base → Base → List Character → List Mark
@@ -95,27 +99,36 @@ pub begins_walk : (t : Tables) (text rest : List ℕ) (c : ℕ) (first : Charact
 unfolding marks_of
 begins_walk t text rest c first marks is reads none = rw (none, is, reads) (walk_from_start (character t c) (map (character t) rest))
 
--- what the walk knows: what is kept of the bases so far, and that the marks so far and those to come are all of them
-abbrev pub Walks : Before → List Mark → List Character → List Mark → Type 0
+-- what the walk knows: what it keeps of the bases so far, and that the marks so far and those to come are all of them
+abbrev pub Walks : Walk → List Mark → List Character → List Mark → Type 0
 Walks before marks text whole =
-    (last : Base) × (others : List Base) × Sums before last others × (marks ++ walk others last text ≡ whole)
+    (last : Base) × (others : List Base) × Stands before last others × (marks ++ walk others last text ≡ whole)
 
-passes_on : (before after : Before) (marks : List Mark) (mark : Mark) (c : Character) (text : List Character) (whole : List Mark) (last : Base) (others : List Base) → marks ++ walk others last (c ∷ text) ≡ whole → Passes after last others c mark → Walks after (marks ++ mark ∷ []) text whole
+passes_on : (before after : Walk) (marks : List Mark) (mark : Mark) (c : Character) (text : List Character) (whole : List Mark) (last : Base) (others : List Base) → marks ++ walk others last (c ∷ text) ≡ whole → Passes after last others c mark → Walks after (marks ++ mark ∷ []) text whole
 passes_on before after marks mark c text whole last others is passes =
     elim (cases_Bool (stays_with (end_of last) c)) [
       | inl stays ↦
-          let stayed : (mark ≡ Never) × Sums after (with_attached last c) others = rw stays at passes in
+          let stayed : (mark ≡ Never) × Stands after (with_attached last c) others = rw stays at passes in
           (with_attached last c, others, stayed.1, rw (append_assoc, stayed.0) (rw stays at is))
       | inr begins ↦
-          let begun : (mark ≡ mark_by rules (last ∷ others) (alone c ∷ [])) × Sums after (alone c) (last ∷ others) = rw begins at passes in
+          let begun : (mark ≡ mark_by rules (last ∷ others) (alone c ∷ [])) × Stands after (alone c) (last ∷ others) = rw begins at passes in
           (alone c, last ∷ others, begun.1, rw (append_assoc, begun.0) (rw begins at is))
     ]
 
--- one step of it, over the character at a place
-pub steps : (t : Tables) (rest : List ℕ) (i c : ℕ) (next : Character) (before after : Before) (marks new : List Mark) (mark : Mark) (whole : List Mark) → i < length rest → c ≡ get_or rest i c → next ≡ character t c → Walks before marks (map (character t) (drop i rest)) whole → ((last : Base) (others : List Base) → Sums before last others → Passes after last others next mark) → new ≡ marks ++ mark ∷ [] → Walks after new (map (character t) (drop (i + 1) rest)) whole
-steps t rest i c next before after marks new mark whole lt is reads (last, others, sums, so_far) passes pushed =
-    let here : drop i rest ≡ c ∷ drop (i + 1) rest = at_drop_more (λ xs. xs) rest i c lt ∙ ap (λ x. x ∷ drop (i + 1) rest) (sym is) in
-    rw pushed (passes_on before after marks mark next (map (character t) (drop (i + 1) rest)) whole last others (rw reads (rw here at so_far)) (passes last others sums))
+module _ {X : Type 0} (read : X → Character) (rest : List X) (whole : List Mark) where
+  -- one step of it, over what stands at a place, whose mark is written there
+  pub steps : (i : ℕ) (x : X) (before after : Walk) (marks new : List Mark) (mark : Mark) → i < length rest → x ≡ get_or rest i x → Walks before (take i marks) (map read (drop i rest)) whole → ((last : Base) (others : List Base) → Stands before last others → Passes after last others (read x) mark) → take (i + 1) new ≡ take i marks ++ mark ∷ [] → Walks after (take (i + 1) new) (map read (drop (i + 1) rest)) whole
+  steps i x before after marks new mark lt is (last, others, stands, so_far) passes written =
+      let here : drop i rest ≡ x ∷ drop (i + 1) rest = at_drop_more (λ xs. xs) rest i x lt ∙ ap (λ y. y ∷ drop (i + 1) rest) (sym is) in
+      rw written (passes_on before after (take i marks) mark (read x) (map read (drop (i + 1) rest)) whole last others (rw here at so_far) (passes last others stands))
+
+  -- the last mark, behind the whole text
+  pub ends : (i : ℕ) (before : Walk) (marks : List Mark) → i ≡ length rest → length marks ≡ length rest + 1 → Walks before (take i marks) (map read (drop i rest)) whole → set marks (length rest) Must ≡ whole
+  ends i before marks last_place len (last, others, stands, so_far) =
+      let none : drop i rest ≡ [] = drop_all i rest (omega arith) in
+      let written : take (length rest + 1) (set marks (length rest) Must) ≡ take (length rest) marks ++ Must ∷ [] = take_more_set marks (length rest) Must (omega arith) in
+      let all_of_it : take (length rest + 1) (set marks (length rest) Must) ≡ set marks (length rest) Must = take_all (length rest + 1) (set marks (length rest) Must) (omega (arith, length-set marks (length rest) Must)) in
+      sym all_of_it ∙ written ∙ ap (λ n. take n marks ++ Must ∷ []) (sym last_place) ∙ rw none at so_far
 
 -- the walk finds a mark for each character
 length-walk : (others : List Base) (last : Base) (text : List Character) → length (walk others last text) ≡ suc (length text)
@@ -131,3 +144,31 @@ length-marks t [] = ap length (none_marked t [] refl)
 length-marks t (c ∷ text) =
     ap length (sym (begins_walk t (c ∷ text) text c (character t c) [] refl refl refl))
     ∙ length-walk [] (alone (character t c)) (map (character t) text) ∙ ap suc (length-map text (character t))
+
+-- what is read of the properties is what is read of the characters
+pub read_once : (t : Tables) (text : List ℕ) → map character_by (map (properties_of t) text) ≡ map (character t) text
+read_once t [] = refl
+read_once t (c ∷ text) = ap (λ cs. character t c ∷ cs) (read_once t text)
+
+-- a list with no character has no mark
+pub none_at_all : (t : Tables) (text : List ℕ) (marks : List Mark) → length text ≡ 0 → length marks ≡ length text → marks ≡ marks_of t text
+none_at_all t [] [] none len = sym (none_marked t [] refl)
+none_at_all t [] (m ∷ marks) none len = absurd (omega arith)
+none_at_all t (c ∷ text) marks none len = absurd (omega arith)
+
+pub one_longer : {X : Type 0} (text : List X) (x : X) (rest : List X) (marks : List Mark) → length marks ≡ length text → text ≡ x ∷ rest → length marks ≡ length rest + 1
+one_longer text x rest marks len is = omega (arith, ap length is)
+
+-- the walk begins behind the first character, of which the properties are read
+pub begins_read : (t : Tables) (text : List ℕ) (properties rest : List Properties) (p : Properties) → properties ≡ map (properties_of t) text → properties ≡ p ∷ rest → walk [] (alone (character_by p)) (map character_by rest) ≡ marks_of t text
+begins_read t [] properties rest p is reads =
+    let none : [] ≡ p ∷ rest = sym is ∙ reads in
+    cc
+begins_read t (c ∷ text) properties rest p is reads =
+    let same : properties_of t c ∷ map (properties_of t) text ≡ p ∷ rest = sym is ∙ reads in
+    let first : p ≡ properties_of t c = cc in
+    let others : rest ≡ map (properties_of t) text = cc in
+    rw (first, others) (rw (read_once t text) (begins_walk t (c ∷ text) text c (character t c) [] refl refl refl))
+
+pub no_text : (t : Tables) (text : List ℕ) (properties : List Properties) → properties ≡ map (properties_of t) text → length properties ≡ 0 → length text ≡ 0
+no_text t text properties is none = sym (length-map text (properties_of t)) ∙ sym (ap length is) ∙ none

@@ -2,4 +2,5 @@ pub mod Bases
 pub mod Classes
 pub mod Marks
 pub mod Rules
+pub mod Symbols
 pub mod Walk

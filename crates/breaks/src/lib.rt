@@ -2,13 +2,15 @@
 //! or may not end.
 #![tactic(auto)]
 
-mod before;
 mod character;
-mod classes;
 mod mark;
-mod rules;
+mod symbol;
+mod table;
+mod walk;
 
-pub use mark::{Mark, marks, marks_are_as_many};
+pub use mark::{Mark, marks, marks_are_as_many, marks_into};
 
+#[cfg(test)]
+mod plain;
 #[cfg(test)]
 mod tests;

@@ -1,8 +1,14 @@
-//! Worked rows. The tests pass too where one allocation is refused, whichever it is.
-use crate::{Mark, marks};
-use std::alloc::Global;
+//! Worked rows, and lists of characters of which the walk finds the marks that the plain body does. The
+//! tests pass too where one allocation is refused, whichever it is.
+ghost use Rattle.std.specs.Prelude.{◌≡◌, map, OnOk};
+ghost use Rattle.ucd.specs.Properties.{properties_of};
+
+use crate::plain::plain_marks;
+use crate::{Mark, marks, marks_into};
+use std::alloc::{AllocError, Global};
+use std::process::Abort;
 use std::test::Fail;
-use ucd::{Cause, Tables, UcdFiles};
+use ucd::{Cause, Properties, Tables, UcdFiles};
 
 // The table files of the tests.
 const FILES: UcdFiles<'_> = UcdFiles {
@@ -37,50 +43,234 @@ fn signs(alloc: Global, tables: &Tables, text: &str) -> Result<String, Fail> {
     Ok(signs.collect(alloc)?)
 }
 
-#[test]
-fn marks_of_rows(rt: HostRuntime) -> Result<(), Fail> {
-    let alloc = rt.alloc();
-    let tables = tables(alloc, &FILES)?;
-    let rows = [
-        ("", ""),
-        ("a b", "×÷!"),
-        ("a-b", "×÷!"),
-        ("\u{5D0}-\u{5D1}", "××!"),
-        ("a(b", "××!"),
-        ("a\u{3008}", "÷!"),
-        ("a\u{200B} b", "××÷!"),
-        ("\" (", "××!"),
-        ("\u{2014} \u{2014}", "××!"),
-        ("a\u{200D}\u{4E00}", "××!"),
-        ("a\r\n", "××!"),
-        ("a\u{2028}b", "×!!"),
-        ("\u{1F1E6}\u{1F1E6}\u{1F1E6}a\u{1F1E6}\u{1F1E6}", "×÷÷÷×!"),
-        (
-            "\u{1F1E6}\u{1F1E6}\u{300}\u{1F1E6}\u{1F1E6}\u{1F1E6}",
-            "××÷×÷!",
-        ),
-        ("a \u{300}b", "×÷×!"),
-    ];
+// Texts and their marks.
+const ROWS: [(&str, &str); 15] = [
+    ("", ""),
+    ("a b", "×÷!"),
+    ("a-b", "×÷!"),
+    ("\u{5D0}-\u{5D1}", "××!"),
+    ("a(b", "××!"),
+    ("a\u{3008}", "÷!"),
+    ("a\u{200B} b", "××÷!"),
+    ("\" (", "××!"),
+    ("\u{2014} \u{2014}", "××!"),
+    ("a\u{200D}\u{4E00}", "××!"),
+    ("a\r\n", "××!"),
+    ("a\u{2028}b", "×!!"),
+    ("\u{1F1E6}\u{1F1E6}\u{1F1E6}a\u{1F1E6}\u{1F1E6}", "×÷÷÷×!"),
+    (
+        "\u{1F1E6}\u{1F1E6}\u{300}\u{1F1E6}\u{1F1E6}\u{1F1E6}",
+        "××÷×÷!",
+    ),
+    ("a \u{300}b", "×÷×!"),
+];
+
+// Those of U+00A9 and a modifier, where the first is unassigned and where it isn't.
+const PICTOGRAPHS: [(&[u8], &str); 2] = [(b"", "×!"), (b"00A9;So", "÷!")];
+
+fn check(
+    rt: &impl Abort,
+    alloc: Global,
+    tables: &Tables,
+    text: &str,
+    want: &str,
+) -> Result<(), Fail> {
+    let signs = signs(alloc, tables, text)?;
+    assert_eq!(rt; signs.as_str(), want, "{text:?}");
+    Ok(())
+}
+
+fn check_each(
+    rt: &impl Abort,
+    alloc: Global,
+    tables: &Tables,
+    rows: &[(&str, &str)],
+) -> Result<(), Fail> {
     for (text, want) in rows {
-        let signs = signs(alloc, &tables, text)?;
-        assert_eq!(rt; signs.as_str(), want, "{text:?}");
+        check(rt, alloc, tables, text, want)?;
     }
     Ok(())
+}
+
+#[test]
+fn marks_of_rows(rt: HostRuntime) -> Result<(), Fail> {
+    let tables = tables(rt.alloc(), &FILES)?;
+    check_each(&rt, rt.alloc(), &tables, &ROWS)
+}
+
+fn check_pictograph(
+    rt: &impl Abort,
+    alloc: Global,
+    categories: &[u8],
+    want: &str,
+) -> Result<(), Fail> {
+    let files = UcdFiles {
+        line_break: b"1F3FB;EM",
+        general_category: categories,
+        ..FILES
+    };
+    check(rt, alloc, &tables(alloc, &files)?, "\u{A9}\u{1F3FB}", want)
 }
 
 // A modifier stands behind a pictograph that is unassigned, and behind no other.
 #[test]
 fn marks_behind_pictographs(rt: HostRuntime) -> Result<(), Fail> {
-    let alloc = rt.alloc();
-    let rows: [(&[u8], &str); 2] = [(b"", "×!"), (b"00A9;So", "÷!")];
-    for (general_category, want) in rows {
-        let files = UcdFiles {
-            line_break: b"1F3FB;EM",
-            general_category,
-            ..FILES
-        };
-        let signs = signs(alloc, &tables(alloc, &files)?, "\u{A9}\u{1F3FB}")?;
-        assert_eq!(rt; signs.as_str(), want);
+    for (categories, want) in PICTOGRAPHS {
+        check_pictograph(&rt, rt.alloc(), categories, want)?;
+    }
+    Ok(())
+}
+
+// Lists that are kept from text to text.
+#[derive(Drop)]
+struct Kept {
+    text: Vec<char>,
+    properties: Vec<Properties>,
+    plain: Vec<Mark>,
+    marks: Vec<Mark>,
+}
+
+impl Kept {
+    fn new(alloc: Global) -> Kept {
+        Kept {
+            text: Vec::new(alloc),
+            properties: Vec::new(alloc),
+            plain: Vec::new(alloc),
+            marks: Vec::new(alloc),
+        }
+    }
+}
+
+fn read_all(
+    tables: &Tables,
+    text: &[char],
+    properties: &mut Vec<Properties>,
+) -> Result<(), AllocError>
+    ensures { OnOk result (properties.new.items ≡ map (properties_of tables.now) text.now) }
+{
+    properties.clear();
+    for c in text {
+        properties.push(tables.properties(*c))?;
+    }
+    Ok(())
+}
+
+// Whether the walk finds the marks of the text that the plain body finds.
+fn agrees(tables: &Tables, kept: &mut Kept) -> Result<bool, AllocError> {
+    read_all(tables, &kept.text, &mut kept.properties)?;
+    plain_marks(tables, &kept.text, &mut kept.plain)?;
+    marks_into(tables, &kept.text, &kept.properties, &mut kept.marks)?;
+    Ok(kept.marks.as_slice() == kept.plain.as_slice())
+}
+
+// Two characters of each line breaking class, U+0100 the first of BK: of some classes the second is
+// wide, a mark or a pictograph to come.
+const CLASS_FILES: UcdFiles<'_> = UcdFiles {
+    line_break: b"0100..0101;BK\n0102..0103;CM\n0104..0105;CR\n0106..0107;GL\n0108..0109;LF\n\
+        010A..010B;NL\n010C..010D;SP\n010E..010F;WJ\n0110..0111;ZW\n0112..0113;ZWJ\n\
+        0114..0115;B2\n0116..0117;BA\n0118..0119;BB\n011A..011B;CB\n011C..011D;HY\n\
+        011E..011F;CL\n0120..0121;CP\n0122..0123;EX\n0124..0125;IN\n0126..0127;NS\n\
+        0128..0129;OP\n012A..012B;QU\n012C..012D;IS\n012E..012F;NU\n0130..0131;PO\n\
+        0132..0133;PR\n0134..0135;SY\n0136..0137;AI\n0138..0139;AL\n013A..013B;CJ\n\
+        013C..013D;EB\n013E..013F;EM\n0140..0141;H2\n0142..0143;H3\n0144..0145;HL\n\
+        0146..0147;ID\n0148..0149;JL\n014A..014B;JT\n014C..014D;JV\n014E..014F;RI\n\
+        0150..0151;SA\n0152..0153;SG\n0154..0155;XX\n",
+    east_asian_width: b"0129;W\n0121;W\n0147;W\n012B;W\n011F;W\n0103;W\n010D;W\n0139;W\n012F;W\n",
+    general_category: b"0151;Mn\n0102;Mn\n0121;Mc\n0146;So\n013B;Mn\n",
+    emoji_data: b"0147;Extended_Pictographic\n0155;Extended_Pictographic\n0103;Extended_Pictographic\n\
+        010D;Extended_Pictographic\n011B;Extended_Pictographic\n013D;Extended_Pictographic\n\
+        0129;Extended_Pictographic\n0113;Extended_Pictographic\n0133;Extended_Pictographic\n\
+        014F;Extended_Pictographic\n012B;Extended_Pictographic\n0139;Extended_Pictographic\n\
+        0101;Extended_Pictographic\n",
+    ..FILES
+};
+
+const LETTERS: [char; 12] = [
+    'a', '\u{5D0}', '\u{627}', '1', '\u{660}', '+', ',', '$', '\u{300}', '(', ')', ' ',
+];
+
+// Whether the walk agrees on the list of so many of these characters that a number spells.
+fn agrees_on(
+    tables: &Tables,
+    letters: &[char],
+    length: usize,
+    number: u64,
+    kept: &mut Kept,
+) -> Result<bool, AllocError> {
+    kept.text.clear();
+    let count = (letters.len() as u64).max(1);
+    let mut rest = number;
+    for _ in 0..length {
+        let letter = letters.get((rest % count) as usize);
+        kept.text.push(letter.copied().unwrap_or('a'))?;
+        rest /= count;
+    }
+    agrees(tables, kept)
+}
+
+fn check_list(
+    rt: &impl Abort,
+    tables: &Tables,
+    letters: &[char],
+    length: usize,
+    number: u64,
+    kept: &mut Kept,
+) -> Result<(), Fail> {
+    let agrees = match agrees_on(tables, letters, length, number, kept) {
+        Ok(agrees) => agrees,
+        Err(_) => agrees_on(tables, letters, length, number, kept)?,
+    };
+    assert!(rt; agrees, "list {number} of {length}");
+    Ok(())
+}
+
+// The lists of so many characters that some numbers spell.
+fn check_lists(
+    rt: &impl Abort,
+    alloc: Global,
+    tables: &Tables,
+    letters: &[char],
+    length: usize,
+    numbers: u64,
+) -> Result<(), Fail> {
+    let mut kept = Kept::new(alloc);
+    for number in 0..numbers {
+        check_list(rt, tables, letters, length, number, &mut kept)?;
+    }
+    Ok(())
+}
+
+// Every list of 1 to 4 of the letters.
+#[test]
+fn walk_finds_the_marks_of_letters(rt: HostRuntime) -> Result<(), Fail> {
+    let tables = tables(rt.alloc(), &FILES)?;
+    for (length, numbers) in [(1, 12), (2, 144), (3, 1_728), (4, 20_736)] {
+        check_lists(&rt, rt.alloc(), &tables, &LETTERS, length, numbers)?;
+    }
+    Ok(())
+}
+
+fn class_letters(alloc: Global) -> Result<Vec<char>, AllocError> {
+    (0x100..0x156).filter_map(char::from_u32).collect(alloc)
+}
+
+// Every list of 1 or 2 characters of each class, and lists of 10 that look random.
+#[test]
+fn walk_finds_the_marks_of_classes(rt: HostRuntime) -> Result<(), Fail> {
+    let tables = tables(rt.alloc(), &CLASS_FILES)?;
+    let letters = match class_letters(rt.alloc()) {
+        Ok(letters) => letters,
+        Err(_) => class_letters(rt.alloc())?,
+    };
+    check_lists(&rt, rt.alloc(), &tables, &letters, 1, 86)?;
+    check_lists(&rt, rt.alloc(), &tables, &letters, 2, 7_396)?;
+    let mut kept = Kept::new(rt.alloc());
+    let mut number: u64 = 1;
+    for _ in 0..10_000 {
+        number = number
+            .wrapping_mul(6_364_136_223_846_793_005)
+            .wrapping_add(1);
+        check_list(&rt, &tables, &letters, 10, number >> 1, &mut kept)?;
     }
     Ok(())
 }

@@ -1,3 +1,4 @@
+mod BareLemmas
 pub mod ClusterLemmas
 pub mod FillingLemmas
 mod InverseLemmas
@@ -13,3 +14,4 @@ mod WorkedBytes
 mod WorkedOrder
 mod WorkedRows
 pub mod WriteLemmas
+mod PlainLemmas

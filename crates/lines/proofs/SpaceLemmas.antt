@@ -1,12 +1,12 @@
 -- A walk over a line from its end, which sets the levels that L1 names.
-use Rattle.std.proofs.Common.{◌≡◌, ℕ, ◌+◌, ◌<◌, ◌≤◌, Bool, true, ◌&&◌, ◌||◌, if◌then◌else◌, List, [], ◌∷◌, ◌++◌, length, get_or, map, set, take, drop, sym, ap, subst, ◌∙◌, inl, inr, arith, append_assoc}
+use Rattle.std.proofs.Common.{suc, refl, ap₂, ◌≡◌, ℕ, ◌+◌, ◌<◌, ◌≤◌, Bool, true, ◌&&◌, ◌||◌, if◌then◌else◌, List, [], ◌∷◌, ◌++◌, length, get_or, map, set, take, drop, sym, ap, subst, ◌∙◌, inl, inr, arith, append_assoc}
 use Rattle.std.proofs.lemmas.Bool.{cases_Bool, cond-true, cond-false}
-use Rattle.std.proofs.lemmas.List.{append-nil, drop_all, drop_more, length-map, length-take-le, get_or-map, get_or_read, take_all, take_more}
+use Rattle.std.proofs.lemmas.List.{append-nil, drop_all, drop_more, length-map, length-take-le, get_or-map, take_all, take_more}
 use Rattle.std.proofs.Math.Seq.{set-append_seam}
 use Rattle.ucd.specs.declared.bidi_class.BidiClass.{BidiClass}
 use Rattle.ucd.specs.declared.bidi_class.BidiClass.TheVariants.{L}
-use Rattle.ucd.specs.Tables.{class_of}
-use Rattle.ucd.specs.declared.tables.Tables.{Tables}
+use Rattle.ucd.specs.declared.properties.Properties.{Properties}
+use Rattle.bidi.specs.Classes.{class_in}
 use Rattle.lines.specs.Spaces.{ends_segment, is_blank, is_reset, line_levels}
 
 -- what the walk knows at a place: the levels from there on are set, and whether a blank in front of it is reset
@@ -66,16 +66,29 @@ next base classes old current resets after k written w sizes found is =
           ∙ ap (λ ls. take k old ++ line_levels base (class ∷ drop (k + 1) classes) ls) own);
     }
 
-pub Walked-next : (t : Tables) (line : List ℕ) (base : ℕ) (old current : List ℕ) (resets after : Bool) (at k c : ℕ) (class : BidiClass) (written : List ℕ)
-    → Walked base (map (class_of t) line) old current resets at → k + 1 ≡ at → length line ≡ length old
-    → c ≡ get_or line k c → class ≡ class_of t c → after ≡ (ends_segment class || (is_blank class && resets))
+pub Walked-next : (line : List Properties) (base : ℕ) (old current : List ℕ) (resets after : Bool) (at k : ℕ) (c : Properties) (class : BidiClass) (written : List ℕ)
+    → Walked base (map class_in line) old current resets at → k + 1 ≡ at → length line ≡ length old
+    → c ≡ get_or line k c → class ≡ class_in c → after ≡ (ends_segment class || (is_blank class && resets))
     → written ≡ (if after then set current k base else current)
-    → Walked base (map (class_of t) line) old written after k
-Walked-next t line base old current resets after at k c class written w e sizes read known found is =
-    let classes = map (class_of t) line in
-    let wide : length classes ≡ length line = length-map line (class_of t) in
+    → Walked base (map class_in line) old written after k
+Walked-next line base old current resets after at k c class written w e sizes read known found is =
+    let classes = map class_in line in
+    let wide : length classes ≡ length line = length-map line class_in in
     let within : k < length line = omega (arith, w.within) in
     let here : class ≡ get_or classes k L =
-    known ∙ ap (class_of t) (get_or_read line k c within read 0) ∙ sym (get_or-map (class_of t) line k 0 L within) in
+    known ∙ ap class_in read ∙ sym (get_or-map class_in line k c L within) in
     next base classes old current resets after k written (subst (λ (n : ℕ). Walked base classes old current resets n) (sym e) w)
     (wide ∙ sizes) (found ∙ ap (λ b. ends_segment b || (is_blank b && resets)) here) is
+
+-- L1 changes nothing where all levels are 0 and the paragraph level is
+pub line_of_zeros : (classes : List BidiClass) (levels : List ℕ) → length classes ≡ length levels → ((k : ℕ) → get_or levels k 0 ≡ 0) → line_levels 0 classes levels ≡ levels
+line_of_zeros [] [] sizes zero = refl
+line_of_zeros [] (level ∷ levels) sizes zero = absurd (omega (arith, sizes))
+line_of_zeros (class ∷ classes) [] sizes zero = absurd (omega (arith, sizes))
+line_of_zeros (class ∷ classes) (level ∷ levels) sizes zero =
+    let first : (if is_reset (class ∷ classes) then 0 else level) ≡ level =
+    elim (cases_Bool (is_reset (class ∷ classes))) [
+      | inl reset ↦ cond-true (is_reset (class ∷ classes)) 0 level reset ∙ sym (zero 0)
+      | inr kept ↦ cond-false (is_reset (class ∷ classes)) 0 level kept
+    ] in
+    ap₂ (λ (l : ℕ) (ls : List ℕ). l ∷ ls) first (line_of_zeros classes levels (omega (arith, sizes)) (λ k. zero (suc k)))

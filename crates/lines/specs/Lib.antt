@@ -1,3 +1,5 @@
+pub mod Bare
+pub mod BarePlaces
 pub mod Bytes
 pub mod Clusters
 pub mod Engine
@@ -8,8 +10,8 @@ pub mod Mirroring
 pub mod Order
 pub mod Parts
 pub mod Places
-pub mod Spaces
 pub mod Showing
+pub mod Spaces
 pub mod Sums
 pub mod Visual
 pub mod Writing

@@ -1,49 +1,91 @@
 //! Where the lines of a paragraph start.
-ghost use Rattle.std.specs.Prelude.{◌≡◌, ◌+◌, ◌||◌, ◌<◌, ◌≤◌, ◌^◌, length};
-ghost use Rattle.std.specs.Prelude.{Some, IfOk, if◌then◌else◌};
+ghost use Rattle.std.specs.Prelude.{◌≡◌, ◌+◌, ◌||◌, ◌<◌, ◌≤◌, ◌^◌, List, length, drop, false, IsTrue};
+ghost use Rattle.std.specs.Prelude.{None, Some, IfOk, IfSome, OnOk, if◌then◌else◌};
+ghost use Rattle.lines.specs.Bare.{AreAlike, with_ends};
+ghost use Rattle.lines.specs.Clusters.{cluster_ends};
 ghost use Rattle.lines.specs.Filling.{by_break, by_cluster, first_end, line_end};
 ghost use Rattle.lines.specs.Filling.{is_break, is_must, line_len, line_starts_of, stop};
 ghost use Rattle.lines.specs.Kept.{AreStarts};
 ghost use Rattle.lines.specs.Sums.{sums_behind};
+ghost use Rattle.lines.specs.declared.places.Place.{Place};
 
+use crate::clusters::mark_clusters;
 use crate::places::Place;
 use breaks::Mark;
 use std::alloc::{AllocError, Global};
 
-/// Where each line of a paragraph starts, at a width.
+/// Where each line of a paragraph starts, at a width. Where clusters end isn't known of the places: it
+/// is found, and put to them, for the first line that needs it.
 pub fn line_starts(
     alloc: Global,
-    places: &[Place],
+    text: &[char],
+    places: &mut [Place],
     width: u16,
     nobreak: bool,
 ) -> Result<Vec<u32>, AllocError>
-    requires { length places.now ≤ 1048576 }
-    ensures lines { IfOk result (λ starts. starts.items ≡ line_starts_of nobreak width places.now) }
-    ensures starts { IfOk result (λ starts. AreStarts (length places.now) starts.items) }
+    requires len { length places.old ≡ length text.now }
+    requires within { length places.old ≤ 1048576 }
+    ensures lines { IfOk result (λ starts. starts.items
+        ≡ line_starts_of nobreak width (with_ends places.old (cluster_ends text.now))) }
+    ensures starts { IfOk result (λ starts. AreStarts (length text.now) starts.items) }
+    ensures alike { OnOk result (AreAlike places.new places.old) }
 {
     let mut starts = Vec::new(alloc);
     let mut start = 0;
-    let mut rest = places;
-    while !rest.is_empty() {
+    let mut is_known = false;
+    while start < places.len() {
         starts.push(start as u32)?;
-        let len = line_len(rest, width, nobreak);
+        let (len, known) = line_len(alloc, text, places, is_known, start, width, nobreak)?;
         start += len;
-        let (_, behind) = rest.split_at(len);
-        rest = behind;
+        is_known = known;
     }
     Ok(starts)
 }
 
-// How many characters the first line takes.
-fn line_len(rest: &[Place], width: u16, nobreak: bool) -> usize
+// How many characters the line takes that begins at `start`, and whether it is known of the places where
+// clusters end.
+fn line_len(
+    alloc: Global,
+    text: &[char],
+    places: &mut [Place],
+    is_known: bool,
+    start: usize,
+    width: u16,
+    nobreak: bool,
+) -> Result<(usize, bool), AllocError>
+    requires start { (start < length places.old) × (length places.old ≤ 1048576) }
+    requires len { length places.old ≡ length text.now }
+    requires known { IsTrue is_known → places.old ≡ with_ends places.old (cluster_ends text.now) }
+    ensures line { IfOk result (λ line.
+        line.0 ≡ line_len nobreak width (drop start (with_ends places.old (cluster_ends text.now)))) }
+    ensures within { IfOk result (λ line. (0 < line.0) × (start + line.0 ≤ length places.old)) }
+    ensures known { IfOk result (λ line.
+        IsTrue line.1 → places.new ≡ with_ends places.new (cluster_ends text.now)) }
+    ensures alike { OnOk result (AreAlike places.new places.old) }
+{
+    if let Some(len) = broken_len(&places[start..], width, nobreak) {
+        return Ok((len, is_known));
+    }
+    if !is_known {
+        mark_clusters(alloc, text, places)?;
+    }
+    Ok((line_end(&places[start..], width) + 1, true))
+}
+
+// How many characters the first line takes, if it ends at a break: so clusters don't matter.
+fn broken_len(rest: &[Place], width: u16, nobreak: bool) -> Option<usize>
     requires { (0 < length rest.now) × (length rest.now ≤ 1048576) }
-    ensures len { result ≡ line_len nobreak width rest.now }
-    ensures within { result ≤ length rest.now }
+    ensures len { (known : List Place) → AreAlike rest.now known
+        → IfSome result (λ len. len ≡ line_len nobreak width known) }
+    ensures within { IfSome result (λ len. (0 < len) × (len ≤ length rest.now)) }
+    ensures none { result ≡ None → nobreak ≡ false }
 {
     if nobreak {
-        first_must(rest) + 1
-    } else {
-        line_end(rest, width) + 1
+        return Some(first_must(rest) + 1);
+    }
+    match fitting_ends(rest, width) {
+        (Some(k), _) => Some(k + 1),
+        (None, _) => None,
     }
 }
 

@@ -28,8 +28,8 @@ pub fn maps_are_inverse()
     ensures { (levels : List ℕ) → AreInverse (length levels) (vtol_of levels) (ltov_of levels) }
 {}
 
-// Writes 0, 1, and so on.
-fn identity(items: &mut [u32])
+/// Writes 0, 1, and so on.
+pub fn identity(items: &mut [u32])
     requires { length items.old ≤ 1048576 }
     ensures { items.new ≡ range_with_len 0 (length items.old) }
 {

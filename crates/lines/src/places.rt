@@ -1,12 +1,19 @@
 //! What filling reads of each character of a paragraph.
-ghost use Rattle.std.specs.Prelude.{◌≡◌, ◌≤◌, length, IfOk};
+ghost use Rattle.std.specs.Prelude.{◌≡◌, false, Bool, [], ◌∷◌, length, map, OnOk};
+ghost use Rattle.ucd.specs.Properties.{properties_of};
+ghost use Rattle.ucd.specs.declared.line_class.LineClass.TheVariants.{BK, CR, LF, NL, SP};
+ghost use Rattle.ucd.specs.declared.tables.Tables.{Tables};
+ghost use Rattle.breaks.specs.Bases.{resolved};
+ghost use Rattle.breaks.specs.Classes.{is_one_of};
 ghost use Rattle.breaks.specs.Marks.{marks_of};
-ghost use Rattle.lines.specs.Places.{columns_of, is_trailing_in, place, places, places_of};
+ghost use Rattle.lines.specs.Bare.{with_ends};
+ghost use Rattle.lines.specs.BarePlaces.{bare_places};
+ghost use Rattle.lines.specs.Clusters.{cluster_ends};
+ghost use Rattle.lines.specs.Places.{columns_of, place, places_of};
 
-use crate::clusters::cluster_ends;
 use breaks::{Mark, marks_are_as_many};
-use std::alloc::{AllocError, Global};
-use ucd::{LineClass, Tables};
+use std::alloc::AllocError;
+use ucd::{LineClass, Properties, Tables};
 use unicode_width::UnicodeWidthChar;
 
 /// A character of a paragraph.
@@ -23,14 +30,15 @@ pub struct Place {
 }
 
 impl Place {
-    fn of(tables: &Tables, c: char, mark: Mark, ends_cluster: bool) -> Place
-        ensures { result ≡ place tables.now c mark ends_cluster }
+    // A character, of which it isn't known whether a cluster ends behind it.
+    fn of(properties: Properties, c: char, mark: Mark) -> Place
+        ensures { (t : Tables) → properties ≡ properties_of t c → result ≡ place t c mark false }
     {
         Place {
             columns: columns(c),
-            is_trailing: is_trailing(tables, c),
+            is_trailing: is_trailing(properties.line_class()),
             mark,
-            ends_cluster,
+            ends_cluster: false,
         }
     }
 }
@@ -45,11 +53,12 @@ fn columns(c: char) -> u8
     }
 }
 
-// Whether the class of a character is one of those that count for nothing at the end of a line.
-fn is_trailing(tables: &Tables, c: char) -> bool
-    ensures { result ≡ is_trailing_in tables.now c }
+// Whether a class is one of those that count for nothing at the end of a line.
+fn is_trailing(class: LineClass) -> bool
+    ensures { (is_mark : Bool) → result
+        ≡ is_one_of (SP ∷ BK ∷ CR ∷ LF ∷ NL ∷ []) (resolved class is_mark) }
 {
-    match tables.line_class(c) {
+    match class {
         LineClass::SP => true,
         LineClass::BK => true,
         LineClass::CR => true,
@@ -59,39 +68,45 @@ fn is_trailing(tables: &Tables, c: char) -> bool
     }
 }
 
-/// The places of a paragraph, whose marks are known.
-pub fn places(
-    alloc: Global,
+/// Puts the places of a paragraph, whose marks are known, in place of what the list has. Where clusters
+/// end isn't known of them.
+pub fn take_places(
     tables: &Tables,
     text: &[char],
+    properties: &[Properties],
     marks: &[Mark],
-) -> Result<Vec<Place>, AllocError>
-    requires { marks.now ≡ marks_of tables.now text.now }
-    ensures places { IfOk result (λ places. places.items ≡ places_of tables.now text.now) }
-    ensures len { IfOk result (λ places. length places.items ≡ length text.now) }
+    places: &mut Vec<Place>,
+) -> Result<(), AllocError>
+    requires properties { properties.now ≡ map (properties_of tables.now) text.now }
+    requires marks { marks.now ≡ marks_of tables.now text.now }
+    ensures places { OnOk result
+        (with_ends places.new.items (cluster_ends text.now) ≡ places_of tables.now text.now) }
+    ensures len { OnOk result (length places.new.items ≡ length text.now) }
 {
     marks_are_as_many(tables, text);
-    let ends = cluster_ends(alloc, text)?;
-    zip_places(alloc, tables, text, marks, &ends)
+    places.clear();
+    places.reserve(text.len())?;
+    push_places(tables, text, properties, marks, places)?;
+    Ok(())
 }
 
-fn zip_places(
-    alloc: Global,
+// Adds a place for each character.
+fn push_places(
     tables: &Tables,
     text: &[char],
+    properties: &[Properties],
     marks: &[Mark],
-    ends: &[bool],
-) -> Result<Vec<Place>, AllocError>
+    places: &mut Vec<Place>,
+) -> Result<(), AllocError>
     requires marks { length marks.now ≡ length text.now }
-    requires ends { length ends.now ≡ length text.now }
-    ensures places { IfOk result (λ out. out.items ≡ places tables.now text.now marks.now ends.now) }
-    ensures len { IfOk result (λ out. length out.items ≡ length text.now) }
+    requires properties { properties.now ≡ map (properties_of tables.now) text.now }
+    requires none { places.old.items ≡ [] }
+    ensures places { OnOk result (places.new.items ≡ bare_places tables.now text.now marks.now) }
 {
-    let mut places = Vec::with_capacity(alloc, text.len())?;
     let mut k = 0;
     while k < text.len() {
-        places.push(Place::of(tables, text[k], marks[k], ends[k]))?;
+        places.push(Place::of(properties[k], text[k], marks[k]))?;
         k += 1;
     }
-    Ok(places)
+    Ok(())
 }

@@ -1,23 +1,23 @@
 //! The levels of one line after separators and the blanks in front of them, or at the line's end, take the
 //! paragraph level (UAX #9, L1).
 ghost use Rattle.std.specs.Prelude.{◌≡◌, ◌&&◌, ◌||◌, map, length};
-ghost use Rattle.ucd.specs.Tables.{class_of};
+ghost use Rattle.bidi.specs.Classes.{class_in};
 ghost use Rattle.lines.specs.Spaces.{ends_segment, is_blank, line_levels};
 
-use ucd::{BidiClass, Tables};
+use ucd::{BidiClass, Properties};
 
 /// Gives the characters of a line that L1 names the paragraph level, `base`. The classes are those of the
 /// tables, not what earlier rules made of them.
-pub fn reset_levels(tables: &Tables, line: &[char], base: u8, levels: &mut [u8])
+pub fn reset_levels(line: &[Properties], base: u8, levels: &mut [u8])
     requires { length line.now ≡ length levels.old }
-    ensures { levels.new ≡ line_levels base (map (class_of tables.now) line.now) levels.old }
+    ensures { levels.new ≡ line_levels base (map class_in line.now) levels.old }
 {
     // Whether a blank in front of this place takes the paragraph level.
     let mut resets = true;
     let mut at = line.len();
     while at > 0 {
         at -= 1;
-        resets = is_reset(tables.bidi_class(line[at]), resets);
+        resets = is_reset(line[at].bidi_class(), resets);
         if resets {
             levels[at] = base;
         }

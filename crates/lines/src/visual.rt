@@ -1,5 +1,9 @@
 //! The lines of a paragraph as they are shown, and one of them, which borrows from its paragraph.
-ghost use Rattle.std.specs.Prelude.{◌≡◌, ◌<◌, ◌≤◌, length, slice_index, IfOk};
+ghost use Rattle.std.specs.Prelude.{◌≡◌, ◌<◌, ◌≤◌, ℕ, true, length, map, slice_index, IfOk};
+ghost use Rattle.std.specs.List.{range_with_len};
+ghost use Rattle.ucd.specs.Properties.{properties_of};
+ghost use Rattle.bidi.specs.Classes.{class_in};
+ghost use Rattle.lines.specs.Spaces.{line_levels};
 ghost use Rattle.bidi.specs.Runs.{AreWithin};
 ghost use Rattle.lines.specs.Filling.{columns, shown};
 ghost use Rattle.lines.specs.Kept.{AreStarts};
@@ -10,12 +14,12 @@ ghost use Rattle.lines.specs.Showing.{end_of, AreShown, IsShown};
 ghost use Rattle.lines.specs.Visual.{lines_from};
 
 use crate::mirror::visual_chars;
-use crate::order::order;
+use crate::order::{identity, order};
 use crate::places::Place;
 use crate::spaces::reset_levels;
 use std::alloc::{AllocError, Global};
 use std::marker::Model;
-use ucd::Tables;
+use ucd::{Properties, Tables};
 
 /// How much of a line is shown.
 #[derive(Clone, Copy, Debug)]
@@ -57,11 +61,13 @@ pub(crate) fn show_lines(
     alloc: Global,
     tables: &Tables,
     text: &[char],
+    properties: &[Properties],
     base: u8,
     levels: &[u8],
     places: &[Place],
     starts: Vec<u32>,
 ) -> Result<Fill, AllocError>
+    requires properties { properties.now ≡ map (properties_of tables.now) text.now }
     requires text { (length text.now ≡ length places.now) × (length text.now ≤ 1048576) }
     requires levels { length levels.now ≡ length text.now }
     requires starts { AreStarts (length text.now) starts.items }
@@ -77,6 +83,7 @@ pub(crate) fn show_lines(
         alloc,
         tables,
         text,
+        properties,
         base,
         places,
         &starts,
@@ -121,6 +128,7 @@ fn show_each(
     alloc: Global,
     tables: &Tables,
     text: &[char],
+    properties: &[Properties],
     base: u8,
     places: &[Place],
     starts: &[u32],
@@ -129,6 +137,7 @@ fn show_each(
     vtol: &mut [u32],
     chars: &mut [char],
 ) -> Result<Vec<Shown>, AllocError>
+    requires properties { properties.now ≡ map (properties_of tables.now) text.now }
     requires text { (length text.now ≡ length places.now) × (length text.now ≤ 1048576) }
     requires starts { AreStarts (length text.now) starts.now }
     requires levels { length levels.old ≡ length text.now }
@@ -147,6 +156,7 @@ fn show_each(
         shown.push(show_line(
             tables,
             &text[start..end],
+            &properties[start..end],
             base,
             &places[start..end],
             &mut levels[start..end],
@@ -177,6 +187,7 @@ fn end_of(starts: &[u32], k: usize, len: usize) -> usize
 fn show_line(
     tables: &Tables,
     line: &[char],
+    properties: &[Properties],
     base: u8,
     places: &[Place],
     levels: &mut [u8],
@@ -184,6 +195,7 @@ fn show_line(
     vtol: &mut [u32],
     chars: &mut [char],
 ) -> Shown
+    requires properties { properties.now ≡ map (properties_of tables.now) line.now }
     requires line { (length line.now ≡ length places.now) × (length line.now ≤ 1048576) }
     requires levels { length levels.old ≡ length line.now }
     requires ltov { length ltov.old ≡ length line.now }
@@ -192,13 +204,14 @@ fn show_line(
     ensures { IsShown tables.now base line.now levels.old places.now
         result levels.new ltov.new vtol.new chars.new }
 {
-    reset_levels(tables, line, base, levels);
+    let is_flat = reset_line(properties, base, levels);
     let shown = shown_of(places);
     let n = shown.len as usize;
     show_part(
         tables,
         &line[..n],
         &levels[..n],
+        is_flat,
         &mut ltov[..n],
         &mut vtol[..n],
         &mut chars[..n],
@@ -206,16 +219,57 @@ fn show_line(
     shown
 }
 
+// L1 on a line; true only where all levels are 0 then.
+fn reset_line(properties: &[Properties], base: u8, levels: &mut [u8]) -> bool
+    requires { length properties.now ≡ length levels.old }
+    ensures levels { levels.new ≡ line_levels base (map class_in properties.now) levels.old }
+    ensures flat { result ≡ true → (k : ℕ) → slice_index levels.new k ≡ 0 }
+{
+    if base == 0 && are_zero(levels) {
+        return true;
+    }
+    reset_levels(properties, base, levels);
+    false
+}
+
+// Whether all levels are 0.
+fn are_zero(levels: &[u8]) -> bool
+    ensures { result ≡ true → (k : ℕ) → slice_index levels.now k ≡ 0 }
+{
+    let mut highest = 0;
+    for level in levels {
+        highest = highest.max(*level);
+    }
+    highest == 0
+}
+
+// Writes what belongs to the shown part of a line whose levels are all 0: it is its own order.
+fn show_plain(part: &[char], ltov: &mut [u32], vtol: &mut [u32], chars: &mut [char])
+    requires part { length part.now ≤ 1048576 }
+    requires ltov { length ltov.old ≡ length part.now }
+    requires vtol { length vtol.old ≡ length part.now }
+    requires chars { length chars.old ≡ length part.now }
+    ensures ltov { ltov.new ≡ range_with_len 0 (length part.now) }
+    ensures vtol { vtol.new ≡ range_with_len 0 (length part.now) }
+    ensures chars { chars.new ≡ part.now }
+{
+    identity(ltov);
+    identity(vtol);
+    chars.copy_from_slice(part);
+}
+
 // Writes what belongs to the shown part of a line: its order, and its characters in visual order.
 fn show_part(
     tables: &Tables,
     part: &[char],
     levels: &[u8],
+    is_flat: bool,
     ltov: &mut [u32],
     vtol: &mut [u32],
     chars: &mut [char],
 )
     requires levels { (length levels.now ≡ length part.now) × (length part.now ≤ 1048576) }
+    requires flat { is_flat ≡ true → (k : ℕ) → slice_index levels.now k ≡ 0 }
     requires ltov { length ltov.old ≡ length part.now }
     requires vtol { length vtol.old ≡ length part.now }
     requires chars { length chars.old ≡ length part.now }
@@ -224,8 +278,12 @@ fn show_part(
     ensures chars { chars.new ≡ visual_chars tables.now levels.now part.now (vtol_of levels.now) }
     ensures within { AreWithin (length levels.now) vtol.new }
 {
-    order(levels, vtol, ltov);
-    visual_chars(tables, part, levels, vtol, chars);
+    if is_flat {
+        show_plain(part, ltov, vtol, chars);
+    } else {
+        order(levels, vtol, ltov);
+        visual_chars(tables, part, levels, vtol, chars);
+    }
 }
 
 // How much of a line is shown: all but its tail.

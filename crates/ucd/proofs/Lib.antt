@@ -3,3 +3,7 @@ pub mod Trims
 pub mod Parts
 pub mod Ranges
 pub mod FileLines
+pub mod Setting
+pub mod PageLemmas
+pub mod PagedLemmas
+pub mod SaidLemmas

@@ -1,128 +1,92 @@
--- Entries in order: what they say of a code point, where a range stands among them, and what one more entry changes.
-use Rattle.std.proofs.Common.{◌≡◌, ℕ, zero, suc, ◌+◌, ◌-◌, ◌<◌, ◌≤◌, ltb, List, [], ◌∷◌, length, get_or, Some, None, Result, Ok, Err, IfOk, IfErr, Ordering, Less, Equal, Greater, if◌then◌else◌, refl, ap, subst, ◌⊎◌, inl, inr, arith}
-use Rattle.std.specs.List.{insert}
-use Rattle.std.specs.List.Sorted.{IsSearchInRange, IsBinarySearchResult, IsNonDecreasingBy}
-use Rattle.std.specs.Ordering.{ordering_index}
-use Rattle.std.proofs.lemmas.Bool.{cases_lt}
+-- Entries, one behind another: what they say of a code point, and what one more changes.
+use Rattle.std.proofs.Common.{◌≡◌, ℕ, zero, suc, ◌+◌, ◌<◌, ◌≤◌, nat_le, nat_lt, ◌&&◌, Bool, true, false, List, [], ◌∷◌, ◌++◌, length, take, get_or, slice_get, Option, Some, None, is_some, IsTrue, if◌then◌else◌, refl, sym, ◌∙◌, ap, ◌⊎◌, inl, inr, arith}
+use Rattle.std.proofs.lemmas.Bool.{cases_Bool, cond-true, cond-false}
 use Rattle.std.proofs.lemmas.Bool.Decides.{nat_tests}
-use Rattle.std.proofs.lemmas.List.{get_or-map, length-map, map-append, take-map, drop-map}
-use Rattle.std.proofs.lemmas.List.Edits.{length-insert, get_or-insert_below, get_or-insert_at, get_or-insert_above}
+use Rattle.std.proofs.lemmas.Grind.{common_steps}
+use Rattle.std.proofs.lemmas.List.{take-append-le, take_more}
+use Rattle.std.proofs.Math.Seq.{take-append_seam}
+use Rattle.std.proofs.lemmas.Option.{slice_get_within, get_or_from_slice_get}
+use Rattle.ucd.specs.Answers.{Answers}
+use Rattle.ucd.specs.Puts.{put_by}
 use Rattle.ucd.specs.declared.grammar.Entry.{Entry}
-use Rattle.ucd.specs.Entries.{covers, value_at, firsts, lasts, AreInOrder, IsMetAt, IsGapFor, IsMet, AddsEntry}
+use Rattle.ucd.specs.Entries.{covers, value_at, AddsEntry, AreApart, AreNamed}
 
--- no entry names c
-value_absent : {V : Type 0} (es : List (Entry V)) (c : ℕ) → ((i : ℕ) → i < length es → (c < get_or (firsts es) i 0) ⊎ (get_or (lasts es) i 0 < c)) → value_at es c ≡ None
-value_absent [] c outside = refl
-value_absent (e ∷ es) c outside = grind (arith, nat_tests, outside 0 (omega arith), value_absent es c (λ i lt. outside (suc i) (omega arith)))
+module _ {V : Type 0} where
+  -- the value of a code point with one more entry
+  value_push : (es : List (Entry V)) (e : Entry V) (c : ℕ) → (IsTrue (covers e c) → value_at es c ≡ None) → value_at (es ++ e ∷ []) c ≡ (if covers e c then Some e.value else value_at es c)
+  value_push [] e c free = refl
+  value_push (x ∷ es) e c free = grind (arith, nat_tests, value_push es e c)
 
--- the first entry that names c is at a place
-value_present : {V : Type 0} (es : List (Entry V)) (c at : ℕ) (d : Entry V) → at < length es → get_or (firsts es) at 0 ≤ c → c ≤ get_or (lasts es) at 0 → ((i : ℕ) → i < at → get_or (lasts es) i 0 < c) → value_at es c ≡ Some (get_or es at d).value
-value_present [] c at d lt begins ends before = absurd (omega arith)
-value_present (e ∷ es) c zero d lt begins ends before = grind (arith, nat_tests)
-value_present (e ∷ es) c (suc at) d lt begins ends before = grind (arith, nat_tests, before 0 (omega arith), value_present es c at d (omega arith) begins ends (λ i below. before (suc i) (omega arith)))
+  not_some : (o : Option V) → is_some o ≡ false → o ≡ None
+  not_some None none = refl
+  not_some (Some v) none = cc
 
--- an entry that stands behind smaller ones
-value_insert : {V : Type 0} (es : List (Entry V)) (at : ℕ) (e : Entry V) (c : ℕ) → ((i : ℕ) → i < at → i < length es → get_or (lasts es) i 0 < e.first) → value_at (insert es at e) c ≡ (if covers e c then Some e.value else value_at es c)
-value_insert es zero e c before = refl
-value_insert [] (suc at) e c before = refl
-value_insert (x ∷ es) (suc at) e c before = grind (arith, nat_tests, before 0 (omega arith) (omega arith), value_insert es at e c (λ i below lt. before (suc i) (omega arith) (omega arith)))
-
--- how an entry lies beside a range
-abbrev pub compared : {V : Type 0} → ℕ → ℕ → Entry V → Ordering
-compared first last e = if ltb e.last first then Less else (if ltb last e.first then Greater else Equal)
-
-compared_less : {V : Type 0} (first last : ℕ) (e : Entry V) → compared first last e ≡ Less → e.last < first
-compared_less first last e is = grind (arith, nat_tests)
-
-compared_greater : {V : Type 0} (first last : ℕ) (e : Entry V) → compared first last e ≡ Greater → last < e.first
-compared_greater first last e is = grind (arith, nat_tests)
-
-compared_equal : {V : Type 0} (first last : ℕ) (e : Entry V) → compared first last e ≡ Equal → (e.first ≤ last) × (first ≤ e.last)
-compared_equal first last e is = grind (arith, nat_tests)
-
--- an entry of a list that has one
-entry_in : {V : Type 0} (es : List (Entry V)) (i : ℕ) → i < length es → Entry V
-entry_in [] i lt = absurd (omega arith)
-entry_in (e ∷ es) i lt = e
-
-module _ {V : Type 0} (es : List (Entry V)) (ordered : AreInOrder es) where
-  first_of : (i : ℕ) (d : Entry V) → i < length es → get_or (firsts es) i 0 ≡ (get_or es i d).first
-  first_of i d lt = get_or-map (λ e. e.first) es i d 0 lt
-
-  last_of : (i : ℕ) (d : Entry V) → i < length es → get_or (lasts es) i 0 ≡ (get_or es i d).last
-  last_of i d lt = get_or-map (λ e. e.last) es i d 0 lt
-
-  -- the comparisons with a range rise along the entries, as a binary search asks
-  comparisons_rise : (first last : ℕ) → IsNonDecreasingBy (λ e. ordering_index (compared first last e)) es
-  comparisons_rise first last i j d le lt =
-      grind (arith, nat_tests, ordered.whole i, ordered.whole j, ordered.apart i j, first_of i d, first_of j d, last_of i d, last_of j d, λ (same : i ≡ j). ap (λ k. ordering_index (compared first last (get_or es k d))) same)
-
-  -- a binary search ends at an entry that meets the range, or where the range would stand
-  pub searched : (first last : ℕ) (r : Result ℕ ℕ) → IsSearchInRange r (length es) → IsBinarySearchResult (compared first last) es r → record { found : IfOk r (IsMetAt es first last); absent : IfErr r (IsGapFor es first last) }
-  searched first last (Ok at) lt equal =
-      let d = entry_in es at lt in
-      let meets = compared_equal first last (get_or es at d) (equal d) in
-      record { found = record { in_range = lt; begins = rw (first_of at d lt) meets.0; ends = rw (last_of at d lt) meets.1 }; absent = tt }
-  searched first last (Err at) le parted = record {
-    found = tt;
-    absent = record {
-      in_range = le;
-      below = λ i below. let lt : i < length es = omega arith in let d = entry_in es i lt in
-          rw (last_of i d lt) (compared_less first last (get_or es i d) ((parted (comparisons_rise first last)).0 i d (omega arith) below));
-      above = λ i from lt. let d = entry_in es i lt in
-          rw (first_of i d lt) (compared_greater first last (get_or es i d) ((parted (comparisons_rise first last)).1 i d from lt));
-    };
-  }
-
-  -- the value of a code point at the place of its entry
-  pub value_met : (c at : ℕ) (d : Entry V) → IsMetAt es c c at → value_at es c ≡ Some (get_or es at d).value
-  value_met c at d met = value_present es c at d met.in_range met.begins met.ends (λ i below. omega (arith, ordered.apart i at below met.in_range, met.begins))
-
-  -- an entry at which a range is met has a value for a code point of the range: the greater of their firsts
-  pub met : (e : Entry V) (at : ℕ) → e.first ≤ e.last → IsMetAt es e.first e.last at → IsMet es e
-  met e at whole is = elim (cases_lt (get_or (firsts es) at 0) e.first) [
-    | inl lt ↦
-        let here : IsMetAt es e.first e.first at = record { in_range = is.in_range; begins = omega arith; ends = is.ends } in
-        (e.first, grind (arith, nat_tests), rw (value_met e.first at e here) refl)
-    | inr ge ↦
-        let at_first = get_or (firsts es) at 0 in
-        let here : IsMetAt es at_first at_first at = record { in_range = is.in_range; begins = omega arith; ends = ordered.whole at is.in_range } in
-        (at_first, grind (arith, nat_tests, is.begins), rw (value_met at_first at e here) refl)
+  -- an entry of a list with one more is of the list, or is the one more
+  entry_push : (es : List (Entry V)) (e x : Entry V) (i : ℕ) → slice_get (es ++ e ∷ []) i ≡ Some x → ((i < length es) × (slice_get es i ≡ Some x)) ⊎ ((i ≡ length es) × (x ≡ e))
+  entry_push [] e x zero is = inr (refl, cc)
+  entry_push [] e x (suc i) is = cc
+  entry_push (y ∷ es) e x zero is = inl (omega arith, is)
+  entry_push (y ∷ es) e x (suc i) is = elim (entry_push es e x i is) [
+    | inl (lt, here) ↦ inl (omega arith, here)
+    | inr (end, same) ↦ inr (omega arith, same)
   ]
 
-module _ {V : Type 0} (es : List (Entry V)) (first last at : ℕ) (gap : IsGapFor es first last at) where
-  -- a code point of a range that has a gap has no value
-  pub value_in_gap : (c : ℕ) → first ≤ c → c ≤ last → value_at es c ≡ None
-  value_in_gap c low high = value_absent es c (λ i lt. grind (arith, gap.below i, gap.above i))
+  module _ (es : List (Entry V)) (named : List Bool) (e : Entry V) (apart : AreApart es) (are : AreNamed es named) (whole : e.first ≤ e.last) (within : e.last < 1114112)
+      (none : (c : ℕ) → e.first ≤ c → c < e.last + 1 → get_or named c false ≡ false) where
+    -- no entry names what the new one names
+    free : (c : ℕ) → IsTrue (covers e c) → value_at es c ≡ None
+    free c covered =
+        let from : e.first ≤ c = grind (arith, nat_tests) in
+        let to : c ≤ e.last = grind (arith, nat_tests) in
+        not_some (value_at es c) (sym (are.each c (omega arith)) ∙ none c from (omega arith))
 
--- the numbers of a list with one more: those below the place, the new one, and those moved up by one
-inserted : (xs new : List ℕ) (at x : ℕ) → at ≤ length xs → new ≡ insert xs at x → ((i : ℕ) → i < at → get_or new i 0 ≡ get_or xs i 0) × ((i : ℕ) → i ≡ at → get_or new i 0 ≡ x) × ((i : ℕ) → at < i → get_or new i 0 ≡ get_or xs (i - 1) 0)
-inserted xs new at x le is = (
-  (λ i below. rw is (get_or-insert_below xs at x 0 i below le)),
-  (λ i here. rw (is, here) (get_or-insert_at xs at x 0 le)),
-  (λ i above. rw is (subst (λ k. get_or (insert xs at x) k 0 ≡ get_or xs (i - 1) 0) {x = i - 1 + 1} (omega arith) (get_or-insert_above xs at x 0 (i - 1) (omega arith) le))),
-)
+    pub adds_push : AddsEntry es (es ++ e ∷ []) e
+    adds_push = record { free = free; values = λ c. value_push es e c (free c) }
 
-module _ {V : Type 0} (es : List (Entry V)) (e : Entry V) (at : ℕ) (gap : IsGapFor es e.first e.last at) where
-  pub adds_insert : AddsEntry es (insert es at e) e
-  adds_insert = record {
-    free = λ c covered. value_in_gap es e.first e.last at gap c (grind (arith, nat_tests)) (grind (arith, nat_tests));
-    values = λ c. value_insert es at e c (λ i below lt. gap.below i below);
-  }
+    pub apart_push : AreApart (es ++ e ∷ [])
+    apart_push = record {
+      whole = λ i x is. elim (entry_push es e x i is) [
+        | inl (lt, here) ↦ apart.whole i x here
+        | inr (end, same) ↦ rw same (whole, within)
+      ];
+      apart = λ i x is c covered. elim (entry_push es e x i is) [
+        | inl (lt, here) ↦ rw (take-append-le i es (e ∷ []) (omega arith)) (apart.apart i x here c covered)
+        | inr (end, same) ↦ rw (end, take-append_seam es (e ∷ [])) (free c (rw same at covered))
+      ];
+    }
 
-  firsts_insert : firsts (insert es at e) ≡ insert (firsts es) at e.first
-  firsts_insert = simp (map-append, take-map, drop-map)
+    pub named_push : (new : List Bool) → length new ≡ length named → ((c : ℕ) → get_or new c false ≡ (if nat_le e.first c && nat_lt c (e.last + 1) then true else get_or named c false)) → AreNamed (es ++ e ∷ []) new
+    named_push new len each = record {
+      len = len ∙ are.len;
+      each = λ c lt. rw (value_push es e c (free c)) (grind (arith, nat_tests, common_steps, each c, are.each c lt));
+    }
 
-  lasts_insert : lasts (insert es at e) ≡ insert (lasts es) at e.last
-  lasts_insert = simp (map-append, take-map, drop-map)
+  -- the value of a code point with one more entry of a list
+  pub value_more : (es : List (Entry V)) → AreApart es → (i : ℕ) (e : Entry V) → slice_get es i ≡ Some e → (c : ℕ) → value_at (take (i + 1) es) c ≡ (if covers e c then Some e.value else value_at (take i es) c)
+  value_more es apart i e is c =
+      let more : take (i + 1) es ≡ take i es ++ e ∷ [] = take_more es i e (slice_get_within es i e is) ∙ ap (λ x. take i es ++ x ∷ []) (get_or_from_slice_get es i e e is) in
+      rw more (value_push (take i es) e c (apart.apart i e is c))
 
-  -- it keeps the order: each new entry is an old one below the gap, e at it, or an old one moved up by one
-  pub ordered_insert : AreInOrder es → e.first ≤ e.last → AreInOrder (insert es at e)
-  ordered_insert ordered whole =
-      let count = length-insert es at e gap.in_range in
-      let begins = inserted (firsts es) (firsts (insert es at e)) at e.first (simp length-map gap.in_range) firsts_insert in
-      let ends = inserted (lasts es) (lasts (insert es at e)) at e.last (simp length-map gap.in_range) lasts_insert in
-      record {
-        whole = λ i lt. grind (arith, begins.0 i, begins.1 i, begins.2 i, ends.0 i, ends.1 i, ends.2 i, ordered.whole i, ordered.whole (i - 1));
-        apart = λ i j below lt. grind (arith, begins.0 j, begins.1 j, begins.2 j, ends.0 i, ends.1 i, ends.2 i, ordered.apart i j, ordered.apart i (j - 1), ordered.apart (i - 1) (j - 1), gap.below i, gap.above (j - 1));
-      }
+  -- what is said of a code point with one more
+  pub put_more : (put : V → Answers → Answers) (es : List (Entry V)) → AreApart es → (i : ℕ) (e : Entry V) → slice_get es i ≡ Some e → (c : ℕ) (old mid new : Answers) →
+      mid ≡ put_by put (value_at (take i es) c) old → new ≡ (if nat_le e.first c && nat_lt c (e.last + 1) then put e.value mid else mid) → new ≡ put_by put (value_at (take (i + 1) es) c) old
+  put_more put es apart i e is c old mid new before after =
+      let here : Bool = nat_le e.first c && nat_lt c (e.last + 1) in
+      rw (value_more es apart i e is c) (elim (cases_Bool (covers e c)) [
+        | inl covered ↦
+            let none : value_at (take i es) c ≡ None = apart.apart i e is c covered in
+            let same : mid ≡ old = before ∙ ap (λ v. put_by put v old) none in
+            let is_here : here ≡ true = grind (arith, nat_tests) in
+            let value : (if covers e c then Some e.value else value_at (take i es) c) ≡ Some e.value = cond-true (covers e c) (Some e.value) (value_at (take i es) c) covered in
+            after ∙ cond-true here (put e.value mid) mid is_here ∙ ap (put e.value) same ∙ sym (ap (λ v. put_by put v old) value)
+        | inr outside ↦
+            let is_not : here ≡ false = grind (arith, nat_tests) in
+            let value : (if covers e c then Some e.value else value_at (take i es) c) ≡ value_at (take i es) c = cond-false (covers e c) (Some e.value) (value_at (take i es) c) outside in
+            after ∙ cond-false here (put e.value mid) mid is_not ∙ before ∙ sym (ap (λ v. put_by put v old) value)
+      ])
+
+  -- the entry that was read at a place
+  pub entry_read : (es : List (Entry V)) (i : ℕ) (e : Entry V) → i < length es → e ≡ get_or es i e → slice_get es i ≡ Some e
+  entry_read [] i e lt is = absurd (omega arith)
+  entry_read (x ∷ es) zero e lt is = ap Some (sym is)
+  entry_read (x ∷ es) (suc i) e lt is = entry_read es i e (omega arith) is

@@ -1,5 +1,5 @@
--- Entries in order of their code points, and what they say of a character.
-use Rattle.std.specs.Prelude.{◌≡◌, ℕ, ◌<◌, ◌≤◌, nat_le, Bool, ◌&&◌, List, [], ◌∷◌, length, map, slice_index, Option, Some, None, IsSome, IsTrue, if◌then◌else◌}
+-- Entries, each of some code points, and what they say of a character.
+use Rattle.std.specs.Prelude.{◌≡◌, ℕ, ◌<◌, ◌≤◌, nat_le, Bool, false, ◌&&◌, List, [], ◌∷◌, length, take, slice_get, slice_index_or, Option, Some, None, is_some, IsSome, IsTrue, if◌then◌else◌}
 use Rattle.std.specs.Char.{IsScalar}
 use Rattle.ucd.specs.declared.grammar.Entry.{Entry}
 
@@ -13,28 +13,15 @@ module _ {V : Type 0} where
   value_at [] c = None
   value_at (e ∷ es) c = if covers e c then Some e.value else value_at es c
 
-  abbrev pub firsts : List (Entry V) → List ℕ
-  firsts es = map (λ e. e.first) es
+  -- each entry names characters, and none that an entry in front of it names
+  pub record AreApart (es : List (Entry V)) : Type 0 where
+    pub whole : (i : ℕ) (e : Entry V) → slice_get es i ≡ Some e → (e.first ≤ e.last) × (e.last < 1114112)
+    pub apart : (i : ℕ) (e : Entry V) → slice_get es i ≡ Some e → (c : ℕ) → IsTrue (covers e c) → value_at (take i es) c ≡ None
 
-  abbrev pub lasts : List (Entry V) → List ℕ
-  lasts es = map (λ e. e.last) es
-
-  -- no entry ends before it begins, and each ends before the next ones begin
-  pub record AreInOrder (es : List (Entry V)) : Type 0 where
-    pub whole : (i : ℕ) → i < length es → slice_index (firsts es) i ≤ slice_index (lasts es) i
-    pub apart : (i j : ℕ) → i < j → j < length es → slice_index (lasts es) i < slice_index (firsts es) j
-
-  -- the entry at a place shares a code point with a range
-  pub record IsMetAt (es : List (Entry V)) (first last at : ℕ) : Type 0 where
-    pub in_range : at < length es
-    pub begins : slice_index (firsts es) at ≤ last
-    pub ends : first ≤ slice_index (lasts es) at
-
-  -- a range would stand at a place: entries below it in front, and entries above it from there on
-  pub record IsGapFor (es : List (Entry V)) (first last at : ℕ) : Type 0 where
-    pub in_range : at ≤ length es
-    pub below : (i : ℕ) → i < at → slice_index (lasts es) i < first
-    pub above : (i : ℕ) → at ≤ i → i < length es → last < slice_index (firsts es) i
+  -- which code points they name
+  pub record AreNamed (es : List (Entry V)) (named : List Bool) : Type 0 where
+    pub len : length named ≡ 1114112
+    pub each : (c : ℕ) → c < 1114112 → slice_index_or named c false ≡ is_some (value_at es c)
 
   -- new gives the entry's value to the entry's code points, which had none, and to every other what old gives
   pub record AddsEntry (old new : List (Entry V)) (e : Entry V) : Type 0 where

@@ -1,4 +1,7 @@
+pub mod Agreeing
+pub mod Answers
 pub mod BidiClasses
+pub mod Bits
 pub mod Brackets
 pub mod Categories
 pub mod Contents
@@ -7,6 +10,10 @@ pub mod Entries
 pub mod Files
 pub mod Grammar
 pub mod LineClasses
+pub mod Paged
+pub mod Pages
 pub mod Properties
+pub mod Puts
+pub mod Said
 pub mod Tables
 pub mod Widths

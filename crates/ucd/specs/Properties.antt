@@ -1,10 +1,8 @@
 -- What the tables say of one character.
-use Rattle.std.specs.Prelude.{ℕ, ◌+◌, ◌*◌, is_some, if◌then◌else◌}
-use Rattle.ucd.specs.contracts.line_class.LineClass.{the_type}
+use Rattle.std.specs.Prelude.{ℕ, is_some}
 use Rattle.ucd.specs.declared.properties.Properties.{Properties}
 use Rattle.ucd.specs.declared.tables.Tables.{Tables}
 use Rattle.ucd.specs.Tables.{class_of, bracket_of, mirror_of, line_class_of, is_wide_in, is_mark_in, is_future_pictograph_in}
-use denote.Enum.Declared.{tag_of}
 
 abbrev pub properties_of : Tables → ℕ → Properties
 properties_of t c = record {
@@ -16,8 +14,3 @@ properties_of t c = record {
   has_bracket = is_some (bracket_of t c);
   has_mirror = is_some (mirror_of t c);
 }
-
--- what line breaking reads, as one number
-abbrev pub line_index : Properties → ℕ
-line_index p =
-    tag_of the_type p.line_class * 8 + (if p.is_wide then 4 else 0) + (if p.is_mark then 2 else 0) + (if p.is_future_pictograph then 1 else 0)

@@ -1,8 +1,10 @@
 //! The bidirectional classes (UAX #9, section 3.2, table 4).
 ghost use Rattle.std.specs.Prelude.{◌≡◌, codes};
 ghost use Rattle.ucd.specs.BidiClasses.{name_of, class_named, all_classes, bidi_class_form};
+ghost use Rattle.ucd.specs.Puts.{put_bidi_class};
 
 use crate::grammar::Property;
+use crate::properties::Properties;
 
 /// A bidirectional class, under its short name in the Unicode Character Database.
 #[derive(Clone, Copy, Debug, PartialEq, Eq)]
@@ -69,6 +71,8 @@ impl BidiClass {
 impl Property for BidiClass {
     ghost form = { bidi_class_form };
 
+    ghost put = { put_bidi_class };
+
     fn has_ranges() -> bool {
         true
     }
@@ -79,5 +83,9 @@ impl Property for BidiClass {
 
     fn read_value(second: &[u8], _third: &[u8]) -> Option<Option<BidiClass>> {
         BidiClass::from_name(second).map(Some)
+    }
+
+    fn put(self, properties: Properties) -> Properties {
+        properties.with_bidi_class(self)
     }
 }

@@ -2,8 +2,10 @@
 //! BidiMirroring.txt name them.
 ghost use Rattle.std.specs.Prelude.{◌≡◌};
 ghost use Rattle.ucd.specs.Brackets.{character_of, opens_of, bracket_form, mirror_form};
+ghost use Rattle.ucd.specs.Puts.{put_bracket, put_mirror};
 
 use crate::grammar::{Property, code_point};
+use crate::properties::Properties;
 
 /// A bracket: the one that it makes a pair with, and whether it opens the pair (UAX #9, BD14 and
 /// BD15).
@@ -38,6 +40,8 @@ fn opens(kind: &[u8]) -> Option<bool>
 impl Property for Bracket {
     ghost form = { bracket_form };
 
+    ghost put = { put_bracket };
+
     fn has_ranges() -> bool {
         false
     }
@@ -51,10 +55,16 @@ impl Property for Bracket {
         let opens = opens(third)?;
         Some(Some(Bracket { pair, opens }))
     }
+
+    fn put(self, properties: Properties) -> Properties {
+        properties.with_bracket()
+    }
 }
 
 impl Property for Mirror {
     ghost form = { mirror_form };
+
+    ghost put = { put_mirror };
 
     fn has_ranges() -> bool {
         false
@@ -67,5 +77,9 @@ impl Property for Mirror {
     fn read_value(second: &[u8], _third: &[u8]) -> Option<Option<Mirror>> {
         let mirror = character(second)?;
         Some(Some(Mirror(mirror)))
+    }
+
+    fn put(self, properties: Properties) -> Properties {
+        properties.with_mirror()
     }
 }

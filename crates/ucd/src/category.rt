@@ -2,8 +2,10 @@
 //! DerivedGeneralCategory.txt names them.
 ghost use Rattle.std.specs.Prelude.{◌≡◌, codes};
 ghost use Rattle.ucd.specs.Categories.{category_named, category_form};
+ghost use Rattle.ucd.specs.Puts.{put_category};
 
 use crate::grammar::Property;
+use crate::properties::Properties;
 
 /// A general category: Mn or Mc, Cn, or any other.
 #[derive(Clone, Copy, Debug, PartialEq, Eq)]
@@ -26,6 +28,8 @@ fn category_named(name: &[u8]) -> Category
 impl Property for Category {
     ghost form = { category_form };
 
+    ghost put = { put_category };
+
     fn has_ranges() -> bool {
         true
     }
@@ -36,5 +40,13 @@ impl Property for Category {
 
     fn read_value(second: &[u8], _third: &[u8]) -> Option<Option<Category>> {
         Some(Some(category_named(second)))
+    }
+
+    fn put(self, properties: Properties) -> Properties {
+        match self {
+            Category::Mark => properties.with_mark(),
+            Category::Unassigned => properties,
+            Category::Other => properties.with_assignment(),
+        }
     }
 }

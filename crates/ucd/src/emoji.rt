@@ -1,8 +1,10 @@
 //! Pictographs (UTS #51, section 1.4.1), and how emoji-data.txt names them.
 ghost use Rattle.std.specs.Prelude.{◌≡◌, codes};
 ghost use Rattle.ucd.specs.Emoji.{emoji_form};
+ghost use Rattle.ucd.specs.Puts.{put_pictograph};
 
 use crate::grammar::Property;
+use crate::properties::Properties;
 
 /// The property Extended_Pictographic, the only one of emoji-data.txt that says anything here.
 #[derive(Clone, Copy, Debug, PartialEq, Eq)]
@@ -10,6 +12,8 @@ pub struct Pictograph;
 
 impl Property for Pictograph {
     ghost form = { emoji_form };
+
+    ghost put = { put_pictograph };
 
     fn has_ranges() -> bool {
         true
@@ -24,5 +28,9 @@ impl Property for Pictograph {
             b"Extended_Pictographic" => Some(Some(Pictograph)),
             _ => Some(None),
         }
+    }
+
+    fn put(self, properties: Properties) -> Properties {
+        properties.with_future_pictograph()
     }
 }

@@ -51,16 +51,23 @@ pub struct TableFault {
 impl TableFault {
     ghost use Rattle.ucd.specs.Tables.{fault_in};
 
+    // Want of memory, which is in no file.
+    pub(crate) fn memory() -> TableFault
+        ensures { result ≡ record { file = 0; line = 0; cause = Cause.Memory } }
+    {
+        TableFault {
+            file: 0,
+            line: 0,
+            cause: Cause::Memory,
+        }
+    }
+
     // A fault in a line of a file, or want of memory, which is in none.
     pub(crate) fn in_file(file: usize, fault: LineFault) -> TableFault
         ensures { result ≡ fault_in file fault }
     {
         if fault.cause == Cause::Memory {
-            return TableFault {
-                file: 0,
-                line: 0,
-                cause: Cause::Memory,
-            };
+            return TableFault::memory();
         }
         TableFault {
             file,

@@ -31,7 +31,12 @@ pub fn read_file<V: Property>(alloc: Global, file: &[u8]) -> Result<RangeTable<V
     ensures ok { IfOk result (HoldsFile V.form (lines_of file.now)) }
     ensures err { IfErr result (IsLineFault V.form (lines_of file.now)) }
 {
-    let mut table = RangeTable::new(alloc);
+    let Ok(mut table) = RangeTable::new(alloc) else {
+        return Err(LineFault {
+            line: 0,
+            cause: Cause::Memory,
+        });
+    };
     let mut line = 0;
     let mut rest = Some(file);
     while let Some(text) = rest {

@@ -6,6 +6,7 @@ ghost use Rattle.ucd.specs.Grammar.{is_mark, is_one_of, trimmed, fields_of, hex_
 ghost use Rattle.ucd.specs.Grammar.{points_of, by_points, by_fields, reading_of, rest_after, parts_of};
 
 use crate::fault::Cause;
+use crate::properties::Properties;
 
 /// The code points from `first` to `last`, and what the file says of them.
 #[derive(Clone, Copy, Debug, PartialEq, Eq)]
@@ -17,9 +18,13 @@ pub struct Entry<V> {
 
 /// What a file says of a character, and how its lines say it.
 pub trait Property: Copy + Drop {
+    ghost use Rattle.ucd.specs.Answers.{Answers};
     ghost use Rattle.ucd.specs.Grammar.{Form};
 
     ghost form: { Form Self };
+
+    /// What a character's properties are with a value of the file.
+    ghost put: { Self → Answers → Answers };
 
     /// Whether the first field may be a range.
     fn has_ranges() -> bool
@@ -33,6 +38,10 @@ pub trait Property: Copy + Drop {
     /// `Some(None)` where the line names nothing.
     fn read_value(second: &[u8], third: &[u8]) -> Option<Option<Self>>
         ensures { result ≡ form.value second.now third.now };
+
+    /// The properties with this value.
+    fn put(self, properties: Properties) -> Properties
+        ensures { result ≡ put self properties };
 }
 
 /// The bytes in front of the first `mark`, and those behind it if there is one.

@@ -1,7 +1,9 @@
 //! Reads table files of the Unicode Character Database and answers what they say of a character.
 //!
-//! A file is checked line by line against its grammar. What is refused is named by file, line and
-//! cause; what is accepted becomes a table of code point ranges in order, which a look-up searches.
+//! A file is checked line by line against its grammar, its lines in any order. What is refused is named by
+//! file, line and cause. What is accepted is put into pages, which hold the properties of each code point in
+//! 16 bits, so that a look-up is two reads. The few characters that have a bracket or a mirror are named
+//! there by a bit each, and which one it is stands in a map beside the pages.
 #![tactic(auto)]
 
 mod bidi_class;
@@ -12,6 +14,8 @@ mod fault;
 mod file;
 mod grammar;
 mod line_class;
+mod pages;
+mod points;
 mod properties;
 mod range_table;
 mod tables;

@@ -1,8 +1,10 @@
 //! The line breaking classes (UAX #14, section 5.1, table 1), and how LineBreak.txt names them.
 ghost use Rattle.std.specs.Prelude.{◌≡◌, codes};
 ghost use Rattle.ucd.specs.LineClasses.{name_of, class_named, all_classes, line_class_form};
+ghost use Rattle.ucd.specs.Puts.{put_line_class};
 
 use crate::grammar::Property;
+use crate::properties::Properties;
 
 /// A line breaking class, under its short name in the Unicode Character Database.
 #[derive(Clone, Copy, Debug, PartialEq, Eq)]
@@ -109,6 +111,8 @@ impl LineClass {
 impl Property for LineClass {
     ghost form = { line_class_form };
 
+    ghost put = { put_line_class };
+
     fn has_ranges() -> bool {
         true
     }
@@ -119,5 +123,9 @@ impl Property for LineClass {
 
     fn read_value(second: &[u8], _third: &[u8]) -> Option<Option<LineClass>> {
         LineClass::from_name(second).map(Some)
+    }
+
+    fn put(self, properties: Properties) -> Properties {
+        properties.with_line_class(self)
     }
 }

@@ -1,70 +1,173 @@
-//! What the tables say of one character, looked up once.
-ghost use Rattle.std.specs.Prelude.{◌≡◌, ◌<◌};
-ghost use Rattle.ucd.specs.Properties.{line_index};
+//! What the tables say of one character, looked up once, in 16 bits.
+ghost use Rattle.std.specs.Prelude.{◌≡◌, ◌<◌, true, false, IsTrue};
 
 use crate::bidi_class::BidiClass;
 use crate::line_class::LineClass;
+use std::marker::Model;
 
 /// What the tables say of one character, but for which bracket it pairs with and which mirror it has.
-#[derive(Clone, Copy, Debug, PartialEq, Eq)]
+///
+/// From the lowest bit: five for the bidirectional class, one each for a bracket, a mirror, a future
+/// pictograph, a mark and a wide character, and six for the line breaking class.
+#[derive(Clone, Copy, Debug)]
 pub struct Properties {
-    pub(crate) bidi_class: BidiClass,
-    pub(crate) line_class: LineClass,
-    pub(crate) is_wide: bool,
-    pub(crate) is_mark: bool,
-    pub(crate) is_future_pictograph: bool,
-    pub(crate) has_bracket: bool,
-    pub(crate) has_mirror: bool,
+    bits: u16,
+}
+
+impl Model for Properties {
+    ghost use Rattle.ucd.specs.Answers.{Answers, AreBits, answers_in, bits_of};
+    ghost use Rattle.ucd.specs.Bits.{bits_of-answers_in};
+    ghost use Rattle.std.proofs.Common.{ap};
+
+    ghost Value = { Answers };
+
+    ghost view = { λ p. answers_in p.bits };
+
+    ghost invariant = { λ p. AreBits p.bits };
+
+    ghost inverse = { λ a. record { bits = bits_of a } };
+
+    ghost inverse_ok = { λ p are. ap (λ n. record { bits = n }) (bits_of-answers_in p.bits are) };
 }
 
 impl Properties {
+    ghost use Rattle.ucd.specs.Answers.{line_index, unnamed};
+
+    /// What holds of a character that no line names: class `L`, class `XX`, and nothing else.
+    pub(crate) fn unnamed() -> Properties
+        ensures { result ≡ unnamed }
+    {
+        Properties {
+            bits: LineClass::XX as u16 * 1024,
+        }
+    }
+
+    /// With another bidirectional class.
+    pub(crate) fn with_bidi_class(self, class: BidiClass) -> Properties
+        ensures { result ≡ record self { bidi_class = class } }
+    {
+        Properties {
+            bits: self.bits / 32 * 32 + class as u16,
+        }
+    }
+
+    /// With a bracket.
+    pub(crate) fn with_bracket(self) -> Properties
+        ensures { result ≡ record self { has_bracket = true } }
+    {
+        Properties {
+            bits: self.bits / 64 * 64 + 32 + self.bits % 32,
+        }
+    }
+
+    /// With a mirror.
+    pub(crate) fn with_mirror(self) -> Properties
+        ensures { result ≡ record self { has_mirror = true } }
+    {
+        Properties {
+            bits: self.bits / 128 * 128 + 64 + self.bits % 64,
+        }
+    }
+
+    /// With another line breaking class.
+    pub(crate) fn with_line_class(self, class: LineClass) -> Properties
+        ensures { result ≡ record self { line_class = class } }
+    {
+        Properties {
+            bits: class as u16 * 1024 + self.bits % 1024,
+        }
+    }
+
+    /// With a width of F, W or H.
+    pub(crate) fn with_wide(self) -> Properties
+        ensures { result ≡ record self { is_wide = true } }
+    {
+        Properties {
+            bits: self.bits / 1024 * 1024 + 512 + self.bits % 512,
+        }
+    }
+
+    /// A mark, which is assigned.
+    pub(crate) fn with_mark(self) -> Properties
+        ensures { result ≡ record self { is_mark = true; is_future_pictograph = false } }
+    {
+        Properties {
+            bits: self.bits / 512 * 512 + 256 + self.bits % 128,
+        }
+    }
+
+    /// Assigned.
+    pub(crate) fn with_assignment(self) -> Properties
+        ensures { result ≡ record self { is_future_pictograph = false } }
+    {
+        Properties {
+            bits: self.bits / 256 * 256 + self.bits % 128,
+        }
+    }
+
+    /// Extended_Pictographic, and unassigned.
+    pub(crate) fn with_future_pictograph(self) -> Properties
+        ensures { result ≡ record self { is_future_pictograph = true } }
+    {
+        Properties {
+            bits: self.bits / 256 * 256 + 128 + self.bits % 128,
+        }
+    }
+
+    /// Whether both hold the same bits.
+    pub(crate) fn is(self, other: Properties) -> bool
+        ensures { IsTrue result → self ≡ other }
+    {
+        self.bits == other.bits
+    }
+
     /// The bidirectional class.
     pub fn bidi_class(self) -> BidiClass
         ensures { result ≡ self.bidi_class }
     {
-        self.bidi_class
+        BIDI_CLASSES[(self.bits % 32) as usize]
     }
 
     /// The line breaking class.
     pub fn line_class(self) -> LineClass
         ensures { result ≡ self.line_class }
     {
-        self.line_class
+        LINE_CLASSES[(self.bits / 1024) as usize]
     }
 
     /// Whether the East Asian width is F, W or H.
     pub fn is_wide(self) -> bool
         ensures { result ≡ self.is_wide }
     {
-        self.is_wide
+        self.bits / 512 % 2 == 1
     }
 
     /// Whether the general category is Mn or Mc.
     pub fn is_mark(self) -> bool
         ensures { result ≡ self.is_mark }
     {
-        self.is_mark
+        self.bits / 256 % 2 == 1
     }
 
     /// Whether the character is Extended_Pictographic, and unassigned.
     pub fn is_future_pictograph(self) -> bool
         ensures { result ≡ self.is_future_pictograph }
     {
-        self.is_future_pictograph
+        self.bits / 128 % 2 == 1
     }
 
     /// Whether it is a bracket.
     pub fn has_bracket(self) -> bool
         ensures { result ≡ self.has_bracket }
     {
-        self.has_bracket
+        self.bits / 32 % 2 == 1
     }
 
     /// Whether it has a mirror.
     pub fn has_mirror(self) -> bool
         ensures { result ≡ self.has_mirror }
     {
-        self.has_mirror
+        self.bits / 64 % 2 == 1
     }
 
     /// All that line breaking reads, as one number: 8 times the place of the line breaking class in
@@ -73,9 +176,78 @@ impl Properties {
         ensures index { result ≡ line_index self }
         ensures within { result < 512 }
     {
-        self.line_class as usize * 8
-            + if self.is_wide { 4 } else { 0 }
-            + if self.is_mark { 2 } else { 0 }
-            + if self.is_future_pictograph { 1 } else { 0 }
+        (self.bits / 128) as usize
     }
 }
+
+const BIDI_CLASSES: [BidiClass; 23] = [
+    BidiClass::L,
+    BidiClass::R,
+    BidiClass::AL,
+    BidiClass::EN,
+    BidiClass::ES,
+    BidiClass::ET,
+    BidiClass::AN,
+    BidiClass::CS,
+    BidiClass::NSM,
+    BidiClass::BN,
+    BidiClass::B,
+    BidiClass::S,
+    BidiClass::WS,
+    BidiClass::ON,
+    BidiClass::LRE,
+    BidiClass::LRO,
+    BidiClass::RLE,
+    BidiClass::RLO,
+    BidiClass::PDF,
+    BidiClass::LRI,
+    BidiClass::RLI,
+    BidiClass::FSI,
+    BidiClass::PDI,
+];
+
+const LINE_CLASSES: [LineClass; 43] = [
+    LineClass::BK,
+    LineClass::CM,
+    LineClass::CR,
+    LineClass::GL,
+    LineClass::LF,
+    LineClass::NL,
+    LineClass::SP,
+    LineClass::WJ,
+    LineClass::ZW,
+    LineClass::ZWJ,
+    LineClass::B2,
+    LineClass::BA,
+    LineClass::BB,
+    LineClass::CB,
+    LineClass::HY,
+    LineClass::CL,
+    LineClass::CP,
+    LineClass::EX,
+    LineClass::IN,
+    LineClass::NS,
+    LineClass::OP,
+    LineClass::QU,
+    LineClass::IS,
+    LineClass::NU,
+    LineClass::PO,
+    LineClass::PR,
+    LineClass::SY,
+    LineClass::AI,
+    LineClass::AL,
+    LineClass::CJ,
+    LineClass::EB,
+    LineClass::EM,
+    LineClass::H2,
+    LineClass::H3,
+    LineClass::HL,
+    LineClass::ID,
+    LineClass::JL,
+    LineClass::JT,
+    LineClass::JV,
+    LineClass::RI,
+    LineClass::SA,
+    LineClass::SG,
+    LineClass::XX,
+];

@@ -1,19 +1,24 @@
-//! A table of code point ranges in order, each with a value.
-ghost use Rattle.std.specs.Prelude.{◌≡◌, ◌≤◌, ℕ, List, [], IfOk, IfErr, OnOk, ◌⊎◌, IsErrOf};
+//! The entries of a file, in the order of its lines, and which characters they name.
+ghost use Rattle.std.specs.Prelude.{◌≡◌, ◌<◌, ◌≤◌, nat_le, nat_lt, ◌&&◌, if◌then◌else◌, IsTrue};
+ghost use Rattle.std.specs.Prelude.{ℕ, List, [], true, false, length, slice_index_or};
+ghost use Rattle.std.specs.Prelude.{IfOk, IfErr, OnOk, ◌⊎◌, IsErrOf};
 ghost use Rattle.ucd.specs.declared.grammar.Entry.{Entry};
-ghost use Rattle.ucd.specs.Entries.{AreInOrder, IsMetAt, IsGapFor, value_at};
-ghost use Rattle.ucd.specs.Entries.{AddsEntry, AddsCharacters, IsMet, IsTaken};
+ghost use Rattle.ucd.specs.Entries.{AddsEntry, AddsCharacters, AreApart, AreNamed, IsMet, IsTaken};
 
 use crate::fault::Cause;
 use crate::grammar::Entry;
-use std::alloc::Global;
-use std::cmp::Ordering;
+use std::alloc::{AllocError, Global};
 use std::marker::Model;
 
-/// The entries of a file, in the order of their code points. No two share one.
+/// How many code points there are.
+pub const CODE_POINTS: usize = 0x110000;
+
+/// The entries of a file. No two share a character, and a place for each code point tells whether one
+/// names it: so a line costs what it names, in whatever order the lines are.
 #[derive(Debug, Drop)]
 pub struct RangeTable<V> {
     entries: Vec<Entry<V>>,
+    named: Vec<bool>,
 }
 
 impl<V> Model for RangeTable<V> {
@@ -21,47 +26,68 @@ impl<V> Model for RangeTable<V> {
 
     ghost view = { λ t. t.entries.items };
 
-    ghost invariant = { λ t. AreInOrder t.entries.items };
+    ghost invariant = { λ t. AreApart t.entries.items × AreNamed t.entries.items t.named.items };
+}
+
+// Nothing named, of so many code points.
+fn nothing_named(alloc: Global, len: usize) -> Result<Vec<bool>, AllocError>
+    ensures len { IfOk result (λ named. length named.items ≡ len) }
+    ensures each { IfOk result (λ named. (c : ℕ) → slice_index_or named.items c false ≡ false) }
+{
+    vec![in alloc; false; len]
+}
+
+// Whether one from `first` up to `end` is named.
+fn has_named(named: &[bool], first: usize, end: usize) -> bool
+    requires { (first ≤ end) × (end ≤ length named.now) }
+    ensures some { IsTrue result
+        → (c : ℕ) × (first ≤ c) × (c < end) × (slice_index_or named.now c false ≡ true) }
+    ensures none { result ≡ false
+        → (c : ℕ) → first ≤ c → c < end → slice_index_or named.now c false ≡ false }
+{
+    let mut any = false;
+    for c in first..end {
+        if named[c] {
+            any = true;
+        }
+    }
+    any
+}
+
+// Names those from `first` up to `end`.
+fn name_all(named: &mut [bool], first: usize, end: usize)
+    requires { (first ≤ end) × (end ≤ length named.old) }
+    ensures { (c : ℕ) → slice_index_or named.new c false
+        ≡ (if nat_le first c && nat_lt c end then true else slice_index_or named.old c false) }
+{
+    for c in first..end {
+        named[c] = true;
+    }
 }
 
 impl<V: Copy> RangeTable<V> {
-    pub fn new(alloc: Global) -> Self
-        ensures { result ≡ [] }
+    pub fn new(alloc: Global) -> Result<Self, AllocError>
+        ensures { IfOk result (λ table. table ≡ []) }
     {
-        RangeTable {
+        let named = nothing_named(alloc, CODE_POINTS)?;
+        Ok(RangeTable {
             entries: Vec::new(alloc),
-        }
-    }
-
-    /// The value of a code point.
-    pub fn get(&self, point: u32) -> Option<V>
-        ensures { result ≡ value_at self.now point }
-    {
-        match self.search(point, point) {
-            Ok(at) => Some(self.entries[at].value),
-            Err(_) => None,
-        }
-    }
-
-    // An entry that shares a code point with the range, or the place where the range would stand.
-    fn search(&self, first: u32, last: u32) -> Result<usize, usize>
-        ensures found { IfOk result (IsMetAt self.now first last) }
-        ensures absent { IfErr result (IsGapFor self.now first last) }
-    {
-        self.entries.binary_search_by(|entry| {
-            if entry.last < first {
-                Ordering::Less
-            } else if last < entry.first {
-                Ordering::Greater
-            } else {
-                Ordering::Equal
-            }
+            named,
         })
+    }
+
+    /// The entries, in the order in which they were added.
+    pub fn entries(&self) -> &[Entry<V>]
+        ensures entries { result.now ≡ self.now }
+        ensures apart { AreApart result.now }
+    {
+        &self.entries
     }
 
     // Adds an entry, unless one of its code points has a value already. One that ends before it
     // begins has none, and adds nothing.
     fn insert(&mut self, entry: Entry<V>) -> Result<(), Cause>
+        requires { entry.last < 1114112 }
         ensures ok { OnOk result (AddsEntry self.old self.new entry) }
         ensures met { IsErrOf result Cause.NamedBefore → IsMet self.old entry }
         ensures only { IfErr result (λ why. (why ≡ Cause.NamedBefore) ⊎ (why ≡ Cause.Memory)) }
@@ -69,12 +95,17 @@ impl<V: Copy> RangeTable<V> {
         if entry.last < entry.first {
             return Ok(());
         }
-        match self.search(entry.first, entry.last) {
-            Ok(_) => Err(Cause::NamedBefore),
-            Err(at) => match self.entries.insert(at, entry) {
-                Ok(()) => Ok(()),
-                Err(_) => Err(Cause::Memory),
-            },
+        let first = entry.first as usize;
+        let end = entry.last as usize + 1;
+        if has_named(&self.named, first, end) {
+            return Err(Cause::NamedBefore);
+        }
+        match self.entries.push(entry) {
+            Ok(()) => {
+                name_all(&mut self.named, first, end);
+                Ok(())
+            }
+            Err(_) => Err(Cause::Memory),
         }
     }
 

@@ -2,8 +2,9 @@
 ghost use Rattle.std.specs.Prelude.{◌≡◌, IfOk, IfErr};
 ghost use Rattle.ucd.specs.Grammar.{lines_of};
 ghost use Rattle.ucd.specs.Files.{HoldsFile};
+ghost use Rattle.ucd.specs.Entries.{AreApart};
 ghost use Rattle.ucd.specs.Tables.{AreTablesOf, IsFaultIn, IsFaultOf};
-ghost use Rattle.ucd.specs.Tables.{class_of, bracket_of, mirror_of, line_class_of, category_of};
+ghost use Rattle.ucd.specs.Tables.{class_of, bracket_of, mirror_of, line_class_of};
 ghost use Rattle.ucd.specs.Tables.{is_wide_in, is_mark_in, is_future_pictograph_in};
 
 use crate::bidi_class::BidiClass;
@@ -11,13 +12,16 @@ use crate::bracket::{Bracket, Mirror};
 use crate::category::Category;
 use crate::emoji::Pictograph;
 use crate::fault::TableFault;
-use crate::file::read_file;
+use crate::file::{LineFault, read_file};
 use crate::grammar::Property;
 use crate::line_class::LineClass;
+use crate::pages::{Pages, pages_of, put_entries, unnamed_points};
+use crate::points::points_of;
 use crate::properties::Properties;
-use crate::range_table::RangeTable;
+use crate::range_table::{CODE_POINTS, RangeTable};
 use crate::width::Width;
-use std::alloc::Global;
+use std::alloc::{AllocError, Global};
+use std::collections::BTreeMap;
 use std::marker::Model;
 
 /// The contents of the table files, in the order of `FILE_NAMES`.
@@ -32,32 +36,24 @@ pub struct UcdFiles<'a> {
     pub emoji_data: &'a [u8],
 }
 
-/// What the table files say of each character.
+/// What the table files say of each character: its properties, in pages, and the brackets and mirrors of
+/// those that have one.
 #[derive(Debug, Drop)]
 pub struct Tables {
-    bidi_classes: RangeTable<BidiClass>,
-    brackets: RangeTable<Bracket>,
-    mirrors: RangeTable<Mirror>,
-    line_classes: RangeTable<LineClass>,
-    categories: RangeTable<Category>,
-    widths: RangeTable<Width>,
-    pictographs: RangeTable<Pictograph>,
+    pages: Pages,
+    brackets: BTreeMap<u32, Bracket>,
+    mirrors: BTreeMap<u32, Mirror>,
 }
 
 impl Model for Tables {
     ghost use Rattle.ucd.specs.Contents.{Contents};
+    ghost use Rattle.ucd.specs.Paged.{contents_in, AreSound};
 
     ghost Value = { Contents };
 
-    ghost view = { λ t. record {
-      bidi_classes = t.bidi_classes;
-      brackets = t.brackets;
-      mirrors = t.mirrors;
-      line_classes = t.line_classes;
-      categories = t.categories;
-      widths = t.widths;
-      pictographs = t.pictographs;
-    } };
+    ghost view = { λ t. contents_in t.pages.index.items t.pages.entries.items t.brackets t.mirrors };
+
+    ghost invariant = { λ t. AreSound t.pages.index.items t.pages.entries.items t.brackets t.mirrors };
 }
 
 // What one file says, if no line of it is at fault. Files are counted from 1.
@@ -75,8 +71,42 @@ fn read_table<V: Property>(
     }
 }
 
+/// What the files say, before it is put into pages.
+#[derive(Drop)]
+struct Entries {
+    bidi_classes: RangeTable<BidiClass>,
+    brackets: RangeTable<Bracket>,
+    mirrors: RangeTable<Mirror>,
+    line_classes: RangeTable<LineClass>,
+    categories: RangeTable<Category>,
+    widths: RangeTable<Width>,
+    pictographs: RangeTable<Pictograph>,
+}
+
+impl Entries {
+    ghost use Rattle.ucd.specs.Said.{AreSaid, contents_of};
+
+    // What they say of all code points.
+    fn points(&self, alloc: Global) -> Result<Vec<Properties>, AllocError>
+        ensures { IfOk result (λ points. AreSaid (contents_of self.now) points.items) }
+    {
+        let mut points = unnamed_points(alloc, CODE_POINTS)?;
+        put_entries(&mut points, self.bidi_classes.entries());
+        put_entries(&mut points, self.brackets.entries());
+        put_entries(&mut points, self.mirrors.entries());
+        put_entries(&mut points, self.line_classes.entries());
+        put_entries(&mut points, self.widths.entries());
+        // A pictograph is one to come until its category says that it is assigned.
+        put_entries(&mut points, self.pictographs.entries());
+        put_entries(&mut points, self.categories.entries());
+        Ok(points)
+    }
+}
+
 impl Tables {
+    ghost use Rattle.ucd.specs.Agreeing.{SayAlike};
     ghost use Rattle.ucd.specs.Properties.{properties_of};
+    ghost use Rattle.ucd.specs.Said.{contents_of};
 
     /// Reads the files. The first line at fault, in the order of the files and of their lines, is
     /// answered, with the first cause that holds (docs/PROFILE.md).
@@ -84,7 +114,7 @@ impl Tables {
         ensures ok { IfOk result (AreTablesOf files.now) }
         ensures err { IfErr result (IsFaultOf files.now) }
     {
-        Ok(Tables {
+        let entries = Entries {
             bidi_classes: read_table(alloc, 1, files.bidi_class)?,
             brackets: read_table(alloc, 2, files.bidi_brackets)?,
             mirrors: read_table(alloc, 3, files.bidi_mirroring)?,
@@ -92,6 +122,25 @@ impl Tables {
             categories: read_table(alloc, 5, files.general_category)?,
             widths: read_table(alloc, 6, files.east_asian_width)?,
             pictographs: read_table(alloc, 7, files.emoji_data)?,
+        };
+        match Tables::paged(alloc, &entries) {
+            Ok(tables) => Ok(tables),
+            Err(_) => Err(TableFault::memory()),
+        }
+    }
+
+    // Puts what the files say into pages.
+    fn paged(alloc: Global, entries: &Entries) -> Result<Tables, AllocError>
+        ensures { IfOk result (λ tables. SayAlike tables (contents_of entries.now)) }
+    {
+        let points = entries.points(alloc)?;
+        let pages = pages_of(alloc, &points)?;
+        let brackets = points_of(alloc, entries.brackets.entries())?;
+        let mirrors = points_of(alloc, entries.mirrors.entries())?;
+        Ok(Tables {
+            pages,
+            brackets,
+            mirrors,
         })
     }
 
@@ -99,42 +148,53 @@ impl Tables {
     pub fn bidi_class(&self, c: char) -> BidiClass
         ensures { result ≡ class_of self.now c }
     {
-        self.bidi_classes.get(u32::from(c)).unwrap_or(BidiClass::L)
+        self.properties(c).bidi_class()
     }
 
     /// What the character is as a bracket, if it is one.
     pub fn bracket(&self, c: char) -> Option<Bracket>
         ensures { result ≡ bracket_of self.now c }
     {
-        self.brackets.get(u32::from(c))
+        if self.pages.get(c).has_bracket() {
+            self.brackets.get(&u32::from(c)).copied()
+        } else {
+            None
+        }
     }
 
     /// The mirror of the character, if it has one.
     pub fn mirror(&self, c: char) -> Option<char>
         ensures { result ≡ mirror_of self.now c }
     {
-        self.mirrors.get(u32::from(c)).map(|mirror| mirror.0)
+        if self.pages.get(c).has_mirror() {
+            match self.mirrors.get(&u32::from(c)).copied() {
+                Some(mirror) => Some(mirror.0),
+                None => None,
+            }
+        } else {
+            None
+        }
     }
 
     /// The line breaking class, `XX` where no line names the character.
     pub fn line_class(&self, c: char) -> LineClass
         ensures { result ≡ line_class_of self.now c }
     {
-        self.line_classes.get(u32::from(c)).unwrap_or(LineClass::XX)
+        self.properties(c).line_class()
     }
 
     /// Whether the East Asian width is F, W or H.
     pub fn is_wide(&self, c: char) -> bool
         ensures { result ≡ is_wide_in self.now c }
     {
-        self.widths.get(u32::from(c)) == Some(Width::Wide)
+        self.properties(c).is_wide()
     }
 
     /// Whether the general category is Mn or Mc.
     pub fn is_mark(&self, c: char) -> bool
         ensures { result ≡ is_mark_in self.now c }
     {
-        self.category(c) == Category::Mark
+        self.properties(c).is_mark()
     }
 
     /// Whether the character is Extended_Pictographic, and unassigned: of category Cn, as one that no
@@ -142,29 +202,13 @@ impl Tables {
     pub fn is_future_pictograph(&self, c: char) -> bool
         ensures { result ≡ is_future_pictograph_in self.now c }
     {
-        self.pictographs.get(u32::from(c)).is_some() && self.category(c) == Category::Unassigned
+        self.properties(c).is_future_pictograph()
     }
 
     /// All of this but which bracket and which mirror, looked up once.
     pub fn properties(&self, c: char) -> Properties
         ensures { result ≡ properties_of self.now c }
     {
-        Properties {
-            bidi_class: self.bidi_class(c),
-            line_class: self.line_class(c),
-            is_wide: self.is_wide(c),
-            is_mark: self.is_mark(c),
-            is_future_pictograph: self.is_future_pictograph(c),
-            has_bracket: self.bracket(c).is_some(),
-            has_mirror: self.mirror(c).is_some(),
-        }
-    }
-
-    fn category(&self, c: char) -> Category
-        ensures { result ≡ category_of self.now c }
-    {
-        self.categories
-            .get(u32::from(c))
-            .unwrap_or(Category::Unassigned)
+        self.pages.get(c)
     }
 }

@@ -2,8 +2,10 @@
 //! it.
 ghost use Rattle.std.specs.Prelude.{◌≡◌, codes};
 ghost use Rattle.ucd.specs.Widths.{width_named, width_form};
+ghost use Rattle.ucd.specs.Puts.{put_width};
 
 use crate::grammar::Property;
+use crate::properties::Properties;
 
 /// An East Asian width: F, W or H, or any other.
 #[derive(Clone, Copy, Debug, PartialEq, Eq)]
@@ -24,6 +26,8 @@ fn width_named(name: &[u8]) -> Width
 impl Property for Width {
     ghost form = { width_form };
 
+    ghost put = { put_width };
+
     fn has_ranges() -> bool {
         true
     }
@@ -34,5 +38,12 @@ impl Property for Width {
 
     fn read_value(second: &[u8], _third: &[u8]) -> Option<Option<Width>> {
         Some(Some(width_named(second)))
+    }
+
+    fn put(self, properties: Properties) -> Properties {
+        match self {
+            Width::Wide => properties.with_wide(),
+            Width::Other => properties,
+        }
     }
 }

@@ -40,7 +40,7 @@ pub returns-then-is_some : goal.returns-then-is_some
 returns-then-is_some c =
     settled _ _ _ _ _
     (rw length-map c.loop-one-test.true) c.loop-one.invariant c.if-depth-eq0.true
-    (class_there _ _ _ _ c.loop-one-test.true c.bidi_class-class.ensures)
+    (class_there _ _ c.one-item.result _ c.loop-one-test.true (c.bidi_class-class.ensures ∙ ap (λ (p : Properties). p.bidi_class) c.one-item.is))
     c.strong_level-level.ensures (sym c.is_some.ensures ∙ c.if-is_some.true)
 
 pub loop-one-preserved : goal.loop-one-preserved
@@ -52,7 +52,7 @@ loop-one-preserved c =
           (sym (is_some-level _ _ c.strong_level-level.ensures) ∙ sym w.is_some.ensures ∙ w.if-is_some.false) strong)
       | else-depth-eq0-via-else-depth-eq0 w ↦ omega arith
     ])
-    (class_there _ _ _ _ c.loop-one-test.true c.bidi_class-class.ensures)
+    (class_there _ _ c.one-item.result _ c.loop-one-test.true (c.bidi_class-class.ensures ∙ ap (λ (p : Properties). p.bidi_class) c.one-item.is))
     c.depth_after-depth.ensures
 
 pub returns : goal.returns

@@ -1,28 +1,59 @@
-use Rattle.std.proofs.Common.{◌++◌, ◌+◌, ◌∷◌, [], ap, subst, sym, arith, ◌∙◌, append_assoc, drop}
-use Rattle.std.proofs.lemmas.List.{length-drop}
+use Rattle.std.proofs.Common.{◌≡◌, ◌++◌, ◌+◌, ◌∷◌, [], length, drop, ap, subst, sym, refl, arith, ◌∙◌, append_assoc, drop-drop}
+use Rattle.std.proofs.lemmas.List.{append-nil, drop_all, length-drop}
+use Rattle.lines.specs.Bare.{with_ends}
+use Rattle.lines.specs.Clusters.{cluster_ends}
 use Rattle.lines.specs.Filling.{line_len, line_starts_of, starts}
 use Rattle.lines.specs.Kept.{AreStarts}
+use Rattle.lines.proofs.BareLemmas.{alike_length, same_with, with_alike}
+use Rattle.lines.proofs.ClusterLemmas.{length-cluster_ends}
 use Rattle.lines.proofs.FillingLemmas.{no_starts, starts_line, starts_more}
 use Rattle.lines.proofs.filling.line_starts.Goals as goal
 
-pub loop-rest-init : goal.loop-rest-init
+pub loop-start-init : goal.loop-start-init
 unfolding line_starts_of
-loop-rest-init c = record {
-  whole = ap (λ xs. xs ++ starts c.args.nobreak c.args.width 0 0 c.args.places.now) (sym c.new-starts.ensures.items);
-  len = omega arith;
+loop-start-init c = record {
+  alike = refl;
+  known_is = λ no. cc;
+  whole = ap (λ xs. xs ++ starts c.args.nobreak c.args.width 0 0 (with_ends c.args.places.now (cluster_ends c.args.text.now))) (sym c.new-starts.ensures.items);
+  within = omega arith;
   rising = subst (AreStarts 0) (sym c.new-starts.ensures.items) (no_starts 0);
 }
 
-pub loop-rest-preserved : goal.loop-rest-preserved
-loop-rest-preserved c =
-    let rest = c.loop-rest.rest.now in
-    let line = starts_line c.args.nobreak c.args.width c.loop-rest.start rest (omega arith) (omega (arith, c.line_len-len.ensures.len, c.line_len-len.ensures.within)) in
-    let n = c.line_len-len.ensures.len in
-    let pushed = c.in_ok-push.ensures.items in
+pub loop-start-preserved : goal.loop-start-preserved
+loop-start-preserved c =
+    let w = c.loop-start.invariant in
+    let ends = cluster_ends c.args.text.now in
+    let known = with_ends c.args.places.now ends in
+    let start = c.loop-start.start in
+    let len = c.in_ok-len.len in
+    let same : with_ends c.loop-start.places ends ≡ known = same_with c.loop-start.places c.args.places.now ends w.alike in
+    let size : length known ≡ length c.args.places.now =
+    alike_length known c.args.places.now (with_alike c.args.places.now ends (length-cluster_ends c.args.text.now ∙ sym c.requires.len)) in
+    let rest = drop start known in
+    let nobreak = c.args.nobreak in
+    let width = c.args.width in
+    let n : len ≡ line_len nobreak width rest = c.in_ok-len.ensures.line ∙ ap (λ xs. line_len nobreak width (drop start xs)) same in
+    let left = length-drop start known in
+    let fits = c.in_ok-len.ensures.within in
+    let sizes = c.loop-start.auto.places in
+    let line = starts_line nobreak width start rest (omega (arith, left, size, sizes, c.loop-start-test.true)) (omega (arith, n, left, size, sizes, fits.1)) in
+    let behind : drop (line_len nobreak width rest) rest ≡ drop (start + len) known = ap (λ k. drop k rest) (sym n) ∙ drop-drop len start known in
+    let next : starts nobreak width (start + line_len nobreak width rest) 0 (drop (line_len nobreak width rest) rest) ≡ starts nobreak width (start + len) 0 (drop (start + len) known) =
+    ap (λ k. starts nobreak width (start + k) 0 (drop (line_len nobreak width rest) rest)) (sym n) ∙ ap (starts nobreak width (start + len) 0) behind in
     record {
-      whole = rw (pushed, c.split_at.ensures.back, n) (c.loop-rest.invariant.whole ∙ ap (λ xs. c.loop-rest.starts.items ++ xs) line
-          ∙ sym (append_assoc c.loop-rest.starts.items (c.loop-rest.start ∷ []) (starts c.args.nobreak c.args.width (c.loop-rest.start + line_len c.args.nobreak c.args.width rest) 0 (drop (line_len c.args.nobreak c.args.width rest) rest))));
-      len = rw (c.split_at.ensures.back) (omega (arith, length-drop c.line_len-len.result rest, c.line_len-len.ensures.within, c.loop-rest.invariant.len));
-      rising = subst (AreStarts (c.loop-rest.start + c.line_len-len.result)) (sym pushed)
-          (starts_more c.loop-rest.start (c.loop-rest.start + c.line_len-len.result) c.loop-rest.starts.items c.loop-rest.invariant.rising (omega (arith, n)));
+      alike = c.in_ok-len.ensures.alike ∙ w.alike;
+      known_is = c.in_ok-len.ensures.known;
+      whole = rw c.in_ok-push.ensures.items (w.whole ∙ ap (λ xs. c.loop-start.starts.items ++ xs) (line ∙ ap (λ xs. start ∷ xs) next)
+          ∙ sym (append_assoc c.loop-start.starts.items (start ∷ []) (starts nobreak width (start + len) 0 (drop (start + len) known))));
+      within = omega (arith, fits.1, c.line_len.auto.places);
+      rising = subst (AreStarts (start + len)) (sym c.in_ok-push.ensures.items) (starts_more start (start + len) c.loop-start.starts.items w.rising (omega (arith, fits.0)));
     }
+
+pub returns-clause-lines : goal.returns-clause-lines
+returns-clause-lines c =
+    let w = c.loop-start.invariant in
+    let known = with_ends c.args.places.now (cluster_ends c.args.text.now) in
+    let size : length known ≡ length c.args.places.now =
+    alike_length known c.args.places.now (with_alike c.args.places.now (cluster_ends c.args.text.now) (length-cluster_ends c.args.text.now ∙ sym c.requires.len)) in
+    let none : drop c.loop-start.start known ≡ [] = drop_all c.loop-start.start known (omega (arith, size, c.loop-start.auto.places, c.loop-start-test.false)) in
+    sym (w.whole ∙ ap (λ xs. c.loop-start.starts.items ++ starts c.args.nobreak c.args.width c.loop-start.start 0 xs) none ∙ append-nil c.loop-start.starts.items)

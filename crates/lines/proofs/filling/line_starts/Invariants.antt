@@ -1,14 +1,19 @@
-use Rattle.std.proofs.Common.{◌≡◌, ◌+◌, ◌++◌, length}
+use Rattle.std.proofs.Common.{◌≡◌, ◌≤◌, ◌-◌, ◌++◌, drop, length, IsTrue}
+use Rattle.lines.specs.Bare.{AreAlike, with_ends}
+use Rattle.lines.specs.Clusters.{cluster_ends}
 use Rattle.lines.specs.Filling.{line_starts_of, starts}
 use Rattle.lines.specs.Kept.{AreStarts}
 use Rattle.lines.proofs.filling.line_starts.Given as goal
 
-abbrev pub invariant-loop-rest : goal.invariant-loop-rest
-invariant-loop-rest l = record {
-  whole : line_starts_of l.nobreak l.width l.places ≡ l.starts.items ++ starts l.nobreak l.width l.start 0 l.rest;
-  len : l.start + length l.rest ≡ length l.places;
+-- the lines so far, and those of what is left, are the lines of the paragraph with its clusters
+abbrev pub invariant-loop-start : goal.invariant-loop-start
+invariant-loop-start l = let known = with_ends l.fn.places (cluster_ends l.text) in record {
+  alike : AreAlike l.places l.fn.places;
+  known_is : IsTrue l.is_known → l.places ≡ with_ends l.places (cluster_ends l.text);
+  whole : line_starts_of l.nobreak l.width known ≡ l.starts.items ++ starts l.nobreak l.width l.start 0 (drop l.start known);
+  within : l.start ≤ length l.places;
   rising : AreStarts l.start l.starts.items;
 }
 
-abbrev pub decreases-loop-rest : goal.decreases-loop-rest
-decreases-loop-rest l = length l.rest
+abbrev pub decreases-loop-start : goal.decreases-loop-start
+decreases-loop-start l = length l.places - l.start

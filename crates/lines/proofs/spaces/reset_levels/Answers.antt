@@ -1,24 +1,24 @@
 use Rattle.std.proofs.Common.{◌-◌, set, sym, ◌∙◌, arith}
 use Rattle.std.proofs.lemmas.Bool.{cond-true, cond-false}
 use Rattle.std.proofs.lemmas.List.{length-map}
-use Rattle.ucd.specs.Tables.{class_of}
+use Rattle.bidi.specs.Classes.{class_in}
 use Rattle.lines.proofs.SpaceLemmas.{Walked-start, Walked-next, Walked-end}
 use Rattle.lines.proofs.spaces.reset_levels.Goals as goal
 
 pub loop-at-init : goal.loop-at-init
 loop-at-init c =
-    let sizes = length-map c.args.line.now (class_of c.args.tables.now) in
+    let sizes = length-map c.args.line.now class_in in
     Walked-start _ _ _ _ (sym sizes) (sizes ∙ c.requires)
 
 pub loop-at-preserved-then-resets : goal.loop-at-preserved-then-resets
 loop-at-preserved-then-resets c =
-    Walked-next c.args.tables.now c.args.line.now _ _ _ _ _ c.loop-at.at _ c.index-line-at.result _ _ c.loop-at.invariant (omega arith) c.requires
+    Walked-next c.args.line.now _ _ _ _ _ c.loop-at.at _ c.index-line-at.result _ _ c.loop-at.invariant (omega arith) c.requires
     c.index-line-at.is c.bidi_class.ensures c.is_reset-resets.ensures
     (sym (cond-true _ _ c.loop-at.levels c.if-resets.true))
 
 pub loop-at-preserved : goal.loop-at-preserved
 loop-at-preserved c =
-    Walked-next c.args.tables.now c.args.line.now _ _ _ _ _ c.loop-at.at _ c.index-line-at.result _ _ c.loop-at.invariant (omega arith) c.requires
+    Walked-next c.args.line.now _ _ _ _ _ c.loop-at.at _ c.index-line-at.result _ _ c.loop-at.invariant (omega arith) c.requires
     c.index-line-at.is c.bidi_class.ensures c.is_reset-resets.ensures
     (sym (cond-false _ (set c.loop-at.levels (c.loop-at.at - 1) c.args.base) _ c.if-resets.false))
 

@@ -14,4 +14,4 @@ returns-in-Ok-clause-ok c =
 
 pub returns-in-Ok-clause-laid_out : goal.returns-in-Ok-clause-laid_out
 returns-in-Ok-clause-laid_out c =
-    laid_out_by (rules_of c.args.self.now) _ c.args.width c.args.text.items _ (ap rules_of c.self.view_is) c.requires.paragraph (returns-in-Ok-clause-ok c)
+    laid_out_by (rules_of c.args.self.now) _ c.args.width c.args.text.items _ (ap rules_of c.parts.ensures.same ∙ ap rules_of c.self.view_is) c.requires.paragraph (returns-in-Ok-clause-ok c)

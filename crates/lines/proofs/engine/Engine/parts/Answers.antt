@@ -1,13 +1,12 @@
-use Rattle.std.proofs.Common.{◌∙◌, ap}
-use Rattle.bidi.specs.Levels.{levels_of}
+use Rattle.std.proofs.Common.{◌≡◌, ◌∙◌, IfOk, ap, subst}
 use Rattle.lines.specs.Engine.{rules_of}
+use Rattle.lines.specs.Layouts.{Rules, layout_of}
 use Rattle.lines.proofs.engine.Engine.parts.Goals as goal
-
-pub lines-requires-clause-levels : goal.lines-requires-clause-levels
-lines-requires-clause-levels c =
-    c.deref.ensures.value ∙ c.in_ok-levels.ensures.levels
-    ∙ ap (λ s. levels_of (rules_of s).tables c.args.text.now (rules_of s).option) c.self.view_is
 
 pub returns-clause-levels : goal.returns-clause-levels
 returns-clause-levels c =
-    c.in_ok-levels.ensures.levels ∙ ap (λ s. levels_of (rules_of s).tables c.args.text.now (rules_of s).option) c.self.view_is
+    subst (λ (rules : Rules). IfOk c.parts-parts.result (λ parts. parts.1.items ≡ (layout_of rules c.args.width c.args.text.now).levels)) (ap rules_of (c.self.view_is ∙ c.take_work-work.ensures)) c.parts-parts.ensures.levels
+
+pub returns-clause-lines : goal.returns-clause-lines
+returns-clause-lines c =
+    subst (λ (rules : Rules). IfOk c.parts-parts.result (λ parts. parts.3 ≡ (layout_of rules c.args.width c.args.text.now).lines)) (ap rules_of (c.self.view_is ∙ c.take_work-work.ensures)) c.parts-parts.ensures.lines

@@ -5,8 +5,8 @@ use Rattle.lines.specs.Engine.{rules_of}
 use Rattle.lines.proofs.LayoutLemmas.{lines_by}
 use Rattle.lines.proofs.engine.Engine.refill.Goals as goal
 
-pub lines-requires-clause-levels : goal.lines-requires-clause-levels
-lines-requires-clause-levels c =
+pub fill-requires-clause-levels : goal.fill-requires-clause-levels
+fill-requires-clause-levels c =
     c.levels.ensures.levels ∙ ap (λ (l : Layout). l.levels) c.requires.laid.from_scratch
     ∙ ap (λ text. levels_of (rules_of c.args.self.now).tables text (rules_of c.args.self.now).option) (sym c.text-text.ensures)
 
@@ -15,4 +15,4 @@ returns-clause-ok c = c.in_ok-fill.ensures.lines ∙ ap (lines_of (rules_of c.ar
 
 pub returns-clause-lines : goal.returns-clause-lines
 returns-clause-lines c =
-    lines_by (rules_of c.args.self.now) _ c.args.width c.args.laid.now.text c.in_ok-fill.fill (ap rules_of c.self.view_is) (returns-clause-ok c)
+    lines_by (rules_of c.args.self.now) _ c.args.width c.args.laid.now.text c.in_ok-fill.fill (ap rules_of (c.self.view_is ∙ c.fill.ensures.same)) (returns-clause-ok c)

@@ -1,23 +1,24 @@
-use Rattle.std.proofs.Common.{subst, arith}
-use Rattle.ucd.specs.Entries.{AreInOrder}
-use Rattle.ucd.proofs.Ranges.{met, adds_insert, ordered_insert}
+use Rattle.std.proofs.Common.{◌≡◌, ℕ, ◌+◌, ◌<◌, ◌≤◌, ◌++◌, length, take, drop, get_or, false, refl, ap, ◌∙◌, arith}
+use Rattle.std.proofs.lemmas.List.{append-nil, take_all, drop_all}
+use Rattle.ucd.proofs.Ranges.{adds_push, apart_push, named_push}
 use Rattle.ucd.proofs.range_table.RangeTable.insert.Goals as goal
-use Rattle.ucd.proofs.range_table.RangeTable.insert.Goals.{in-Ok-insert, in-Err-insert}
 
--- the entry stands in the gap, or memory ran out
 pub invariant_of-self : goal.invariant_of-self
 invariant_of-self g c =
-    elim c.match-insert.branch [
-      | in-Ok-insert w ↦ rw w.in-Ok-insert.ensures.items (ordered_insert _ _ _ (rw c.self.view_is c.in-Err.ensures.absent) c.self.invariant (omega arith))
-      | in-Err-insert w ↦ rw w.in-Err-insert.ensures.items c.self.invariant
-    ]
+    let before = c.self.invariant in
+    let unnamed : (k : ℕ) → c.args.entry.first ≤ k → k < c.args.entry.last + 1 → get_or c.self.inside.named.items k false ≡ false =
+    λ k from to. rw c.deref.ensures.value at (c.has_named.ensures.none c.if-has_named.false k from to) in
+    let new = c.name_all.new.named in
+    let len : length new ≡ length c.self.inside.named.items = c.name_all.auto.named ∙ ap length c.deref_mut.ensures.value in
+    let is : take c.self.inside.named.len (new ++ drop (length new) c.self.inside.named.items) ≡ new =
+    rw (drop_all (length new) c.self.inside.named.items (omega arith), append-nil new) (take_all c.self.inside.named.len new (omega (arith, len, c.deref_mut.ensures.len, ap length c.deref_mut.ensures.value))) in
+    rw (c.in-Ok.ensures.items, is) (
+      apart_push _ _ c.args.entry before.0 before.1 (omega arith) (omega arith) unnamed,
+      named_push _ _ c.args.entry before.0 before.1 (omega arith) (omega arith) unnamed new len (λ k. c.name_all.ensures k ∙ rw c.deref_mut.ensures.value refl),
+    )
 
-pub returns-in-Ok-clause-met : goal.returns-in-Ok-clause-met
-returns-in-Ok-clause-met g c _ = met _ (subst AreInOrder c.self.view_is c.self.invariant) c.args.entry _ (omega arith) c.in-Ok.ensures.found
-
-pub returns-after-insert-clause-ok : goal.returns-after-insert-clause-ok
-returns-after-insert-clause-ok g c =
-    elim c.match-insert.branch [
-      | in-Ok-insert w ↦ rw (w.result-is, w.in-Ok-insert.ensures.items, c.self.view_is) (adds_insert _ _ _ c.in-Err.ensures.absent)
-      | in-Err-insert w ↦ rw w.result-is tt
-    ]
+pub returns-in-Ok-clause-ok : goal.returns-in-Ok-clause-ok
+returns-in-Ok-clause-ok g c =
+    let before = c.self.invariant in
+    rw (c.in-Ok.ensures.items, ← c.self.view_is) (adds_push _ _ c.args.entry before.0 before.1 (omega arith) (omega arith)
+    (λ k from to. rw c.deref.ensures.value at (c.has_named.ensures.none c.if-has_named.false k from to)))

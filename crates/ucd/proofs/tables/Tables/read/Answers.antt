@@ -1,11 +1,11 @@
-use Rattle.std.proofs.Common.{refl}
+use Rattle.std.proofs.Common.{refl, ◌∙◌}
 use Rattle.ucd.specs.Tables.{class_of, bracket_of, mirror_of, line_class_of, is_wide_in, is_mark_in, is_future_pictograph_in}
 use Rattle.ucd.proofs.tables.Tables.read.Goals as goal
 
--- each table holds its file
-pub returns-clause-ok : goal.returns-clause-ok
+-- the entries hold the files, and the pages say what the entries say
+pub returns-in-Ok-clause-ok : goal.returns-in-Ok-clause-ok
 unfolding class_of bracket_of mirror_of line_class_of is_wide_in is_mark_in is_future_pictograph_in
-returns-clause-ok c =
+returns-in-Ok-clause-ok c =
     let bidi_classes = c.in_ok-read_table.ensures.ok in
     let brackets = c.in_ok-read_table-2.ensures.ok in
     let mirrors = c.in_ok-read_table-3.ensures.ok in
@@ -23,13 +23,13 @@ returns-clause-ok c =
         east_asian_width = widths.good;
         emoji_data = pictographs.good;
       };
-      say = λ x is. record {
-        bidi_class = rw (bidi_classes.values x is) refl;
-        bracket = brackets.values x is;
-        mirror = rw (mirrors.values x is) refl;
-        line_class = rw (line_classes.values x is) refl;
-        is_wide = rw (widths.values x is) refl;
-        is_mark = rw (categories.values x is) refl;
-        is_future_pictograph = rw (pictographs.values x is, categories.values x is) refl;
+      say = λ x is. let same = c.in-Ok.ensures x is in record {
+        bidi_class = same.bidi_class ∙ rw (bidi_classes.values x is) refl;
+        bracket = same.bracket ∙ brackets.values x is;
+        mirror = same.mirror ∙ rw (mirrors.values x is) refl;
+        line_class = same.line_class ∙ rw (line_classes.values x is) refl;
+        is_wide = same.is_wide ∙ rw (widths.values x is) refl;
+        is_mark = same.is_mark ∙ rw (categories.values x is) refl;
+        is_future_pictograph = same.is_future_pictograph ∙ rw (pictographs.values x is, categories.values x is) refl;
       };
     }

@@ -1,0 +1,129 @@
+//! How long it takes to make a store of paragraphs, to replace one of them at a place that looks random,
+//! and to search for a character.
+ghost use Rattle.std.specs.Prelude.{◌^◌, ◌<◌};
+
+use crate::numbers::Numbers;
+use anyhow::{Result, bail};
+use std::alloc::{AllocError, Global};
+use std::ops::Range;
+use std::time::Instant;
+use store::{Exchange, Measured, ParagraphStore, TreeStore, VecStore};
+
+// A paragraph of one character and one line, with some room.
+#[derive(Clone, Copy)]
+struct Small {
+    _room: [u64; 4],
+}
+
+impl Measured for Small {
+    ghost chars = { λ _. 1 };
+
+    ghost lines = { λ _. 1 };
+
+    fn chars(&self) -> usize {
+        1
+    }
+
+    fn lines(&self) -> usize {
+        1
+    }
+}
+
+impl Exchange for Small {
+    type Part = ();
+
+    ghost use Rattle.std.specs.Prelude.{refl};
+
+    ghost fits = { λ _ _. Unit {0} };
+
+    ghost exchanged = { λ item _. item };
+
+    ghost handed_out = { λ _ part. part };
+
+    ghost keeps_chars = { λ _ _ _. refl };
+
+    fn exchange(&mut self, _part: &mut ()) {}
+}
+
+// No store has more paragraphs.
+const LIMIT: usize = 1 << 40;
+
+/// Makes a store of so many paragraphs, as a list or as a tree, by one replacement into an empty one,
+/// and then so many replacements of one paragraph and as many searches. It prints the times in
+/// nanoseconds: of the making, and of a replacement and of a search on average; and how many nodes a
+/// search visits on average.
+pub fn run(rt: &HostRuntime, kind: &str, count: usize, times: usize) -> Result<()> {
+    match kind {
+        "list" => measure(rt, VecStore::new(rt.alloc()), count, times),
+        "tree" => measure(rt, TreeStore::new(rt.alloc()), count, times),
+        _ => bail!("a list or a tree?"),
+    }
+}
+
+fn measure<S: ParagraphStore<Small> + Drop>(
+    rt: &HostRuntime,
+    store: S,
+    count: usize,
+    times: usize,
+) -> Result<()> {
+    let mut store = store;
+    let new_items = paragraphs(rt.alloc(), count)?;
+    let start = Instant::now(rt)?;
+    replace(&mut store, 0..0, new_items)?;
+    let making = start.elapsed(rt)?.as_nanos();
+    let mut numbers = Numbers::new();
+    let start = Instant::now(rt)?;
+    for _ in 0..times {
+        let place = place(&mut numbers, store.count());
+        replace(&mut store, place..place + 1, paragraphs(rt.alloc(), 1)?)?;
+    }
+    let replacing = start.elapsed(rt)?.as_nanos() / times.max(1) as u128;
+    let start = Instant::now(rt)?;
+    let mut visits: u64 = 0;
+    for _ in 0..times {
+        let total = store.total_chars();
+        let pos = place(&mut numbers, total);
+        if pos < total {
+            visits = visits.wrapping_add(store.find_char(pos).visits as u64);
+        }
+    }
+    let searching = start.elapsed(rt)?.as_nanos() / times.max(1) as u128;
+    println!(rt;
+        "{making} {replacing} {searching} {}",
+        visits / times.max(1) as u64
+    )?;
+    Ok(())
+}
+
+// A place that looks random.
+fn place(numbers: &mut Numbers, count: usize) -> usize
+    ensures { result < 2 ^ 63 }
+{
+    (numbers.next() >> 20) as usize % count.max(1)
+}
+
+fn paragraphs(alloc: Global, count: usize) -> Result<Vec<Small>, AllocError> {
+    let mut items = Vec::with_capacity(alloc, count)?;
+    for _ in 0..count {
+        items.push(Small { _room: [0; 4] })?;
+    }
+    Ok(items)
+}
+
+#[tactic(auto, using(crate::proofs::StoreLemmas::sum_of_splice))]
+fn replace<S: ParagraphStore<Small>>(
+    store: &mut S,
+    range: Range<usize>,
+    new_items: Vec<Small>,
+) -> Result<()> {
+    if range.start > range.end || range.end > store.count() {
+        bail!("no such paragraph");
+    }
+    if store.count() > LIMIT || new_items.len() > LIMIT {
+        bail!("too many paragraphs");
+    }
+    match store.replace(range, new_items) {
+        Ok(_) => Ok(()),
+        Err(_) => bail!("out of memory"),
+    }
+}

@@ -1,0 +1,54 @@
+-- Tests that compute, and what they say.
+use Rattle.std.proofs.Common.{◌≡◌, ℕ, zero, suc, ◌<◌, ◌≤◌, ◌==◌, nat_lt, nat_le, Bool, true, false, not, ◌&&◌, List, [], ◌∷◌, refl, arith}
+use Rattle.std.proofs.lemmas.Bool.Decides.{nat_tests}
+use borrow.Author.Count.{below_more}
+
+pub both : (a b : Bool) → (a && b) ≡ true → (a ≡ true) × (b ≡ true)
+both true b h = (refl, h)
+both false b h = cc
+
+-- whether two answers are the same, and lists of them
+abbrev pub same : Bool → Bool → Bool
+same true b = b
+same false b = not b
+
+pub same_is : (a b : Bool) → same a b ≡ true → a ≡ b
+same_is true true h = refl
+same_is true false h = cc
+same_is false true h = cc
+same_is false false h = refl
+
+abbrev pub all_same : List Bool → List Bool → Bool
+all_same [] [] = true
+all_same (a ∷ xs) (b ∷ bs) = same a b && all_same xs bs
+all_same _ _ = false
+
+pub cons : {A : Type 0} (a b : A) (x y : List A) → a ≡ b → x ≡ y → a ∷ x ≡ b ∷ y
+cons a b x y first rest = rw (first, rest) refl
+
+pub all_same_is : (x y : List Bool) → all_same x y ≡ true → x ≡ y
+all_same_is [] [] h = refl
+all_same_is [] (b ∷ y) h = cc
+all_same_is (a ∷ x) [] h = cc
+all_same_is (a ∷ x) (b ∷ y) h = let parts = both _ _ h in cons a b x y (same_is a b parts.0) (all_same_is x y parts.1)
+
+-- a test of every number below one
+abbrev pub all_below : ℕ → (ℕ → Bool) → Bool
+all_below zero test = true
+all_below (suc n) test = test n && all_below n test
+
+pub below : (n : ℕ) (test : ℕ → Bool) → all_below n test ≡ true → (k : ℕ) → k < n → test k ≡ true
+below zero test all k lt = absurd (omega arith)
+below (suc n) test all k lt =
+    let parts = both (test n) (all_below n test) all in
+    below_more (λ k. test k ≡ true) n (below n test parts.1) parts.0 k (omega arith)
+
+-- tests of numbers
+pub is_below : (a b : ℕ) → nat_lt a b ≡ true → a < b
+is_below a b h = grind (arith, nat_tests)
+
+pub is_within : (a b : ℕ) → nat_le a b ≡ true → a ≤ b
+is_within a b h = grind (arith, nat_tests)
+
+pub is_equal : (a b : ℕ) → (a == b) ≡ true → a ≡ b
+is_equal a b h = grind (arith, nat_tests)

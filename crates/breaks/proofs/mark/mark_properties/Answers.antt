@@ -1,0 +1,32 @@
+use Rattle.std.proofs.Common.{[], ◌<◌, length, sym, ap, ◌∙◌, arith}
+use Rattle.std.proofs.lemmas.List.{length-map, length-set, take_more_set}
+use Rattle.breaks.specs.Bases.{alone}
+use Rattle.breaks.specs.Symbols.{character_by}
+use Rattle.breaks.proofs.WalkLemmas.{none_at_all, no_text, begins_read, one_longer, steps, ends}
+use Rattle.breaks.proofs.mark.mark_properties.Goals as goal
+
+-- there is no character
+pub returns-in_default : goal.returns-in_default
+returns-in_default c = none_at_all _ _ _ (no_text _ _ _ c.requires.properties c.in_default.ensures.cases) c.requires.len
+
+-- behind the first
+pub loop-i-init : goal.loop-i-init
+loop-i-init c = record {
+  walks = (alone (character_by c.in-Some.first.now), [], c.start-walk.ensures.stands, begins_read _ _ _ _ _ c.requires.properties c.in-Some.ensures.cases.0);
+  len = one_longer _ _ _ _ (c.requires.len ∙ sym (length-map _ _) ∙ sym (ap length c.requires.properties)) c.in-Some.ensures.cases.0;
+  within = c.start-walk.ensures.within;
+}
+
+-- over the next
+pub loop-i-preserved : goal.loop-i-preserved
+loop-i-preserved c =
+    let lt : c.loop-i.i < length c.loop-i.marks = omega arith in
+    record {
+      walks = steps character_by c.in-Some.rest.now _ c.loop-i.i _ _ _ c.loop-i.marks _ c.pass.result (omega arith) c.read.ensures c.loop-i.invariant.walks c.pass.ensures.passes (take_more_set c.loop-i.marks c.loop-i.i c.pass.result lt);
+      len = length-set c.loop-i.marks c.loop-i.i c.pass.result ∙ c.loop-i.invariant.len;
+      within = c.pass.ensures.within;
+    }
+
+-- behind the last one
+pub returns : goal.returns
+returns c = ends character_by c.in-Some.rest.now _ c.loop-i.i _ c.loop-i.marks (omega arith) c.loop-i.invariant.len c.loop-i.invariant.walks

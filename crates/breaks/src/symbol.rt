@@ -1,0 +1,106 @@
+//! What a character is to the rules, as one of 40 symbols (UAX #14, LB1, and LB30 of parentheses).
+ghost use Rattle.std.specs.Prelude.{◌≡◌, ◌<◌, slice_index};
+ghost use Rattle.breaks.specs.Symbols.{character_by, shown, told};
+
+use ucd::Properties;
+
+// The symbols, which number the columns of the walk's table: the classes that LB1 gives.
+#[derive(Clone, Copy)]
+enum Symbol {
+    BK,
+    CR,
+    LF,
+    NL,
+    SP,
+    ZW,
+    WJ,
+    GL,
+    CL,
+    CP,
+    /// CP that is wide.
+    WideCP,
+    EX,
+    IS,
+    SY,
+    OP,
+    /// OP that is wide.
+    WideOP,
+    QU,
+    B2,
+    CB,
+    BA,
+    HY,
+    NS,
+    BB,
+    IN,
+    NU,
+    AL,
+    HL,
+    PR,
+    PO,
+    ID,
+    EB,
+    EM,
+    JL,
+    JV,
+    JT,
+    H2,
+    H3,
+    RI,
+    CM,
+    ZWJ,
+}
+
+/// The number of ZWJ.
+pub const JOINER: u8 = Symbol::ZWJ as u8;
+
+/// The number of the symbol of a character of these properties.
+pub fn symbol_of(properties: Properties) -> u8
+    ensures shown { shown result ≡ told (character_by properties) }
+    ensures below { result < 40 }
+{
+    symbol_at(properties.line_index())
+}
+
+fn symbol_at(index: usize) -> u8
+    requires { index < 512 }
+    ensures { result ≡ slice_index SYMBOLS index }
+{
+    SYMBOLS[index]
+}
+
+// Of each class four symbols: of a narrow character, of a narrow mark, of a wide character and of a wide
+// mark. Each stands twice, since a pictograph to come has the symbol of others of its class.
+macro_rules! symbols {
+    ($($narrow:ident $narrow_mark:ident $wide:ident $wide_mark:ident;)*) => {
+        [$(
+            Symbol::$narrow as u8,
+            Symbol::$narrow as u8,
+            Symbol::$narrow_mark as u8,
+            Symbol::$narrow_mark as u8,
+            Symbol::$wide as u8,
+            Symbol::$wide as u8,
+            Symbol::$wide_mark as u8,
+            Symbol::$wide_mark as u8,
+        )*]
+    };
+}
+
+// The symbol by `Properties::line_index`: a row for each class, in the order of `LineClass`, and 21 rows
+// for the numbers that no class has.
+static SYMBOLS: [u8; 512] = symbols! {
+    BK BK BK BK; CM CM CM CM; CR CR CR CR; GL GL GL GL; LF LF LF LF; NL NL NL NL; SP SP SP SP;
+    WJ WJ WJ WJ; ZW ZW ZW ZW; ZWJ ZWJ ZWJ ZWJ; B2 B2 B2 B2; BA BA BA BA; BB BB BB BB; CB CB CB CB;
+    HY HY HY HY; CL CL CL CL;
+    CP CP WideCP WideCP;
+    EX EX EX EX; IN IN IN IN; NS NS NS NS;
+    OP OP WideOP WideOP;
+    QU QU QU QU; IS IS IS IS; NU NU NU NU; PO PO PO PO; PR PR PR PR; SY SY SY SY; AL AL AL AL;
+    AL AL AL AL; NS NS NS NS; EB EB EB EB; EM EM EM EM; H2 H2 H2 H2; H3 H3 H3 H3; HL HL HL HL;
+    ID ID ID ID; JL JL JL JL; JT JT JT JT; JV JV JV JV; RI RI RI RI;
+    AL CM AL CM;
+    AL AL AL AL; AL AL AL AL;
+    AL AL AL AL; AL AL AL AL; AL AL AL AL; AL AL AL AL; AL AL AL AL; AL AL AL AL; AL AL AL AL;
+    AL AL AL AL; AL AL AL AL; AL AL AL AL; AL AL AL AL; AL AL AL AL; AL AL AL AL; AL AL AL AL;
+    AL AL AL AL; AL AL AL AL; AL AL AL AL; AL AL AL AL; AL AL AL AL; AL AL AL AL; AL AL AL AL;
+};

@@ -1,0 +1,70 @@
+-- A line whose levels are all 0 is its own order.
+use Rattle.std.proofs.Common.{◌≡◌, ℕ, zero, suc, ◌<◌, max, List, [], ◌∷◌, length, map, take, drop, ◌++◌, get_or, None, refl, sym, ap, ◌∙◌, arith}
+use Rattle.std.specs.List.{fold, range_with_len}
+use Rattle.std.proofs.lemmas.List.{ext_get_or, get_or_past}
+use Rattle.std.proofs.lemmas.List.FromFn.{get_or-range_with_len, get_or-map-range_with_len, length-range_with_len, length-map-range_with_len}
+use Rattle.std.proofs.Math.Seq.{take-append_seam}
+use Rattle.ucd.specs.Properties.{properties_of}
+use Rattle.ucd.specs.Tables.{class_of}
+use Rattle.ucd.specs.declared.tables.Tables.{Tables}
+use Rattle.bidi.specs.Classes.{class_in}
+use Rattle.bidi.specs.Least.{least}
+use Rattle.bidi.specs.Runs.{AreWithin}
+use Rattle.lines.specs.Mirroring.{mirrored, visual_chars}
+use Rattle.lines.specs.Order.{has_odd, highest, lowest_odd, ltov_of, places, vtol_of}
+use Rattle.lines.proofs.InverseLemmas.{inverse_maps}
+use Rattle.lines.proofs.OrderLemmas.{without_odd}
+
+abbrev pub AreZero : List ℕ → Type 0
+AreZero levels = (k : ℕ) → get_or levels k 0 ≡ 0
+
+-- a part of such a line is one
+pub zero_take : (levels : List ℕ) (n : ℕ) → AreZero levels → AreZero (take n levels)
+zero_take levels zero zeros k = get_or_past (take zero levels) k 0 (omega arith)
+zero_take [] (suc n) zeros k = refl
+zero_take (level ∷ levels) (suc n) zeros zero = zeros 0
+zero_take (level ∷ levels) (suc n) zeros (suc k) = zero_take levels n (λ j. zeros (suc j)) k
+
+highest_of_zeros : (levels : List ℕ) → AreZero levels → highest levels ≡ 0
+highest_of_zeros [] zeros = refl
+highest_of_zeros (level ∷ levels) zeros = ap (λ n. fold max (max 0 n) levels) (zeros 0) ∙ highest_of_zeros levels (λ k. zeros (suc k))
+
+pub plain_vtol : (levels : List ℕ) → AreZero levels → range_with_len 0 (length levels) ≡ vtol_of levels
+plain_vtol levels zeros =
+    let none : lowest_odd levels ≡ None = ap (λ n. least (has_odd levels) 0 (suc n)) (highest_of_zeros levels zeros) in
+    without_odd levels (places levels) refl (sym none)
+
+pub plain_ltov : (levels : List ℕ) → AreZero levels → range_with_len 0 (length levels) ≡ ltov_of levels
+unfolding ltov_of
+plain_ltov levels zeros =
+    let n : ℕ = length levels in
+    let size : length (ltov_of levels) ≡ n = length-map-range_with_len _ 0 n in
+    ext_get_or 0 (range_with_len 0 n) (ltov_of levels) (length-range_with_len 0 n ∙ sym size) (λ k below.
+    let lt : k < n = omega (arith, below, length-range_with_len 0 n) in
+    let here : get_or (range_with_len 0 n) k 0 ≡ k = get_or-range_with_len 0 n k 0 lt ∙ omega arith in
+    let there : get_or (vtol_of levels) k 0 ≡ k = ap (λ xs. get_or xs k 0) (sym (plain_vtol levels zeros)) ∙ here in
+    here ∙ sym (ap (λ i. get_or (ltov_of levels) i 0) (sym there) ∙ (inverse_maps levels).at_vtol k lt))
+
+pub plain_chars : (t : Tables) (levels part : List ℕ) → length levels ≡ length part → AreZero levels → part ≡ visual_chars t levels part (vtol_of levels)
+plain_chars t levels part sizes zeros =
+    let n : ℕ = length levels in
+    let f : ℕ → ℕ = λ i. mirrored t (get_or levels i 0) (get_or part i 0) in
+    let order : map f (range_with_len 0 n) ≡ visual_chars t levels part (vtol_of levels) = ap (map f) (plain_vtol levels zeros) in
+    ext_get_or 0 part (map f (range_with_len 0 n)) (sym sizes ∙ sym (length-map-range_with_len f 0 n)) (λ k below.
+    let lt : k < n = omega (arith, below, sizes) in
+    sym (get_or-map-range_with_len f 0 n k k 0 lt (omega arith) ∙ ap (λ level. mirrored t level (get_or part k 0)) (zeros k)))
+    ∙ order
+
+pub plain_within : (n : ℕ) → AreWithin n (range_with_len 0 n)
+plain_within n k below =
+    let lt : k < n = omega (arith, below, length-range_with_len 0 n) in
+    omega (arith, lt, get_or-range_with_len 0 n k 0 lt)
+
+-- the classes in what the tables say of characters are theirs
+pub classes_are : (t : Tables) (line : List ℕ) → map class_in (map (properties_of t) line) ≡ map (class_of t) line
+classes_are t [] = refl
+classes_are t (c ∷ line) = ap (λ cs. class_of t c ∷ cs) (classes_are t line)
+
+-- a part that was written in front of what was there
+pub front_written : {X : Type 0} (new old : List X) (n : ℕ) → length new ≡ n → take n (new ++ drop n old) ≡ new
+front_written new old n size = ap (λ k. take k (new ++ drop n old)) (sym size) ∙ take-append_seam new (drop n old)

@@ -1,0 +1,7 @@
+use Rattle.std.proofs.Common.{◌≡◌, ◌++◌, drop, take}
+use Rattle.lines.specs.Bare.{with_ends}
+use Rattle.lines.proofs.clusters.put_ends.Given as goal
+
+-- the places so far have their ends, and the others are as they were
+abbrev pub invariant-loop-k : goal.invariant-loop-k
+invariant-loop-k l = l.places ≡ with_ends (take l.k l.fn.places) (take l.k l.ends) ++ drop l.k l.fn.places

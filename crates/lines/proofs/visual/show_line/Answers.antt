@@ -1,0 +1,34 @@
+use Rattle.std.proofs.Common.{◌≡◌, length, map, take, ap, subst, sym, ◌∙◌, arith}
+use Rattle.std.proofs.lemmas.List.{length-take-le}
+use Rattle.ucd.specs.Tables.{class_of}
+use Rattle.bidi.specs.Classes.{class_in}
+use Rattle.bidi.specs.Runs.{AreWithin}
+use Rattle.lines.specs.Spaces.{line_levels}
+use Rattle.lines.proofs.PlainLemmas.{classes_are, front_written, zero_take}
+use Rattle.lines.proofs.visual.show_line.Goals as goal
+
+pub show_part-requires-clause-flat : goal.show_part-requires-clause-flat
+show_part-requires-clause-flat c is = zero_take c.reset_line-is_flat.new.levels c.shown_of-shown.result.len (c.reset_line-is_flat.ensures.flat is)
+
+pub returns : goal.returns
+returns c =
+    let n = c.shown_of-shown.result.len in
+    let line = c.args.line.now in
+    let within = c.shown_of-shown.ensures.within in
+    let ltov : length c.show_part.new.ltov ≡ n = c.show_part.auto.ltov ∙ length-take-le n c.args.ltov.now (omega (arith, within, c.requires.ltov, c.requires.line.0)) in
+    let vtol : length c.show_part.new.vtol ≡ n = c.show_part.auto.vtol ∙ length-take-le n c.args.vtol.now (omega (arith, within, c.requires.vtol, c.requires.line.0)) in
+    let chars : length c.show_part.new.chars ≡ n = c.show_part.auto.chars ∙ length-take-le n c.args.chars.now (omega (arith, within, c.requires.chars, c.requires.line.0)) in
+    let levels : length (take n c.reset_line-is_flat.new.levels) ≡ n =
+    length-take-le n c.reset_line-is_flat.new.levels (omega (arith, within, c.reset_line-is_flat.auto.levels, c.requires.levels, c.requires.line.0)) in
+    let written = front_written c.show_part.new.vtol c.args.vtol.now n vtol in
+    let classes : map class_in c.args.properties.now ≡ map (class_of c.args.tables.now) line = ap (map class_in) c.requires.properties ∙ classes_are c.args.tables.now line in
+    record {
+      len_is = c.shown_of-shown.ensures.len;
+      columns_are = c.shown_of-shown.ensures.columns;
+      within = omega (arith, c.shown_of-shown.ensures.within, c.requires.line.0);
+      levels_are = ap (take n) (c.reset_line-is_flat.ensures.levels ∙ ap (λ cs. line_levels c.args.base cs c.args.levels.now) classes);
+      ltov_is = front_written c.show_part.new.ltov c.args.ltov.now n ltov ∙ c.show_part.ensures.ltov;
+      vtol_is = written ∙ c.show_part.ensures.vtol;
+      chars_are = front_written c.show_part.new.chars c.args.chars.now n chars ∙ c.show_part.ensures.chars;
+      vtol_within = subst (AreWithin n) (sym written) (subst (λ m. AreWithin m c.show_part.new.vtol) levels c.show_part.ensures.within);
+    }

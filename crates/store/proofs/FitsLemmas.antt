@@ -1,0 +1,41 @@
+-- What a list's sums are for its parts.
+use Rattle.std.proofs.Common.{ℕ, ◌≤◌, List, ◌++◌, length, take, drop, sum_by, arith, length-append, length-take, length-drop}
+use Rattle.std.proofs.lemmas.List.Sums.{sum_by-append, sum_by-take-drop}
+use Rattle.store.specs.Subtrees.{Fits}
+
+module _ {P : Type 0} (chars lines : P → ℕ) where
+  -- fewer items fit too
+  pub fits_less : (xs ys : List P) → length ys ≤ length xs → sum_by chars ys ≤ sum_by chars xs → sum_by lines ys ≤ sum_by lines xs
+      → Fits chars lines xs → Fits chars lines ys
+  fits_less xs ys n c l f = record {
+    count = omega (arith, f.count);
+    chars_fit = omega (arith, f.chars_fit);
+    lines_fit = omega (arith, f.lines_fit);
+  }
+
+  -- the front and the back of a list
+  pub fits_front : (xs ys : List P) → Fits chars lines (xs ++ ys) → Fits chars lines xs
+  fits_front xs ys f =
+      fits_less (xs ++ ys) xs (omega (arith, length-append xs ys)) (omega (arith, sum_by-append chars xs ys)) (omega (arith, sum_by-append lines xs ys)) f
+
+  pub fits_back : (xs ys : List P) → Fits chars lines (xs ++ ys) → Fits chars lines ys
+  fits_back xs ys f =
+      fits_less (xs ++ ys) ys (omega (arith, length-append xs ys)) (omega (arith, sum_by-append chars xs ys)) (omega (arith, sum_by-append lines xs ys)) f
+
+  -- without some of the first items
+  pub fits_behind : (xs ys : List P) (n : ℕ) → Fits chars lines (xs ++ ys) → Fits chars lines (drop n xs ++ ys)
+  fits_behind xs ys n f =
+      fits_less (xs ++ ys) (drop n xs ++ ys)
+      (omega (arith, length-append xs ys, length-append (drop n xs) ys, length-drop n xs))
+      (omega (arith, sum_by-append chars xs ys, sum_by-append chars (drop n xs) ys, sum_by-take-drop chars xs n))
+      (omega (arith, sum_by-append lines xs ys, sum_by-append lines (drop n xs) ys, sum_by-take-drop lines xs n))
+      f
+
+  -- without some of the last items
+  pub fits_before : (xs ys : List P) (n : ℕ) → Fits chars lines (xs ++ ys) → Fits chars lines (xs ++ take n ys)
+  fits_before xs ys n f =
+      fits_less (xs ++ ys) (xs ++ take n ys)
+      (omega (arith, length-append xs ys, length-append xs (take n ys), length-take n ys))
+      (omega (arith, sum_by-append chars xs ys, sum_by-append chars xs (take n ys), sum_by-take-drop chars ys n))
+      (omega (arith, sum_by-append lines xs ys, sum_by-append lines xs (take n ys), sum_by-take-drop lines ys n))
+      f

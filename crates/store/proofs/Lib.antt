@@ -1,0 +1,7 @@
+mod ExchangeLemmas
+mod FindLemmas
+mod FitsLemmas
+mod ListLemmas
+mod SubtreeLemmas
+mod TestLemmas
+mod TreeLemmas

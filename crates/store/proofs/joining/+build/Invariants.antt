@@ -1,0 +1,4 @@
+use Rattle.store.proofs.joining.+build.Given as goal
+
+abbrev pub decreases-build : goal.decreases-build
+decreases-build g l = l.count

@@ -1,0 +1,18 @@
+use Rattle.std.proofs.Common.{length, reverse, arith, ap, length-append}
+use Rattle.std.proofs.lemmas.List.{length-reverse}
+use Rattle.store.proofs.tree_store.take_down.Goals as goal
+
+pub push_reserved-requires : goal.push_reserved-requires
+push_reserved-requires g c =
+    let items = c.loop.items.items in
+    let spares = c.loop.spares.items in
+    omega (
+      arith,
+      ap length c.loop.invariant.0,
+      length-append items (reverse spares),
+      length-reverse spares,
+      length-append c.args.items.now.items (reverse c.args.spares.items),
+      length-reverse c.args.spares.items,
+      c.loop.items.ok.0,
+      c.requires,
+    )

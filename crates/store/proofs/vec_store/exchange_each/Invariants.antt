@@ -1,0 +1,8 @@
+use Rattle.std.proofs.Common.{◌≡◌, ◌++◌, take, drop}
+use Rattle.store.specs.Exchanging.{pairwise}
+use Rattle.store.proofs.vec_store.exchange_each.Given as goal
+
+abbrev pub invariant-loop-index : goal.invariant-loop-index
+invariant-loop-index g l =
+    (l.items ≡ take l.index (pairwise g.P.Exchange.exchanged l.initial.items l.initial.parts) ++ drop l.index l.initial.items)
+    × (l.parts ≡ take l.index (pairwise g.P.Exchange.handed_out l.initial.items l.initial.parts) ++ drop l.index l.initial.parts)

@@ -1,0 +1,5 @@
+pub mod Exchanging
+pub mod Finding
+pub mod Subtrees
+pub mod SubtreesFall
+pub mod Trees

@@ -1,0 +1,165 @@
+//! Balanced trees that are joined and split: no memory is taken, and the work is that of their heights.
+ghost use Rattle.std.specs.Prelude.{◌≡◌, ◌+◌, ◌^◌, ◌<◌, ◌≤◌, ◌∷◌, ◌++◌};
+ghost use Rattle.std.specs.Prelude.{ℕ, length, sum_by, [], take, drop, max};
+ghost use Rattle.std.specs.Prelude.{map, reverse, MatchOption, vec_capacity, ◌-◌};
+ghost use Rattle.store.specs.Subtrees.{Fits};
+ghost use Rattle.store.specs.Trees.{Empty, Fork, height, in_order, IsBalanced};
+
+use crate::measured::Measured;
+use crate::subtree::{Spare, Subtree};
+
+/// A tree of the items of two trees with one more between them.
+pub(crate) fn join<P: Measured>(left: Subtree<P>, spare: Spare<P>, right: Subtree<P>) -> Subtree<P>
+    requires { Fits P.chars P.lines (in_order left ++ spare ∷ in_order right) }
+    ensures items { in_order result ≡ in_order left ++ spare ∷ in_order right }
+    ensures not_lower { max (height left) (height right) ≤ height result }
+    ensures at_most_one_higher { height result ≤ max (height left) (height right) + 1 }
+{
+    let left_height = left.height();
+    let right_height = right.height();
+    if left_height > right_height + 1 {
+        let Some((first, top, middle)) = left.open() else {
+            unreachable!()
+        };
+        return balance(first, top, join(middle, spare, right));
+    }
+    if right_height > left_height + 1 {
+        let Some((middle, top, last)) = right.open() else {
+            unreachable!()
+        };
+        return balance(join(left, spare, middle), top, last);
+    }
+    spare.over(left, right)
+}
+
+// The same of two trees whose heights differ by at most 2.
+fn balance<P: Measured>(left: Subtree<P>, spare: Spare<P>, right: Subtree<P>) -> Subtree<P>
+    requires fits { Fits P.chars P.lines (in_order left ++ spare ∷ in_order right) }
+    requires near { (height left ≤ height right + 2) × (height right ≤ height left + 2) }
+    ensures items { in_order result ≡ in_order left ++ spare ∷ in_order right }
+    ensures not_lower { max (height left) (height right) ≤ height result }
+    ensures at_most_one_higher { height result ≤ max (height left) (height right) + 1 }
+    ensures higher { (height left ≤ height right + 1) → (height right ≤ height left + 1)
+        → height result ≡ max (height left) (height right) + 1 }
+{
+    let left_height = left.height();
+    let right_height = right.height();
+    if left_height > right_height + 1 {
+        return lean_left(left, spare, right);
+    }
+    if right_height > left_height + 1 {
+        return lean_right(left, spare, right);
+    }
+    spare.over(left, right)
+}
+
+// The same where the left tree is higher by 2: a rotation, or two where its inner side is the higher one.
+fn lean_left<P: Measured>(left: Subtree<P>, spare: Spare<P>, right: Subtree<P>) -> Subtree<P>
+    requires fits { Fits P.chars P.lines (in_order left ++ spare ∷ in_order right) }
+    requires two_higher { height left ≡ height right + 2 }
+    ensures items { in_order result ≡ in_order left ++ spare ∷ in_order right }
+    ensures not_lower { height left ≤ height result }
+    ensures at_most_one_higher { height result ≤ height left + 1 }
+{
+    let Some((outer, top, inner)) = left.open() else {
+        unreachable!()
+    };
+    if outer.height() >= inner.height() {
+        return top.over(outer, spare.over(inner, right));
+    }
+    let Some((first, middle, second)) = inner.open() else {
+        unreachable!()
+    };
+    middle.over(top.over(outer, first), spare.over(second, right))
+}
+
+// The same where the right tree is higher by 2.
+fn lean_right<P: Measured>(left: Subtree<P>, spare: Spare<P>, right: Subtree<P>) -> Subtree<P>
+    requires fits { Fits P.chars P.lines (in_order left ++ spare ∷ in_order right) }
+    requires two_higher { height right ≡ height left + 2 }
+    ensures items { in_order result ≡ in_order left ++ spare ∷ in_order right }
+    ensures not_lower { height right ≤ height result }
+    ensures at_most_one_higher { height result ≤ height right + 1 }
+{
+    let Some((inner, top, outer)) = right.open() else {
+        unreachable!()
+    };
+    if outer.height() >= inner.height() {
+        return top.over(spare.over(left, inner), outer);
+    }
+    let Some((first, middle, second)) = inner.open() else {
+        unreachable!()
+    };
+    middle.over(spare.over(left, first), top.over(second, outer))
+}
+
+/// Trees of the items before a place, and of those from it on.
+pub(crate) fn split<P: Measured>(tree: Subtree<P>, at: usize) -> (Subtree<P>, Subtree<P>)
+    requires { at ≤ length (in_order tree) }
+    ensures front { in_order result.0 ≡ take at (in_order tree) }
+    ensures behind { in_order result.1 ≡ drop at (in_order tree) }
+{
+    let Some((left, top, right)) = tree.open() else {
+        return (Subtree::empty(), Subtree::empty());
+    };
+    let before = left.count();
+    if at <= before {
+        let (front, middle) = split(left, at);
+        return (front, join(middle, top, right));
+    }
+    let (middle, behind) = split(right, at - before - 1);
+    (join(left, top, middle), behind)
+}
+
+// Takes the first item out.
+fn take_first<P: Measured>(tree: Subtree<P>) -> Option<(Spare<P>, Subtree<P>)>
+    ensures { MatchOption result (tree ≡ Empty) (λ p. in_order tree ≡ p.0 ∷ in_order p.1) }
+{
+    let (left, top, right) = tree.open()?;
+    let Some((first, rest)) = take_first(left) else {
+        return Some((top, right));
+    };
+    Some((first, join(rest, top, right)))
+}
+
+/// A tree of the items of two trees.
+pub(crate) fn append<P: Measured>(left: Subtree<P>, right: Subtree<P>) -> Subtree<P>
+    requires { Fits P.chars P.lines (in_order left ++ in_order right) }
+    ensures { in_order result ≡ in_order left ++ in_order right }
+{
+    let Some((first, rest)) = take_first(right) else {
+        return left;
+    };
+    join(left, first, rest)
+}
+
+/// A tree of the last nodes of a list, from the last one back.
+pub(crate) fn build<P: Measured>(spares: &mut Vec<Spare<P>>, count: usize) -> Subtree<P>
+    requires enough { count ≤ length spares.old.items }
+    requires fits { Fits P.chars P.lines (reverse spares.old.items) }
+    ensures left { spares.new.items ≡ take (length spares.old.items - count) spares.old.items }
+    ensures items { in_order result ≡ reverse (drop (length spares.old.items - count) spares.old.items) }
+{
+    if count == 0 {
+        return Subtree::empty();
+    }
+    let before = count / 2;
+    let left = build(spares, before);
+    let top = spares.take_last();
+    let right = build(spares, count - before - 1);
+    join(left, top, right)
+}
+
+/// Moves the items behind those of a list that has room for them, and lets go of the nodes.
+pub(crate) fn move_items<P: Measured>(tree: Subtree<P>, items: &mut Vec<P>)
+    requires { length items.old.items + length (in_order tree) ≤ vec_capacity items.old }
+    ensures items { items.new.items ≡ items.old.items ++ in_order tree }
+    ensures capacity { vec_capacity items.new ≡ vec_capacity items.old }
+{
+    let Some((left, top, right)) = tree.open() else {
+        return;
+    };
+    move_items(left, items);
+    items.push_reserved(top.into_item());
+    move_items(right, items);
+}

@@ -1,0 +1,77 @@
+//! Stores of items: a list with its sums, whatever holds it.
+ghost use Rattle.std.specs.Prelude.{◌≡◌, ◌^◌, ◌<◌, ◌≤◌};
+ghost use Rattle.std.specs.Prelude.{ℕ, List, [], length, slice_get, slice_range, option_map, sum_by};
+ghost use Rattle.std.specs.Prelude.{IfOk, IfErr, OnOk, OnErr};
+ghost use Rattle.std.specs.List.{splice, AllZip};
+ghost use Rattle.store.specs.Exchanging.{pairwise};
+ghost use Rattle.store.specs.Finding.{Finds};
+
+use crate::found::Found;
+use crate::measured::{Exchange, Measured};
+use std::alloc::{AllocError, Global};
+use std::ops::Range;
+
+/// A list of items, with the sums of their characters and of their lines. Only `replace` takes
+/// memory. No call drops or copies an item.
+pub trait ParagraphStore<P: Exchange> {
+    // The items in order.
+    ghost items: { Self → List P };
+
+    /// An empty store. `replace` will take its memory from `alloc`.
+    fn new(alloc: Global) -> Self
+        ensures { items result ≡ [] };
+
+    /// How many items there are.
+    fn count(&self) -> usize
+        ensures { result ≡ length (items self.now) };
+
+    /// How many characters all items have.
+    fn total_chars(&self) -> usize
+        ensures { result ≡ sum_by P.chars (items self.now) };
+
+    /// How many lines all items have.
+    fn total_lines(&self) -> usize
+        ensures { result ≡ sum_by P.lines (items self.now) };
+
+    /// An item, counted from 0.
+    fn get(&self, index: usize) -> Option<&P>
+        ensures { option_map (λ item. item.now) result ≡ slice_get (items self.now) index };
+
+    /// The item in which a character stands, counted through all items from 0.
+    fn find_char(&self, pos: usize) -> Found
+        requires { pos < sum_by P.chars (items self.now) }
+        ensures { Finds P.chars P.lines (items self.now) pos result };
+
+    /// The item in which a line stands, counted through all items from 0.
+    fn find_line(&self, n: usize) -> Found
+        requires { n < sum_by P.lines (items self.now) }
+        ensures { Finds P.lines P.lines (items self.now) n result };
+
+    /// Puts new items in place of those in a range, and hands the old ones out. The new sums fit a
+    /// `usize`. Where memory is refused nothing is changed, and the new items come back.
+    fn replace(
+        &mut self,
+        range: Range<usize>,
+        new_items: Vec<P>,
+    ) -> Result<Vec<P>, (Vec<P>, AllocError)>
+        requires ordered { range.start ≤ range.end }
+        requires in_bounds { range.end ≤ length (items self.old) }
+        requires chars_fit { sum_by P.chars
+            (splice (items self.old) range.start range.end new_items.items) < 2 ^ 64 }
+        requires lines_fit { sum_by P.lines
+            (splice (items self.old) range.start range.end new_items.items) < 2 ^ 64 }
+        ensures ok { OnOk result
+            (items self.new ≡ splice (items self.old) range.start range.end new_items.items) }
+        ensures old { IfOk result (λ old. old.items ≡ slice_range (items self.old) range.start range.end) }
+        ensures err { OnErr result (self.new ≡ self.old) }
+        ensures back { IfErr result (λ e. e.0.items ≡ new_items.items) };
+
+    /// Each item exchanges with its part, in order. There are as many parts as items, each fits its
+    /// item, and the new sum of lines fits a `usize`.
+    fn exchange_all(&mut self, parts: &mut Vec<P::Part>)
+        requires fit { AllZip P.fits (items self.old) parts.old.items }
+        requires lines_fit { sum_by P.lines (pairwise P.exchanged (items self.old) parts.old.items) < 2 ^ 64 }
+        ensures items { items self.new ≡ pairwise P.exchanged (items self.old) parts.old.items }
+        ensures parts { parts.new.items ≡ pairwise P.handed_out (items self.old) parts.old.items }
+        ensures chars { sum_by P.chars (items self.new) ≡ sum_by P.chars (items self.old) };
+}

@@ -1,0 +1,94 @@
+//! Going down a tree to one of its items, and over all of them.
+ghost use Rattle.std.specs.Prelude.{◌≡◌, ℕ, ◌+◌, ◌^◌, ◌<◌, ◌≤◌, length, sum_by, option_map, slice_get};
+ghost use Rattle.std.specs.List.{AllZip};
+ghost use Rattle.store.specs.Exchanging.{pairwise};
+ghost use Rattle.store.specs.Finding.{Finds, measure};
+ghost use Rattle.store.specs.Trees.{height, in_order, IsBalanced, nodes_to};
+
+use crate::found::{Found, Unit};
+use crate::measured::{Exchange, Measured};
+use crate::subtree::{Node, Subtree};
+
+impl<P: Measured> Subtree<P> {
+    /// An item, counted from 0.
+    pub(crate) fn get(&self, index: usize) -> Option<&P>
+        ensures { option_map (λ item. item.now) result ≡ slice_get (in_order self.now) index }
+    {
+        let node = self.root.as_deref()?;
+        let before = node.left.count();
+        if index < before {
+            return node.left.get(index);
+        }
+        if index > before {
+            return node.right.get(index - before - 1);
+        }
+        Some(&node.item)
+    }
+
+    /// The item in which number `n` of the counted stands.
+    pub(crate) fn find(&self, unit: Unit, n: usize) -> Found
+        requires { n < sum_by (measure P.chars P.lines unit) (in_order self.now) }
+        ensures found { Finds (measure P.chars P.lines unit) P.lines (in_order self.now) n result }
+        ensures visits { result.visits ≡ nodes_to self.now result.index }
+    {
+        let Some(node) = &self.root else {
+            unreachable!()
+        };
+        let node: &Node<P> = node;
+        // Shows that what is counted fits.
+        let (_height, _count, _lines) = (self.height(), self.count(), self.lines());
+        let before = node.left.total(unit);
+        if n < before {
+            let found = node.left.find(unit, n);
+            return Found {
+                visits: found.visits + 1,
+                ..found
+            };
+        }
+        let index = node.left.count();
+        let lines_before = node.left.lines();
+        let rest = n - before;
+        let size = unit.size_of(&node.item);
+        if rest < size {
+            return Found {
+                index,
+                rest,
+                lines_before,
+                visits: 1,
+            };
+        }
+        let found = node.right.find(unit, rest - size);
+        Found {
+            index: index + 1 + found.index,
+            rest: found.rest,
+            lines_before: lines_before + node.item.lines() + found.lines_before,
+            visits: found.visits + 1,
+        }
+    }
+}
+
+impl<P: Exchange> Subtree<P> {
+    /// Each item exchanges with its part, in order.
+    pub(crate) fn exchange_all(&mut self, parts: &mut [P::Part])
+        requires fit { AllZip P.fits (in_order self.old) parts.old }
+        requires lines_fit { sum_by P.lines (pairwise P.exchanged (in_order self.old) parts.old) < 2 ^ 64 }
+        ensures items { in_order self.new ≡ pairwise P.exchanged (in_order self.old) parts.old }
+        ensures parts { parts.new ≡ pairwise P.handed_out (in_order self.old) parts.old }
+        ensures count { length (in_order self.new) ≡ length (in_order self.old) }
+        ensures chars { sum_by P.chars (in_order self.new) ≡ sum_by P.chars (in_order self.old) }
+        ensures height { height self.new ≡ height self.old }
+        ensures balanced { IsBalanced self.new }
+    {
+        let Some(node) = &mut self.root else {
+            return;
+        };
+        let node: &mut Node<P> = node;
+        let before = node.left.count();
+        let (first, rest) = parts.split_at_mut(before);
+        let (part, last) = rest.split_at_mut(1);
+        node.left.exchange_all(first);
+        node.item.exchange(&mut part[0]);
+        node.right.exchange_all(last);
+        node.lines = node.left.lines() + node.item.lines() + node.right.lines();
+    }
+}

@@ -1,0 +1,229 @@
+//! Balanced trees whose nodes keep the sums of their items.
+ghost use Rattle.std.specs.Prelude.{◌≡◌, ℕ, ◌+◌, ◌^◌, ◌<◌, ◌≤◌, length, sum_by, ◌∷◌, ◌++◌, max, Option};
+ghost use Rattle.std.specs.Prelude.{IfOk, IfErr, MatchOption};
+ghost use Rattle.store.specs.Finding.{measure};
+ghost use Rattle.store.specs.Subtrees.{Fits};
+ghost use Rattle.store.specs.Trees.{Empty, Fork, height, in_order, IsBalanced};
+
+use crate::found::Unit;
+use crate::measured::Measured;
+use std::alloc::{AllocFailed, Global};
+use std::marker::Model;
+use std::mem;
+
+/// A balanced tree.
+#[cycle(subtree)]
+#[derive(Debug, Drop)]
+pub(crate) struct Subtree<P: Measured> {
+    pub(crate) root: Option<Box<Node<P>>>,
+}
+
+/// The root of a tree, with what its items sum up to.
+#[cycle(subtree)]
+#[derive(Debug, Drop)]
+pub(crate) struct Node<P: Measured> {
+    pub(crate) left: Subtree<P>,
+    pub(crate) item: P,
+    pub(crate) right: Subtree<P>,
+    pub(crate) height: usize,
+    pub(crate) count: usize,
+    pub(crate) chars: usize,
+    pub(crate) lines: usize,
+}
+
+impl<P: Measured> Model for Subtree<P> {
+    ghost use Rattle.store.specs.Trees.{Tree, tree_code, in_order};
+
+    ghost Value = { Tree P };
+
+    ghost coded = { tree_code P.code };
+
+    ghost use Rattle.std.specs.Prelude.{length};
+    ghost use Rattle.store.specs.Subtrees.{tree_of, IsSound};
+
+    ghost view = { λ s. tree_of s.root };
+
+    ghost invariant = { λ s. IsSound P.chars P.lines s.root };
+
+    ghost size = { λ t. length (in_order t) };
+
+    ghost use Rattle.store.specs.SubtreesFall.{depth_le_length};
+
+    ghost size_decreases = { λ a h. depth_le_length P.Measured a };
+}
+
+/// A node that hangs nowhere, with an item in it.
+#[derive(Debug, Drop)]
+pub(crate) struct Spare<P: Measured> {
+    node: Box<Node<P>>,
+}
+
+impl<P: Measured> Model for Spare<P> {
+    ghost use Rattle.std.specs.Prelude.{◌≡◌};
+    ghost use Rattle.store.specs.Trees.{Empty};
+
+    ghost Value = { P };
+
+    ghost view = { λ s. s.node.value.item };
+
+    ghost invariant = { λ s. (s.node.value.left ≡ Empty) × (s.node.value.right ≡ Empty) };
+}
+
+impl<P: Measured> Subtree<P> {
+    /// A tree without items.
+    pub(crate) fn empty() -> Subtree<P>
+        ensures { result ≡ Empty }
+    {
+        Subtree { root: None }
+    }
+
+    /// How many nodes are on the longest way down.
+    pub(crate) fn height(&self) -> usize
+        ensures value { result ≡ height self.now }
+        ensures low { result ≤ length (in_order self.now) }
+        ensures balanced { IsBalanced self.now }
+    {
+        match &self.root {
+            None => 0,
+            Some(node) => node.height,
+        }
+    }
+
+    /// How many items there are.
+    pub(crate) fn count(&self) -> usize
+        ensures { result ≡ length (in_order self.now) }
+    {
+        match &self.root {
+            None => 0,
+            Some(node) => node.count,
+        }
+    }
+
+    /// How many characters all items have.
+    pub(crate) fn chars(&self) -> usize
+        ensures { result ≡ sum_by P.chars (in_order self.now) }
+    {
+        match &self.root {
+            None => 0,
+            Some(node) => node.chars,
+        }
+    }
+
+    /// How many lines all items have.
+    pub(crate) fn lines(&self) -> usize
+        ensures { result ≡ sum_by P.lines (in_order self.now) }
+    {
+        match &self.root {
+            None => 0,
+            Some(node) => node.lines,
+        }
+    }
+
+    /// How many of the counted all items have.
+    pub(crate) fn total(&self, unit: Unit) -> usize
+        ensures { result ≡ sum_by (measure P.chars P.lines unit) (in_order self.now) }
+    {
+        match unit {
+            Unit::Char => self.chars(),
+            Unit::Line => self.lines(),
+        }
+    }
+
+    /// Lets go of a tree without items.
+    pub(crate) fn discard(self)
+        requires { self ≡ Empty }
+    {
+        let Subtree { root } = self;
+        match root {
+            None => {}
+            Some(_node) => unreachable!(),
+        }
+    }
+
+    /// Takes the root from between its two subtrees.
+    pub(crate) fn open(self) -> Option<(Subtree<P>, Spare<P>, Subtree<P>)>
+        ensures parts { MatchOption result (self ≡ Empty) (λ p. self ≡ Fork p.0 p.1 p.2) }
+        ensures fits { Fits P.chars P.lines (in_order self) }
+        ensures balanced { IsBalanced self }
+    {
+        // Shows that the sums fit.
+        let (_count, _chars, _lines) = (self.count(), self.chars(), self.lines());
+        match self.root {
+            None => None,
+            Some(mut node) => {
+                let left = mem::replace(&mut node.left, Subtree::empty());
+                let right = mem::replace(&mut node.right, Subtree::empty());
+                Some((left, Spare { node }, right))
+            }
+        }
+    }
+}
+
+impl<P: Measured> Spare<P> {
+    /// A node for an item, which comes back where memory is refused.
+    pub(crate) fn new(alloc: Global, item: P) -> Result<Spare<P>, AllocFailed<P>>
+        ensures ok { IfOk result (λ spare. spare ≡ item) }
+        ensures err { IfErr result (λ failed. failed.value ≡ item) }
+    {
+        let node = Node {
+            left: Subtree::empty(),
+            item,
+            right: Subtree::empty(),
+            height: 0,
+            count: 0,
+            chars: 0,
+            lines: 0,
+        };
+        match Box::new(alloc, node) {
+            Ok(node) => Ok(Spare { node }),
+            Err(failed) => Err(AllocFailed {
+                value: failed.value.into_item(),
+            }),
+        }
+    }
+
+    /// The item, without its node.
+    pub(crate) fn into_item(self) -> P
+        ensures { result ≡ self }
+    {
+        Box::into_inner(self.node).into_item()
+    }
+
+    /// Hangs the node over two trees of about the same height.
+    pub(crate) fn over(self, left: Subtree<P>, right: Subtree<P>) -> Subtree<P>
+        requires fits { Fits P.chars P.lines (in_order left ++ self ∷ in_order right) }
+        requires near { (height left ≤ height right + 1) × (height right ≤ height left + 1) }
+        ensures { result ≡ Fork left self right }
+    {
+        let mut node = self.node;
+        node.height = left.height().max(right.height()) + 1;
+        node.count = left.count() + 1 + right.count();
+        node.chars = left.chars() + node.item.chars() + right.chars();
+        node.lines = left.lines() + node.item.lines() + right.lines();
+        mem::replace(&mut node.left, left).discard();
+        mem::replace(&mut node.right, right).discard();
+        Subtree { root: Some(node) }
+    }
+}
+
+impl<P: Measured> Node<P> {
+    // The item of a node that hangs nowhere.
+    fn into_item(self) -> P
+        requires left { self.left ≡ Empty }
+        requires right { self.right ≡ Empty }
+        ensures { result ≡ self.item }
+    {
+        let Node {
+            left,
+            item,
+            right,
+            height: _,
+            count: _,
+            chars: _,
+            lines: _,
+        } = self;
+        left.discard();
+        right.discard();
+        item
+    }
+}

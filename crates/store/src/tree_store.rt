@@ -1,0 +1,176 @@
+//! The balanced store: a tree that keeps the sums of its items in every node.
+ghost use Rattle.std.specs.Prelude.{◌≡◌, ◌+◌, ◌-◌, ◌/◌, ◌^◌, ◌<◌, ◌≤◌, ◌++◌};
+ghost use Rattle.std.specs.Prelude.{ℕ, List, [], length, reverse, drop, take};
+ghost use Rattle.std.specs.Prelude.{slice_range, sum_by, vec_capacity};
+ghost use Rattle.std.specs.Prelude.{IfOk, IfErr, OnOk, OnErr};
+ghost use Rattle.std.specs.List.{splice, AllZip};
+ghost use Rattle.store.specs.Exchanging.{pairwise};
+ghost use Rattle.store.specs.Finding.{Finds};
+ghost use Rattle.store.specs.Trees.{fewest_nodes, height, in_order, IsBalanced, nodes_to};
+
+use crate::found::{Found, Unit};
+use crate::joining::{append, build, move_items, split};
+use crate::measured::{Exchange, Measured};
+use crate::paragraph_store::ParagraphStore;
+use crate::subtree::{Spare, Subtree};
+use std::alloc::{AllocError, Global};
+use std::marker::Model;
+use std::mem;
+use std::ops::Range;
+
+/// A store that is a balanced tree: the heights of two subtrees differ by at most 1. A search and
+/// `replace` go down from the root, and take time by the height.
+#[derive(Debug, Drop)]
+pub struct TreeStore<P: Measured> {
+    root: Subtree<P>,
+    alloc: Global,
+}
+
+impl<P: Measured> Model for TreeStore<P> {
+    ghost use Rattle.store.specs.Trees.{Tree, tree_code};
+
+    ghost Value = { Tree P };
+
+    ghost coded = { tree_code P.code };
+
+    ghost view = { λ s. s.root };
+}
+
+impl<P: Measured> TreeStore<P> {
+    /// The law that a store is low, by the least number of items that a balanced tree of its height has.
+    pub fn stays_balanced(&self)
+        ensures balanced { IsBalanced self.now }
+        ensures items { fewest_nodes (height self.now) ≤ length (in_order self.now) }
+        ensures height { 2 ^ (height self.now / 2) ≤ length (in_order self.now) + 1 }
+    {
+        let _height = self.root.height();
+    }
+}
+
+// Puts each item into a node of its own, from the last one on, or gives all of them back.
+fn hang<P: Measured>(alloc: Global, items: &mut Vec<P>) -> Result<Vec<Spare<P>>, AllocError>
+    ensures ok { IfOk result (λ spares. spares.items ≡ reverse items.old.items) }
+    ensures left { OnOk result (items.new.items ≡ []) }
+    ensures err { OnErr result (items.new.items ≡ items.old.items) }
+{
+    let mut spares = Vec::with_capacity(alloc, items.len())?;
+    for _ in 0..items.len() {
+        match Spare::new(alloc, items.take_last()) {
+            Ok(spare) => spares.push_reserved(spare),
+            Err(failed) => {
+                items.push_reserved(failed.value);
+                take_down(spares, items);
+                return Err(AllocError);
+            }
+        }
+    }
+    Ok(spares)
+}
+
+// Takes items out of their nodes again, from the last one on, to where there is room for them.
+fn take_down<P: Measured>(spares: Vec<Spare<P>>, items: &mut Vec<P>)
+    requires { length items.old.items + length spares.items ≤ vec_capacity items.old }
+    ensures { items.new.items ≡ items.old.items ++ reverse spares.items }
+{
+    let mut spares = spares;
+    for _ in 0..spares.len() {
+        items.push_reserved(spares.take_last().into_item());
+    }
+    spares.destroy_empty();
+}
+
+impl<P: Exchange> ParagraphStore<P> for TreeStore<P> {
+    ghost items = { in_order };
+
+    fn new(alloc: Global) -> Self {
+        TreeStore {
+            root: Subtree::empty(),
+            alloc,
+        }
+    }
+
+    fn count(&self) -> usize {
+        self.root.count()
+    }
+
+    fn total_chars(&self) -> usize {
+        self.root.chars()
+    }
+
+    fn total_lines(&self) -> usize {
+        self.root.lines()
+    }
+
+    fn get(&self, index: usize) -> Option<&P> {
+        self.root.get(index)
+    }
+
+    /// It looks at the nodes from the root to the answered item.
+    fn find_char(&self, pos: usize) -> Found
+        requires { pos < sum_by P.chars (in_order self.now) }
+        ensures found { Finds P.chars P.lines (in_order self.now) pos result }
+        ensures visits { result.visits ≡ nodes_to self.now result.index }
+        ensures few { 2 ^ (result.visits / 2) ≤ length (in_order self.now) + 1 }
+    {
+        self.stays_balanced();
+        self.root.find(Unit::Char, pos)
+    }
+
+    /// It looks at the nodes from the root to the answered item.
+    fn find_line(&self, n: usize) -> Found
+        requires { n < sum_by P.lines (in_order self.now) }
+        ensures found { Finds P.lines P.lines (in_order self.now) n result }
+        ensures visits { result.visits ≡ nodes_to self.now result.index }
+        ensures few { 2 ^ (result.visits / 2) ≤ length (in_order self.now) + 1 }
+    {
+        self.stays_balanced();
+        self.root.find(Unit::Line, n)
+    }
+
+    fn replace(
+        &mut self,
+        range: Range<usize>,
+        new_items: Vec<P>,
+    ) -> Result<Vec<P>, (Vec<P>, AllocError)>
+        requires ordered { range.start ≤ range.end }
+        requires in_bounds { range.end ≤ length (in_order self.old) }
+        requires chars_fit { sum_by P.chars
+            (splice (in_order self.old) range.start range.end new_items.items) < 2 ^ 64 }
+        requires lines_fit { sum_by P.lines
+            (splice (in_order self.old) range.start range.end new_items.items) < 2 ^ 64 }
+        ensures ok { OnOk result
+            (in_order self.new ≡ splice (in_order self.old) range.start range.end new_items.items) }
+        ensures old { IfOk result (λ old. old.items ≡ slice_range (in_order self.old) range.start range.end) }
+        ensures err { OnErr result (self.new ≡ self.old) }
+        ensures back { IfErr result (λ e. e.0.items ≡ new_items.items) }
+    {
+        let mut new_items = new_items;
+        let added = new_items.len();
+        let removed = range.end - range.start;
+        if added > usize::MAX - (self.root.count() - removed) {
+            return Err((new_items, AllocError));
+        }
+        let Ok(mut old) = Vec::with_capacity(self.alloc, removed) else {
+            return Err((new_items, AllocError));
+        };
+        let Ok(mut spares) = hang(self.alloc, &mut new_items) else {
+            old.destroy_empty();
+            return Err((new_items, AllocError));
+        };
+        new_items.destroy_empty();
+        // From here on no memory is taken.
+        let root = mem::replace(&mut self.root, Subtree::empty());
+        let (front, rest) = split(root, range.start);
+        let (gone, behind) = split(rest, removed);
+        let middle = build(&mut spares, added);
+        spares.destroy_empty();
+        let root = append(append(front, middle), behind);
+        mem::replace(&mut self.root, root).discard();
+        move_items(gone, &mut old);
+        Ok(old)
+    }
+
+    fn exchange_all(&mut self, parts: &mut Vec<P::Part>) {
+        self.root.exchange_all(parts);
+    }
+}

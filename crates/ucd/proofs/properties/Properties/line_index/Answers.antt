@@ -1,0 +1,5 @@
+use Rattle.ucd.specs.Bits.{line_index_in}
+use Rattle.ucd.proofs.properties.Properties.line_index.Goals as goal
+
+pub returns-clause-index : goal.returns-clause-index
+returns-clause-index c = rw (← c.self.view_is) (line_index_in c.self.inside.bits c.self.invariant)

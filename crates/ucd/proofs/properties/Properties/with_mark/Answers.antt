@@ -1,0 +1,5 @@
+use Rattle.ucd.proofs.Setting as setting
+use Rattle.ucd.proofs.properties.Properties.with_mark.Goals as goal
+
+pub returns : goal.returns
+returns c = rw (← c.self.view_is) (setting.with_mark c.self.inside.bits)

@@ -1,0 +1,70 @@
+-- The bits of answers, and the answers that bits hold.
+use Rattle.std.proofs.Common.{◌*◌, ◌+◌, ◌==◌, if◌then◌else◌, ◌≡◌, ℕ, ◌/◌, ◌%◌, ◌<◌, ◌==◌, map, get_or, refl, sym, ◌∙◌, ap, arith, zero-add, lit<, ◌⊎◌, inl, inr, zero, suc}
+use Rattle.std.specs.List.{range_with_len}
+use Rattle.std.proofs.lemmas.List.FromFn.{get_or-range_with_len, get_or-map-range_with_len}
+use Rattle.ucd.specs.declared.bidi_class.BidiClass.{BidiClass}
+use Rattle.ucd.specs.declared.bidi_class.BidiClass.TheVariants.{L}
+use Rattle.ucd.specs.declared.line_class.LineClass.{LineClass}
+use Rattle.ucd.specs.declared.line_class.LineClass.TheVariants.{BK}
+use Rattle.ucd.specs.Answers.{bidi_tag, line_tag, bidi_class_at, line_class_at, bit, bits_of, answers_in, AreBits, line_index}
+
+-- each place of the classes' order is that of the class which stands there
+pub bidi_tag_at : (k : ℕ) → k < 23 → bidi_tag (bidi_class_at k) ≡ k
+bidi_tag_at k lt =
+    let f : ℕ → ℕ = λ n. bidi_tag (bidi_class_at n) in
+    let all : map f (range_with_len 0 23) ≡ range_with_len 0 23 = refl in
+    sym (get_or-map-range_with_len f 0 23 k k 0 lt (zero-add k)) ∙ ap (λ places. get_or places k 0) all ∙ get_or-range_with_len 0 23 k 0 lt ∙ zero-add k
+
+pub line_tag_at : (k : ℕ) → k < 43 → line_tag (line_class_at k) ≡ k
+line_tag_at k lt =
+    let f : ℕ → ℕ = λ n. line_tag (line_class_at n) in
+    let all : map f (range_with_len 0 43) ≡ range_with_len 0 43 = refl in
+    sym (get_or-map-range_with_len f 0 43 k k 0 lt (zero-add k)) ∙ ap (λ places. get_or places k 0) all ∙ get_or-range_with_len 0 43 k 0 lt ∙ zero-add k
+
+pub bidi_at_tag : (class : BidiClass) → bidi_class_at (bidi_tag class) ≡ class
+bidi_at_tag L = refl
+bidi_at_tag class = refl
+
+pub bidi_tag_below : (class : BidiClass) → bidi_tag class < 23
+bidi_tag_below L = lit< tt
+bidi_tag_below class = lit< tt
+
+pub line_at_tag : (class : LineClass) → line_class_at (line_tag class) ≡ class
+line_at_tag BK = refl
+line_at_tag class = refl
+
+pub line_tag_below : (class : LineClass) → line_tag class < 43
+line_tag_below BK = lit< tt
+line_tag_below class = lit< tt
+
+cases_zero : (n : ℕ) → (n ≡ 0) ⊎ (0 < n)
+cases_zero zero = inl refl
+cases_zero (suc n) = inr (omega arith)
+
+bit_of : (n : ℕ) → n < 2 → bit (n == 1) ≡ n
+bit_of n lt = elim (cases_zero n) [ inl none ↦ rw none refl | inr some ↦ (let one : n ≡ 1 = omega arith in rw one refl) ]
+
+-- a bit that stands for a number
+times : (k n : ℕ) → n < 2 → (if n == 1 then k else 0) ≡ k * n
+times k n lt = elim (cases_zero n) [ inl none ↦ rw none (omega arith) | inr some ↦ (let one : n ≡ 1 = omega arith in rw one (omega arith)) ]
+
+-- the answers in bits have these bits
+pub bits_of-answers_in : (bits : ℕ) → AreBits bits → bits_of (answers_in bits) ≡ bits
+bits_of-answers_in bits are =
+    let bidi = bidi_tag_at (bits % 32) are.bidi in
+    let line = line_tag_at (bits / 1024) are.line in
+    let bracket = bit_of (bits / 32 % 2) (omega arith) in
+    let mirror = bit_of (bits / 64 % 2) (omega arith) in
+    let pictograph = bit_of (bits / 128 % 2) (omega arith) in
+    let mark = bit_of (bits / 256 % 2) (omega arith) in
+    let wide = bit_of (bits / 512 % 2) (omega arith) in
+    rw (bidi, line, bracket, mirror, wide, mark, pictograph) (omega arith)
+
+-- and, without the lowest seven, what line breaking reads
+pub line_index_in : (bits : ℕ) → AreBits bits → bits / 128 ≡ line_index (answers_in bits)
+line_index_in bits are =
+    let line = line_tag_at (bits / 1024) are.line in
+    let pictograph = times 1 (bits / 128 % 2) (omega arith) in
+    let mark = times 2 (bits / 256 % 2) (omega arith) in
+    let wide = times 4 (bits / 512 % 2) (omega arith) in
+    rw (line, wide, mark, pictograph) (omega arith)

@@ -1,0 +1,27 @@
+-- What tables hold, by their pages and the brackets and mirrors of single code points.
+use Rattle.std.specs.Prelude.{◌≡◌, ℕ, ◌<◌, ◌&&◌, false, List, Some, is_some}
+use Rattle.std.specs.BTreeMap.{BTreeMap, get}
+use Rattle.std.specs.Ordering.{nat_cmp}
+use Rattle.ucd.specs.Answers.{Answers}
+use Rattle.ucd.specs.Contents.{Contents}
+use Rattle.ucd.specs.Pages.{answers_at, singles, category_in, width_in, pictograph_in}
+use Rattle.ucd.specs.declared.bracket.Bracket.{Bracket}
+use Rattle.ucd.specs.declared.bracket.Mirror.{Mirror}
+
+module _ (index : List ℕ) (entries : List Answers) (brackets : BTreeMap ℕ Bracket) (mirrors : BTreeMap ℕ Mirror) where
+  abbrev pub contents_in : Contents
+  contents_in = record {
+    bidi_classes = singles (λ c. Some (answers_at index entries c).bidi_class) 1114112;
+    brackets = singles (get nat_cmp brackets) 1114112;
+    mirrors = singles (get nat_cmp mirrors) 1114112;
+    line_classes = singles (λ c. Some (answers_at index entries c).line_class) 1114112;
+    categories = singles (λ c. Some (category_in (answers_at index entries c))) 1114112;
+    widths = singles (λ c. Some (width_in (answers_at index entries c))) 1114112;
+    pictographs = singles (λ c. pictograph_in (answers_at index entries c)) 1114112;
+  }
+
+  -- the pages tell which characters have a bracket and a mirror, and no mark is a pictograph to come
+  pub record AreSound : Type 0 where
+    pub bracket : (c : ℕ) → c < 1114112 → (answers_at index entries c).has_bracket ≡ is_some (get nat_cmp brackets c)
+    pub mirror : (c : ℕ) → c < 1114112 → (answers_at index entries c).has_mirror ≡ is_some (get nat_cmp mirrors c)
+    pub apart : (c : ℕ) → c < 1114112 → ((answers_at index entries c).is_mark && (answers_at index entries c).is_future_pictograph) ≡ false

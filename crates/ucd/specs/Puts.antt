@@ -1,0 +1,42 @@
+-- What a value of a file changes in the answers for the characters that it is given to. A pictograph is one to come until its category
+-- says that it is assigned, so categories are put behind pictographs.
+use Rattle.std.specs.Prelude.{true, false, Option, Some, None}
+use Rattle.ucd.specs.Answers.{Answers}
+use Rattle.ucd.specs.declared.bidi_class.BidiClass.{BidiClass}
+use Rattle.ucd.specs.declared.bracket.Bracket.{Bracket}
+use Rattle.ucd.specs.declared.bracket.Mirror.{Mirror}
+use Rattle.ucd.specs.declared.category.Category.{Category}
+use Rattle.ucd.specs.declared.category.Category.TheVariants as category
+use Rattle.ucd.specs.declared.emoji.Pictograph.{Pictograph}
+use Rattle.ucd.specs.declared.line_class.LineClass.{LineClass}
+use Rattle.ucd.specs.declared.width.Width.{Width}
+use Rattle.ucd.specs.declared.width.Width.TheVariants as width
+
+abbrev pub put_bidi_class : BidiClass → Answers → Answers
+put_bidi_class class a = record a { bidi_class = class }
+
+abbrev pub put_bracket : Bracket → Answers → Answers
+put_bracket bracket a = record a { has_bracket = true }
+
+abbrev pub put_mirror : Mirror → Answers → Answers
+put_mirror mirror a = record a { has_mirror = true }
+
+abbrev pub put_line_class : LineClass → Answers → Answers
+put_line_class class a = record a { line_class = class }
+
+abbrev pub put_width : Width → Answers → Answers
+put_width width.Wide a = record a { is_wide = true }
+put_width width.Other a = a
+
+abbrev pub put_category : Category → Answers → Answers
+put_category category.Mark a = record a { is_mark = true; is_future_pictograph = false }
+put_category category.Unassigned a = a
+put_category category.Other a = record a { is_future_pictograph = false }
+
+abbrev pub put_pictograph : Pictograph → Answers → Answers
+put_pictograph pictograph a = record a { is_future_pictograph = true }
+
+-- a value, where there is one
+abbrev pub put_by : {V : Type 0} → (V → Answers → Answers) → Option V → Answers → Answers
+put_by put (Some v) a = put v a
+put_by put None a = a

@@ -1,0 +1,117 @@
+//! What the tables say of each code point, in pages of 256 code points, which an index names: equal pages
+//! that follow one another are one.
+ghost use Rattle.std.specs.Prelude.{◌≡◌, ℕ, ◌+◌, ◌*◌, ◌%◌, ◌<◌, ◌≤◌, length, slice_index, slice_index_or};
+ghost use Rattle.std.specs.Prelude.{nat_le, nat_lt, ◌&&◌, if◌then◌else◌, IfOk, IsTrue};
+ghost use Rattle.ucd.specs.Answers.{unnamed};
+ghost use Rattle.ucd.specs.Entries.{AreApart, value_at};
+ghost use Rattle.ucd.specs.Pages.{answers_at, HasPage};
+ghost use Rattle.ucd.specs.Puts.{put_by};
+
+use crate::grammar::{Entry, Property};
+use crate::properties::Properties;
+use std::alloc::{AllocError, Global};
+
+/// How many code points a page has.
+const PAGE: usize = 256;
+
+/// How many pages all code points fill.
+const PLACES: usize = 4_352;
+
+/// The pages, one behind another, and for each 256 code points the number of theirs.
+#[derive(Debug, Drop)]
+pub struct Pages {
+    pub(crate) index: Vec<u16>,
+    pub(crate) entries: Vec<Properties>,
+    ghost places: { length index.items ≡ 4352 },
+    ghost within: { (p : ℕ) → p < 4352 → slice_index index.items p * 256 + 256 ≤ length entries.items },
+}
+
+impl Pages {
+    /// What is said of a character.
+    pub fn get(&self, c: char) -> Properties
+        ensures { result ≡ answers_at self.now.index.items self.now.entries.items c }
+    {
+        let point = c as usize;
+        self.entries[self.index[point / PAGE] as usize * PAGE + point % PAGE]
+    }
+}
+
+/// What is said of so many code points that nothing names.
+pub fn unnamed_points(alloc: Global, len: usize) -> Result<Vec<Properties>, AllocError>
+    ensures len { IfOk result (λ points. length points.items ≡ len) }
+    ensures each { IfOk result (λ points. (c : ℕ) → slice_index_or points.items c unnamed ≡ unnamed) }
+{
+    vec![in alloc; Properties::unnamed(); len]
+}
+
+/// Puts the values of a file's entries to what is said of their code points.
+pub fn put_entries<V: Property>(points: &mut [Properties], entries: &[Entry<V>])
+    requires points { length points.old ≡ 1114112 }
+    requires entries { AreApart entries.now }
+    ensures { (c : ℕ) → c < 1114112 → slice_index_or points.new c unnamed
+        ≡ put_by V.put (value_at entries.now c) (slice_index_or points.old c unnamed) }
+{
+    for entry in entries {
+        put_value(
+            points,
+            entry.first as usize,
+            entry.last as usize + 1,
+            entry.value,
+        );
+    }
+}
+
+// Puts a value to what is said of the code points from `first` up to `end`.
+fn put_value<V: Property>(points: &mut [Properties], first: usize, end: usize, value: V)
+    requires { (first ≤ end) × (end ≤ length points.old) }
+    ensures { (c : ℕ) → slice_index_or points.new c unnamed ≡ (if nat_le first c && nat_lt c end
+        then V.put value (slice_index_or points.old c unnamed) else slice_index_or points.old c unnamed) }
+{
+    for c in first..end {
+        points[c] = value.put(points[c]);
+    }
+}
+
+/// The pages of all code points.
+pub fn pages_of(alloc: Global, points: &[Properties]) -> Result<Pages, AllocError>
+    requires { length points.now ≡ 1114112 }
+    ensures { IfOk result (λ pages. (c : ℕ) → c < 1114112
+        → answers_at pages.index.items pages.entries.items c ≡ slice_index_or points.now c unnamed) }
+{
+    let mut index = Vec::with_capacity(alloc, PLACES)?;
+    let mut entries = Vec::new(alloc);
+    for place in 0..PLACES {
+        let page = &points[place * PAGE..place * PAGE + PAGE];
+        let number = page_number(&mut entries, page)?;
+        index.push(number)?;
+    }
+    Ok(Pages { index, entries })
+}
+
+// The number of a page: that of the last one, if both are equal, or of the next one, which it becomes.
+fn page_number(entries: &mut Vec<Properties>, page: &[Properties]) -> Result<u16, AllocError>
+    requires page { length page.now ≡ 256 }
+    requires whole { length entries.old.items % 256 ≡ 0 }
+    requires room { length entries.old.items ≤ 256 * 4352 }
+    ensures { IfOk result (HasPage entries.old.items entries.new.items page.now) }
+{
+    let end = entries.len();
+    if end >= PAGE && are_equal(&entries[end - PAGE..], page) {
+        return Ok((end / PAGE - 1) as u16);
+    }
+    entries.extend_from_slice(page)?;
+    Ok((end / PAGE) as u16)
+}
+
+// Whether two pages are equal.
+fn are_equal(one: &[Properties], other: &[Properties]) -> bool
+    requires { length one.now ≡ length other.now }
+    ensures { IsTrue result → one.now ≡ other.now }
+{
+    for k in 0..one.len() {
+        if !one[k].is(other[k]) {
+            return false;
+        }
+    }
+    true
+}
