@@ -6,7 +6,6 @@ pub mod LeastLemmas
 mod LengthLemmas
 mod LevelLemmas
 mod MatchLemmas
-mod NeighbourLemmas
 mod NeutralLemmas
 mod OpenersLemmas
 pub mod PairLemmas
