@@ -1,5 +1,5 @@
 -- The bits of answers, and the answers that bits hold.
-use Rattle.std.proofs.Common.{◌*◌, ◌+◌, ◌==◌, if◌then◌else◌, ◌≡◌, ℕ, ◌/◌, ◌%◌, ◌<◌, ◌==◌, map, get_or, refl, sym, ◌∙◌, ap, arith, zero-add, lit<, ◌⊎◌, inl, inr, zero, suc}
+use Rattle.std.proofs.Common.{◌*◌, ◌==◌, if◌then◌else◌, ◌≡◌, ℕ, ◌/◌, ◌%◌, ◌<◌, ◌==◌, map, get_or, refl, sym, ◌∙◌, ap, arith, zero-add, lit<, ◌⊎◌, inl, inr, zero, suc}
 use Rattle.std.specs.List.{range_with_len}
 use Rattle.std.proofs.lemmas.List.FromFn.{get_or-range_with_len, get_or-map-range_with_len}
 use Rattle.ucd.specs.declared.bidi_class.BidiClass.{BidiClass}

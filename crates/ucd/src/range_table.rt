@@ -66,6 +66,7 @@ fn name_all(named: &mut [bool], first: usize, end: usize)
 }
 
 impl<V: Copy> RangeTable<V> {
+    /// No entries, which name nothing.
     pub fn new(alloc: Global) -> Result<Self, AllocError>
         ensures { IfOk result (λ table. table ≡ []) }
     {

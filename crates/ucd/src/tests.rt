@@ -1,5 +1,7 @@
 //! Look-ups and faults of the seven files. The tests pass too where one allocation is refused,
 //! whichever it is.
+use crate::pages::{Pages, pages_of, unnamed_points};
+use crate::range_table::CODE_POINTS;
 use crate::{
     BidiClass as Bidi, Cause, LineClass as Line, Properties, TableFault, Tables, UcdFiles,
 };
@@ -331,5 +333,41 @@ fn emoji_named_again(rt: HostRuntime) -> Result<(), Fail> {
         cause: Cause::NamedBefore,
     };
     assert_eq!(rt; read(rt.alloc(), &only(7, lines)).err(), Some(fault));
+    Ok(())
+}
+
+fn check_text(rt: &impl Abort, alloc: Global, fault: TableFault, want: &str) -> Result<(), Fail> {
+    let text = match fault.to_string(alloc) {
+        Err(_) => fault.to_string(alloc)?,
+        Ok(text) => text,
+    };
+    assert_eq!(rt; text.as_str(), want);
+    Ok(())
+}
+
+#[test]
+fn faults_as_text(rt: HostRuntime) -> Result<(), Fail> {
+    let fault = TableFault {
+        file: 7,
+        line: 12,
+        cause: Cause::Value,
+    };
+    check_text(&rt, rt.alloc(), fault, "emoji-data.txt:12: cause 5")?;
+    check_text(&rt, rt.alloc(), TableFault::memory(), "out of memory")
+}
+
+fn blank_pages(alloc: Global) -> Result<Pages, AllocError> {
+    let points = unnamed_points(alloc, CODE_POINTS)?;
+    pages_of(alloc, &points)
+}
+
+// Equal pages that follow one another are one. No contract says so, since it changes no answer.
+#[test]
+fn equal_pages_are_one(rt: HostRuntime) -> Result<(), Fail> {
+    let pages = match blank_pages(rt.alloc()) {
+        Err(_) => blank_pages(rt.alloc())?,
+        Ok(pages) => pages,
+    };
+    assert_eq!(rt; pages.entries.len(), 256);
     Ok(())
 }
