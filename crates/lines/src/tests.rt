@@ -37,6 +37,18 @@ fn lay_out(alloc: Global, engine: &mut Engine, text: &str, width: u16) -> Result
     ensures rules { SameRules engine.old engine.new }
 {
     let text: Vec<char> = text.chars().collect(alloc)?;
+    lay_out_characters(alloc, engine, text, width)
+}
+
+fn lay_out_characters(
+    alloc: Global,
+    engine: &mut Engine,
+    text: Vec<char>,
+    width: u16,
+) -> Result<Laid, Fail>
+    ensures laid { IfOk result (IsLaidOut (rules_of engine.new)) }
+    ensures rules { SameRules engine.old engine.new }
+{
     let is_long = text.len() > PARAGRAPH_LIMIT;
     if text.is_empty() || is_long || engine.first_cut(&text).is_some() || width == 0 {
         return Err(Fail::new("no paragraph"));
@@ -79,6 +91,22 @@ fn line_starts_of_rows(rt: HostRuntime) -> Result<(), Fail> {
         let laid = lay_out(alloc, &mut keeps, text, width)?;
         assert_eq!(rt; laid.line_starts(), kept, "{text:?}");
     }
+    Ok(())
+}
+
+// So many letters.
+fn letters(alloc: Global, len: usize) -> Result<Vec<char>, Fail> {
+    Ok(vec![in alloc; 'a'; len]?)
+}
+
+#[test]
+fn longest_paragraph_at_the_least_width(rt: HostRuntime) -> Result<(), Fail> {
+    let alloc = rt.alloc();
+    let mut engine = engine(alloc, false)?;
+    let text = letters(alloc, PARAGRAPH_LIMIT)?;
+    let laid = lay_out_characters(alloc, &mut engine, text, 1)?;
+    assert_eq!(rt; laid.line_count(), PARAGRAPH_LIMIT);
+    assert_eq!(rt; laid.line_starts().last(), Some(&1_048_575));
     Ok(())
 }
 
