@@ -1,7 +1,7 @@
 //! The bytes of a line, passed to a sink as they are made. Each function writes a part of them behind
 //! `done` bytes, and answers how many are written then.
 ghost use Rattle.std.specs.Prelude.{◌≡◌, [], ◌∷◌, ◌++◌, ◌≤◌, ◌&&◌, IfOk, IfErr, if◌then◌else◌};
-ghost use Rattle.std.specs.Prelude.{◌+◌, ◌*◌, take, codes, length, map, replicate, encode_utf8, encode_utf8_all, slice_index};
+ghost use Rattle.std.specs.Prelude.{◌+◌, ◌*◌, ◌<◌, take, codes, length, map, replicate, encode_utf8, encode_utf8_all, slice_index};
 ghost use Rattle.bidi.specs.Runs.{AreWithin};
 ghost use Rattle.std.specs.List.{join_with_byte};
 ghost use Rattle.lines.specs.Bytes.{direction_line, numbers_line, padding, shown_chars, visual_line};
@@ -94,12 +94,36 @@ fn encode_behind(c: char, buffer: &mut [u8], at: usize) -> usize
     ensures bytes { take result buffer.new ≡ take at buffer.old ++ encode_utf8 c }
 {
     let mut bytes = [0; 4];
-    let mut end = at;
-    for byte in c.encode_utf8(&mut bytes).as_bytes() {
-        buffer[end] = *byte;
-        end += 1;
+    // Byte by byte, since so few are no work for a copy.
+    match c.encode_utf8(&mut bytes).as_bytes() {
+        [first] => put(buffer, at, *first),
+        [first, second] => {
+            let behind = put(buffer, at, *first);
+            put(buffer, behind, *second)
+        }
+        [first, second, third] => {
+            let behind = put(buffer, at, *first);
+            let behind = put(buffer, behind, *second);
+            put(buffer, behind, *third)
+        }
+        [first, second, third, fourth] => {
+            let behind = put(buffer, at, *first);
+            let behind = put(buffer, behind, *second);
+            let behind = put(buffer, behind, *third);
+            put(buffer, behind, *fourth)
+        }
+        _ => unreachable!(),
     }
-    end
+}
+
+// Puts a byte to a place of a buffer, and says where it ends.
+fn put(buffer: &mut [u8], at: usize, byte: u8) -> usize
+    requires { at < length buffer.old }
+    ensures behind { result ≡ at + 1 }
+    ensures bytes { take result buffer.new ≡ take at buffer.old ++ byte ∷ [] }
+{
+    buffer[at] = byte;
+    at + 1
 }
 
 // The characters of a text at some places, in their order.
