@@ -106,7 +106,8 @@ fn page_number(entries: &mut Vec<Properties>, page: &[Properties]) -> Result<u16
 // Whether two pages are equal.
 fn are_equal(one: &[Properties], other: &[Properties]) -> bool
     requires { length one.now ≡ length other.now }
-    ensures { IsTrue result → one.now ≡ other.now }
+    ensures same { IsTrue result → one.now ≡ other.now }
+    ensures all { one.now ≡ other.now → IsTrue result }
 {
     for k in 0..one.len() {
         if !one[k].is(other[k]) {

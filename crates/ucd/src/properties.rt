@@ -116,7 +116,8 @@ impl Properties {
 
     /// Whether both hold the same bits.
     pub(crate) fn is(self, other: Properties) -> bool
-        ensures { IsTrue result → self ≡ other }
+        ensures same { IsTrue result → self ≡ other }
+        ensures all { self ≡ other → IsTrue result }
     {
         self.bits == other.bits
     }

@@ -7,7 +7,7 @@ pub returns-then-are_equal : goal.returns-then-are_equal
 returns-then-are_equal c =
     let entries = c.args.entries.now.items in
     let start = c.len-end.result - 256 in
-    let same : take (length entries - start) (drop start entries) ≡ c.args.page.now = rw c.deref.ensures.value at (c.are_equal.ensures c.if-are_equal.true) in
+    let same : take (length entries - start) (drop start entries) ≡ c.args.page.now = rw c.deref.ensures.value at (c.are_equal.ensures.same c.if-are_equal.true) in
     has_last entries c.args.page.now c.len-end.result (omega (arith, c.len-end.ensures)) c.requires.whole c.if-end-ge-PAGE.true
     (sym (take_all (length entries - start) (drop start entries) (omega (arith, length-drop start entries))) ∙ same)
 
