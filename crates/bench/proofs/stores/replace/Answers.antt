@@ -1,5 +1,4 @@
-use Rattle.std.proofs.Common.{◌≤◌, ◌+◌, sum_by, length, arith}
-use Rattle.std.specs.List.{splice}
+use Rattle.std.proofs.Common.{arith}
 use Rattle.bench.specs.declared.stores.Small.{Small}
 use Rattle.bench.proofs.StoreLemmas.{sum_of_splice}
 use Rattle.bench.proofs.stores.replace.Goals as goal
