@@ -1,6 +1,6 @@
 //! How long it takes to make a store of paragraphs, to replace one of them at a place that looks random,
 //! and to search for a character.
-ghost use Rattle.std.specs.Prelude.{◌^◌, ◌<◌};
+ghost use Rattle.std.specs.Prelude.{◌^◌, ◌<◌, if◌then◌else◌};
 
 use crate::numbers::Numbers;
 use anyhow::{Result, bail};
@@ -9,23 +9,24 @@ use std::ops::Range;
 use std::time::Instant;
 use store::{Exchange, Measured, ParagraphStore, TreeStore, VecStore};
 
-// A paragraph of one character and one line, with some room.
+// A paragraph of at most one character and line, with some room.
 #[derive(Clone, Copy)]
 struct Small {
+    has_text: bool,
     _room: [u64; 4],
 }
 
 impl Measured for Small {
-    ghost chars = { λ _. 1 };
+    ghost chars = { λ item. (if item.has_text then 1 else 0) };
 
-    ghost lines = { λ _. 1 };
+    ghost lines = { λ item. (if item.has_text then 1 else 0) };
 
     fn chars(&self) -> usize {
-        1
+        if self.has_text { 1 } else { 0 }
     }
 
     fn lines(&self) -> usize {
-        1
+        if self.has_text { 1 } else { 0 }
     }
 }
 
@@ -105,12 +106,14 @@ fn place(numbers: &mut Numbers, count: usize) -> usize
 fn paragraphs(alloc: Global, count: usize) -> Result<Vec<Small>, AllocError> {
     let mut items = Vec::with_capacity(alloc, count)?;
     for _ in 0..count {
-        items.push(Small { _room: [0; 4] })?;
+        items.push(Small {
+            has_text: true,
+            _room: [0; 4],
+        })?;
     }
     Ok(items)
 }
 
-#[tactic(auto, using(crate::proofs::StoreLemmas::sum_of_splice))]
 fn replace<S: ParagraphStore<Small>>(
     store: &mut S,
     range: Range<usize>,

@@ -1,7 +1,7 @@
 mod ExchangeLemmas
 mod FindLemmas
 mod FitsLemmas
-mod ListLemmas
+pub mod ListLemmas
 mod SubtreeLemmas
 mod TestLemmas
 mod TreeLemmas

@@ -1,5 +1,5 @@
 -- Heights and items of trees, and how few nodes a balanced tree of a height has.
-use Rattle.std.proofs.Common.{◌≡◌, ℕ, zero, suc, ◌+◌, ◌-◌, ◌/◌, ◌^◌, ◌<◌, ◌≤◌, max, ◌∷◌, length, cond, true, false, nat_lt, inl, inr, arith, length-append, eq-or-lt_of_le, pow-suc, ◌⊎◌}
+use Rattle.std.proofs.Common.{◌≡◌, ℕ, zero, suc, ◌+◌, ◌-◌, ◌/◌, ◌^◌, ◌<◌, ◌≤◌, max, ◌∷◌, length, cond, true, false, nat_lt, inl, inr, refl, arith, length-append, eq-or-lt_of_le, pow-suc, ◌⊎◌}
 use Rattle.std.proofs.Math.Nat.{pow-le-pow_right}
 use Rattle.store.specs.Trees.{Tree, Empty, Fork, in_order, height, IsBalanced, fewest_nodes, nodes_to}
 
@@ -66,3 +66,30 @@ low t v b h =
     let e : v / 2 ≤ height t / 2 = omega arith in
     let two : zero < 2 = omega arith in
     omega (arith, pow-le-pow_right {n = 2} two e, fewest_double (height t), fewest_in t b)
+
+-- A balanced tree of each height with the fewest nodes.
+module _ {A : Type 0} (x : A) where
+  abbrev thinnest : ℕ → Tree A
+  thinnest zero = Empty
+  thinnest (suc zero) = Fork Empty x Empty
+  thinnest (suc (suc h)) = Fork (thinnest (suc h)) x (thinnest h)
+
+  record IsThinnest (h : ℕ) (t : Tree A) : Type 0 where
+    balanced : IsBalanced t
+    height_is : height t ≡ h
+    count_is : length (in_order t) ≡ fewest_nodes h
+
+  is_thinnest : (h : ℕ) → IsThinnest h (thinnest h)
+  is_thinnest zero = record { balanced = tt; height_is = refl; count_is = refl }
+  is_thinnest (suc zero) = record { balanced = (tt, tt, omega arith, omega arith); height_is = omega arith; count_is = omega arith }
+  is_thinnest (suc (suc h)) =
+      let l = is_thinnest (suc h) in
+      let r = is_thinnest h in
+      record {
+        balanced = (l.balanced, r.balanced, omega (arith, l.height_is, r.height_is), omega (arith, l.height_is, r.height_is));
+        height_is = omega (arith, l.height_is, r.height_is);
+        count_is = omega (arith, l.count_is, r.count_is, length-append (in_order (thinnest (suc h))) (x ∷ in_order (thinnest h)));
+      }
+
+  pub fewest_reached : (h : ℕ) → (t : Tree A) × IsBalanced t × (height t ≡ h) × (length (in_order t) ≡ fewest_nodes h)
+  fewest_reached h = let t = is_thinnest h in (thinnest h, t.balanced, t.height_is, t.count_is)

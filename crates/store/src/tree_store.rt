@@ -6,7 +6,7 @@ ghost use Rattle.std.specs.Prelude.{IfOk, IfErr, OnOk, OnErr};
 ghost use Rattle.std.specs.List.{splice, AllZip};
 ghost use Rattle.store.specs.Exchanging.{pairwise};
 ghost use Rattle.store.specs.Finding.{Finds};
-ghost use Rattle.store.specs.Trees.{fewest_nodes, height, in_order, IsBalanced, nodes_to};
+ghost use Rattle.store.specs.Trees.{fewest_nodes, height, in_order, IsBalanced, nodes_to, Tree};
 
 use crate::found::{Found, Unit};
 use crate::joining::{append, build, move_items, split};
@@ -37,11 +37,16 @@ impl<P: Measured> Model for TreeStore<P> {
 }
 
 impl<P: Measured> TreeStore<P> {
-    /// The law that a store is low, by the least number of items that a balanced tree of its height has.
+    /// The law of its height: the store has at least as many items as the fewest that a balanced tree
+    /// of its height has, and these double with every second level.
     pub fn stays_balanced(&self)
         ensures balanced { IsBalanced self.now }
         ensures items { fewest_nodes (height self.now) ≤ length (in_order self.now) }
         ensures height { 2 ^ (height self.now / 2) ≤ length (in_order self.now) + 1 }
+
+        // They are the fewest: a balanced tree of each height has no more.
+        ensures fewest { P → (h : ℕ) → (t : Tree P) × IsBalanced t × (height t ≡ h)
+            × (length (in_order t) ≡ fewest_nodes h) }
     {
         let _height = self.root.height();
     }
