@@ -1,7 +1,8 @@
 //! The bytes of a line, passed to a sink as they are made. Each function writes a part of them behind
 //! `done` bytes, and answers how many are written then.
 ghost use Rattle.std.specs.Prelude.{◌≡◌, [], ◌∷◌, ◌++◌, ◌≤◌, ◌&&◌, IfOk, IfErr, if◌then◌else◌};
-ghost use Rattle.std.specs.Prelude.{◌+◌, ◌*◌, ◌<◌, take, codes, length, map, replicate, encode_utf8, encode_utf8_all, slice_index};
+ghost use Rattle.std.specs.Prelude.{◌+◌, ◌*◌, ◌<◌, take, codes};
+ghost use Rattle.std.specs.Prelude.{length, map, replicate, encode_utf8, encode_utf8_all, slice_index};
 ghost use Rattle.bidi.specs.Runs.{AreWithin};
 ghost use Rattle.std.specs.List.{join_with_byte};
 ghost use Rattle.lines.specs.Bytes.{direction_line, numbers_line, padding, shown_chars, visual_line};

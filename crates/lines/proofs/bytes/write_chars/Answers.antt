@@ -1,5 +1,5 @@
-use Rattle.std.proofs.Common.{◌≡◌, ◌-◌, ◌++◌, take, drop, encode_utf8_all, ap, sym, ◌∙◌, arith}
-use Rattle.lines.specs.Writing.{PassedOn, StoppedIn}
+use Rattle.std.proofs.Common.{◌≡◌, ◌++◌, take, drop, encode_utf8_all, ap, sym, ◌∙◌, arith}
+use Rattle.lines.specs.Writing.{StoppedIn}
 use Rattle.lines.proofs.WriteLemmas.{encoded-part, encoded-rest, passed-append, same_fault, stopped-before, stopped-behind}
 use Rattle.lines.proofs.bytes.write_chars.Goals as goal
 
@@ -21,7 +21,7 @@ returns-in_err-written-clause-err g c =
     let at = c.loop-at.at in
     let «end» = c.min-end.result in
     let bytes : encode_utf8_all chars ≡ (encode_utf8_all (take at chars) ++ take c.encode-len.result c.encode-len.new.buffer) ++ encode_utf8_all (drop «end» chars) =
-        encoded-rest chars «end» ∙ ap (λ front. front ++ encode_utf8_all (drop «end» chars))
-        (encoded-part chars at «end» (omega (arith, c.min-end.ensures, c.loop-at-test.true)) ∙ ap (λ part. encode_utf8_all (take at chars) ++ part) (sym c.encode-len.ensures.bytes)) in
+    encoded-rest chars «end» ∙ ap (λ front. front ++ encode_utf8_all (drop «end» chars))
+    (encoded-part chars at «end» (omega (arith, c.min-end.ensures, c.loop-at-test.true)) ∙ ap (λ part. encode_utf8_all (take at chars) ++ part) (sym c.encode-len.ensures.bytes)) in
     same_fault _ _ (StoppedIn _ c.args.done _ _) c.from_residual.ensures.1
     (rw bytes (stopped-before (encode_utf8_all (drop «end» chars)) (stopped-behind c.loop-at.invariant.passed c.in_err-written.ensures.err)))
