@@ -77,12 +77,13 @@ impl<V: Copy> RangeTable<V> {
         })
     }
 
-    /// The entries, in the order in which they were added.
-    pub fn entries(&self) -> &[Entry<V>]
-        ensures entries { result.now ≡ self.now }
-        ensures apart { AreApart result.now }
+    /// The entries alone, in the order in which they were added.
+    pub fn into_entries(self) -> ApartEntries<V>
+        ensures { result ≡ self }
     {
-        &self.entries
+        ApartEntries {
+            entries: self.entries,
+        }
     }
 
     // Adds an entry, unless one of its code points has a value already. One that ends before it
@@ -127,6 +128,29 @@ impl<V: Copy> RangeTable<V> {
             last: entry.last.min(LAST_CHARACTER),
             ..entry
         })
+    }
+}
+
+/// Entries of which no two share a character.
+#[derive(Debug, Drop)]
+pub struct ApartEntries<V> {
+    entries: Vec<Entry<V>>,
+}
+
+impl<V> Model for ApartEntries<V> {
+    ghost Value = { List (Entry V) };
+
+    ghost view = { λ e. e.entries.items };
+
+    ghost invariant = { λ e. AreApart e.entries.items };
+}
+
+impl<V: Copy> ApartEntries<V> {
+    pub fn as_slice(&self) -> &[Entry<V>]
+        ensures entries { result.now ≡ self.now }
+        ensures apart { AreApart result.now }
+    {
+        &self.entries
     }
 }
 

@@ -18,7 +18,7 @@ use crate::line_class::LineClass;
 use crate::pages::{Pages, pages_of, put_entries, unnamed_points};
 use crate::points::points_of;
 use crate::properties::Properties;
-use crate::range_table::{CODE_POINTS, RangeTable};
+use crate::range_table::{ApartEntries, CODE_POINTS};
 use crate::width::Width;
 use std::alloc::{AllocError, Global};
 use std::collections::BTreeMap;
@@ -61,12 +61,12 @@ fn read_table<V: Property>(
     alloc: Global,
     number: usize,
     file: &[u8],
-) -> Result<RangeTable<V>, TableFault>
+) -> Result<ApartEntries<V>, TableFault>
     ensures ok { IfOk result (HoldsFile V.form (lines_of file.now)) }
     ensures err { IfErr result (IsFaultIn number V.form (lines_of file.now)) }
 {
     match read_file(alloc, file) {
-        Ok(table) => Ok(table),
+        Ok(table) => Ok(table.into_entries()),
         Err(fault) => Err(TableFault::in_file(number, fault)),
     }
 }
@@ -74,13 +74,13 @@ fn read_table<V: Property>(
 /// What the files say, before it is put into pages.
 #[derive(Drop)]
 struct Entries {
-    bidi_classes: RangeTable<BidiClass>,
-    brackets: RangeTable<Bracket>,
-    mirrors: RangeTable<Mirror>,
-    line_classes: RangeTable<LineClass>,
-    categories: RangeTable<Category>,
-    widths: RangeTable<Width>,
-    pictographs: RangeTable<Pictograph>,
+    bidi_classes: ApartEntries<BidiClass>,
+    brackets: ApartEntries<Bracket>,
+    mirrors: ApartEntries<Mirror>,
+    line_classes: ApartEntries<LineClass>,
+    categories: ApartEntries<Category>,
+    widths: ApartEntries<Width>,
+    pictographs: ApartEntries<Pictograph>,
 }
 
 impl Entries {
@@ -91,14 +91,14 @@ impl Entries {
         ensures { IfOk result (λ points. AreSaid (contents_of self.now) points.items) }
     {
         let mut points = unnamed_points(alloc, CODE_POINTS)?;
-        put_entries(&mut points, self.bidi_classes.entries());
-        put_entries(&mut points, self.brackets.entries());
-        put_entries(&mut points, self.mirrors.entries());
-        put_entries(&mut points, self.line_classes.entries());
-        put_entries(&mut points, self.widths.entries());
+        put_entries(&mut points, self.bidi_classes.as_slice());
+        put_entries(&mut points, self.brackets.as_slice());
+        put_entries(&mut points, self.mirrors.as_slice());
+        put_entries(&mut points, self.line_classes.as_slice());
+        put_entries(&mut points, self.widths.as_slice());
         // A pictograph is one to come until its category says that it is assigned.
-        put_entries(&mut points, self.pictographs.entries());
-        put_entries(&mut points, self.categories.entries());
+        put_entries(&mut points, self.pictographs.as_slice());
+        put_entries(&mut points, self.categories.as_slice());
         Ok(points)
     }
 }
@@ -135,8 +135,8 @@ impl Tables {
     {
         let points = entries.points(alloc)?;
         let pages = pages_of(alloc, &points)?;
-        let brackets = points_of(alloc, entries.brackets.entries())?;
-        let mirrors = points_of(alloc, entries.mirrors.entries())?;
+        let brackets = points_of(alloc, entries.brackets.as_slice())?;
+        let mirrors = points_of(alloc, entries.mirrors.as_slice())?;
         Ok(Tables {
             pages,
             brackets,
