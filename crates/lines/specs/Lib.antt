@@ -8,6 +8,7 @@ pub mod Kept
 pub mod Layouts
 pub mod Mirroring
 pub mod Order
+pub mod Pages
 pub mod Parts
 pub mod Places
 pub mod Showing

@@ -7,7 +7,7 @@ use Rattle.lines.specs.Bytes.{line_bytes}
 use Rattle.lines.specs.Layouts.{Layout}
 use Rattle.lines.specs.Visual.{Line, Visual, visual_of}
 use Rattle.lines.specs.declared.print.Print.{Print}
-use Rattle.tool.specs.TextRun.{layout_bytes}
+use Rattle.lines.specs.Pages.{layout_bytes}
 
 drop_got : (xs : List Line) (k : ℕ) (x : Line) → slice_get xs k ≡ Some x → drop k xs ≡ x ∷ drop (k + 1) xs
 drop_got [] k x got = cc

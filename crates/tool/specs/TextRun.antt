@@ -1,13 +1,12 @@
 -- What is written for a text, and how its run ends.
 use Rattle.std.specs.Prelude.{◌≡◌, ℕ, ◌+◌, ◌-◌, ◌==◌, nat_le, not, Bool, List, length, take, drop, take_while, Option, Some, None, IfSome, ⊤, is_some, is_none, Result, Ok, Err, if◌then◌else◌}
-use Rattle.std.specs.List.{enumerate_from, flat_map, list_all}
+use Rattle.std.specs.List.{list_all}
 use Rattle.std.specs.Str.{chars}
 use Rattle.std.specs.Str.Lossy.{utf8_valid_len, utf8_error_len}
 use Rattle.std.specs.Io.KnownBytes.{Consumes, IsAtEnd}
 use Rattle.bidi.specs.Cuts.{paragraphs}
-use Rattle.lines.specs.Bytes.{line_bytes}
-use Rattle.lines.specs.Layouts.{Layout, Rules, cut_by, layout_of}
-use Rattle.lines.specs.Visual.{visual_of}
+use Rattle.lines.specs.Layouts.{Rules, cut_by}
+use Rattle.lines.specs.Pages.{page}
 use Rattle.lines.specs.declared.print.Print.{Print}
 use Rattle.tool.specs.declared.faults.RunFault.{RunFault}
 use Rattle.tool.specs.declared.faults.RunFault.TheVariants as fault
@@ -48,20 +47,6 @@ ending_of pars wrong = if are_within pars then wrong else Some fault.ParagraphTo
 -- the paragraphs of the front of an input
 abbrev pub front_paragraphs : Rules → List ℕ → List (List ℕ)
 front_paragraphs rules bytes = paragraphs (cut_by rules) (front_of bytes)
-
--- what is printed of a paragraph that is laid out: the bytes of its lines, in order
-abbrev pub layout_bytes : ℕ → Print → Layout → List ℕ
-layout_bytes width print layout =
-    flat_map (λ nth. line_bytes width print (visual_of layout.base layout.text nth.0 nth.1)) (enumerate_from 0 layout.lines)
-
-module _ (rules : Rules) (width : ℕ) (print : Print) where
-  -- what is printed of a paragraph
-  abbrev pub paragraph_bytes : List ℕ → List ℕ
-  paragraph_bytes text = layout_bytes width print (layout_of rules width text)
-
-  -- and of several, in order
-  abbrev pub page : List (List ℕ) → List ℕ
-  page pars = flat_map paragraph_bytes pars
 
 -- the lines of paragraphs as they are written, and whether one of them is too long
 abbrev pub IsLinesOf : Rules → ℕ → Print → List (List ℕ) → Bool → List ℕ → Bool → Type 0

@@ -3,7 +3,7 @@
 ghost use Rattle.std.specs.Prelude.{◌≡◌, ◌++◌, ◌<◌, [], OnOk};
 ghost use Rattle.lines.specs.Engine.{rules_of, SameRules};
 ghost use Rattle.lines.specs.Layouts.{IsParagraph};
-ghost use Rattle.tool.specs.TextRun.{layout_bytes, paragraph_bytes};
+ghost use Rattle.lines.specs.Pages.{layout_bytes, paragraph_bytes};
 
 use device::Sink;
 use lines::{Engine, Laid, Print};

@@ -1,7 +1,7 @@
 use Rattle.std.proofs.Common.{◌≡◌, ◌∙◌, ◌++◌, ap, subst, OnOk}
 use Rattle.lines.specs.Engine.{rules_of}
 use Rattle.lines.specs.Layouts.{layout_of, Layout}
-use Rattle.tool.specs.TextRun.{layout_bytes}
+use Rattle.lines.specs.Pages.{layout_bytes}
 use Rattle.tool.proofs.page.push_paragraph.Goals as goal
 
 pub returns-in-Ok-clause-ok : goal.returns-in-Ok-clause-ok

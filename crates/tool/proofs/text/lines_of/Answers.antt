@@ -3,7 +3,7 @@ use Rattle.std.proofs.lemmas.Bool.Decides.{nat_tests}
 use Rattle.bidi.specs.Cuts.{SplitsAt, paragraphs}
 use Rattle.lines.specs.Engine.{rules_of}
 use Rattle.lines.specs.Layouts.{Rules, cut_by}
-use Rattle.tool.specs.TextRun.{paragraph_bytes}
+use Rattle.lines.specs.Pages.{paragraph_bytes}
 use Rattle.tool.proofs.Lines.{AreLines, lines_at_cut, lines_left, lines_pushed}
 use Rattle.tool.specs.declared.page.Page.{Page}
 use Rattle.tool.proofs.PieceLemmas.{first_is_paragraph}

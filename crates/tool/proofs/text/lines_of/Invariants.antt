@@ -2,7 +2,7 @@ use Rattle.std.proofs.Common.{◌≡◌, length}
 use Rattle.bidi.specs.Cuts.{paragraphs}
 use Rattle.lines.specs.Engine.{rules_of}
 use Rattle.lines.specs.Layouts.{cut_by}
-use Rattle.tool.specs.TextRun.{paragraph_bytes}
+use Rattle.lines.specs.Pages.{paragraph_bytes}
 use Rattle.tool.proofs.Lines.{AreLinesSoFar}
 use Rattle.tool.proofs.text.lines_of.Given as goal
 

@@ -1,0 +1,21 @@
+-- What is printed of a paragraph, and of several.
+use Rattle.std.specs.Prelude.{ℕ, List}
+use Rattle.std.specs.List.{enumerate_from, flat_map}
+use Rattle.lines.specs.Bytes.{line_bytes}
+use Rattle.lines.specs.Layouts.{Layout, Rules, layout_of}
+use Rattle.lines.specs.Visual.{visual_of}
+use Rattle.lines.specs.declared.print.Print.{Print}
+
+-- what is printed of a paragraph that is laid out: the bytes of its lines, in order
+abbrev pub layout_bytes : ℕ → Print → Layout → List ℕ
+layout_bytes width print layout =
+    flat_map (λ nth. line_bytes width print (visual_of layout.base layout.text nth.0 nth.1)) (enumerate_from 0 layout.lines)
+
+module _ (rules : Rules) (width : ℕ) (print : Print) where
+  -- what is printed of a paragraph that is laid out from scratch
+  abbrev pub paragraph_bytes : List ℕ → List ℕ
+  paragraph_bytes text = layout_bytes width print (layout_of rules width text)
+
+  -- and of several, in order
+  abbrev pub page : List (List ℕ) → List ℕ
+  page pars = flat_map paragraph_bytes pars
