@@ -1,7 +1,10 @@
 pub mod CommandLineLemmas
 pub mod DefaultLemmas
+pub mod Fronts
 pub mod Devices
-pub mod Front
-pub mod Lines
 pub mod PageLemmas
 pub mod PieceLemmas
+pub mod PushLemmas
+pub mod StepLemmas
+pub mod StreamLemmas
+pub mod Utf8Lemmas

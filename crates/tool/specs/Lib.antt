@@ -1,4 +1,5 @@
 pub mod CommandLine
 pub mod Pages
 pub mod Program
+pub mod Streaming
 pub mod TextRun

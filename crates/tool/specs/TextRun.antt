@@ -1,6 +1,6 @@
 -- What is written for a text, and how its run ends.
-use Rattle.std.specs.Prelude.{◌≡◌, ℕ, ◌+◌, ◌-◌, ◌==◌, nat_le, not, Bool, List, length, take, drop, take_while, Option, Some, None, IfSome, ⊤, is_some, is_none, Result, Ok, Err, if◌then◌else◌}
-use Rattle.std.specs.List.{list_all}
+use Rattle.std.specs.Prelude.{◌≡◌, ℕ, ◌+◌, ◌-◌, ◌==◌, nat_le, not, Bool, List, ◌++◌, ◌≤◌, length, take, drop, take_while, encode_utf8_all, Option, Some, None, IfSome, ⊤, is_some, is_none, Result, Ok, Err, if◌then◌else◌}
+use Rattle.std.specs.List.{concat, list_all}
 use Rattle.std.specs.Str.{chars}
 use Rattle.std.specs.Str.Lossy.{utf8_valid_len, utf8_error_len}
 use Rattle.std.specs.Io.KnownBytes.{Consumes, IsAtEnd}
@@ -12,7 +12,7 @@ use Rattle.tool.specs.declared.faults.RunFault.{RunFault}
 use Rattle.tool.specs.declared.faults.RunFault.TheVariants as fault
 use Rattle.tool.specs.declared.text.Ending.{Ending}
 use Rattle.tool.specs.declared.text.Ending.TheVariants.{AtEnd, AtFailure}
-use Rattle.device.specs.Device.{Device, FailedLast, Wrote, StoppedAt}
+use Rattle.device.specs.Device.{Device, FailedLast, Took, Wrote, StoppedAt}
 
 -- the characters in front of the first byte that is not UTF-8
 abbrev pub front_of : List ℕ → List ℕ
@@ -48,18 +48,6 @@ ending_of pars wrong = if are_within pars then wrong else Some fault.ParagraphTo
 abbrev pub front_paragraphs : Rules → List ℕ → List (List ℕ)
 front_paragraphs rules bytes = paragraphs (cut_by rules) (front_of bytes)
 
--- the lines of paragraphs as they are written, and whether one of them is too long
-abbrev pub IsLinesOf : Rules → ℕ → Print → List (List ℕ) → Bool → List ℕ → Bool → Type 0
-IsLinesOf rules width print pars is_whole lines is_long =
-    (lines ≡ page rules width print (written_of pars is_whole)) × (is_long ≡ not (are_within pars))
-
--- the bytes that are written for an input, and how its run ends
-abbrev pub IsOutputOf : Rules → ℕ → Print → List ℕ → Ending → List ℕ → Option RunFault → Type 0
-IsOutputOf rules width print bytes ending lines end =
-    let pars = front_paragraphs rules bytes in
-    let wrong = input_fault ending bytes in
-    (lines ≡ page rules width print (written_of pars (is_none wrong))) × (end ≡ ending_of pars wrong)
-
 -- what a source gave between two states: all that it had, or, where it failed, the bytes that passed before
 abbrev pub Gave : Device → Device → Ending → List ℕ → Type 0
 Gave old new AtEnd bytes = IfSome old.bytes (λ all. all ≡ bytes) × (new.failures ≡ old.failures)
@@ -89,3 +77,16 @@ IsTextRun rules width print reader_old reader_new writer_old writer_new result =
     × (let pars = front_paragraphs rules bytes in
     let wrong = input_fault ending bytes in
     EndsWith (page rules width print) (written_of pars (is_none wrong)) (ending_of pars wrong) writer_old writer_new (fault_of result))
+
+-- how many bytes a run reads behind the paragraphs that it has written, at most: 1,048,577 characters, and one piece of 65,536 bytes
+abbrev pub read_ahead : ℕ
+read_ahead = 4259844
+
+-- Where a run ended with a fault, the lines of the first k paragraphs of what the reader gave were written, and n bytes of the next
+-- one's. At most so many bytes behind these k paragraphs were read.
+abbrev pub ReadsAhead : Rules → ℕ → Print → Device → Device → Device → Device → Type 0
+ReadsAhead rules width print reader_old reader_new writer_old writer_new =
+    (ending : Ending) × (bytes : List ℕ) × Gave reader_old reader_new ending bytes
+    × (let pars = front_paragraphs rules bytes in
+    (k : ℕ) × (n : ℕ) × Took writer_old writer_new (page rules width print (take k pars) ++ take n (page rules width print (take 1 (drop k pars))))
+    × (reader_new.passed ≤ reader_old.passed + length (encode_utf8_all (concat (take k pars))) + read_ahead))

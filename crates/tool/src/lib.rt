@@ -5,6 +5,8 @@ mod command_line;
 mod faults;
 mod options;
 mod page;
+mod paragraphs;
+mod pieces;
 mod program;
 mod text;
 

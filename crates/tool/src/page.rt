@@ -30,6 +30,13 @@ impl Page {
         }
     }
 
+    /// Empties it.
+    pub fn clear(&mut self)
+        ensures { self.new.bytes.items ≡ [] }
+    {
+        self.bytes.clear();
+    }
+
     /// What it holds.
     pub fn bytes(&self) -> &[u8]
         ensures { result.now ≡ self.now.bytes.items }
