@@ -19,7 +19,7 @@ pub use bytes::WriteFault;
 pub use engine::{Engine, PARAGRAPH_LIMIT};
 pub use laid::Laid;
 pub use order::maps_are_inverse;
-pub use print::Print;
+pub use print::{Print, PrintFault};
 pub use visual::Fill;
 pub use visual_line::VisualLine;
 
