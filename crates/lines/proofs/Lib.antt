@@ -9,6 +9,7 @@ mod OrderLemmas
 pub mod PageLemmas
 pub mod PlaceLemmas
 mod ShowLemmas
+pub mod SkippedLemmas
 mod SpaceLemmas
 pub mod VisualLemmas
 mod WorkedBytes

@@ -1,10 +1,11 @@
 //! What lays paragraphs out: the tables and options, and how much was analysed and filled.
-ghost use Rattle.std.specs.Prelude.{◌≡◌, ◌<◌, ◌≤◌, length, map, IfOk, IfErr, OnOk};
+ghost use Rattle.std.specs.Prelude.{◌≡◌, ◌<◌, ◌≤◌, [], length, map, IfOk, IfErr, OnOk, if◌then◌else◌};
 ghost use Rattle.device.specs.Device.{Wrote};
 ghost use Rattle.ucd.specs.Properties.{properties_of};
 ghost use Rattle.bidi.specs.Levels.{levels_of};
 ghost use Rattle.breaks.specs.Marks.{marks_of};
 ghost use Rattle.lines.specs.Bare.{with_ends};
+ghost use Rattle.lines.specs.Bytes.{direction_line};
 ghost use Rattle.lines.specs.Clusters.{cluster_ends};
 ghost use Rattle.lines.specs.Filling.{line_starts_of};
 ghost use Rattle.lines.specs.Layouts.{AreWithin, base_of, lines_of};
@@ -13,13 +14,14 @@ ghost use Rattle.lines.specs.Places.{places_of};
 ghost use Rattle.lines.specs.Printing.{FailedAs};
 ghost use Rattle.lines.specs.Visual.{lines_from};
 
+use crate::bytes::write_base;
 use crate::filling::line_starts;
 use crate::laid::Laid;
 use crate::places::{Place, take_places};
 use crate::print::{Print, PrintFault};
 use crate::visual::{Fill, show_lines};
-use bidi::{Base, Resolver, first_cut, is_cut};
-use breaks::{Mark, marks_into};
+use bidi::{Base, Resolver, base_level, first_cut, is_cut};
+use breaks::{Mark, marks_are_as_many, marks_into};
 use device::Sink;
 use std::alloc::{AllocError, Global};
 use std::marker::Model;
@@ -174,6 +176,12 @@ impl Engine {
         ensures at_most { LaysOutAtMost (length text.now) self.old self.new }
         ensures rules { SameRules self.old self.new }
     {
+        if print.skips_lines() {
+            let len = text.len() as u64;
+            self.analysed = self.analysed.saturating_add(len);
+            marks_are_as_many(&self.tables, text);
+            return self.write_base(text, print, writer);
+        }
         let Ok(copy) = Vec::from_slice(alloc, text) else {
             return Err(PrintFault::Memory);
         };
@@ -183,6 +191,27 @@ impl Engine {
                 Err(fault) => Err(PrintFault::Write(fault)),
             },
             Err(_) => Err(PrintFault::Memory),
+        }
+    }
+
+    // Writes the direction of a paragraph, if it is asked for.
+    fn write_base<W: Sink>(
+        &self,
+        text: &[char],
+        print: &Print,
+        writer: &mut W,
+    ) -> Result<(), PrintFault>
+        ensures ok { OnOk result (Wrote
+            (if print.now.basedir then direction_line (base_of (rules_of self.now) text.now) else [])
+            (W.state writer.old) (W.state writer.new)) }
+        ensures err { IfErr result (λ fault. FailedAs fault
+            (if print.now.basedir then direction_line (base_of (rules_of self.now) text.now) else [])
+            (W.state writer.old) (W.state writer.new)) }
+    {
+        let base = base_level(&self.tables, text, self.base);
+        match write_base(writer, 0, print.basedir, base) {
+            Ok(_) => Ok(()),
+            Err(fault) => Err(PrintFault::Write(fault)),
         }
     }
 
