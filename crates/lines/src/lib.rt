@@ -11,9 +11,11 @@ mod mirror;
 mod order;
 mod places;
 mod print;
+mod room;
 mod spaces;
 mod visual;
 mod visual_line;
+mod work;
 
 pub use bytes::WriteFault;
 pub use engine::{Engine, PARAGRAPH_LIMIT};

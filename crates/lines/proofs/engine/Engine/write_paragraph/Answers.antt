@@ -1,26 +1,23 @@
 use Rattle.std.proofs.Common.{◌≡◌, ◌∙◌, List, [], ℕ, length, IfErr, OnOk, if◌then◌else◌, ap, subst, sym}
-use Rattle.device.specs.Device.{StoppedAt, Wrote}
+use Rattle.device.specs.Device.{Wrote}
 use Rattle.breaks.specs.Marks.{marks_of}
 use Rattle.lines.specs.Bytes.{direction_line}
 use Rattle.lines.specs.Engine.{rules_of}
-use Rattle.lines.specs.Layouts.{State, base_of, layout_of}
-use Rattle.lines.specs.Pages.{layout_bytes}
+use Rattle.lines.specs.Layouts.{State, base_of}
+use Rattle.lines.specs.Pages.{paragraph_bytes}
 use Rattle.lines.specs.Printing.{FailedAs}
 use Rattle.lines.proofs.SkippedLemmas.{direction_only}
 use Rattle.lines.proofs.engine.Engine.write_paragraph.Goals as goal
 
-pub returns-in-Ok-write-clause-ok : goal.returns-in-Ok-write-clause-ok
-returns-in-Ok-write-clause-ok g c =
-    let rules = rules_of c.args.self.now in
-    let same = c.in-Ok-lay_out.ensures.ok ∙ ap (layout_of rules c.args.width) c.in-Ok.ensures.items in
-    subst (λ (bytes : List ℕ). Wrote bytes (g.W.Sink.state c.args.writer.now) (g.W.Sink.state c.write.new.writer)) (ap (layout_bytes c.args.width c.args.print.now) same) c.in-Ok-write.ensures.ok
+pub returns-clause-ok : goal.returns-clause-ok
+returns-clause-ok g c =
+    subst (λ (e : State). OnOk c.write_lines.result (Wrote (paragraph_bytes (rules_of e) c.args.width c.args.print.now c.args.text.now)
+    (g.W.Sink.state c.args.writer.now) (g.W.Sink.state c.write_lines.new.writer))) c.self.view_is c.write_lines.ensures.ok
 
-pub returns-in-Ok-lay_out-clause-err : goal.returns-in-Ok-lay_out-clause-err
-returns-in-Ok-lay_out-clause-err g c =
-    let rules = rules_of c.args.self.now in
-    let same = c.in-Ok-lay_out.ensures.ok ∙ ap (layout_of rules c.args.width) c.in-Ok.ensures.items in
-    subst (λ (bytes : List ℕ). StoppedAt c.in-Err-write.fault.written bytes (g.W.Sink.state c.args.writer.now) (g.W.Sink.state c.write.new.writer))
-    (ap (layout_bytes c.args.width c.args.print.now) same) c.in-Err-write.ensures.err
+pub returns-clause-err : goal.returns-clause-err
+returns-clause-err g c =
+    subst (λ (e : State). IfErr c.write_lines.result (λ fault. FailedAs fault (paragraph_bytes (rules_of e) c.args.width c.args.print.now c.args.text.now)
+    (g.W.Sink.state c.args.writer.now) (g.W.Sink.state c.write_lines.new.writer))) c.self.view_is c.write_lines.ensures.err
 
 -- where no line is printed, the direction is all there is
 pub returns-then-skips_lines-clause-ok : goal.returns-then-skips_lines-clause-ok
