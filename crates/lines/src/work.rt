@@ -93,7 +93,7 @@ pub(crate) struct Work {
     places: Vec<Place>,
     resolver: Resolver,
     // Of the last paragraph that was written.
-    kept: Option<Kept>,
+    kept: Kept,
 }
 
 impl Work {
@@ -110,7 +110,7 @@ impl Work {
             properties: Vec::new(alloc),
             places: Vec::new(alloc),
             resolver: Resolver::new(alloc),
-            kept: None,
+            kept: Kept::new(alloc),
         }
     }
 
@@ -134,21 +134,13 @@ impl Work {
             (record { tables = tables.now; option = option; nobreak = nobreak }) width print.now text.now)
             (W.state writer.old) (W.state writer.new)) }
     {
-        let kept = self.take_kept(alloc);
+        let kept = std::mem::replace(&mut self.kept, Kept::new(alloc));
         let Ok(parts) = self.parts(alloc, tables, option, nobreak, text, width, kept) else {
             return Err(PrintFault::Memory);
         };
         let result = parts.write(text, writer, width, print);
-        self.kept = Some(parts.into_kept());
+        self.kept = parts.into_kept();
         result
-    }
-
-    // The lists of the last paragraph that was written, or empty ones.
-    fn take_kept(&mut self, alloc: Global) -> Kept {
-        match self.kept.take() {
-            Some(kept) => kept,
-            None => Kept::new(alloc),
-        }
     }
 
     /// What a paragraph's layout consists of beside its text, put into some lists.
