@@ -6,8 +6,10 @@ pub mod KeptLemmas
 pub mod LayoutLemmas
 mod LevelLemmas
 mod OrderLemmas
+pub mod PageLemmas
 pub mod PlaceLemmas
 mod ShowLemmas
+pub mod SkippedLemmas
 mod SpaceLemmas
 pub mod VisualLemmas
 mod WorkedBytes

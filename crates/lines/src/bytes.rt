@@ -288,14 +288,27 @@ pub(crate) fn write_direction<W: Sink>(
         (W.state writer.old) (W.state writer.new) fault.written) }
     ensures counted { IfOk result (λ n. n ≤ (W.state writer.new).passed) }
 {
-    if !(print.basedir && line.is_first) {
+    write_base(writer, done, print.basedir && line.is_first, line.base)
+}
+
+// The direction of a paragraph of a base level, if it is asked for.
+pub(crate) fn write_base<W: Sink>(
+    writer: &mut W,
+    done: u64,
+    asked: bool,
+    base: u8,
+) -> Result<u64, WriteFault>
+    requires { done ≤ (W.state writer.old).passed }
+    ensures ok { IfOk result (λ n. PassedOn (if asked then direction_line base else []) done
+        (W.state writer.old) (W.state writer.new) n) }
+    ensures err { IfErr result (λ fault. StoppedIn (if asked then direction_line base else []) done
+        (W.state writer.old) (W.state writer.new) fault.written) }
+    ensures counted { IfOk result (λ n. n ≤ (W.state writer.new).passed) }
+{
+    if !asked {
         return Ok(done);
     }
-    let direction = if line.base % 2 == 1 {
-        b"RTL\n"
-    } else {
-        b"LTR\n"
-    };
+    let direction = if base % 2 == 1 { b"RTL\n" } else { b"LTR\n" };
     write_part(writer, done, direction)
 }
 

@@ -1,24 +1,24 @@
 //! What lays paragraphs out: the tables and options, and how much was analysed and filled.
-ghost use Rattle.std.specs.Prelude.{◌≡◌, ◌<◌, ◌≤◌, length, map, IfOk, IfErr, OnOk};
-ghost use Rattle.ucd.specs.Properties.{properties_of};
+ghost use Rattle.std.specs.Prelude.{◌≡◌, ◌<◌, ◌≤◌, [], length, map, IfOk, IfErr, OnOk, if◌then◌else◌};
+ghost use Rattle.device.specs.Device.{Wrote};
 ghost use Rattle.bidi.specs.Levels.{levels_of};
 ghost use Rattle.breaks.specs.Marks.{marks_of};
-ghost use Rattle.lines.specs.Bare.{with_ends};
-ghost use Rattle.lines.specs.Clusters.{cluster_ends};
-ghost use Rattle.lines.specs.Filling.{line_starts_of};
+ghost use Rattle.lines.specs.Bytes.{direction_line};
 ghost use Rattle.lines.specs.Layouts.{AreWithin, base_of, lines_of};
-ghost use Rattle.lines.specs.Places.{places_of};
-ghost use Rattle.lines.specs.Visual.{lines_from};
+ghost use Rattle.lines.specs.Pages.{paragraph_bytes};
+ghost use Rattle.lines.specs.Printing.{FailedAs};
 
-use crate::filling::line_starts;
+use crate::bytes::write_base;
 use crate::laid::Laid;
-use crate::places::{Place, take_places};
-use crate::visual::{Fill, show_lines};
-use bidi::{Base, Resolver, first_cut, is_cut};
-use breaks::{Mark, marks_into};
+use crate::print::{Print, PrintFault};
+use crate::visual::Fill;
+use crate::work::{Kept, Parts, Work};
+use bidi::{Base, base_level, first_cut, is_cut};
+use breaks::{Mark, marks_are_as_many};
+use device::Sink;
 use std::alloc::{AllocError, Global};
 use std::marker::Model;
-use ucd::{Properties, Tables};
+use ucd::Tables;
 
 /// How many characters a paragraph may have.
 pub const PARAGRAPH_LIMIT: usize = 1_048_576;
@@ -121,12 +121,12 @@ impl Engine {
         self.analysed = self.analysed.saturating_add(text.len() as u64);
         self.filled = self.filled.saturating_add(text.len() as u64);
         match self.parts(alloc, &text, width) {
-            Ok((base, levels, marks, lines)) => Ok(Laid {
+            Ok(parts) => Ok(Laid {
                 text,
-                base,
-                levels,
-                marks,
-                lines,
+                base: parts.base,
+                levels: parts.levels,
+                marks: parts.marks,
+                lines: parts.lines,
             }),
             Err(error) => Err((text, error)),
         }
@@ -149,28 +149,115 @@ impl Engine {
         Ok(fill)
     }
 
-    // What a paragraph's layout consists of beside its text.
-    fn parts(
+    /// Writes the lines of one paragraph at a width in columns, which is not 0, and keeps nothing of them.
+    /// Where there is no memory, nothing is written.
+    pub fn write_paragraph<W: Sink>(
         &mut self,
         alloc: Global,
         text: &[char],
         width: u16,
-    ) -> Result<(u8, Vec<u8>, Vec<Mark>, Fill), AllocError>
+        print: &Print,
+        writer: &mut W,
+    ) -> Result<(), PrintFault>
+        requires paragraph { IsParagraph (rules_of self.old) text.now }
+        requires width { 0 < width }
+        ensures ok { OnOk result (Wrote (paragraph_bytes (rules_of self.old) width print.now text.now)
+            (W.state writer.old) (W.state writer.new)) }
+        ensures err { IfErr result (λ fault.
+            FailedAs fault (paragraph_bytes (rules_of self.old) width print.now text.now)
+            (W.state writer.old) (W.state writer.new)) }
+        ensures at_most { LaysOutAtMost (length text.now) self.old self.new }
+        ensures rules { SameRules self.old self.new }
+    {
+        let len = text.len() as u64;
+        self.analysed = self.analysed.saturating_add(len);
+        if print.skips_lines() {
+            marks_are_as_many(&self.tables, text);
+            return self.write_base(text, print, writer);
+        }
+        self.filled = self.filled.saturating_add(len);
+        self.write_lines(alloc, text, width, print, writer)
+    }
+
+    // Writes the lines of a paragraph.
+    fn write_lines<W: Sink>(
+        &mut self,
+        alloc: Global,
+        text: &[char],
+        width: u16,
+        print: &Print,
+        writer: &mut W,
+    ) -> Result<(), PrintFault>
         requires { length text.now ≤ 1048576 }
-        ensures base { IfOk result (λ parts.
-            parts.0 ≡ (layout_of (rules_of self.old) width text.now).base) }
-        ensures levels { IfOk result (λ parts.
-            parts.1.items ≡ (layout_of (rules_of self.old) width text.now).levels) }
-        ensures marks { IfOk result (λ parts.
-            parts.2.items ≡ (layout_of (rules_of self.old) width text.now).marks) }
-        ensures lines { IfOk result (λ parts.
-            parts.3 ≡ (layout_of (rules_of self.old) width text.now).lines) }
-        ensures len { IfOk result (λ parts. length parts.1.items ≡ length text.now) }
-        ensures within { IfOk result (λ parts. AreWithin (length text.now) parts.3) }
+        ensures ok { OnOk result (Wrote (paragraph_bytes (rules_of self.old) width print.now text.now)
+            (W.state writer.old) (W.state writer.new)) }
+        ensures err { IfErr result (λ fault.
+            FailedAs fault (paragraph_bytes (rules_of self.old) width print.now text.now)
+            (W.state writer.old) (W.state writer.new)) }
         ensures same { self.new ≡ self.old }
     {
         let mut work = self.take_work(alloc);
-        let parts = work.parts(alloc, &self.tables, self.base, self.nobreak, text, width);
+        let result = work.write_paragraph(
+            alloc,
+            &self.tables,
+            self.base,
+            self.nobreak,
+            text,
+            width,
+            print,
+            writer,
+        );
+        self.keep(work);
+        result
+    }
+
+    // Writes the direction of a paragraph, if it is asked for.
+    fn write_base<W: Sink>(
+        &self,
+        text: &[char],
+        print: &Print,
+        writer: &mut W,
+    ) -> Result<(), PrintFault>
+        ensures ok { OnOk result (Wrote
+            (if print.now.basedir then direction_line (base_of (rules_of self.now) text.now) else [])
+            (W.state writer.old) (W.state writer.new)) }
+        ensures err { IfErr result (λ fault. FailedAs fault
+            (if print.now.basedir then direction_line (base_of (rules_of self.now) text.now) else [])
+            (W.state writer.old) (W.state writer.new)) }
+    {
+        let base = base_level(&self.tables, text, self.base);
+        match write_base(writer, 0, print.basedir, base) {
+            Ok(_) => Ok(()),
+            Err(fault) => Err(PrintFault::Write(fault)),
+        }
+    }
+
+    // What a paragraph's layout consists of beside its text.
+    fn parts(&mut self, alloc: Global, text: &[char], width: u16) -> Result<Parts, AllocError>
+        requires { length text.now ≤ 1048576 }
+        ensures base { IfOk result (λ parts.
+            parts.base ≡ (layout_of (rules_of self.old) width text.now).base) }
+        ensures levels { IfOk result (λ parts.
+            parts.levels.items ≡ (layout_of (rules_of self.old) width text.now).levels) }
+        ensures marks { IfOk result (λ parts.
+            parts.marks.items ≡ (layout_of (rules_of self.old) width text.now).marks) }
+        ensures lines { IfOk result (λ parts.
+            parts.lines ≡ (layout_of (rules_of self.old) width text.now).lines) }
+        ensures len { IfOk result (λ parts. length parts.levels.items ≡ length text.now) }
+        ensures within { IfOk result (λ parts. AreWithin (length text.now) parts.lines) }
+        ensures same { self.new ≡ self.old }
+    {
+        let mut work = self.take_work(alloc);
+        let kept = Kept::new(alloc);
+        let parts = work.parts(
+            alloc,
+            &self.tables,
+            self.base,
+            self.nobreak,
+            text,
+            width,
+            kept,
+        );
         self.keep(work);
         parts
     }
@@ -227,169 +314,4 @@ impl Engine {
             None => Work::new(alloc),
         }
     }
-}
-
-/// Lists that live for one paragraph, emptied and used again for the next: so a paragraph for which they
-/// have room takes memory for its layout alone.
-#[derive(Debug, Drop)]
-struct Work {
-    properties: Vec<Properties>,
-    places: Vec<Place>,
-    resolver: Resolver,
-}
-
-impl Work {
-    ghost use Rattle.ucd.specs.Properties.{properties_of};
-    ghost use Rattle.bidi.specs.Levels.{levels_of};
-    ghost use Rattle.breaks.specs.Marks.{marks_of};
-    ghost use Rattle.lines.specs.Layouts.{AreWithin, base_of, layout_of, lines_of};
-
-    fn new(alloc: Global) -> Work {
-        Work {
-            properties: Vec::new(alloc),
-            places: Vec::new(alloc),
-            resolver: Resolver::new(alloc),
-        }
-    }
-
-    // What a paragraph's layout consists of beside its text.
-    fn parts(
-        &mut self,
-        alloc: Global,
-        tables: &Tables,
-        option: Base,
-        nobreak: bool,
-        text: &[char],
-        width: u16,
-    ) -> Result<(u8, Vec<u8>, Vec<Mark>, Fill), AllocError>
-        requires { length text.now ≤ 1048576 }
-        ensures base { IfOk result (λ parts. parts.0 ≡ (layout_of
-            (record { tables = tables.now; option = option; nobreak = nobreak }) width text.now).base) }
-        ensures levels { IfOk result (λ parts. parts.1.items ≡ (layout_of
-            (record { tables = tables.now; option = option; nobreak = nobreak }) width text.now).levels) }
-        ensures marks { IfOk result (λ parts. parts.2.items ≡ (layout_of
-            (record { tables = tables.now; option = option; nobreak = nobreak }) width text.now).marks) }
-        ensures lines { IfOk result (λ parts. parts.3 ≡ (layout_of
-            (record { tables = tables.now; option = option; nobreak = nobreak }) width text.now).lines) }
-        ensures len { IfOk result (λ parts. length parts.1.items ≡ length text.now) }
-        ensures within { IfOk result (λ parts. AreWithin (length text.now) parts.3) }
-    {
-        take_properties(tables, text, &mut self.properties)?;
-        let properties = self.properties.as_slice();
-        let mut levels = Vec::with_capacity(alloc, text.len())?;
-        let base = self
-            .resolver
-            .resolve(tables, text, properties, option, &mut levels)?;
-        let mut marks = Vec::with_capacity(alloc, text.len())?;
-        marks_into(tables, text, properties, &mut marks)?;
-        let places = &mut self.places;
-        let lines = lines(
-            alloc, tables, option, nobreak, text, properties, places, base, &levels, &marks, width,
-        )?;
-        Ok((base, levels, marks, lines))
-    }
-
-    // The lines of a paragraph that is laid out.
-    fn fill(
-        &mut self,
-        alloc: Global,
-        tables: &Tables,
-        option: Base,
-        nobreak: bool,
-        text: &[char],
-        base: u8,
-        levels: &[u8],
-        marks: &[Mark],
-        width: u16,
-    ) -> Result<Fill, AllocError>
-        requires base { base
-            ≡ base_of (record { tables = tables.now; option = option; nobreak = nobreak }) text.now }
-        requires levels { levels.now ≡ levels_of tables.now text.now option }
-        requires len { length levels.now ≡ length text.now }
-        requires marks { marks.now ≡ marks_of tables.now text.now }
-        requires within { length text.now ≤ 1048576 }
-        ensures lines { IfOk result (λ lines. lines
-            ≡ lines_of (record { tables = tables.now; option = option; nobreak = nobreak }) width text.now) }
-        ensures within { IfOk result (AreWithin (length text.now)) }
-    {
-        take_properties(tables, text, &mut self.properties)?;
-        let properties = self.properties.as_slice();
-        let places = &mut self.places;
-        lines(
-            alloc, tables, option, nobreak, text, properties, places, base, levels, marks, width,
-        )
-    }
-}
-
-// What the tables say of the characters of a paragraph, in place of what the list has.
-fn take_properties(
-    tables: &Tables,
-    text: &[char],
-    properties: &mut Vec<Properties>,
-) -> Result<(), AllocError>
-    ensures { OnOk result (properties.new.items ≡ map (properties_of tables.now) text.now) }
-{
-    properties.clear();
-    properties.reserve(text.len())?;
-    for c in text {
-        properties.push(tables.properties(*c))?;
-    }
-    Ok(())
-}
-
-// The lines of a paragraph, of which all else is known.
-fn lines(
-    alloc: Global,
-    tables: &Tables,
-    option: Base,
-    nobreak: bool,
-    text: &[char],
-    properties: &[Properties],
-    places: &mut Vec<Place>,
-    base: u8,
-    levels: &[u8],
-    marks: &[Mark],
-    width: u16,
-) -> Result<Fill, AllocError>
-    requires properties { properties.now ≡ map (properties_of tables.now) text.now }
-    requires base { base
-        ≡ base_of (record { tables = tables.now; option = option; nobreak = nobreak }) text.now }
-    requires levels { levels.now ≡ levels_of tables.now text.now option }
-    requires len { length levels.now ≡ length text.now }
-    requires marks { marks.now ≡ marks_of tables.now text.now }
-    requires within { length text.now ≤ 1048576 }
-    ensures lines { IfOk result (λ lines. lines
-        ≡ lines_of (record { tables = tables.now; option = option; nobreak = nobreak }) width text.now) }
-    ensures within { IfOk result (AreWithin (length text.now)) }
-{
-    take_places(tables, text, properties, marks, places)?;
-    lines_of_places(
-        alloc, tables, nobreak, text, properties, places, base, levels, width,
-    )
-}
-
-// The lines of a paragraph by its places, of which it isn't known where clusters end.
-fn lines_of_places(
-    alloc: Global,
-    tables: &Tables,
-    nobreak: bool,
-    text: &[char],
-    properties: &[Properties],
-    places: &mut [Place],
-    base: u8,
-    levels: &[u8],
-    width: u16,
-) -> Result<Fill, AllocError>
-    requires properties { properties.now ≡ map (properties_of tables.now) text.now }
-    requires places { with_ends places.old (cluster_ends text.now) ≡ places_of tables.now text.now }
-    requires len { (length places.old ≡ length text.now) × (length levels.now ≡ length text.now) }
-    requires within { length text.now ≤ 1048576 }
-    ensures lines { IfOk result (λ lines. lines ≡ lines_from tables.now base text.now levels.now
-        (places_of tables.now text.now) (line_starts_of nobreak width (places_of tables.now text.now))) }
-    ensures within { IfOk result (AreWithin (length text.now)) }
-{
-    let starts = line_starts(alloc, text, places, width, nobreak)?;
-    show_lines(
-        alloc, tables, text, properties, base, levels, places, starts,
-    )
 }

@@ -14,23 +14,24 @@ use crate::places::Place;
 use breaks::Mark;
 use std::alloc::{AllocError, Global};
 
-/// Where each line of a paragraph starts, at a width. Where clusters end isn't known of the places: it
-/// is found, and put to them, for the first line that needs it.
+/// Puts where each line of a paragraph starts, at a width, in place of what a list has. Where clusters end
+/// isn't known of the places: it is found, and put to them, for the first line that needs it.
 pub fn line_starts(
     alloc: Global,
     text: &[char],
     places: &mut [Place],
     width: u16,
     nobreak: bool,
-) -> Result<Vec<u32>, AllocError>
+    starts: &mut Vec<u32>,
+) -> Result<(), AllocError>
     requires len { length places.old ≡ length text.now }
     requires within { length places.old ≤ 1048576 }
-    ensures lines { IfOk result (λ starts. starts.items
+    ensures lines { OnOk result (starts.new.items
         ≡ line_starts_of nobreak width (with_ends places.old (cluster_ends text.now))) }
-    ensures starts { IfOk result (λ starts. AreStarts (length text.now) starts.items) }
+    ensures starts { OnOk result (AreStarts (length text.now) starts.new.items) }
     ensures alike { OnOk result (AreAlike places.new places.old) }
 {
-    let mut starts = Vec::new(alloc);
+    starts.clear();
     let mut start = 0;
     let mut is_known = false;
     while start < places.len() {
@@ -39,7 +40,7 @@ pub fn line_starts(
         start += len;
         is_known = known;
     }
-    Ok(starts)
+    Ok(())
 }
 
 // How many characters the line takes that begins at `start`, and whether it is known of the places where

@@ -11,15 +11,17 @@ mod mirror;
 mod order;
 mod places;
 mod print;
+mod room;
 mod spaces;
 mod visual;
 mod visual_line;
+mod work;
 
 pub use bytes::WriteFault;
 pub use engine::{Engine, PARAGRAPH_LIMIT};
 pub use laid::Laid;
 pub use order::maps_are_inverse;
-pub use print::Print;
+pub use print::{Print, PrintFault};
 pub use visual::Fill;
 pub use visual_line::VisualLine;
 

@@ -1,4 +1,8 @@
-//! Which lines are printed of each line of a paragraph.
+//! Which lines are printed of each line of a paragraph, and how printing fails.
+ghost use Rattle.std.specs.Prelude.{◌≡◌};
+
+use crate::bytes::WriteFault;
+use thiserror::Error;
 
 /// What is printed of a line.
 #[derive(Clone, Copy, Debug, PartialEq, Eq)]
@@ -17,4 +21,26 @@ pub struct Print {
     pub nopad: bool,
     /// Characters as they are and not their mirrors.
     pub nomirror: bool,
+}
+
+impl Print {
+    ghost use Rattle.lines.specs.Printing.{skips_lines};
+
+    // Whether nothing is printed of a line but the direction, which needs no lines.
+    pub(crate) fn skips_lines(&self) -> bool
+        ensures { result ≡ skips_lines self.now }
+    {
+        self.novisual && !self.ltov && !self.vtol && !self.levels
+    }
+}
+
+/// Why the lines of a paragraph were not printed, or not all of them.
+#[derive(Clone, Copy, Debug, PartialEq, Eq, Error)]
+pub enum PrintFault {
+    /// Memory ran out, and nothing was written.
+    #[error("out of memory")]
+    Memory,
+    /// The sink failed.
+    #[error("{0}")]
+    Write(WriteFault),
 }

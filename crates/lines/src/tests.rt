@@ -3,6 +3,7 @@ ghost use Rattle.std.specs.Prelude.{◌<◌, IfOk};
 ghost use Rattle.lines.specs.Engine.{rules_of, SameRules};
 ghost use Rattle.lines.specs.Layouts.{AreLinesOf, IsLaidOut};
 
+mod printed;
 mod written;
 
 use crate::{Engine, Fill, Laid, PARAGRAPH_LIMIT, VisualLine};

@@ -16,6 +16,7 @@ ghost use Rattle.lines.specs.Visual.{lines_from};
 use crate::mirror::visual_chars;
 use crate::order::{identity, order};
 use crate::places::Place;
+use crate::room::make_room;
 use crate::spaces::reset_levels;
 use std::alloc::{AllocError, Global};
 use std::marker::Model;
@@ -56,31 +57,71 @@ impl Model for Fill {
         IsSound f.starts.items f.shown.items f.levels.items f.ltov.items f.vtol.items f.chars.items };
 }
 
-/// The lines of a paragraph that start at some places: L1 on each line, and L2 and L4 on its shown part.
+impl Fill {
+    /// The lists alone, of lines that are done with.
+    pub(crate) fn into_lists(self) -> Lists {
+        Lists {
+            starts: self.starts,
+            shown: self.shown,
+            levels: self.levels,
+            ltov: self.ltov,
+            vtol: self.vtol,
+            chars: self.chars,
+        }
+    }
+}
+
+/// Lists that a fill is put into, whatever they hold.
+#[derive(Debug, Drop)]
+pub(crate) struct Lists {
+    pub(crate) starts: Vec<u32>,
+    shown: Vec<Shown>,
+    levels: Vec<u8>,
+    ltov: Vec<u32>,
+    vtol: Vec<u32>,
+    chars: Vec<char>,
+}
+
+impl Lists {
+    /// Empty ones, which take no memory.
+    pub(crate) fn new(alloc: Global) -> Lists {
+        Lists {
+            starts: Vec::new(alloc),
+            shown: Vec::new(alloc),
+            levels: Vec::new(alloc),
+            ltov: Vec::new(alloc),
+            vtol: Vec::new(alloc),
+            chars: Vec::new(alloc),
+        }
+    }
+}
+
+/// The lines of a paragraph, put into lists of which the first says where they start: L1 on each line, and L2
+/// and L4 on its shown part.
 pub(crate) fn show_lines(
-    alloc: Global,
     tables: &Tables,
     text: &[char],
     properties: &[Properties],
     base: u8,
     levels: &[u8],
     places: &[Place],
-    starts: Vec<u32>,
+    lists: Lists,
 ) -> Result<Fill, AllocError>
     requires properties { properties.now ≡ map (properties_of tables.now) text.now }
     requires text { (length text.now ≡ length places.now) × (length text.now ≤ 1048576) }
     requires levels { length levels.now ≡ length text.now }
-    requires starts { AreStarts (length text.now) starts.items }
+    requires starts { AreStarts (length text.now) lists.starts.items }
     ensures lines { IfOk result (λ fill.
-        fill ≡ lines_from tables.now base text.now levels.now places.now starts.items) }
+        fill ≡ lines_from tables.now base text.now levels.now places.now lists.starts.items) }
     ensures within { IfOk result (Layouts.AreWithin (length text.now)) }
 {
-    let mut levels = copied(alloc, levels)?;
-    let mut ltov = numbers(alloc, text.len())?;
-    let mut vtol = numbers(alloc, text.len())?;
-    let mut chars = characters(alloc, text.len())?;
+    let starts = lists.starts;
+    let mut levels = copied(lists.levels, levels)?;
+    let mut ltov = numbers(lists.ltov, text.len())?;
+    let mut vtol = numbers(lists.vtol, text.len())?;
+    let mut chars = characters(lists.chars, text.len())?;
     let shown = show_each(
-        alloc,
+        lists.shown,
         tables,
         text,
         properties,
@@ -102,30 +143,37 @@ pub(crate) fn show_lines(
     })
 }
 
-// The levels before L1, to be changed.
-fn copied(alloc: Global, levels: &[u8]) -> Result<Vec<u8>, AllocError>
+// The levels before L1, to be changed, in place of what a list has.
+fn copied(mut list: Vec<u8>, levels: &[u8]) -> Result<Vec<u8>, AllocError>
     ensures { IfOk result (λ copy. copy.items ≡ levels.now) }
 {
-    levels.to_vec(alloc)
+    list.clear();
+    make_room(&mut list, levels.len())?;
+    list.extend_from_slice(levels)?;
+    Ok(list)
 }
 
-// Room for a number of each character.
-fn numbers(alloc: Global, len: usize) -> Result<Vec<u32>, AllocError>
+// A list with a number for each character. What it has stays, since all that is read is written before.
+fn numbers(mut list: Vec<u32>, len: usize) -> Result<Vec<u32>, AllocError>
     ensures { IfOk result (λ items. length items.items ≡ len) }
 {
-    vec![in alloc; 0; len]
+    make_room(&mut list, len)?;
+    list.resize(len, 0)?;
+    Ok(list)
 }
 
-// Room for so many characters.
-fn characters(alloc: Global, len: usize) -> Result<Vec<char>, AllocError>
+// A list of so many characters, of which the same holds.
+fn characters(mut list: Vec<char>, len: usize) -> Result<Vec<char>, AllocError>
     ensures { IfOk result (λ items. length items.items ≡ len) }
 {
-    vec![in alloc; '\0'; len]
+    make_room(&mut list, len)?;
+    list.resize(len, '\0')?;
+    Ok(list)
 }
 
 // Writes what belongs to each line to its place, over the levels before L1.
 fn show_each(
-    alloc: Global,
+    list: Vec<Shown>,
     tables: &Tables,
     text: &[char],
     properties: &[Properties],
@@ -148,7 +196,9 @@ fn show_each(
         (length starts.now) shown.items levels.new ltov.new vtol.new chars.new) }
     ensures len { IfOk result (λ shown. length shown.items ≡ length starts.now) }
 {
-    let mut shown = Vec::with_capacity(alloc, starts.len())?;
+    let mut shown = list;
+    shown.clear();
+    make_room(&mut shown, starts.len())?;
     let mut k = 0;
     while k < starts.len() {
         let start = starts[k] as usize;

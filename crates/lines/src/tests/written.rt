@@ -3,7 +3,7 @@ use crate::{Print, VisualLine, WriteFault};
 use device::ToWrite;
 use std::test::Fail;
 
-const PLAIN: Print = Print {
+pub(crate) const PLAIN: Print = Print {
     novisual: false,
     basedir: false,
     ltov: false,
@@ -13,7 +13,7 @@ const PLAIN: Print = Print {
     nomirror: false,
 };
 
-const ALL: Print = Print {
+pub(crate) const ALL: Print = Print {
     basedir: true,
     ltov: true,
     vtol: true,
@@ -66,13 +66,13 @@ const ROWS: [(u16, Print, &str); 5] = [
     (80, LEVELS, "1 1 2 2\n"),
 ];
 
-const UNMIRRORED: Print = Print {
+pub(crate) const UNMIRRORED: Print = Print {
     nomirror: true,
     nopad: true,
     ..PLAIN
 };
 
-const LEVELS: Print = Print {
+pub(crate) const LEVELS: Print = Print {
     novisual: true,
     levels: true,
     ..PLAIN

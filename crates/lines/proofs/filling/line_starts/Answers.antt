@@ -14,9 +14,9 @@ unfolding line_starts_of
 loop-start-init c = record {
   alike = refl;
   known_is = λ no. cc;
-  whole = ap (λ xs. xs ++ starts c.args.nobreak c.args.width 0 0 (with_ends c.args.places.now (cluster_ends c.args.text.now))) (sym c.new-starts.ensures.items);
+  whole = ap (λ xs. xs ++ starts c.args.nobreak c.args.width 0 0 (with_ends c.args.places.now (cluster_ends c.args.text.now))) (sym c.clear.ensures.items);
   within = omega arith;
-  rising = subst (AreStarts 0) (sym c.new-starts.ensures.items) (no_starts 0);
+  rising = subst (AreStarts 0) (sym c.clear.ensures.items) (no_starts 0);
 }
 
 pub loop-start-preserved : goal.loop-start-preserved

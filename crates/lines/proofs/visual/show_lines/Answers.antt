@@ -6,20 +6,20 @@ use Rattle.lines.proofs.visual.show_lines.Goals as goal
 use Rattle.lines.proofs.visual.show_lines.Goals.{In_ok-shown}
 
 -- the lines as they are written, over the levels before L1
-shown : (c : In_ok-shown) → AreShown c.args.tables.now c.args.base c.args.text.now c.args.levels.now c.args.places.now c.args.starts.items (length c.args.starts.items)
+shown : (c : In_ok-shown) → AreShown c.args.tables.now c.args.base c.args.text.now c.args.levels.now c.args.places.now c.args.lists.starts.items (length c.args.lists.starts.items)
     c.in_ok-shown.shown.items c.show_each.new.levels c.show_each.new.ltov c.show_each.new.vtol c.show_each.new.chars
 shown c =
     let old : c.deref_mut.result.now ≡ c.args.levels.now = c.deref_mut.ensures.value ∙ c.in_ok-levels.ensures in
-    let starts : c.deref.result.now ≡ c.args.starts.items = c.deref.ensures.value in
-    subst (λ (xs : List ℕ). AreShown c.args.tables.now c.args.base c.args.text.now xs c.args.places.now c.args.starts.items (length c.args.starts.items)
+    let starts : c.deref.result.now ≡ c.args.lists.starts.items = c.deref.ensures.value in
+    subst (λ (xs : List ℕ). AreShown c.args.tables.now c.args.base c.args.text.now xs c.args.places.now c.args.lists.starts.items (length c.args.lists.starts.items)
     c.in_ok-shown.shown.items c.show_each.new.levels c.show_each.new.ltov c.show_each.new.vtol c.show_each.new.chars) old
     (subst (λ (ss : List ℕ). AreShown c.args.tables.now c.args.base c.args.text.now c.deref_mut.result.now c.args.places.now ss (length ss)
     c.in_ok-shown.shown.items c.show_each.new.levels c.show_each.new.ltov c.show_each.new.vtol c.show_each.new.chars) starts c.in_ok-shown.ensures.lines)
 
 -- as many as the starts
-count : (c : In_ok-shown) → length c.in_ok-shown.shown.items ≡ length c.args.starts.items
+count : (c : In_ok-shown) → length c.in_ok-shown.shown.items ≡ length c.args.lists.starts.items
 count c =
-    let starts : length c.deref.result.now ≡ length c.args.starts.items = ap length c.deref.ensures.value in
+    let starts : length c.deref.result.now ≡ length c.args.lists.starts.items = ap length c.deref.ensures.value in
     c.in_ok-shown.ensures.len ∙ starts
 
 -- the levels are as many as the characters

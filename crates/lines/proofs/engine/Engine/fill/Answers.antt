@@ -1,7 +1,12 @@
-use Rattle.std.proofs.Common.{◌≡◌, ◌∙◌, IfOk, ap, subst}
+use Rattle.std.proofs.Common.{◌≡◌, ◌∙◌, IfOk, ap, subst, sym}
+use Rattle.bidi.specs.Levels.{levels_of}
 use Rattle.lines.specs.Engine.{rules_of}
-use Rattle.lines.specs.Layouts.{Rules, lines_of}
+use Rattle.lines.specs.Layouts.{Rules, State, lines_of}
 use Rattle.lines.proofs.engine.Engine.fill.Goals as goal
+
+pub fill-fill-requires-clause-levels : goal.fill-fill-requires-clause-levels
+fill-fill-requires-clause-levels c =
+    c.requires.levels ∙ sym (ap (λ (s : State). levels_of (rules_of s).tables c.args.text.now (rules_of s).option) (c.self.view_is ∙ c.take_work-work.ensures))
 
 pub returns-clause-lines : goal.returns-clause-lines
 returns-clause-lines c =

@@ -6,7 +6,7 @@ use Rattle.lines.specs.Places.{places_of}
 use Rattle.lines.specs.Visual.{Line, lines_from}
 use Rattle.lines.proofs.BareLemmas.{same_lines, with_alike}
 use Rattle.lines.proofs.ClusterLemmas.{length-cluster_ends}
-use Rattle.lines.proofs.engine.lines_of_places.Goals as goal
+use Rattle.lines.proofs.work.lines_of_places.Goals as goal
 
 -- what the places lack is found where it is asked for
 pub returns-clause-lines : goal.returns-clause-lines
@@ -16,11 +16,11 @@ returns-clause-lines c =
     let old = c.args.places.now in
     let new = c.line_starts.new.places in
     let whole = places_of tables text in
-    let starts = c.in_ok-starts.starts.items in
+    let starts = c.line_starts.new.starts.items in
     let alike : AreAlike new whole =
-    c.in_ok-starts.ensures.alike ∙ sym (with_alike old (cluster_ends text) (length-cluster_ends text ∙ sym c.requires.len.0)) ∙ ap (map bare) c.requires.places in
+    c.in_ok-line_starts.ensures.alike ∙ sym (with_alike old (cluster_ends text) (length-cluster_ends text ∙ sym c.requires.len.0)) ∙ ap (map bare) c.requires.places in
     let starts_are : starts ≡ line_starts_of c.args.nobreak c.args.width whole =
-    c.in_ok-starts.ensures.lines ∙ ap (line_starts_of c.args.nobreak c.args.width) c.requires.places in
+    c.in_ok-line_starts.ensures.lines ∙ ap (line_starts_of c.args.nobreak c.args.width) c.requires.places in
     let lines : lines_from tables c.args.base text c.args.levels.now new starts ≡ lines_from tables c.args.base text c.args.levels.now whole (line_starts_of c.args.nobreak c.args.width whole) =
     same_lines tables c.args.base text c.args.levels.now new whole starts alike ∙ ap (lines_from tables c.args.base text c.args.levels.now whole) starts_are in
     subst (λ (ls : List Line). IfOk c.show_lines.result (λ lines. lines ≡ ls)) lines c.show_lines.ensures.lines

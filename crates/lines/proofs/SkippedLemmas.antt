@@ -1,0 +1,106 @@
+-- A paragraph of which no line is printed: the direction is all there is.
+use Rattle.std.proofs.Common.{◌≡◌, ◌∙◌, ℕ, suc, ◌+◌, ◌<◌, ◌==◌, Bool, true, false, ◌&&◌, not, List, [], ◌∷◌, ◌++◌, length, if◌then◌else◌, refl, sym, ap, arith}
+use Rattle.std.specs.List.{enumerate_from, flat_map}
+use Rattle.std.proofs.lemmas.Bool.Decides.{nat_tests}
+use Rattle.std.proofs.lemmas.List.{append-nil}
+use Rattle.ucd.specs.declared.tables.Tables.{Tables}
+use Rattle.breaks.specs.Marks.{marks_of}
+use Rattle.breaks.specs.declared.mark.Mark.{Mark}
+use Rattle.bidi.specs.Levels.{levels_of}
+use Rattle.lines.specs.Bytes.{direction_line, line_bytes, numbers_line, visual_line}
+use Rattle.lines.specs.Clusters.{cluster_ends}
+use Rattle.lines.specs.Filling.{line_starts_of}
+use Rattle.lines.specs.Layouts.{IsParagraph, Rules, base_of, lines_of}
+use Rattle.lines.specs.Pages.{lines_bytes, paragraph_bytes}
+use Rattle.lines.specs.Places.{places, places_of}
+use Rattle.lines.specs.Printing.{skips_lines}
+use Rattle.lines.specs.Visual.{Line, Visual, lines_from, visual_of}
+use Rattle.lines.specs.declared.places.Place.{Place}
+use Rattle.lines.specs.declared.print.Print.{Print}
+use Rattle.lines.proofs.ClusterLemmas.{length-cluster_ends}
+
+-- ---- the bytes of a line
+
+direction_alone : (a b c d : Bool) (xs ys zs us vs : List ℕ) → (a && (not b && (not c && not d))) ≡ true
+    → (if a then [] else xs) ++ ys ++ (if b then zs else []) ++ (if c then us else []) ++ (if d then vs else []) ≡ ys
+direction_alone false b c d xs ys zs us vs skips = cc
+direction_alone true true c d xs ys zs us vs skips = cc
+direction_alone true false true d xs ys zs us vs skips = cc
+direction_alone true false false true xs ys zs us vs skips = cc
+direction_alone true false false false xs ys zs us vs skips = append-nil ((ys ++ []) ++ []) ∙ append-nil (ys ++ []) ∙ append-nil ys
+
+on_first : (asked : Bool) (xs : List ℕ) → (if asked && true then xs else []) ≡ (if asked then xs else [])
+on_first true xs = refl
+on_first false xs = refl
+
+on_others : (asked : Bool) (xs : List ℕ) → (if asked && false then xs else []) ≡ []
+on_others true xs = refl
+on_others false xs = refl
+
+module _ (width : ℕ) (print : Print) (skips : skips_lines print ≡ true) where
+  line_is : (visual : Visual) → line_bytes width print visual ≡ (if print.basedir && visual.is_first then direction_line visual.base else [])
+  line_is visual =
+      direction_alone print.novisual print.ltov print.vtol print.levels (visual_line width print visual)
+      (if print.basedir && visual.is_first then direction_line visual.base else [])
+      (numbers_line visual.ltov) (numbers_line visual.vtol) (numbers_line visual.levels) skips
+
+  module _ (base : ℕ) (text : List ℕ) where
+    abbrev bytes_at : ℕ × Line → List ℕ
+    bytes_at nth = line_bytes width print (visual_of base text nth.0 nth.1)
+
+    first_is : (line : Line) → bytes_at (0, line) ≡ (if print.basedir then direction_line base else [])
+    first_is line = line_is (visual_of base text 0 line) ∙ on_first print.basedir (direction_line base)
+
+    other_is : (k : ℕ) (line : Line) → 0 < k → bytes_at (k, line) ≡ []
+    other_is k line behind =
+        let second : (k == 0) ≡ false = grind (arith, nat_tests, behind) in
+        line_is (visual_of base text k line)
+        ∙ ap (λ first. if print.basedir && first then direction_line base else []) second ∙ on_others print.basedir (direction_line base)
+
+    others_are : (k : ℕ) (lines : List Line) → 0 < k → flat_map bytes_at (enumerate_from k lines) ≡ []
+    others_are k [] behind = refl
+    others_are k (line ∷ lines) behind =
+        ap (λ front. front ++ flat_map bytes_at (enumerate_from (k + 1) lines)) (other_is k line behind) ∙ others_are (k + 1) lines (omega arith)
+
+    all_are : (lines : List Line) → 0 < length lines → lines_bytes width print base text lines ≡ (if print.basedir then direction_line base else [])
+    all_are [] some = absurd (omega (arith, some))
+    all_are (line ∷ lines) some =
+        ap (λ rest. bytes_at (0, line) ++ rest) (others_are 1 lines (omega arith)) ∙ append-nil (bytes_at (0, line)) ∙ first_is line
+
+-- ---- a paragraph has a line
+
+length-places : (t : Tables) (text : List ℕ) (marks : List Mark) (clusters : List Bool) → length marks ≡ length text → length clusters ≡ length text
+    → length (places t text marks clusters) ≡ length text
+length-places t [] marks clusters m c = refl
+length-places t (x ∷ text) [] clusters m c = absurd (omega (arith, m))
+length-places t (x ∷ text) (mark ∷ marks) [] m c = absurd (omega (arith, c))
+length-places t (x ∷ text) (mark ∷ marks) (ends ∷ clusters) m c = ap suc (length-places t text marks clusters (omega (arith, m)) (omega (arith, c)))
+
+some_starts : (nobreak : Bool) (width : ℕ) (ps : List Place) → 0 < length ps → 0 < length (line_starts_of nobreak width ps)
+unfolding line_starts_of
+some_starts nobreak width [] some = some
+some_starts nobreak width (p ∷ ps) some = omega arith
+
+some_from : (tables : Tables) (base : ℕ) (text levels : List ℕ) (ps : List Place) (starts : List ℕ) → 0 < length starts → 0 < length (lines_from tables base text levels ps starts)
+some_from tables base text levels ps [] some = some
+some_from tables base text levels ps (s ∷ []) some = omega arith
+some_from tables base text levels ps (s ∷ t ∷ starts) some = omega arith
+
+some_text : (rules : Rules) (text : List ℕ) → IsParagraph rules text → 0 < length text
+some_text rules [] paragraph = let bad = paragraph.whole in cc
+some_text rules (x ∷ text) paragraph = omega arith
+
+some_lines : (rules : Rules) (width : ℕ) (text : List ℕ) → IsParagraph rules text → length (marks_of rules.tables text) ≡ length text → 0 < length (lines_of rules width text)
+unfolding places_of
+some_lines rules width text paragraph marks =
+    let ps : List Place = places_of rules.tables text in
+    let size = length-places rules.tables text (marks_of rules.tables text) (cluster_ends text) marks (length-cluster_ends text) in
+    let some : 0 < length ps = omega (arith, size, some_text rules text paragraph) in
+    some_from rules.tables (base_of rules text) text (levels_of rules.tables text rules.option) ps (line_starts_of rules.nobreak width ps)
+    (some_starts rules.nobreak width ps some)
+
+pub direction_only : (rules : Rules) (width : ℕ) (print : Print) (text : List ℕ) → skips_lines print ≡ true → IsParagraph rules text
+    → length (marks_of rules.tables text) ≡ length text
+    → (if print.basedir then direction_line (base_of rules text) else []) ≡ paragraph_bytes rules width print text
+direction_only rules width print text skips paragraph marks =
+    sym (all_are width print skips (base_of rules text) text (lines_of rules width text) (some_lines rules width text paragraph marks))

@@ -1,0 +1,18 @@
+use Rattle.std.proofs.Common.{List, ℕ, IfErr, OnOk, ap₂, subst}
+use Rattle.device.specs.Device.{Wrote}
+use Rattle.lines.specs.Pages.{lines_bytes}
+use Rattle.lines.specs.Printing.{FailedAs}
+use Rattle.lines.specs.Visual.{Line}
+use Rattle.lines.proofs.work.Work.write_paragraph.Goals as goal
+
+pub returns-clause-ok : goal.returns-clause-ok
+returns-clause-ok g c =
+    let bytes = λ (base : ℕ) (lines : List Line). lines_bytes c.args.width c.args.print.now base c.args.text.now lines in
+    subst (λ (bs : List ℕ). OnOk c.write-result.result (Wrote bs (g.W.Sink.state c.args.writer.now) (g.W.Sink.state c.write-result.new.writer)))
+    (ap₂ bytes c.in-Ok.ensures.base c.in-Ok.ensures.lines) c.write-result.ensures.ok
+
+pub returns-clause-err : goal.returns-clause-err
+returns-clause-err g c =
+    let bytes = λ (base : ℕ) (lines : List Line). lines_bytes c.args.width c.args.print.now base c.args.text.now lines in
+    subst (λ (bs : List ℕ). IfErr c.write-result.result (λ fault. FailedAs fault bs (g.W.Sink.state c.args.writer.now) (g.W.Sink.state c.write-result.new.writer)))
+    (ap₂ bytes c.in-Ok.ensures.base c.in-Ok.ensures.lines) c.write-result.ensures.err
