@@ -2,7 +2,6 @@ pub mod CommandLineLemmas
 pub mod DefaultLemmas
 pub mod Fronts
 pub mod Devices
-pub mod PageLemmas
 pub mod PieceLemmas
 pub mod PushLemmas
 pub mod StepLemmas

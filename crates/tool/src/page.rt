@@ -3,10 +3,10 @@
 ghost use Rattle.std.specs.Prelude.{◌≡◌, ◌++◌, ◌<◌, [], OnOk};
 ghost use Rattle.lines.specs.Engine.{rules_of, SameRules};
 ghost use Rattle.lines.specs.Layouts.{IsParagraph};
-ghost use Rattle.lines.specs.Pages.{layout_bytes, paragraph_bytes};
+ghost use Rattle.lines.specs.Pages.{paragraph_bytes};
 
 use device::Sink;
-use lines::{Engine, Laid, Print};
+use lines::{Engine, Print};
 use std::alloc::{AllocError, Global};
 use std::io::ErrorKind;
 
@@ -77,25 +77,8 @@ pub fn push_paragraph(
         ++ paragraph_bytes (rules_of engine.old) width print.now paragraph.now) }
     ensures rules { SameRules engine.old engine.new }
 {
-    let text = Vec::from_slice(alloc, paragraph)?;
-    match engine.lay_out(alloc, text, width) {
-        Ok(laid) => push_lines(page, &laid, width, print),
-        Err((_, error)) => Err(error),
+    match engine.write_paragraph(alloc, paragraph, width, print, page) {
+        Ok(()) => Ok(()),
+        Err(_) => Err(AllocError),
     }
-}
-
-// Adds the lines of a paragraph that is laid out.
-fn push_lines(page: &mut Page, laid: &Laid, width: u16, print: &Print) -> Result<(), AllocError>
-    ensures { OnOk result (page.new.bytes.items
-        ≡ page.old.bytes.items ++ layout_bytes width print.now laid.now) }
-{
-    for n in 0..laid.line_count() {
-        let Some(line) = laid.line(n) else {
-            unreachable!()
-        };
-        let Ok(()) = line.write(page, width, print) else {
-            return Err(AllocError);
-        };
-    }
-    Ok(())
 }

@@ -98,6 +98,24 @@ impl Write for Short<'_> {
     }
 }
 
+// Gives a letter and a line feed in turns, and never ends.
+#[derive(Drop)]
+struct Endless<'a> {
+    given: &'a mut usize,
+}
+
+impl Read for Endless<'_> {
+    fn read(&mut self, buf: &mut [u8]) -> io::Result<usize> {
+        let mut is_letter = self.given.is_multiple_of(2);
+        for byte in buf.iter_mut() {
+            *byte = if is_letter { b'a' } else { b'\n' };
+            is_letter = !is_letter;
+        }
+        *self.given = self.given.saturating_add(buf.len());
+        Ok(buf.len())
+    }
+}
+
 pub const LINES: Print = Print {
     novisual: false,
     basedir: false,
@@ -164,7 +182,7 @@ fn written(
 // Options, a text, and its lines.
 type Row<'a> = (&'a str, &'a str, &'a str);
 
-const ROWS: [Row<'_>; 30] = [
+const ROWS: [Row<'_>; 32] = [
     ("--ucd D", "", ""),
     ("--ucd D", "abc\n", "abc\n"),
     ("--ucd D", "abc", "abc\n"),
@@ -255,6 +273,8 @@ const ROWS: [Row<'_>; 30] = [
     ("--ucd D --novisual --basedir", "\r\n", "LTR\n"),
     ("--ucd D --novisual --basedir", "\n\r", "LTR\nLTR\n"),
     ("--ucd D --novisual --basedir", "1 \u{627}", "RTL\n"),
+    ("--ucd D", "a\r\nb", "a\nb\n"),
+    ("--ucd D", "\u{1f30d}a\u{1f30d}", "\u{1f30d}a\u{1f30d}\n"),
 ];
 
 // A reader that gives so many bytes at a time.
@@ -503,4 +523,26 @@ fn long_paragraphs(rt: HostRuntime) -> Result<(), Fail> {
     check_letters(&rt, alloc, 1_048_576, &lines, Ok(()))?;
     let end = Err(RunFault::ParagraphTooLong);
     check_letters(&rt, alloc, 1_048_577, b"\n", end)
+}
+
+// A cut at the limit doesn't help, and no more is read behind it than a reader gives at a time.
+#[test]
+fn letters_up_to_a_late_cut(rt: HostRuntime) -> Result<(), Fail> {
+    let alloc = rt.alloc();
+    let text = repeated(alloc, b"", b"a", 1_048_576, b"\n")?;
+    let end = Err(RunFault::ParagraphTooLong);
+    check_cases(&rt, alloc, &[("--ucd D --nobreak", &text, b"", end)])
+}
+
+#[test]
+fn reading_stops_where_writing_does(rt: HostRuntime) -> Result<(), Fail> {
+    let alloc = rt.alloc();
+    let mut given = 0;
+    let endless = Endless { given: &mut given };
+    let mut engine = engine(alloc, Base::WeakLtr, false)?;
+    let (taken, result) = lines_of(alloc, &mut engine, 80, &LINES, endless, 1000);
+    assert_eq!(rt; result, Err(RunFault::Write(1000)));
+    assert_eq!(rt; taken.len(), 1000);
+    assert!(rt; given <= 1000 + 4_259_844);
+    Ok(())
 }

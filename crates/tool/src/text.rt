@@ -180,6 +180,9 @@ impl Held {
         ensures text { self.new.text.items ≡ drop (length self.old.text.items - len) self.old.text.items }
         ensures same { self.new ≡ record self.old { text = self.new.text } }
     {
+        if len == self.text.len() {
+            return;
+        }
         let start = self.text.len() - len;
         self.text.copy_within(start.., 0);
         self.text.truncate(len);
