@@ -3,12 +3,14 @@
 
 mod base_session;
 mod edits;
+mod kept;
 mod region;
 mod scan;
 mod touched;
 
 pub use base_session::BaseSession;
 pub use edits::{Edit, EditFault, ParDamage, TEXT_LIMIT};
+pub use kept::Kept;
 
 #[cfg(test)]
 mod tests;
