@@ -1,5 +1,11 @@
 mod ChangeLemmas
+mod EdgeLemmas
+mod EditLemmas
+mod LineLemmas
+mod OpenLemmas
+mod JoinedLemmas
 mod RegionLemmas
+mod RegionParts
 mod RunLemmas
 mod ScanLemmas
 mod SessionLemmas

@@ -9,7 +9,7 @@ use Rattle.session.specs.Kept.{text_of}
 use Rattle.session.specs.Sessions.{State, IsLaidOut, Makes, Refuses}
 use Rattle.session.specs.declared.edits.Edit.{Edit}
 use Rattle.session.specs.declared.edits.EditFault.{EditFault}
-use Rattle.session.specs.declared.edits.EditFault.TheVariants.{OutOfRange, TextTooLong, ParagraphTooLong, NoMemory}
+use Rattle.session.specs.declared.edits.EditFault.TheVariants.{OutOfRange, WidthOutOfRange, TextTooLong, ParagraphTooLong, NoMemory}
 use Rattle.session.specs.declared.edits.ParDamage.{ParDamage}
 use Rattle.session.proofs.SessionLemmas.{cut_of-same}
 
@@ -39,6 +39,7 @@ record HasMoved (change : Change) (old new : State) : Type 0 where
 moved : (change : Change) (old new : State) (result : Result ParDamage EditFault) → IfOk result (Makes change old new) → IfErr result (Refuses change old new) → (result ≡ Err NoMemory → ⊥) → HasMoved change old new
 moved change old new (Ok damage) m r other = record { text = m.text ∙ sym (after_one-accepted (cut_of old.engine) (text_of old.kept) change m.accepted); laid_out = m.laid_out; rules = m.rules }
 moved change old new (Err OutOfRange) m r other = record { text = ap text_of r.kept ∙ sym (after_one-refused (cut_of old.engine) (text_of old.kept) change OutOfRange r.reason); laid_out = r.laid_out; rules = r.rules }
+moved change old new (Err WidthOutOfRange) m r other = record { text = ap text_of r.kept ∙ sym (after_one-refused (cut_of old.engine) (text_of old.kept) change WidthOutOfRange r.reason); laid_out = r.laid_out; rules = r.rules }
 moved change old new (Err TextTooLong) m r other = record { text = ap text_of r.kept ∙ sym (after_one-refused (cut_of old.engine) (text_of old.kept) change TextTooLong r.reason); laid_out = r.laid_out; rules = r.rules }
 moved change old new (Err ParagraphTooLong) m r other = record { text = ap text_of r.kept ∙ sym (after_one-refused (cut_of old.engine) (text_of old.kept) change ParagraphTooLong r.reason); laid_out = r.laid_out; rules = r.rules }
 moved change old new (Err NoMemory) m r other = absurd (other refl)
@@ -73,13 +74,14 @@ HasRun-stays start old new edits n change (Err fault) run refused e = record {
 
 -- what the test for want of memory tells
 module _ (same_damage : ParDamage → ParDamage → Bool) (same_fault : EditFault → EditFault → Bool) where
-  pub lacks_memory : same_fault OutOfRange NoMemory ≡ false → same_fault TextTooLong NoMemory ≡ false → same_fault ParagraphTooLong NoMemory ≡ false
+  pub lacks_memory : same_fault OutOfRange NoMemory ≡ false → same_fault WidthOutOfRange NoMemory ≡ false → same_fault TextTooLong NoMemory ≡ false → same_fault ParagraphTooLong NoMemory ≡ false
       → (result : Result ParDamage EditFault) → result_eq same_damage same_fault result (Err NoMemory) ≡ true → result ≡ Err NoMemory
-  lacks_memory a b d (Ok damage) e = absurd (both_ways false refl e)
-  lacks_memory a b d (Err OutOfRange) e = absurd (both_ways (same_fault OutOfRange NoMemory) a e)
-  lacks_memory a b d (Err TextTooLong) e = absurd (both_ways (same_fault TextTooLong NoMemory) b e)
-  lacks_memory a b d (Err ParagraphTooLong) e = absurd (both_ways (same_fault ParagraphTooLong NoMemory) d e)
-  lacks_memory a b d (Err NoMemory) e = refl
+  lacks_memory a w b d (Ok damage) e = absurd (both_ways false refl e)
+  lacks_memory a w b d (Err OutOfRange) e = absurd (both_ways (same_fault OutOfRange NoMemory) a e)
+  lacks_memory a w b d (Err WidthOutOfRange) e = absurd (both_ways (same_fault WidthOutOfRange NoMemory) w e)
+  lacks_memory a w b d (Err TextTooLong) e = absurd (both_ways (same_fault TextTooLong NoMemory) b e)
+  lacks_memory a w b d (Err ParagraphTooLong) e = absurd (both_ways (same_fault ParagraphTooLong NoMemory) d e)
+  lacks_memory a w b d (Err NoMemory) e = refl
 
   pub has_memory : same_fault NoMemory NoMemory ≡ true → (result : Result ParDamage EditFault) → result_eq same_damage same_fault result (Err NoMemory) ≡ false → result ≡ Err NoMemory → ⊥
   has_memory alike result e is = both_ways (result_eq same_damage same_fault result (Err NoMemory)) e (ap (λ r. result_eq same_damage same_fault r (Err NoMemory)) is ∙ alike)

@@ -12,7 +12,7 @@ use Rattle.session.specs.Kept.{from_scratch, pars_of, text_of}
 use Rattle.session.specs.Sessions.{State, IsLaidOut, Opens, OpensNot, Makes, Refuses, IsAnswerFor, CountsAtMost, AreTouched, region_change, view_of, views_of, texts_of, text_of_all}
 use Rattle.session.specs.Touched.{fresh, IsDamage}
 use Rattle.session.specs.declared.edits.EditFault.{EditFault}
-use Rattle.session.specs.declared.edits.EditFault.TheVariants.{OutOfRange, TextTooLong, ParagraphTooLong, NoMemory}
+use Rattle.session.specs.declared.edits.EditFault.TheVariants.{OutOfRange, WidthOutOfRange, TextTooLong, ParagraphTooLong, NoMemory}
 use Rattle.session.specs.declared.region.Paragraph.{Paragraph}
 use Rattle.session.specs.declared.touched.Touched.{Touched}
 use Rattle.session.proofs.ChangeLemmas.{IsSpliced, IsSpliced-from_touched, region_of, length-changed_text}
@@ -113,6 +113,7 @@ RisesBy-self n engine = record { least = omega arith; most = omega arith }
 -- a refusal, with the engine as it was or as far as it went
 pub counts-at_most : (fault : EditFault) (n : ℕ) (engine : BaseEngine) → CountsAtMost fault n engine engine
 counts-at_most OutOfRange n engine = refl
+counts-at_most WidthOutOfRange n engine = refl
 counts-at_most TextTooLong n engine = refl
 counts-at_most ParagraphTooLong n engine = refl
 counts-at_most NoMemory n engine = RisesBy-self n engine

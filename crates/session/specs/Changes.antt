@@ -45,6 +45,10 @@ are_within pars = list_all (λ p. nat_le (length p) paragraph_limit) pars
 abbrev pub is_within_limit : (ℕ → ℕ → Bool) → List ℕ → Bool
 is_within_limit is_cut text = are_within (paragraphs is_cut text)
 
+-- why paragraphs can't be kept, where their text isn't too long
+abbrev pub paragraphs_refusal : (ℕ → ℕ → Bool) → List ℕ → Option EditFault
+paragraphs_refusal is_cut text = if is_within_limit is_cut text then None else Some ParagraphTooLong
+
 -- why a text can't be kept
 abbrev pub text_refusal : (ℕ → ℕ → Bool) → List ℕ → Option EditFault
 text_refusal is_cut text =

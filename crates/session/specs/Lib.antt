@@ -1,4 +1,7 @@
+pub mod Calls
 pub mod Changes
+pub mod Damage
+pub mod Edges
 pub mod Kept
 pub mod Scans
 pub mod Sessions

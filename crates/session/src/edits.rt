@@ -22,12 +22,27 @@ pub struct ParDamage {
     pub new_pars: usize,
 }
 
+/// What a change has replaced: `old_lines` lines, from `first_line` on, by `new_lines` others, and so
+/// with paragraphs. Lines and paragraphs count from 0.
+#[derive(Clone, Copy, Debug, PartialEq, Eq)]
+pub struct Damage {
+    pub first_line: usize,
+    pub old_lines: usize,
+    pub new_lines: usize,
+    pub first_par: usize,
+    pub old_pars: usize,
+    pub new_pars: usize,
+}
+
 /// Why an edit is refused, in the order in which the reasons are tested.
 #[derive(Clone, Copy, Debug, PartialEq, Eq, Error)]
 pub enum EditFault {
     /// The edit reaches past the end of the text.
     #[error("out of range")]
     OutOfRange,
+    /// The width is 0.
+    #[error("width out of range")]
+    WidthOutOfRange,
     /// The new text would have more than 16,777,216 characters.
     #[error("text too long")]
     TextTooLong,

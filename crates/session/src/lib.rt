@@ -2,15 +2,20 @@
 #![tactic(auto)]
 
 mod base_session;
+mod edge;
+mod edit;
 mod edits;
+mod joined;
 mod kept;
 mod region;
 mod scan;
+mod session;
 mod touched;
 
 pub use base_session::BaseSession;
-pub use edits::{Edit, EditFault, ParDamage, TEXT_LIMIT};
+pub use edits::{Damage, Edit, EditFault, ParDamage, TEXT_LIMIT};
 pub use kept::Kept;
+pub use session::Session;
 
 #[cfg(test)]
 mod tests;

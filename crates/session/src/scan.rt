@@ -2,9 +2,11 @@
 ghost use Rattle.std.specs.Prelude.{◌≡◌, ℕ, Bool, List, [], ◌∷◌, ◌++◌};
 ghost use Rattle.std.specs.Str.{chars};
 ghost use Rattle.bidi.specs.Engine.{cut_of};
+ghost use Rattle.lines.specs.Engine.{rules_of};
+ghost use Rattle.lines.specs.Layouts.{cut_by};
 
 use bidi::BaseEngine;
-use lines::PARAGRAPH_LIMIT;
+use lines::{Engine, PARAGRAPH_LIMIT};
 
 /// What is known of the characters so far.
 #[derive(Clone, Copy, Debug)]
@@ -63,6 +65,43 @@ impl Scan {
     {
         for c in part.chars() {
             self.take(engine, c);
+        }
+    }
+
+    /// One more character.
+    pub fn pass(&mut self, engine: &Engine, c: char)
+        ensures { (text : List ℕ) → HasScanned (cut_by (rules_of engine.now)) text self.old
+            → HasScanned (cut_by (rules_of engine.now)) (text ++ c ∷ []) self.new }
+    {
+        let starts_paragraph = self.last.is_some_and(|last| engine.is_cut(last, c));
+        if starts_paragraph {
+            self.len = 0;
+        }
+        if self.len < PARAGRAPH_LIMIT {
+            self.len += 1;
+        } else {
+            self.is_long = true;
+        }
+        self.last = Some(c);
+    }
+
+    /// Characters one after another.
+    pub fn pass_all(&mut self, engine: &Engine, part: &[char])
+        ensures { (text : List ℕ) → HasScanned (cut_by (rules_of engine.now)) text self.old
+            → HasScanned (cut_by (rules_of engine.now)) (text ++ part.now) self.new }
+    {
+        for c in part {
+            self.pass(engine, *c);
+        }
+    }
+
+    /// The characters of a text.
+    pub fn pass_text(&mut self, engine: &Engine, part: &str)
+        ensures { (text : List ℕ) → HasScanned (cut_by (rules_of engine.now)) text self.old
+            → HasScanned (cut_by (rules_of engine.now)) (text ++ chars part.now) self.new }
+    {
+        for c in part.chars() {
+            self.pass(engine, c);
         }
     }
 

@@ -13,7 +13,7 @@ loop-edit-init c = record { text = refl; laid_out = rw (← c.self.view_is) c.se
 
 pub returns-then-eq-clause-err : goal.returns-then-eq-clause-err
 returns-then-eq-clause-err c =
-    let out = lacks_memory _ _ refl refl refl c.match-edit.result (sym c.eq.ensures ∙ c.if-eq.true) in
+    let out = lacks_memory _ _ refl refl refl refl c.match-edit.result (sym c.eq.ensures ∙ c.if-eq.true) in
     elim c.match-edit.branch [
       | in-Insert w ↦ rw w.self-is (c.loop-edit.edit-index, (HasRun-stays _ _ _ _ _ _ _ c.loop-edit.invariant w.insert-result.ensures.err (sym w.result-is ∙ out)).text)
       | in-Delete w ↦ rw w.self-is (c.loop-edit.edit-index, (HasRun-stays _ _ _ _ _ _ _ c.loop-edit.invariant w.delete-result.ensures.err (sym w.result-is ∙ out)).text)
@@ -21,7 +21,7 @@ returns-then-eq-clause-err c =
 
 pub returns-then-eq-clause-rules : goal.returns-then-eq-clause-rules
 returns-then-eq-clause-rules c =
-    let out = lacks_memory _ _ refl refl refl c.match-edit.result (sym c.eq.ensures ∙ c.if-eq.true) in
+    let out = lacks_memory _ _ refl refl refl refl c.match-edit.result (sym c.eq.ensures ∙ c.if-eq.true) in
     elim c.match-edit.branch [
       | in-Insert w ↦ rw w.self-is (HasRun-stays _ _ _ _ _ _ _ c.loop-edit.invariant w.insert-result.ensures.err (sym w.result-is ∙ out)).rules
       | in-Delete w ↦ rw w.self-is (HasRun-stays _ _ _ _ _ _ _ c.loop-edit.invariant w.delete-result.ensures.err (sym w.result-is ∙ out)).rules
