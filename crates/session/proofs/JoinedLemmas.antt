@@ -16,7 +16,7 @@ module _ (is_cut : ℕ → ℕ → Bool) where
   long_of_parts front piece back scan known = known.is_long ∙ ap (λ text. not (is_within_limit is_cut text)) (append_assoc front piece back)
 
   -- a piece between cuts is one paragraph
-  first_piece : (piece : List ℕ) (pieces : List (List ℕ)) → ArePieces is_cut (piece ∷ pieces) → ArePieces is_cut (piece ∷ [])
+  pub first_piece : (piece : List ℕ) (pieces : List (List ℕ)) → ArePieces is_cut (piece ∷ pieces) → ArePieces is_cut (piece ∷ [])
   first_piece piece [] h = h
   first_piece piece (next ∷ pieces) h = h.0
 

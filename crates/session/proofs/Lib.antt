@@ -11,3 +11,4 @@ mod ScanLemmas
 mod SessionLemmas
 mod SpliceLemmas
 mod TouchedLemmas
+mod WidthLemmas

@@ -17,7 +17,7 @@ use Rattle.session.proofs.EdgeLemmas.{chars_of, lines_of}
 use Rattle.session.proofs.EditLemmas.{LinesAreFew, chars-laid, few-laid, text-layouts, IsWholeLayout-same}
 use Rattle.session.proofs.SessionLemmas.{text_refusal-long, text_refusal-short}
 
-positive : (n : ℕ) → (n ≡ 0 → ⊥) → 0 < n
+pub positive : (n : ℕ) → (n ≡ 0 → ⊥) → 0 < n
 positive n some = omega (arith, some)
 
 -- a store of nothing but new paragraphs

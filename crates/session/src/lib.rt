@@ -11,6 +11,7 @@ mod region;
 mod scan;
 mod session;
 mod touched;
+mod width;
 
 pub use base_session::BaseSession;
 pub use edits::{Damage, Edit, EditFault, ParDamage, TEXT_LIMIT};

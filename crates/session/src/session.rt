@@ -3,7 +3,7 @@
 ghost use Rattle.std.specs.Prelude.{◌≡◌, ℕ, length, option_map, slice_get, IfOk, IfErr};
 ghost use Rattle.std.specs.Str.{chars};
 ghost use Rattle.lines.specs.Engine.{analysed_of, filled_of};
-ghost use Rattle.session.specs.Calls.{text_at, Edits, EditsNot, OpensNotOn, OpensOn};
+ghost use Rattle.session.specs.Calls.{text_at, Edits, EditsNot, OpensNotOn, OpensOn, Refills, RefillsNot};
 ghost use Rattle.session.specs.Changes.{changing, deletion, insertion};
 ghost use Rattle.session.specs.Kept.{lines_in};
 
@@ -11,6 +11,7 @@ use crate::edit::edit;
 use crate::edits::{Damage, EditFault, TEXT_LIMIT};
 use crate::joined::lay_out_joined;
 use crate::kept::Kept;
+use crate::width::change_width;
 use bidi::paragraphs_are_pieces;
 use lines::{Engine, Laid, VisualLine, lines_are_few};
 use std::alloc::Global;
@@ -170,6 +171,20 @@ impl<S: ParagraphStore<Kept>> Session<S> {
         ensures err { IfErr result (EditsNot (deletion pos count) self.old self.new) }
     {
         self.change(pos, count, "")
+    }
+
+    /// Brings all lines to another width, in columns.
+    pub fn set_width(&mut self, width: u16) -> Result<Damage, EditFault>
+        ensures ok { IfOk result (Refills width self.old self.new) }
+        ensures err { IfErr result (RefillsNot width self.old self.new) }
+    {
+        change_width(
+            self.alloc,
+            &mut self.engine,
+            &mut self.store,
+            &mut self.width,
+            width,
+        )
     }
 
     // Puts a piece in place of `count` characters.
