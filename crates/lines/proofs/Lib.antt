@@ -7,6 +7,7 @@ pub mod KeptLemmas
 pub mod LayoutLemmas
 mod LevelLemmas
 mod OrderLemmas
+pub mod PageLemmas
 pub mod PlaceLemmas
 mod ShowLemmas
 mod SpaceLemmas

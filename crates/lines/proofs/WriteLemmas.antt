@@ -1,5 +1,5 @@
 -- One part written behind another, and lists of parts.
-use Rattle.std.proofs.Common.{◌≡◌, ℕ, zero, suc, ◌+◌, ◌-◌, ◌<◌, ◌≤◌, ◌==◌, false, min, List, [], ◌∷◌, ◌++◌, length, map, get_or, take, drop, replicate, Option, Some, None, Result, Ok, Err, IfErr, IsErrAnd, encode_utf8, encode_utf8_all, if◌then◌else◌, refl, sym, ap, ◌∙◌, arith}
+use Rattle.std.proofs.Common.{◌≡◌, ℕ, zero, suc, ◌+◌, ◌-◌, ◌<◌, ◌≤◌, ◌==◌, false, min, List, [], ◌∷◌, ◌++◌, length, map, get_or, take, drop, replicate, Option, Some, None, Result, Ok, Err, IfOk, IfErr, IsErrAnd, encode_utf8, encode_utf8_all, if◌then◌else◌, refl, sym, ap, ◌∙◌, arith}
 use Rattle.std.specs.Io.KnownBytes.{Appends}
 use Rattle.std.specs.List.{concat, join_with_byte}
 use Rattle.std.proofs.lemmas.List.{append_assoc, append-nil, length-append, length-map, take-append-le, get_or-map, take_all, take_more, take-append-drop, take-replicate, replicate-append-replicate}
@@ -58,6 +58,16 @@ stopped-before {old = old} {new = new} {xs = xs} {done = done} {w = w} ys stoppe
     stopped.stopped.2,
   );
 }
+
+-- the last part of all
+module _ {old mid : Device} {xs : List ℕ} {done n : ℕ} (first : PassedOn xs done old mid n) (new : Device) (ys : List ℕ) where
+  pub last_passed : (r : Result ℕ WriteFault) → IfOk r (λ m. PassedOn ys n mid new m) → IfOk r (λ m. PassedOn (xs ++ ys) done old new m)
+  last_passed (Ok m) second = passed-append first second
+  last_passed (Err fault) second = tt
+
+  pub last_stopped : (r : Result ℕ WriteFault) → IfErr r (λ fault. StoppedIn ys n mid new fault.written) → IfErr r (λ fault. StoppedIn (xs ++ ys) done old new fault.written)
+  last_stopped (Ok m) second = tt
+  last_stopped (Err fault) second = stopped-behind first second
 
 -- one list more
 concat-more : (xs : List (List ℕ)) (k : ℕ) → k < length xs → concat (take (suc k) xs) ≡ concat (take k xs) ++ get_or xs k []

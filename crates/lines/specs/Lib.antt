@@ -11,6 +11,7 @@ pub mod Order
 pub mod Pages
 pub mod Parts
 pub mod Places
+pub mod Printing
 pub mod Showing
 pub mod Spaces
 pub mod Sums

@@ -3,8 +3,13 @@ use Rattle.std.specs.Prelude.{ℕ, List}
 use Rattle.std.specs.List.{enumerate_from, flat_map}
 use Rattle.lines.specs.Bytes.{line_bytes}
 use Rattle.lines.specs.Layouts.{Layout, Rules, layout_of}
-use Rattle.lines.specs.Visual.{visual_of}
+use Rattle.lines.specs.Visual.{Line, visual_of}
 use Rattle.lines.specs.declared.print.Print.{Print}
+
+-- the bytes of a paragraph's lines, in order
+abbrev pub lines_bytes : ℕ → Print → ℕ → List ℕ → List Line → List ℕ
+lines_bytes width print base text lines =
+    flat_map (λ nth. line_bytes width print (visual_of base text nth.0 nth.1)) (enumerate_from 0 lines)
 
 -- what is printed of a paragraph that is laid out: the bytes of its lines, in order
 abbrev pub layout_bytes : ℕ → Print → Layout → List ℕ

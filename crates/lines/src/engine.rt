@@ -1,5 +1,6 @@
 //! What lays paragraphs out: the tables and options, and how much was analysed and filled.
 ghost use Rattle.std.specs.Prelude.{◌≡◌, ◌<◌, ◌≤◌, length, map, IfOk, IfErr, OnOk};
+ghost use Rattle.device.specs.Device.{Wrote};
 ghost use Rattle.ucd.specs.Properties.{properties_of};
 ghost use Rattle.bidi.specs.Levels.{levels_of};
 ghost use Rattle.breaks.specs.Marks.{marks_of};
@@ -7,15 +8,19 @@ ghost use Rattle.lines.specs.Bare.{with_ends};
 ghost use Rattle.lines.specs.Clusters.{cluster_ends};
 ghost use Rattle.lines.specs.Filling.{line_starts_of};
 ghost use Rattle.lines.specs.Layouts.{AreWithin, base_of, lines_of};
+ghost use Rattle.lines.specs.Pages.{paragraph_bytes};
 ghost use Rattle.lines.specs.Places.{places_of};
+ghost use Rattle.lines.specs.Printing.{FailedAs};
 ghost use Rattle.lines.specs.Visual.{lines_from};
 
 use crate::filling::line_starts;
 use crate::laid::Laid;
 use crate::places::{Place, take_places};
+use crate::print::{Print, PrintFault};
 use crate::visual::{Fill, show_lines};
 use bidi::{Base, Resolver, first_cut, is_cut};
 use breaks::{Mark, marks_into};
+use device::Sink;
 use std::alloc::{AllocError, Global};
 use std::marker::Model;
 use ucd::{Properties, Tables};
@@ -147,6 +152,38 @@ impl Engine {
         let fill = self.fill(alloc, text, laid.base(), laid.levels(), laid.marks(), width)?;
         self.filled = self.filled.saturating_add(text.len() as u64);
         Ok(fill)
+    }
+
+    /// Writes the lines of one paragraph at a width in columns, which is not 0, and keeps nothing of them.
+    /// Where there is no memory, nothing is written.
+    pub fn write_paragraph<W: Sink>(
+        &mut self,
+        alloc: Global,
+        text: &[char],
+        width: u16,
+        print: &Print,
+        writer: &mut W,
+    ) -> Result<(), PrintFault>
+        requires paragraph { IsParagraph (rules_of self.old) text.now }
+        requires width { 0 < width }
+        ensures ok { OnOk result (Wrote (paragraph_bytes (rules_of self.old) width print.now text.now)
+            (W.state writer.old) (W.state writer.new)) }
+        ensures err { IfErr result (λ fault.
+            FailedAs fault (paragraph_bytes (rules_of self.old) width print.now text.now)
+            (W.state writer.old) (W.state writer.new)) }
+        ensures at_most { LaysOutAtMost (length text.now) self.old self.new }
+        ensures rules { SameRules self.old self.new }
+    {
+        let Ok(copy) = Vec::from_slice(alloc, text) else {
+            return Err(PrintFault::Memory);
+        };
+        match self.lay_out(alloc, copy, width) {
+            Ok(laid) => match laid.write(writer, width, print) {
+                Ok(()) => Ok(()),
+                Err(fault) => Err(PrintFault::Write(fault)),
+            },
+            Err(_) => Err(PrintFault::Memory),
+        }
     }
 
     // What a paragraph's layout consists of beside its text.

@@ -1,9 +1,13 @@
-//! The lines that a fill keeps, one by one.
+//! The lines that a fill keeps, one by one, and what is written of all of them.
 ghost use Rattle.std.specs.Prelude.{◌≡◌, ◌+◌, ◌≤◌, length};
 ghost use Rattle.lines.specs.Kept.{line_in};
 ghost use Rattle.lines.specs.Parts.{line_of};
 
+use crate::bytes::WriteFault;
+use crate::print::Print;
 use crate::visual::{Fill, Shown};
+use crate::visual_line::VisualLine;
+use device::Sink;
 
 /// A line without what it has of its paragraph.
 #[derive(Clone, Copy)]
@@ -17,10 +21,14 @@ pub(crate) struct Part<'a> {
 }
 
 impl Fill {
-    ghost use Rattle.std.specs.Prelude.{◌≡◌, length, map, option_map, slice_get, IfSome};
+    ghost use Rattle.std.specs.Prelude.{◌≡◌, length, map, option_map, slice_get, IfErr, IfSome, OnOk};
+    ghost use Rattle.device.specs.Device.{StoppedAt, Wrote};
     ghost use Rattle.bidi.specs.Runs.{AreWithin};
+    ghost use Rattle.lines.specs.Layouts;
     ghost use Rattle.lines.specs.Layouts.{start_of};
+    ghost use Rattle.lines.specs.Pages.{lines_bytes};
     ghost use Rattle.lines.specs.Parts.{line_of};
+    ghost use Rattle.lines.specs.Visual.{visual_of};
 
     /// Where each line starts.
     pub(crate) fn starts(&self) -> &[u32]
@@ -45,6 +53,51 @@ impl Fill {
             &self.vtol,
             &self.chars,
         ))
+    }
+
+    /// A line of the paragraph of this text and base level, counted from 0.
+    pub(crate) fn line<'a>(&'a self, text: &'a [char], base: u8, n: usize) -> Option<VisualLine<'a>>
+        requires { Layouts.AreWithin (length text.now) self.now }
+        ensures { result ≡ option_map (visual_of base text.now n) (slice_get self.now n) }
+    {
+        let part = self.part(n)?;
+        let start = part.start as usize;
+        Some(VisualLine {
+            is_first: n == 0,
+            base,
+            text: &text[start..start + part.levels.len()],
+            columns: part.columns,
+            levels: part.levels,
+            ltov: part.ltov,
+            vtol: part.vtol,
+            chars: part.chars,
+        })
+    }
+
+    /// Writes all lines of the paragraph of this text and base level.
+    pub(crate) fn write<W: Sink>(
+        &self,
+        text: &[char],
+        base: u8,
+        writer: &mut W,
+        width: u16,
+        print: &Print,
+    ) -> Result<(), WriteFault>
+        requires { Layouts.AreWithin (length text.now) self.now }
+        ensures ok { OnOk result (Wrote (lines_bytes width print.now base text.now self.now)
+            (W.state writer.old) (W.state writer.new)) }
+        ensures err { IfErr result (λ fault.
+            StoppedAt fault.written (lines_bytes width print.now base text.now self.now)
+            (W.state writer.old) (W.state writer.new)) }
+    {
+        let mut written = 0;
+        for n in 0..self.starts().len() {
+            let Some(line) = self.line(text, base, n) else {
+                unreachable!()
+            };
+            written = line.write_behind(writer, written, width, print)?;
+        }
+        Ok(())
     }
 }
 

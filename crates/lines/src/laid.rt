@@ -1,9 +1,13 @@
 //! A paragraph that is laid out, and the lines that it has at another width.
-ghost use Rattle.std.specs.Prelude.{◌≡◌, length, map, option_map, slice_get};
+ghost use Rattle.std.specs.Prelude.{◌≡◌, length, map, option_map, slice_get, IfErr, OnOk};
+ghost use Rattle.device.specs.Device.{StoppedAt, Wrote};
 
+use crate::bytes::WriteFault;
+use crate::print::Print;
 use crate::visual::Fill;
 use crate::visual_line::VisualLine;
 use breaks::Mark;
+use device::Sink;
 use std::marker::Model;
 
 /// A paragraph that is laid out: its text, base level, levels, break marks and lines.
@@ -36,6 +40,7 @@ impl Model for Laid {
 
 impl Laid {
     ghost use Rattle.lines.specs.Layouts.{AreLinesOf, Exchanges, IsLaidOut, Rules, start_of};
+    ghost use Rattle.lines.specs.Pages.{layout_bytes};
     ghost use Rattle.lines.specs.Visual.{visual_of};
 
     /// The characters.
@@ -85,18 +90,24 @@ impl Laid {
     pub fn line(&self, n: usize) -> Option<VisualLine<'_>>
         ensures { result ≡ option_map (visual_of self.now.base self.now.text n) (slice_get self.now.lines n) }
     {
-        let part = self.lines.part(n)?;
-        let start = part.start as usize;
-        Some(VisualLine {
-            is_first: n == 0,
-            base: self.base,
-            text: &self.text[start..start + part.levels.len()],
-            columns: part.columns,
-            levels: part.levels,
-            ltov: part.ltov,
-            vtol: part.vtol,
-            chars: part.chars,
-        })
+        self.lines.line(&self.text, self.base, n)
+    }
+
+    /// Writes the paragraph's lines, and no more behind a failure of the sink. It takes no memory.
+    pub fn write<W: Sink>(
+        &self,
+        writer: &mut W,
+        width: u16,
+        print: &Print,
+    ) -> Result<(), WriteFault>
+        ensures ok { OnOk result (Wrote (layout_bytes width print.now self.now)
+            (W.state writer.old) (W.state writer.new)) }
+        ensures err { IfErr result (λ fault.
+            StoppedAt fault.written (layout_bytes width print.now self.now)
+            (W.state writer.old) (W.state writer.new)) }
+    {
+        self.lines
+            .write(&self.text, self.base, writer, width, print)
     }
 
     /// Puts the lines of this paragraph at another width in, and hands the old ones out. Both are

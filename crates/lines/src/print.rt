@@ -1,4 +1,6 @@
-//! Which lines are printed of each line of a paragraph.
+//! Which lines are printed of each line of a paragraph, and how printing fails.
+use crate::bytes::WriteFault;
+use thiserror::Error;
 
 /// What is printed of a line.
 #[derive(Clone, Copy, Debug, PartialEq, Eq)]
@@ -17,4 +19,15 @@ pub struct Print {
     pub nopad: bool,
     /// Characters as they are and not their mirrors.
     pub nomirror: bool,
+}
+
+/// Why the lines of a paragraph were not printed, or not all of them.
+#[derive(Clone, Copy, Debug, PartialEq, Eq, Error)]
+pub enum PrintFault {
+    /// Memory ran out, and nothing was written.
+    #[error("out of memory")]
+    Memory,
+    /// The sink failed.
+    #[error("{0}")]
+    Write(WriteFault),
 }

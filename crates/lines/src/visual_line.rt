@@ -1,7 +1,8 @@
 //! One line of a paragraph as it is shown, which borrows from the paragraph.
-ghost use Rattle.std.specs.Prelude.{◌≡◌, OnOk, IfErr};
+ghost use Rattle.std.specs.Prelude.{◌≡◌, ◌≤◌, OnOk, IfOk, IfErr};
 ghost use Rattle.device.specs.Device.{Wrote, StoppedAt};
 ghost use Rattle.lines.specs.Bytes.{line_bytes};
+ghost use Rattle.lines.specs.Writing.{PassedOn, StoppedIn};
 
 use crate::bytes::{
     WriteFault, write_direction, write_levels, write_ltov, write_shown, write_vtol,
@@ -109,11 +110,29 @@ impl<'a> VisualLine<'a> {
             StoppedAt fault.written (line_bytes width print.now self.now)
             (W.state writer.old) (W.state writer.new)) }
     {
-        let shown = write_shown(writer, 0, self, width, print)?;
+        self.write_behind(writer, 0, width, print)?;
+        Ok(())
+    }
+
+    // The same behind so many bytes, and how many are written then.
+    pub(crate) fn write_behind<W: Sink>(
+        &self,
+        writer: &mut W,
+        done: u64,
+        width: u16,
+        print: &Print,
+    ) -> Result<u64, WriteFault>
+        requires { done ≤ (W.state writer.old).passed }
+        ensures ok { IfOk result (λ n. PassedOn (line_bytes width print.now self.now) done
+            (W.state writer.old) (W.state writer.new) n) }
+        ensures err { IfErr result (λ fault. StoppedIn (line_bytes width print.now self.now) done
+            (W.state writer.old) (W.state writer.new) fault.written) }
+        ensures counted { IfOk result (λ n. n ≤ (W.state writer.new).passed) }
+    {
+        let shown = write_shown(writer, done, self, width, print)?;
         let direction = write_direction(writer, shown, self, print)?;
         let ltov = write_ltov(writer, direction, self, print)?;
         let vtol = write_vtol(writer, ltov, self, print)?;
-        write_levels(writer, vtol, self, print)?;
-        Ok(())
+        write_levels(writer, vtol, self, print)
     }
 }

@@ -1,35 +1,10 @@
 use Rattle.device.specs.Device.{StoppedAt}
-use Rattle.lines.proofs.WriteLemmas.{passed-append, stopped-before, stopped-behind, stopped-whole, same_fault}
+use Rattle.lines.proofs.WriteLemmas.{stopped-whole, same_fault}
 use Rattle.lines.proofs.visual_line.VisualLine.write.Goals as goal
 
--- behind the line itself
-pub returns-in_err-direction-clause-err : goal.returns-in_err-direction-clause-err
-returns-in_err-direction-clause-err g c =
-    let stopped = stopped-behind c.in_ok-shown.ensures.ok c.in_err-direction.ensures.err in
-    same_fault _ _ (λ n. StoppedAt n _ _ _) c.from_residual-in_err-direction.ensures.1
-    (stopped-whole (stopped-before _ (stopped-before _ (stopped-before _ stopped))))
+pub returns-in_err-write_behind-clause-err : goal.returns-in_err-write_behind-clause-err
+returns-in_err-write_behind-clause-err g c =
+    same_fault _ _ (λ n. StoppedAt n _ _ _) c.from_residual.ensures.1 (stopped-whole c.in_err-write_behind.ensures.err)
 
--- and behind the direction
-pub returns-in_err-ltov-clause-err : goal.returns-in_err-ltov-clause-err
-returns-in_err-ltov-clause-err g c =
-    let done = passed-append c.in_ok-shown.ensures.ok c.in_ok-direction.ensures.ok in
-    let stopped = stopped-behind done c.in_err-ltov.ensures.err in
-    same_fault _ _ (λ n. StoppedAt n _ _ _) c.from_residual-in_err-ltov.ensures.1 (stopped-whole (stopped-before _ (stopped-before _ stopped)))
-
-pub returns-in_err-vtol-clause-err : goal.returns-in_err-vtol-clause-err
-returns-in_err-vtol-clause-err g c =
-    let done = passed-append (passed-append c.in_ok-shown.ensures.ok c.in_ok-direction.ensures.ok) c.in_ok-ltov.ensures.ok in
-    let stopped = stopped-behind done c.in_err-vtol.ensures.err in
-    same_fault _ _ (λ n. StoppedAt n _ _ _) c.from_residual-in_err-vtol.ensures.1 (stopped-whole (stopped-before _ stopped))
-
-pub returns-in_err-write_levels-clause-err : goal.returns-in_err-write_levels-clause-err
-returns-in_err-write_levels-clause-err g c =
-    let done = passed-append (passed-append c.in_ok-shown.ensures.ok c.in_ok-direction.ensures.ok) c.in_ok-ltov.ensures.ok in
-    let stopped = stopped-behind (passed-append done c.in_ok-vtol.ensures.ok) c.in_err-write_levels.ensures.err in
-    same_fault _ _ (λ n. StoppedAt n _ _ _) c.from_residual-in_err-write_levels.ensures.1 (stopped-whole stopped)
-
--- all of it
 pub returns-clause-ok : goal.returns-clause-ok
-returns-clause-ok g c =
-    let done = passed-append (passed-append c.in_ok-shown.ensures.ok c.in_ok-direction.ensures.ok) c.in_ok-ltov.ensures.ok in
-    (passed-append (passed-append done c.in_ok-vtol.ensures.ok) c.in_ok-write_levels.ensures.ok).wrote
+returns-clause-ok g c = c.in_ok-write_behind.ensures.ok.wrote

@@ -1,0 +1,61 @@
+-- The bytes of a paragraph's lines, one line after the other.
+use Rattle.std.proofs.Common.{◌≡◌, ◌∙◌, ℕ, ◌+◌, ◌<◌, ◌≤◌, List, [], ◌∷◌, ◌++◌, length, map, take, get_or, Option, Some, None, refl, sym, ap, arith}
+use Rattle.std.specs.Prelude.{option_map, slice_get}
+use Rattle.std.specs.List.{concat, enumerate_from, flat_map}
+use Rattle.std.proofs.lemmas.List.{get_or-map, length-map, take_all}
+use Rattle.std.proofs.lemmas.List.FromFn.{get_or-enumerate_from, length-enumerate_from}
+use Rattle.std.proofs.lemmas.Option.{get_or_from_slice_get}
+use Rattle.lines.specs.Bytes.{line_bytes}
+use Rattle.lines.specs.Pages.{lines_bytes}
+use Rattle.lines.specs.Visual.{Line, Visual, visual_of}
+use Rattle.lines.specs.declared.print.Print.{Print}
+
+-- the k-th line with its number
+line_with : (lines : List Line) (k : ℕ) (line : Line) → k < length lines → slice_get lines k ≡ Some line → get_or (enumerate_from 0 lines) k (0, line) ≡ (k, line)
+line_with lines k line within got =
+    let place : 0 + k ≡ k = omega arith in
+    let there : get_or lines k line ≡ line = get_or_from_slice_get lines k line line got in
+    get_or-enumerate_from 0 lines k (0, line) within ∙ rw (place, there) refl
+
+module _ (width : ℕ) (print : Print) (base : ℕ) (text : List ℕ) where
+  abbrev pub bytes_at : ℕ × Line → List ℕ
+  bytes_at nth = line_bytes width print (visual_of base text nth.0 nth.1)
+
+  -- the bytes of each line
+  abbrev pub pieces : List Line → List (List ℕ)
+  pieces lines = map bytes_at (enumerate_from 0 lines)
+
+  joined : (xs : List (ℕ × Line)) → concat (map bytes_at xs) ≡ flat_map bytes_at xs
+  joined [] = refl
+  joined (x ∷ xs) = ap (λ more. bytes_at x ++ more) (joined xs)
+
+  pub pieces_whole : (lines : List Line) → concat (pieces lines) ≡ lines_bytes width print base text lines
+  pieces_whole lines = joined (enumerate_from 0 lines)
+
+  pub length-pieces : (lines : List Line) → length (pieces lines) ≡ length lines
+  length-pieces lines = length-map (enumerate_from 0 lines) bytes_at ∙ length-enumerate_from 0 lines
+
+  pub piece_within : (lines : List Line) (k : ℕ) → k < length lines → k < length (pieces lines)
+  piece_within lines k within = rw (length-pieces lines) within
+
+  piece_of : (lines : List Line) (k : ℕ) (line : Line) → k < length lines → slice_get lines k ≡ Some line → get_or (pieces lines) k [] ≡ bytes_at (k, line)
+  piece_of lines k line within got =
+      get_or-map bytes_at (enumerate_from 0 lines) k (0, line) [] (rw (length-enumerate_from 0 lines) within) ∙ ap bytes_at (line_with lines k line within got)
+
+  -- those of the k-th
+  pub piece_at : (lines : List Line) (k : ℕ) (visual : Visual) → k < length lines → Some visual ≡ option_map (visual_of base text k) (slice_get lines k)
+      → line_bytes width print visual ≡ get_or (pieces lines) k []
+  piece_at lines k visual within shown = go (slice_get lines k) refl
+    where
+      go : (o : Option Line) → slice_get lines k ≡ o → line_bytes width print visual ≡ get_or (pieces lines) k []
+      go None none =
+          let bad : Some visual ≡ None = rw none at shown in
+          cc
+      go (Some line) got =
+          let same : Some visual ≡ Some (visual_of base text k line) = rw got at shown in
+          let is : visual ≡ visual_of base text k line = cc in
+          ap (line_bytes width print) is ∙ sym (piece_of lines k line within got)
+
+  -- all of them
+  pub pieces_all : (lines : List Line) (k : ℕ) → length lines ≤ k → concat (take k (pieces lines)) ≡ lines_bytes width print base text lines
+  pieces_all lines k past = ap concat (take_all k (pieces lines) (rw (length-pieces lines) past)) ∙ pieces_whole lines
