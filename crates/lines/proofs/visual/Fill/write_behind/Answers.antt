@@ -1,12 +1,10 @@
 use Rattle.std.proofs.Common.{◌≡◌, ◌<◌, ◌∙◌, length, sym, ap, arith}
-use Rattle.device.specs.Device.{StoppedAt}
 use Rattle.lines.specs.Layouts.{start_of}
-use Rattle.lines.specs.Pages.{lines_bytes}
-use Rattle.lines.specs.Writing.{PassedOn}
+use Rattle.lines.specs.Writing.{StoppedIn}
 use Rattle.std.proofs.lemmas.List.{length-map}
 use Rattle.lines.proofs.PageLemmas.{pieces, piece_at, piece_within, pieces_all, pieces_whole}
-use Rattle.lines.proofs.WriteLemmas.{pieces-more, pieces-stopped, same_fault, stopped-whole}
-use Rattle.lines.proofs.visual.Fill.write.Goals as goal
+use Rattle.lines.proofs.WriteLemmas.{pieces-more, pieces-stopped, same_fault}
+use Rattle.lines.proofs.visual.Fill.write_behind.Goals as goal
 
 -- one line more
 pub loop-n-preserved : goal.loop-n-preserved
@@ -29,8 +27,8 @@ returns-in_err-written-clause-err g c =
     let within : n < length lines = omega (arith, count, c.loop-n-test.true) in
     let next = piece_at c.args.width c.args.print.now c.args.base c.args.text.now lines n _ within c.in-Some.ensures in
     let stopped = pieces-stopped (pieces c.args.width c.args.print.now c.args.base c.args.text.now lines) n (piece_within c.args.width c.args.print.now c.args.base c.args.text.now lines n within) next c.loop-n.invariant.passed c.in_err-written.ensures.err in
-    same_fault _ _ (λ w. StoppedAt w _ _ _) c.from_residual.ensures.1
-    (rw (sym (pieces_whole c.args.width c.args.print.now c.args.base c.args.text.now lines)) (stopped-whole stopped))
+    same_fault _ _ (λ w. StoppedIn _ _ _ _ w) c.from_residual.ensures.1
+    (rw (sym (pieces_whole c.args.width c.args.print.now c.args.base c.args.text.now lines)) stopped)
 
 -- all of them
 pub returns-clause-ok : goal.returns-clause-ok
@@ -38,6 +36,4 @@ returns-clause-ok g c =
     let lines = c.args.self.now in
     let count : length c.starts-n-end.result.now ≡ length lines = ap length c.starts-n-end.ensures ∙ length-map lines start_of in
     let all = pieces_all c.args.width c.args.print.now c.args.base c.args.text.now lines c.loop-n.n (omega (arith, count, c.loop-n-test.false)) in
-    let passed : PassedOn (lines_bytes c.args.width c.args.print.now c.args.base c.args.text.now lines) 0 (g.W.Sink.state c.args.writer.now) (g.W.Sink.state c.loop-n.writer) c.loop-n.written =
-    rw (sym all) c.loop-n.invariant.passed in
-    passed.wrote
+    rw (sym all) c.loop-n.invariant.passed
