@@ -12,7 +12,7 @@ use Rattle.lines.specs.Visual.{visual_of}
 use Rattle.store.specs.Finding.{Finds}
 use Rattle.store.specs.declared.found.Found.{Found}
 use Rattle.session.specs.Edges.{IsFrontEdge, IsBackEdge}
-use Rattle.session.specs.Kept.{pars_in, text_in, visuals, lines_in}
+use Rattle.session.specs.Kept.{pars_of, text_of, visuals, lines_in}
 use Rattle.session.specs.Touched.{start_of}
 use Rattle.session.proofs.TouchedLemmas.{start_of-le, start_of-le-length}
 
@@ -23,9 +23,9 @@ abbrev pub lines_of : Layout → ℕ
 lines_of l = length l.lines
 
 -- how many characters and lines there are
-pub length-text : (kept : List Layout) → length (text_in kept) ≡ sum_by chars_of kept
+pub length-text : (kept : List Layout) → length (text_of kept) ≡ sum_by chars_of kept
 length-text [] = refl
-length-text (l ∷ kept) = length-append l.text (text_in kept) ∙ ap (λ n. length l.text + n) (length-text kept) ∙ sym (sum_by-cons chars_of l kept)
+length-text (l ∷ kept) = length-append l.text (text_of kept) ∙ ap (λ n. length l.text + n) (length-text kept) ∙ sym (sum_by-cons chars_of l kept)
 
 pub length-visuals : (l : Layout) → length (visuals l) ≡ length l.lines
 length-visuals l = length-map (enumerate_from 0 l.lines) (λ nth. visual_of l.base l.text nth.0 nth.1) ∙ length-enumerate_from 0 l.lines
@@ -36,13 +36,13 @@ length-lines (l ∷ kept) =
     length-append (visuals l) (lines_in kept) ∙ ap (λ n. n + length (lines_in kept)) (length-visuals l)
     ∙ ap (λ n. length l.lines + n) (length-lines kept) ∙ sym (sum_by-cons lines_of l kept)
 
-pub start_of-is : (kept : List Layout) (i : ℕ) → start_of (pars_in kept) i ≡ sum_by chars_of (take i kept)
+pub start_of-is : (kept : List Layout) (i : ℕ) → start_of (pars_of kept) i ≡ sum_by chars_of (take i kept)
 start_of-is kept i = ap (λ ps. length (concat ps)) (take-map (λ l. l.text) i kept) ∙ length-text (take i kept)
 
 -- the text of a paragraph that was read
-pub text_read : (kept : List Layout) (i : ℕ) (read : Option Layout) → read ≡ slice_get kept i → get_or (pars_in kept) i [] ≡ unwrap_or (option_map (λ l. l.text) read) []
+pub text_read : (kept : List Layout) (i : ℕ) (read : Option Layout) → read ≡ slice_get kept i → get_or (pars_of kept) i [] ≡ unwrap_or (option_map (λ l. l.text) read) []
 text_read kept i read e =
-    sym (unwrap_or-slice_get (pars_in kept) i []) ∙ ap (λ o. unwrap_or o []) (slice_get-map (λ l. l.text) kept i) ∙ ap (λ o. unwrap_or (option_map (λ l. l.text) o) []) (sym e)
+    sym (unwrap_or-slice_get (pars_of kept) i []) ∙ ap (λ o. unwrap_or o []) (slice_get-map (λ l. l.text) kept i) ∙ ap (λ o. unwrap_or (option_map (λ l. l.text) o) []) (sym e)
 
 -- the item that a search found
 slice_get_at : {A : Type 0} (before : List A) (x : A) (behind : List A) → slice_get (before ++ x ∷ behind) (length before) ≡ Some x
@@ -79,8 +79,8 @@ module _ (size : Layout → ℕ) (kept : List Layout) (n : ℕ) (found : Found) 
 pub IsFrontEdge-found : (kept : List Layout) (pos : ℕ) (found : Found) → (pos ≡ 0 → ⊥) → Finds chars_of lines_of kept (pos - 1) found
     → IsFrontEdge kept pos (record { index = found.index; chars = pos - 1 - found.rest; lines = found.lines_before })
 IsFrontEdge-found kept pos found some f =
-    let start : start_of (pars_in kept) found.index ≡ sum_by chars_of f.before = start_of-is kept found.index ∙ ap (sum_by chars_of) (front_is chars_of kept (pos - 1) found f) in
-    let next : start_of (pars_in kept) (found.index + 1) ≡ sum_by chars_of f.before + chars_of f.item = start_of-is kept (found.index + 1) ∙ sum_next chars_of kept (pos - 1) found f chars_of in
+    let start : start_of (pars_of kept) found.index ≡ sum_by chars_of f.before = start_of-is kept found.index ∙ ap (sum_by chars_of) (front_is chars_of kept (pos - 1) found f) in
+    let next : start_of (pars_of kept) (found.index + 1) ≡ sum_by chars_of f.before + chars_of f.item = start_of-is kept (found.index + 1) ∙ sum_next chars_of kept (pos - 1) found f chars_of in
     record {
       edge_is = record {
         within = omega (arith, found_within chars_of kept (pos - 1) found f);
@@ -94,10 +94,10 @@ IsFrontEdge-found kept pos found some f =
 pub IsBackEdge-found : (kept : List Layout) (to : ℕ) (found : Found) (l : Layout) → Some l ≡ slice_get kept found.index → Finds chars_of lines_of kept to found
     → IsBackEdge kept to (record { index = found.index + 1; chars = to - found.rest + chars_of l; lines = found.lines_before + lines_of l })
 IsBackEdge-found kept to found l read f =
-    let start : start_of (pars_in kept) found.index ≡ sum_by chars_of f.before = start_of-is kept found.index ∙ ap (sum_by chars_of) (front_is chars_of kept to found f) in
+    let start : start_of (pars_of kept) found.index ≡ sum_by chars_of f.before = start_of-is kept found.index ∙ ap (sum_by chars_of) (front_is chars_of kept to found f) in
     let item : l ≡ f.item = item_read chars_of kept to found f l read in
     let size : chars_of l ≡ chars_of f.item = ap chars_of item in
-    let next : start_of (pars_in kept) (found.index + 1) ≡ sum_by chars_of f.before + chars_of f.item = start_of-is kept (found.index + 1) ∙ sum_next chars_of kept to found f chars_of in
+    let next : start_of (pars_of kept) (found.index + 1) ≡ sum_by chars_of f.before + chars_of f.item = start_of-is kept (found.index + 1) ∙ sum_next chars_of kept to found f chars_of in
     record {
       edge_is = record {
         within = omega (arith, found_within chars_of kept to found f);
@@ -105,7 +105,7 @@ IsBackEdge-found kept to found l read f =
         lines = ap (λ n. n + lines_of l) f.lines_before ∙ ap (λ x. sum_by lines_of f.before + lines_of x) item
             ∙ sym (length-lines (take (found.index + 1) kept) ∙ sum_next chars_of kept to found f lines_of);
       };
-      before = λ i below. let le = start_of-le (pars_in kept) i found.index (omega arith) in omega (arith, le, start, f.rest);
+      before = λ i below. let le = start_of-le (pars_of kept) i found.index (omega arith) in omega (arith, le, start, f.rest);
       behind = λ _. omega (arith, f.rest, f.within, size);
     }
 
@@ -119,15 +119,15 @@ IsBackEdge-end kept to count chars lines count-is chars-is lines-is at_end =
         chars = chars-is ∙ sym (start_of-is kept count ∙ ap (sum_by chars_of) (take_all count kept (omega arith)));
         lines = lines-is ∙ sym (length-lines (take count kept) ∙ ap (sum_by lines_of) (take_all count kept (omega arith)));
       };
-      before = λ i below. let le = start_of-le-length (pars_in kept) i in omega (arith, le, size);
+      before = λ i below. let le = start_of-le-length (pars_of kept) i in omega (arith, le, size);
       behind = λ more. absurd (omega arith);
     }
 
 -- the sums of a store fit
-pub pos_within : (kept : List Layout) (pos : ℕ) → pos ≤ length (text_in kept) → (pos ≡ 0 → ⊥) → pos - 1 < sum_by chars_of kept
+pub pos_within : (kept : List Layout) (pos : ℕ) → pos ≤ length (text_of kept) → (pos ≡ 0 → ⊥) → pos - 1 < sum_by chars_of kept
 pos_within kept pos within some = omega (arith, length-text kept, some)
 
-pub to_within : (kept : List Layout) (to chars : ℕ) → to ≤ length (text_in kept) → chars ≡ sum_by chars_of kept → (to ≡ chars → ⊥) → to < sum_by chars_of kept
+pub to_within : (kept : List Layout) (to chars : ℕ) → to ≤ length (text_of kept) → chars ≡ sum_by chars_of kept → (to ≡ chars → ⊥) → to < sum_by chars_of kept
 to_within kept to chars within chars-is other =
     let size = length-text kept in
     elim (cases_eq to chars) [ inl e ↦ absurd (other e) | inr ne ↦ omega arith ]

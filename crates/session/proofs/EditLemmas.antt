@@ -12,11 +12,11 @@ use Rattle.bidi.specs.Pieces.{ParagraphsArePieces}
 use Rattle.lines.specs.Engine.{rules_of, SameRules, LaysOutAtMost}
 use Rattle.lines.specs.Layouts.{Layout, Rules, cut_by, layout_of, lines_of}
 use Rattle.lines.specs.declared.engine.Engine.{Engine}
-use Rattle.session.specs.Calls.{Holding, IsWholeLayout, IsCountedFor, Edits, EditsNot, text_at, cuts_at}
+use Rattle.session.specs.Sessions.{State, IsWholeLayout, IsCountedFor, Edits, EditsNot, text_at, cuts_at}
 use Rattle.session.specs.Changes.{Change, changed, changing, refusal, text_refusal, text_limit, paragraphs_refusal, are_within, is_within_limit}
-use Rattle.session.specs.Damage.{Replaces, IsDamageOf}
+use Rattle.session.specs.Damage.{Replaces, IsDamage}
 use Rattle.session.specs.Edges.{IsEdge, IsFrontEdge, IsBackEdge, damage_between}
-use Rattle.session.specs.Kept.{pars_in, text_in, visuals, lines_in, layouts_of}
+use Rattle.session.specs.Kept.{pars_of, text_of, visuals, lines_in, layouts_of}
 use Rattle.session.specs.Sessions.{IsAnswerFor}
 use Rattle.session.specs.Touched.{fresh}
 use Rattle.session.specs.declared.edge.Edge.{Edge}
@@ -26,7 +26,7 @@ use Rattle.session.specs.declared.edits.EditFault.TheVariants.{OutOfRange, Parag
 use Rattle.session.proofs.ChangeLemmas.{IsSpliced, IsSpliced-from_touched, region_of, length-changed_text}
 use Rattle.session.proofs.EdgeLemmas.{chars_of, lines_of as line_number, length-text, length-lines}
 use Rattle.session.proofs.RegionParts.{touched_by, front_of, back_of, AreTouched-edges, region_parts, edges_rise, take-both}
-use Rattle.session.proofs.SessionLemmas.{allowed-within_limit, text_refusal-short, refusal-inside}
+use Rattle.session.proofs.RefusalLemmas.{allowed-within_limit, text_refusal-short, refusal-inside}
 
 -- a list of which the middle gives way to another one
 drop_two : {A : Type 0} (left mid right : List A) (n m : ℕ) → n ≡ length left → m ≡ length mid → drop (n + m) (left ++ (mid ++ right)) ≡ right
@@ -46,11 +46,11 @@ take_both : {A : Type 0} (xs : List A) (from to : ℕ) → from ≤ to → take 
 take_both xs from to order = let n : to ≡ from + (to - from) = omega arith in ap (λ m. take m xs) n ∙ take-both from (to - from) xs
 
 -- layouts and the text that they make
-pars-layouts : (rules : Rules) (width : ℕ) (pars : List (List ℕ)) → pars_in (map (layout_of rules width) pars) ≡ pars
+pars-layouts : (rules : Rules) (width : ℕ) (pars : List (List ℕ)) → pars_of (map (layout_of rules width) pars) ≡ pars
 pars-layouts rules width [] = refl
 pars-layouts rules width (p ∷ pars) = ap (λ ps. p ∷ ps) (pars-layouts rules width pars)
 
-pub text-layouts : ParagraphsArePieces → (rules : Rules) (width : ℕ) (text : List ℕ) → text_in (layouts_of rules width text) ≡ text
+pub text-layouts : ParagraphsArePieces → (rules : Rules) (width : ℕ) (text : List ℕ) → text_of (layouts_of rules width text) ≡ text
 text-layouts law rules width text = ap concat (pars-layouts rules width (paragraphs (cut_by rules) text)) ∙ law.whole (cut_by rules) text
 
 -- lines are no more than characters
@@ -65,7 +65,7 @@ few_of few rules width (p ∷ pars) =
 
 module _ (law : ParagraphsArePieces) (few : LinesAreFew) (rules : Rules) (width : ℕ) (text : List ℕ) (kept : List Layout) (laid : kept ≡ layouts_of rules width text) where
   pub chars-laid : sum_by chars_of kept ≡ length text
-  chars-laid = sym (length-text kept) ∙ ap (λ ks. length (text_in ks)) laid ∙ ap length (text-layouts law rules width text)
+  chars-laid = sym (length-text kept) ∙ ap (λ ks. length (text_of ks)) laid ∙ ap length (text-layouts law rules width text)
 
   pub few-laid : sum_by line_number kept ≤ length text
   few-laid =
@@ -75,8 +75,8 @@ module _ (law : ParagraphsArePieces) (few : LinesAreFew) (rules : Rules) (width 
 -- an engine that goes by the same rules
 pub IsWholeLayout-same : (old new : Engine) (width : ℕ) (kept : List Layout) → SameRules old new → IsWholeLayout (record { engine = old; width = width; kept = kept }) → IsWholeLayout (record { engine = new; width = width; kept = kept })
 IsWholeLayout-same old new width kept same whole = record {
-  kept = whole.kept ∙ ap (λ r. layouts_of r width (text_in kept)) (sym same);
-  allowed = ap (λ r. text_refusal (cut_by r) (text_in kept)) same ∙ whole.allowed;
+  kept = whole.kept ∙ ap (λ r. layouts_of r width (text_of kept)) (sym same);
+  allowed = ap (λ r. text_refusal (cut_by r) (text_of kept)) same ∙ whole.allowed;
   filled = whole.filled;
 }
 
@@ -84,8 +84,8 @@ IsWholeLayout-same old new width kept same whole = record {
 pub LaysOutAtMost-none : (n : ℕ) (engine : Engine) → LaysOutAtMost n engine engine
 LaysOutAtMost-none n engine = record { analysed = record { least = omega arith; most = omega arith }; filled = record { least = omega arith; most = omega arith } }
 
-pub EditsNot-unchanged : (change : Change) (state : Holding) (fault : EditFault) → IsWholeLayout state → IsAnswerFor (refusal (cuts_at state) (text_at state) change) fault
-    → IsCountedFor fault (LaysOutAtMost (fresh (pars_in state.kept) change)) state.engine state.engine → EditsNot change state state fault
+pub EditsNot-unchanged : (change : Change) (state : State) (fault : EditFault) → IsWholeLayout state → IsAnswerFor (refusal (cuts_at state) (text_at state) change) fault
+    → IsCountedFor fault (LaysOutAtMost (fresh (pars_of state.kept) change)) state.engine state.engine → EditsNot change state state fault
 EditsNot-unchanged change state fault whole answer counts = record {
   answer = answer;
   kept = refl;
@@ -129,9 +129,9 @@ AreSums-splice kept new front back total total_2 f b rise total-is total_2-is =
     record { order = omega arith; within = omega arith; others = omega arith; made = omega arith }
 
 module _ (law : ParagraphsArePieces) (few : LinesAreFew) (engine : Engine) (width : ℕ) (kept : List Layout) (whole : IsWholeLayout (record { engine = engine; width = width; kept = kept }))
-    (pos count : ℕ) (piece : List ℕ) (within : pos + count ≤ length (text_in kept)) (front back : Edge) (f : IsFrontEdge kept pos front) (b : IsBackEdge kept (pos + count) back) where
+    (pos count : ℕ) (piece : List ℕ) (within : pos + count ≤ length (text_of kept)) (front back : Edge) (f : IsFrontEdge kept pos front) (b : IsBackEdge kept (pos + count) back) where
   abbrev pub region : List ℕ
-  region = front_of (pars_in kept) front pos ++ (piece ++ back_of (pars_in kept) back (pos + count))
+  region = front_of (pars_of kept) front pos ++ (piece ++ back_of (pars_of kept) back (pos + count))
 
   abbrev pub change : Change
   change = changing pos count piece
@@ -142,26 +142,26 @@ module _ (law : ParagraphsArePieces) (few : LinesAreFew) (engine : Engine) (widt
   order : pos ≤ pos + count
   order = omega arith
 
-  pars-kept : pars_in kept ≡ paragraphs (cut_by rules) (text_in kept)
-  pars-kept = ap pars_in whole.kept ∙ pars-layouts rules width (paragraphs (cut_by rules) (text_in kept))
+  pars-kept : pars_of kept ≡ paragraphs (cut_by rules) (text_of kept)
+  pars-kept = ap pars_of whole.kept ∙ pars-layouts rules width (paragraphs (cut_by rules) (text_of kept))
 
-  spliced : IsSpliced (cut_by rules) (pars_in kept) pos count piece (touched_by front back)
-  spliced = IsSpliced-from_touched law (cut_by rules) (pars_in kept) pos count piece (touched_by front back) (sym pars-kept) within (AreTouched-edges kept pos (pos + count) front back order within f b)
+  spliced : IsSpliced (cut_by rules) (pars_of kept) pos count piece (touched_by front back)
+  spliced = IsSpliced-from_touched law (cut_by rules) (pars_of kept) pos count piece (touched_by front back) (sym pars-kept) within (AreTouched-edges kept pos (pos + count) front back order within f b)
 
-  region_is : region_of (pars_in kept) (touched_by front back) pos (pos + count) piece ≡ region
+  region_is : region_of (pars_of kept) (touched_by front back) pos (pos + count) piece ≡ region
   region_is = region_parts kept pos (pos + count) front back order within f b piece
 
   pub rise : front.index ≤ back.index
   rise = edges_rise kept pos (pos + count) front back order within f b
 
-  pub length-region : length region ≡ fresh (pars_in kept) change
+  pub length-region : length region ≡ fresh (pars_of kept) change
   length-region = ap length (sym region_is) ∙ spliced.size
 
   -- what is kept afterwards
-  pub kept-after : splice kept front.index back.index (layouts_of rules width region) ≡ layouts_of rules width (changed (text_in kept) change)
+  pub kept-after : splice kept front.index back.index (layouts_of rules width region) ≡ layouts_of rules width (changed (text_of kept) change)
   kept-after =
       let one = layout_of rules width in
-      let pars = pars_in kept in
+      let pars = pars_of kept in
       let all : kept ≡ map one pars = whole.kept ∙ ap (map one) (sym pars-kept) in
       let new = paragraphs (cut_by rules) region in
       let left : take front.index kept ≡ map one (take front.index pars) = ap (take front.index) all ∙ take-map one front.index pars in
@@ -174,15 +174,15 @@ module _ (law : ParagraphsArePieces) (few : LinesAreFew) (engine : Engine) (widt
       ∙ ap (map one) (sym spliced.pieces)
 
   -- why it is refused, where the text isn't too long
-  pub refusal-by_region : length (text_in kept) - count + length piece ≤ text_limit → refusal (cut_by rules) (text_in kept) change ≡ paragraphs_refusal (cut_by rules) region
+  pub refusal-by_region : length (text_of kept) - count + length piece ≤ text_limit → refusal (cut_by rules) (text_of kept) change ≡ paragraphs_refusal (cut_by rules) region
   refusal-by_region short =
-      let text = changed (text_in kept) change in
-      let allowed : are_within (pars_in kept) ≡ true = ap are_within pars-kept ∙ allowed-within_limit (cut_by rules) (text_in kept) whole.allowed in
-      refusal-inside (cut_by rules) (text_in kept) change within
-      ∙ text_refusal-short (cut_by rules) text (rw (length-changed_text (text_in kept) piece pos count within) short)
+      let text = changed (text_of kept) change in
+      let allowed : are_within (pars_of kept) ≡ true = ap are_within pars-kept ∙ allowed-within_limit (cut_by rules) (text_of kept) whole.allowed in
+      refusal-inside (cut_by rules) (text_of kept) change within
+      ∙ text_refusal-short (cut_by rules) text (rw (length-changed_text (text_of kept) piece pos count within) short)
       ∙ ap (λ b. if b then None else Some ParagraphTooLong) (spliced.limit allowed ∙ ap (is_within_limit (cut_by rules)) region_is)
 
-  pub EditsNot-by_region : (new_engine : Engine) (fault : EditFault) → length (text_in kept) - count + length piece ≤ text_limit → IsAnswerFor (paragraphs_refusal (cut_by rules) region) fault
+  pub EditsNot-by_region : (new_engine : Engine) (fault : EditFault) → length (text_of kept) - count + length piece ≤ text_limit → IsAnswerFor (paragraphs_refusal (cut_by rules) region) fault
       → SameRules engine new_engine → IsCountedFor fault (LaysOutAtMost (length region)) engine new_engine
       → EditsNot change (record { engine = engine; width = width; kept = kept }) (record { engine = new_engine; width = width; kept = kept }) fault
   EditsNot-by_region new_engine fault short answer same counts = record {
@@ -195,24 +195,24 @@ module _ (law : ParagraphsArePieces) (few : LinesAreFew) (engine : Engine) (widt
   }
 
   -- the new paragraphs stand in place of the touched ones
-  module _ (new : List Layout) (laid : new ≡ layouts_of rules width region) (short : length (text_in kept) - count + length piece ≤ text_limit) where
+  module _ (new : List Layout) (laid : new ≡ layouts_of rules width region) (short : length (text_of kept) - count + length piece ≤ text_limit) where
     abbrev pub after : List Layout
     after = splice kept front.index back.index new
 
-    after_is : after ≡ layouts_of rules width (changed (text_in kept) change)
+    after_is : after ≡ layouts_of rules width (changed (text_of kept) change)
     after_is = ap (splice kept front.index back.index) laid ∙ kept-after
 
-    text-after : text_in after ≡ changed (text_in kept) change
-    text-after = ap text_in after_is ∙ text-layouts law rules width (changed (text_in kept) change)
+    text-after : text_of after ≡ changed (text_of kept) change
+    text-after = ap text_of after_is ∙ text-layouts law rules width (changed (text_of kept) change)
 
-    size-after : length (changed (text_in kept) change) ≤ text_limit
-    size-after = rw (length-changed_text (text_in kept) piece pos count within) short
+    size-after : length (changed (text_of kept) change) ≤ text_limit
+    size-after = rw (length-changed_text (text_of kept) piece pos count within) short
 
     pub chars_fit : sum_by chars_of after < 2 ^ 64
-    chars_fit = omega (arith, chars-laid law few rules width (changed (text_in kept) change) after after_is, size-after)
+    chars_fit = omega (arith, chars-laid law few rules width (changed (text_of kept) change) after after_is, size-after)
 
     pub lines_fit : sum_by line_number after < 2 ^ 64
-    lines_fit = omega (arith, few-laid law few rules width (changed (text_in kept) change) after after_is, size-after)
+    lines_fit = omega (arith, few-laid law few rules width (changed (text_of kept) change) after after_is, size-after)
 
     old-parts : kept ≡ take front.index kept ++ (slice_range kept front.index back.index ++ drop back.index kept)
     old-parts = sym (take-append-drop front.index kept) ∙ ap (λ ks. take front.index kept ++ ks) (drop_split kept front.index back.index rise)
@@ -220,8 +220,8 @@ module _ (law : ParagraphsArePieces) (few : LinesAreFew) (engine : Engine) (widt
     lines-parts : (left mid right : List Layout) → lines_in (left ++ (mid ++ right)) ≡ lines_in left ++ (lines_in mid ++ lines_in right)
     lines-parts left mid right = flat_map-append visuals left (mid ++ right) ∙ ap (λ ls. lines_in left ++ ls) (flat_map-append visuals mid right)
 
-    IsDamageOf-after : IsDamageOf change kept after (damage_between front back new)
-    IsDamageOf-after =
+    IsDamage-after : IsDamage change kept after (damage_between front back new)
+    IsDamage-after =
         let left = take front.index kept in
         let mid = slice_range kept front.index back.index in
         let right = drop back.index kept in
@@ -245,9 +245,9 @@ module _ (law : ParagraphsArePieces) (few : LinesAreFew) (engine : Engine) (widt
     pub Edits-after : (new_engine : Engine) → is_within_limit (cut_by rules) region ≡ true → SameRules engine new_engine → LaysOutAtMost (length region) engine new_engine
         → Edits change (record { engine = engine; width = width; kept = kept }) (record { engine = new_engine; width = width; kept = after }) (damage_between front back new)
     Edits-after new_engine in_limit same counts =
-        let accepted : refusal (cut_by rules) (text_in kept) change ≡ None =
+        let accepted : refusal (cut_by rules) (text_of kept) change ≡ None =
         refusal-by_region short ∙ cond-true (is_within_limit (cut_by rules) region) None (Some ParagraphTooLong) in_limit in
-        let allowed : text_refusal (cut_by rules) (changed (text_in kept) change) ≡ None = sym (refusal-inside (cut_by rules) (text_in kept) change within) ∙ accepted in
+        let allowed : text_refusal (cut_by rules) (changed (text_of kept) change) ≡ None = sym (refusal-inside (cut_by rules) (text_of kept) change within) ∙ accepted in
         record {
           accepted = accepted;
           text = text-after;
@@ -258,7 +258,7 @@ module _ (law : ParagraphsArePieces) (few : LinesAreFew) (engine : Engine) (widt
             filled = whole.filled;
           });
           rules = same;
-          damage = IsDamageOf-after;
+          damage = IsDamage-after;
           counts = subst (λ n. LaysOutAtMost n engine new_engine) length-region counts;
         }
 

@@ -1,14 +1,14 @@
 mod ChangeLemmas
 mod EdgeLemmas
 mod EditLemmas
+mod JoinedLemmas
 mod LineLemmas
 mod OpenLemmas
-mod JoinedLemmas
-mod RegionLemmas
+mod PrintLemmas
+mod RefusalLemmas
 mod RegionParts
 mod RunLemmas
 mod ScanLemmas
-mod SessionLemmas
 mod SpliceLemmas
 mod TouchedLemmas
 mod WidthLemmas

@@ -7,15 +7,15 @@ use Rattle.bidi.specs.Pieces.{ParagraphsArePieces}
 use Rattle.lines.specs.Engine.{rules_of, SameRules, LaysOutAtMost}
 use Rattle.lines.specs.Layouts.{Layout, cut_by}
 use Rattle.lines.specs.declared.engine.Engine.{Engine}
-use Rattle.session.specs.Calls.{IsCountedFor, OpensOn, OpensNotOn, opening_refusal}
+use Rattle.session.specs.Sessions.{IsCountedFor, Opens, OpensNot, opening_refusal}
 use Rattle.session.specs.Changes.{is_within_limit, paragraphs_refusal, text_limit, text_refusal}
-use Rattle.session.specs.Kept.{text_in, layouts_of}
+use Rattle.session.specs.Kept.{text_of, layouts_of}
 use Rattle.session.specs.Sessions.{IsAnswerFor}
 use Rattle.session.specs.declared.edits.EditFault.{EditFault}
 use Rattle.session.specs.declared.edits.EditFault.TheVariants.{WidthOutOfRange, TextTooLong, ParagraphTooLong, NoMemory}
 use Rattle.session.proofs.EdgeLemmas.{chars_of, lines_of}
 use Rattle.session.proofs.EditLemmas.{LinesAreFew, chars-laid, few-laid, text-layouts, IsWholeLayout-same}
-use Rattle.session.proofs.SessionLemmas.{text_refusal-long, text_refusal-short}
+use Rattle.session.proofs.RefusalLemmas.{text_refusal-long, text_refusal-short}
 
 pub positive : (n : ℕ) → (n ≡ 0 → ⊥) → 0 < n
 positive n some = omega (arith, some)
@@ -28,8 +28,8 @@ module _ (engine : Engine) (whole : List ℕ) (width : ℕ) (some : width ≡ 0 
   opening-width : opening_refusal (cut_by (rules_of engine)) whole width ≡ text_refusal (cut_by (rules_of engine)) whole
   opening-width = cond-false (width == 0) (Some WidthOutOfRange) (text_refusal (cut_by (rules_of engine)) whole) (ne_eqb width 0 some)
 
-  pub OpensNotOn-too_long : text_limit < length whole → OpensNotOn engine whole width (engine, TextTooLong)
-  OpensNotOn-too_long long = record {
+  pub OpensNot-too_long : text_limit < length whole → OpensNot engine whole width (engine, TextTooLong)
+  OpensNot-too_long long = record {
     reason = opening-width ∙ text_refusal-long (cut_by (rules_of engine)) whole long;
     rules = refl;
     counts = refl;
@@ -39,9 +39,9 @@ module _ (engine : Engine) (whole : List ℕ) (width : ℕ) (some : width ≡ 0 
     opening-paragraphs : opening_refusal (cut_by (rules_of engine)) whole width ≡ paragraphs_refusal (cut_by (rules_of engine)) whole
     opening-paragraphs = opening-width ∙ text_refusal-short (cut_by (rules_of engine)) whole short
 
-    pub OpensNotOn-refused : (fault : EditFault) → IsAnswerFor (paragraphs_refusal (cut_by (rules_of engine)) whole) fault → IsCountedFor fault (LaysOutAtMost (length whole)) engine new_engine
-        → OpensNotOn engine whole width (new_engine, fault)
-    OpensNotOn-refused fault answer counts = record {
+    pub OpensNot-refused : (fault : EditFault) → IsAnswerFor (paragraphs_refusal (cut_by (rules_of engine)) whole) fault → IsCountedFor fault (LaysOutAtMost (length whole)) engine new_engine
+        → OpensNot engine whole width (new_engine, fault)
+    OpensNot-refused fault answer counts = record {
       reason = subst (λ o. IsAnswerFor o fault) (sym opening-paragraphs) answer;
       rules = same;
       counts = counts;
@@ -51,13 +51,13 @@ module _ (engine : Engine) (whole : List ℕ) (width : ℕ) (some : width ≡ 0 
       allowed : paragraphs_refusal (cut_by (rules_of engine)) whole ≡ None
       allowed = cond-true (is_within_limit (cut_by (rules_of engine)) whole) None (Some ParagraphTooLong) within
 
-      pub OpensNotOn-no_memory : OpensNotOn engine whole width (new_engine, NoMemory)
-      OpensNotOn-no_memory = OpensNotOn-refused NoMemory allowed counts
+      pub OpensNot-no_memory : OpensNot engine whole width (new_engine, NoMemory)
+      OpensNot-no_memory = OpensNot-refused NoMemory allowed counts
 
-      pub OpensOn-laid : ParagraphsArePieces → (kept : List Layout) → kept ≡ layouts_of (rules_of engine) width whole
-          → OpensOn engine whole width (record { engine = new_engine; width = width; kept = kept })
-      OpensOn-laid law kept laid =
-          let text : text_in kept ≡ whole = ap text_in laid ∙ text-layouts law (rules_of engine) width whole in
+      pub Opens-laid : ParagraphsArePieces → (kept : List Layout) → kept ≡ layouts_of (rules_of engine) width whole
+          → Opens engine whole width (record { engine = new_engine; width = width; kept = kept })
+      Opens-laid law kept laid =
+          let text : text_of kept ≡ whole = ap text_of laid ∙ text-layouts law (rules_of engine) width whole in
           record {
             allowed = opening-paragraphs ∙ allowed;
             text = text;

@@ -6,11 +6,10 @@ use Rattle.std.proofs.lemmas.List.{append-nil, length-append, length-drop, lengt
 use Rattle.std.proofs.lemmas.List.Folds.{concat-append}
 use Rattle.lines.specs.Layouts.{Layout}
 use Rattle.session.specs.Edges.{IsFrontEdge, IsBackEdge}
-use Rattle.session.specs.Kept.{pars_in, text_in}
-use Rattle.session.specs.Sessions.{AreTouched}
+use Rattle.session.specs.Kept.{pars_of, text_of}
+use Rattle.session.specs.Touched.{AreTouched, Span}
 use Rattle.session.specs.Touched.{start_of}
 use Rattle.session.specs.declared.edge.Edge.{Edge}
-use Rattle.session.specs.declared.touched.Touched.{Touched}
 use Rattle.session.proofs.ChangeLemmas.{region_of}
 use Rattle.session.proofs.TouchedLemmas.{start_of-more, start_of-le, start_of-end, AreTouched-from_walks}
 
@@ -81,7 +80,7 @@ no_back pars first last n m k none =
     ap (drop n) (no_slice pars first last none) ∙ drop_all n [] (omega arith) ∙ sym (ap (drop m) (get_or_past pars k [] (omega arith)) ∙ drop_all m [] (omega arith))
 
 -- the touched paragraphs, between two edges
-abbrev pub touched_by : Edge → Edge → Touched
+abbrev pub touched_by : Edge → Edge → Span
 touched_by front back = record { first = front.index; end = back.index; start = front.chars; stop = back.chars }
 
 -- what the first touched paragraph has in front of a place, and what the last one has behind another
@@ -91,34 +90,34 @@ front_of pars front pos = take (pos - front.chars) (get_or pars front.index [])
 abbrev pub back_of : List (List ℕ) → Edge → ℕ → List ℕ
 back_of pars back to = let text = get_or pars (back.index - 1) [] in drop (length text - (back.chars - to)) text
 
-module _ (kept : List Layout) (pos to : ℕ) (front back : Edge) (order : pos ≤ to) (within : to ≤ length (text_in kept)) (f : IsFrontEdge kept pos front) (b : IsBackEdge kept to back) where
-  pars_number : length (pars_in kept) ≡ length kept
+module _ (kept : List Layout) (pos to : ℕ) (front back : Edge) (order : pos ≤ to) (within : to ≤ length (text_of kept)) (f : IsFrontEdge kept pos front) (b : IsBackEdge kept to back) where
+  pars_number : length (pars_of kept) ≡ length kept
   pars_number = length-map kept (λ l. l.text)
 
   -- an edge in front of no paragraph stands at 0
   front_low : front.chars ≤ pos
   front_low = elim (cases_eq front.index 0) [
-    | inl e ↦ let start : front.chars ≡ 0 = f.edge_is.chars ∙ ap (start_of (pars_in kept)) e in omega arith
+    | inl e ↦ let start : front.chars ≡ 0 = f.edge_is.chars ∙ ap (start_of (pars_of kept)) e in omega arith
     | inr ne ↦ omega (arith, f.before (omega arith))
   ]
 
   back_high : to ≤ back.chars
   back_high = elim (cases_lt back.index (length kept)) [
     | inl more ↦ omega (arith, b.behind more)
-    | inr all ↦ omega (arith, b.edge_is.chars, start_of-end (pars_in kept) back.index (omega (arith, pars_number)))
+    | inr all ↦ omega (arith, b.edge_is.chars, start_of-end (pars_of kept) back.index (omega (arith, pars_number)))
   ]
 
   -- some paragraph is touched, unless there is none
-  some_or_none : (front.index < back.index) ⊎ (length (pars_in kept) ≡ 0)
+  some_or_none : (front.index < back.index) ⊎ (length (pars_of kept) ≡ 0)
   some_or_none = elim (cases_lt front.index back.index) [
     | inl some ↦ inl some
     | inr none ↦
-        let le = start_of-le (pars_in kept) back.index front.index (omega arith) in
+        let le = start_of-le (pars_of kept) back.index front.index (omega arith) in
         let last : back.index ≡ length kept = elim (cases_lt back.index (length kept)) [
           | inl more ↦ absurd (omega (arith, b.behind more, b.edge_is.chars, f.edge_is.chars, front_low, le))
           | inr all ↦ omega (arith, b.edge_is.within)
         ] in
-        let whole = start_of-end (pars_in kept) front.index (omega (arith, pars_number, f.edge_is.within)) in
+        let whole = start_of-end (pars_of kept) front.index (omega (arith, pars_number, f.edge_is.within)) in
         let first : front.index ≡ 0 = elim (cases_eq front.index 0) [
           | inl e ↦ e
           | inr ne ↦ absurd (omega (arith, f.before (omega arith), f.edge_is.chars, whole))
@@ -132,15 +131,15 @@ module _ (kept : List Layout) (pos to : ℕ) (front back : Edge) (order : pos �
     | inr none ↦ omega (arith, f.edge_is.within, pars_number)
   ]
 
-  pub AreTouched-edges : AreTouched (pars_in kept) pos to (touched_by front back)
+  pub AreTouched-edges : AreTouched (pars_of kept) pos to (touched_by front back)
   AreTouched-edges =
-      AreTouched-from_walks (pars_in kept) pos to front.index back.index front.chars back.chars order within f.edge_is.chars b.edge_is.chars edges_rise
+      AreTouched-from_walks (pars_of kept) pos to front.index back.index front.chars back.chars order within f.edge_is.chars b.edge_is.chars edges_rise
       (omega (arith, b.edge_is.within, pars_number)) f.before (λ some. f.behind (omega (arith, pars_number))) (λ i above below. b.before i below) (λ more. b.behind (omega (arith, pars_number)))
 
   -- the changed text of the touched paragraphs
-  pub region_parts : (piece : List ℕ) → region_of (pars_in kept) (touched_by front back) pos to piece ≡ front_of (pars_in kept) front pos ++ (piece ++ back_of (pars_in kept) back to)
+  pub region_parts : (piece : List ℕ) → region_of (pars_of kept) (touched_by front back) pos to piece ≡ front_of (pars_of kept) front pos ++ (piece ++ back_of (pars_of kept) back to)
   region_parts piece =
-      let pars = pars_in kept in
+      let pars = pars_of kept in
       let place : pos - front.chars + (to - front.chars - (pos - front.chars)) ≡ to - front.chars = omega (arith, front_low) in
       let first : take (pos - front.chars) (concat (slice_range pars front.index back.index)) ≡ front_of pars front pos = elim some_or_none [
         | inl some ↦ ap (λ n. take (pos - n) (concat (slice_range pars front.index back.index))) f.edge_is.chars

@@ -1,5 +1,5 @@
 -- The lines of all paragraphs at another width.
-use Rattle.std.proofs.Common.{◌≡◌, ℕ, zero, suc, ◌+◌, ◌<◌, ◌≤◌, ◌^◌, ◌==◌, Bool, true, List, [], ◌∷◌, ◌++◌, length, map, take, get_or, sum_by, nat_le, Option, Some, None, unwrap_or, refl, sym, ap, subst, ◌∙◌, arith}
+use Rattle.std.proofs.Common.{◌≡◌, ℕ, zero, suc, ◌+◌, ◌<◌, ◌≤◌, ◌^◌, ◌==◌, Bool, true, List, [], ◌∷◌, ◌++◌, length, map, take, get_or, sum_by, nat_le, Some, None, unwrap_or, refl, sym, ap, subst, ◌∙◌, arith}
 use Rattle.std.specs.List.{AllZip, slice_get}
 use Rattle.std.proofs.lemmas.Bool.{and_parts, leb-true, cond-false, ne_eqb}
 use Rattle.std.proofs.lemmas.List.{append-nil, map_more, length-map}
@@ -12,17 +12,15 @@ use Rattle.lines.specs.Layouts.{Layout, Rules, AreLinesOf, IsLaidOut, IsParagrap
 use Rattle.lines.specs.Visual.{Line}
 use Rattle.lines.specs.declared.engine.Engine.{Engine}
 use Rattle.store.specs.Exchanging.{pairwise}
-use Rattle.session.specs.Calls.{Holding, IsWholeLayout, Refills, RefillsNot, width_refusal}
-use Rattle.session.specs.Changes.{are_within, paragraph_limit, text_limit, text_refusal}
-use Rattle.session.specs.Damage.{NamesAll}
-use Rattle.session.specs.Kept.{text_in, lines_in, layouts_of}
-use Rattle.session.specs.declared.edits.Damage.{Damage}
+use Rattle.session.specs.Sessions.{IsWholeLayout, Refills, RefillsNot}
+use Rattle.session.specs.Changes.{are_within, paragraph_limit, text_refusal, width_refusal}
+use Rattle.session.specs.Kept.{text_of, layouts_of}
 use Rattle.session.specs.declared.edits.EditFault.TheVariants.{WidthOutOfRange, NoMemory}
 use Rattle.session.proofs.EdgeLemmas.{chars_of, lines_of as line_number, length-text, length-lines}
 use Rattle.session.proofs.EditLemmas.{LinesAreFew, few-laid, text-layouts, IsWholeLayout-same}
 use Rattle.session.proofs.JoinedLemmas.{first_piece}
 use Rattle.session.proofs.OpenLemmas.{positive}
-use Rattle.session.proofs.SessionLemmas.{allowed-length, allowed-within_limit}
+use Rattle.session.proofs.RefusalLemmas.{allowed-length, allowed-within_limit}
 
 -- a fact of each item
 abbrev pub Each : {A : Type 0} → (A → Type 0) → List A → Type 0
@@ -52,9 +50,9 @@ all_laid_out rules width (p ∷ pars) h = (record { width = width; paragraph = h
 pub each_laid_out : ParagraphsArePieces → (engine : Engine) (width : ℕ) (kept : List Layout) → IsWholeLayout (record { engine = engine; width = width; kept = kept }) → Each (IsLaidOut (rules_of engine)) kept
 each_laid_out law engine width kept whole =
     let rules = rules_of engine in
-    let pars = paragraphs (cut_by rules) (text_in kept) in
+    let pars = paragraphs (cut_by rules) (text_of kept) in
     subst (Each (IsLaidOut rules)) (sym whole.kept)
-    (all_laid_out rules width pars (all_paragraphs law rules pars (law.pieces (cut_by rules) (text_in kept)) (allowed-within_limit (cut_by rules) (text_in kept) whole.allowed)))
+    (all_laid_out rules width pars (all_paragraphs law rules pars (law.pieces (cut_by rules) (text_of kept)) (allowed-within_limit (cut_by rules) (text_of kept) whole.allowed)))
 
 pub all_read : {A : Type 0} (P : A → Type 0) (xs : List A) (i : ℕ) (x : A) → Each P xs → Some x ≡ slice_get xs i → P x
 all_read P [] i x h e = absurd (cc e)
@@ -79,7 +77,7 @@ pub record AreFilled (start : Engine) (width : ℕ) (kept : List Layout) (n : �
   pub most : filled_of now ≤ filled_of start + sum_by chars_of (take n kept)
 
 module _ (start now : Engine) (width : ℕ) (kept : List Layout) (n : ℕ) (fills : List (List Line)) (so_far : AreFilled start width kept n fills now) where
-  pub FillsAtMost-so_far : FillsAtMost (length (text_in kept)) start now
+  pub FillsAtMost-so_far : FillsAtMost (length (text_of kept)) start now
   FillsAtMost-so_far = record {
     analysed = so_far.analysed;
     filled = record { least = so_far.least; most = omega (arith, so_far.most, sum_by-take-le chars_of kept n, length-text kept) };
@@ -95,11 +93,11 @@ module _ (start now : Engine) (width : ℕ) (kept : List Layout) (n : ℕ) (fill
     size : sum_by chars_of (take (n + 1) kept) ≡ sum_by chars_of (take n kept) + length l.text
     size = sum_by_more chars_of kept n l here ∙ ap (λ x. sum_by chars_of (take n kept) + chars_of x) item
 
-    upto : length l.text + sum_by chars_of (take n kept) ≤ length (text_in kept)
+    upto : length l.text + sum_by chars_of (take n kept) ≤ length (text_of kept)
     upto = omega (arith, size, sum_by-take-le chars_of kept (n + 1), length-text kept)
 
     -- where memory runs out behind the next one
-    pub FillsAtMost-next : FillsAtMost (length (text_in kept)) start next
+    pub FillsAtMost-next : FillsAtMost (length (text_of kept)) start next
     FillsAtMost-next = record {
       analysed = counts.analysed ∙ so_far.analysed;
       filled = record { least = omega (arith, so_far.least, counts.filled.least); most = omega (arith, so_far.most, counts.filled.most, upto) };
@@ -136,26 +134,26 @@ module _ (law : ParagraphsArePieces) (few : LinesAreFew) (engine : Engine) (old 
   abbrev after : List Layout
   after = refilled kept (fills_of (rules_of engine) width kept)
 
-  after_is : after ≡ layouts_of (rules_of engine) width (text_in kept)
+  after_is : after ≡ layouts_of (rules_of engine) width (text_of kept)
   after_is =
       ap (λ ks. refilled ks (fills_of (rules_of engine) width ks)) whole.kept
-      ∙ refilled-pars (rules_of engine) old width (paragraphs (cut_by (rules_of engine)) (text_in kept))
+      ∙ refilled-pars (rules_of engine) old width (paragraphs (cut_by (rules_of engine)) (text_of kept))
 
   pub refilled_fit : sum_by line_number after < 2 ^ 64
-  refilled_fit = omega (arith, few-laid law few (rules_of engine) width (text_in kept) after after_is, allowed-length (cut_by (rules_of engine)) (text_in kept) whole.allowed)
+  refilled_fit = omega (arith, few-laid law few (rules_of engine) width (text_of kept) after after_is, allowed-length (cut_by (rules_of engine)) (text_of kept) whole.allowed)
 
   accepted : width_refusal width ≡ None
   accepted = cond-false (width == 0) (Some WidthOutOfRange) None (ne_eqb width 0 some)
 
-  text-after : text_in after ≡ text_in kept
-  text-after = ap text_in after_is ∙ text-layouts law (rules_of engine) width (text_in kept)
+  text-after : text_of after ≡ text_of kept
+  text-after = ap text_of after_is ∙ text-layouts law (rules_of engine) width (text_of kept)
 
   number-after : length after ≡ length kept
   number-after =
-      ap length after_is ∙ length-map (paragraphs (cut_by (rules_of engine)) (text_in kept)) (layout_of (rules_of engine) width)
-      ∙ sym (ap length whole.kept ∙ length-map (paragraphs (cut_by (rules_of engine)) (text_in kept)) (layout_of (rules_of engine) old))
+      ap length after_is ∙ length-map (paragraphs (cut_by (rules_of engine)) (text_of kept)) (layout_of (rules_of engine) width)
+      ∙ sym (ap length whole.kept ∙ length-map (paragraphs (cut_by (rules_of engine)) (text_of kept)) (layout_of (rules_of engine) old))
 
-  module _ (new_engine : Engine) (same : SameRules engine new_engine) (counts : FillsAtMost (length (text_in kept)) engine new_engine) where
+  module _ (new_engine : Engine) (same : SameRules engine new_engine) (counts : FillsAtMost (length (text_of kept)) engine new_engine) where
     pub RefillsNot-no_memory : RefillsNot width (record { engine = engine; width = old; kept = kept }) (record { engine = new_engine; width = old; kept = kept }) NoMemory
     RefillsNot-no_memory = record {
       answer = accepted;
@@ -170,7 +168,7 @@ module _ (law : ParagraphsArePieces) (few : LinesAreFew) (engine : Engine) (old 
         → Refills width (record { engine = engine; width = old; kept = kept }) (record { engine = new_engine; width = width; kept = made })
         (record { first_line = 0; old_lines = lines; new_lines = lines_2; first_par = 0; old_pars = count; new_pars = count })
     Refills-after made count lines lines_2 made-is count-is lines-is lines_2-is =
-        let text : text_in made ≡ text_in kept = ap text_in made-is ∙ text-after in
+        let text : text_of made ≡ text_of kept = ap text_of made-is ∙ text-after in
         record {
           accepted = accepted;
           text = text;

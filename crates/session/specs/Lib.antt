@@ -1,4 +1,3 @@
-pub mod Calls
 pub mod Changes
 pub mod Damage
 pub mod Edges
@@ -6,4 +5,3 @@ pub mod Kept
 pub mod Scans
 pub mod Sessions
 pub mod Touched
-pub mod Views

@@ -1,7 +1,7 @@
 //! Where a change lies among the paragraphs of a store: found by the store's sums.
 ghost use Rattle.std.specs.Prelude.{◌≡◌, ◌≤◌, ◌-◌, List, [], ℕ, length, take, drop, slice_index_or};
 ghost use Rattle.session.specs.Edges.{IsBackEdge, IsFrontEdge};
-ghost use Rattle.session.specs.Kept.{pars_in, text_in};
+ghost use Rattle.session.specs.Kept.{pars_of, text_of};
 
 use crate::kept::Kept;
 use store::{Measured, ParagraphStore};
@@ -17,7 +17,7 @@ pub struct Edge {
 
 /// In front of the first paragraph that a change from `pos` on touches.
 pub fn front_edge<S: ParagraphStore<Kept>>(store: &S, pos: usize) -> Edge
-    requires { pos ≤ length (text_in (S.items store.now)) }
+    requires { pos ≤ length (text_of (S.items store.now)) }
     ensures { IsFrontEdge (S.items store.now) pos result }
 {
     if pos == 0 {
@@ -37,7 +37,7 @@ pub fn front_edge<S: ParagraphStore<Kept>>(store: &S, pos: usize) -> Edge
 
 /// Behind the last paragraph that a change up to `to` touches.
 pub fn back_edge<S: ParagraphStore<Kept>>(store: &S, to: usize) -> Edge
-    requires { to ≤ length (text_in (S.items store.now)) }
+    requires { to ≤ length (text_of (S.items store.now)) }
     ensures { IsBackEdge (S.items store.now) to result }
 {
     // They show that the sums fit.
@@ -75,7 +75,7 @@ fn back(text: &[char], from: usize) -> &[char]
 
 /// The characters of the paragraph behind an edge up to `pos`.
 pub fn front_text<S: ParagraphStore<Kept>>(store: &S, edge: Edge, pos: usize) -> &[char]
-    ensures { result.now ≡ take (pos - edge.chars) (slice_index_or (pars_in (S.items store.now)) edge.index []) }
+    ensures { result.now ≡ take (pos - edge.chars) (slice_index_or (pars_of (S.items store.now)) edge.index []) }
 {
     match store.get(edge.index) {
         Some(kept) => front(kept.laid().text(), pos.saturating_sub(edge.chars)),
@@ -85,13 +85,16 @@ pub fn front_text<S: ParagraphStore<Kept>>(store: &S, edge: Edge, pos: usize) ->
 
 /// The characters of the paragraph in front of an edge from `from` on.
 pub fn back_text<S: ParagraphStore<Kept>>(store: &S, edge: Edge, from: usize) -> &[char]
-    ensures { (text : List ℕ) → text ≡ slice_index_or (pars_in (S.items store.now)) (edge.index - 1) []
+    ensures { (text : List ℕ) → text ≡ slice_index_or (pars_of (S.items store.now)) (edge.index - 1) []
         → result.now ≡ drop (length text - (edge.chars - from)) text }
 {
     match store.get(edge.index.saturating_sub(1)) {
         Some(kept) => {
             let text = kept.laid().text();
-            back(text, text.len().saturating_sub(edge.chars.saturating_sub(from)))
+            back(
+                text,
+                text.len().saturating_sub(edge.chars.saturating_sub(from)),
+            )
         }
         None => &[],
     }

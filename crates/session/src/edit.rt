@@ -3,7 +3,7 @@ ghost use Rattle.std.specs.Prelude.{◌≡◌, ◌^◌, ◌<◌, ◌≤◌, List
 ghost use Rattle.std.specs.Prelude.{IfOk, IfErr, OnOk, OnErr};
 ghost use Rattle.std.specs.List.{splice};
 ghost use Rattle.std.specs.Str.{chars};
-ghost use Rattle.session.specs.Calls.{Edits, EditsNot, IsWholeLayout};
+ghost use Rattle.session.specs.Sessions.{Edits, EditsNot, IsWholeLayout};
 ghost use Rattle.session.specs.Changes.{changing};
 ghost use Rattle.session.specs.Edges.{damage_between, IsEdge};
 ghost use Rattle.session.specs.declared.edits.EditFault.TheVariants.{NoMemory};

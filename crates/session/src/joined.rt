@@ -5,7 +5,7 @@ ghost use Rattle.std.specs.Prelude.{IfOk, IfErr};
 ghost use Rattle.std.specs.Str.{chars};
 ghost use Rattle.lines.specs.Engine.{rules_of, LaysOutAtMost, SameRules};
 ghost use Rattle.lines.specs.Layouts.{cut_by, layout_of, IsParagraph};
-ghost use Rattle.session.specs.Calls.{IsCountedFor};
+ghost use Rattle.session.specs.Sessions.{IsCountedFor};
 ghost use Rattle.session.specs.Changes.{is_within_limit, paragraphs_refusal};
 ghost use Rattle.session.specs.Kept.{layouts_of};
 ghost use Rattle.session.specs.Sessions.{IsAnswerFor};
@@ -23,9 +23,9 @@ fn has_long(engine: &Engine, front: &[char], piece: &str, back: &[char]) -> bool
         (front.now ++ (chars piece.now ++ back.now))) }
 {
     let mut scan = Scan::new();
-    scan.pass_all(engine, front);
-    scan.pass_text(engine, piece);
-    scan.pass_all(engine, back);
+    scan.take_all(engine, front);
+    scan.take_text(engine, piece);
+    scan.take_all(engine, back);
     scan.is_long()
 }
 

@@ -1,20 +1,18 @@
-//! Editing sessions: a text under inserts and deletes, and what is kept of its paragraphs.
+//! Sessions: a text under inserts, deletes and width changes, of which all that is kept is the layout of
+//! the whole current text.
 #![tactic(auto)]
 
-mod base_session;
 mod edge;
 mod edit;
 mod edits;
 mod joined;
 mod kept;
-mod region;
+mod printing;
 mod scan;
 mod session;
-mod touched;
 mod width;
 
-pub use base_session::BaseSession;
-pub use edits::{Damage, Edit, EditFault, ParDamage, TEXT_LIMIT};
+pub use edits::{Damage, Edit, EditFault, TEXT_LIMIT};
 pub use kept::Kept;
 pub use session::Session;
 

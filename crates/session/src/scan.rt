@@ -1,11 +1,9 @@
 //! Whether a text has a paragraph that is too long, found without memory, one character after another.
 ghost use Rattle.std.specs.Prelude.{◌≡◌, ℕ, Bool, List, [], ◌∷◌, ◌++◌};
 ghost use Rattle.std.specs.Str.{chars};
-ghost use Rattle.bidi.specs.Engine.{cut_of};
 ghost use Rattle.lines.specs.Engine.{rules_of};
 ghost use Rattle.lines.specs.Layouts.{cut_by};
 
-use bidi::BaseEngine;
 use lines::{Engine, PARAGRAPH_LIMIT};
 
 /// What is known of the characters so far.
@@ -32,44 +30,7 @@ impl Scan {
     }
 
     /// One more character.
-    pub fn take(&mut self, engine: &BaseEngine, c: char)
-        ensures { (text : List ℕ) → HasScanned (cut_of engine.now) text self.old
-            → HasScanned (cut_of engine.now) (text ++ c ∷ []) self.new }
-    {
-        let starts_paragraph = self.last.is_some_and(|last| engine.is_cut(last, c));
-        if starts_paragraph {
-            self.len = 0;
-        }
-        if self.len < PARAGRAPH_LIMIT {
-            self.len += 1;
-        } else {
-            self.is_long = true;
-        }
-        self.last = Some(c);
-    }
-
-    /// Characters one after another.
-    pub fn take_all(&mut self, engine: &BaseEngine, part: &[char])
-        ensures { (text : List ℕ) → HasScanned (cut_of engine.now) text self.old
-            → HasScanned (cut_of engine.now) (text ++ part.now) self.new }
-    {
-        for c in part {
-            self.take(engine, *c);
-        }
-    }
-
-    /// The characters of a text.
-    pub fn take_text(&mut self, engine: &BaseEngine, part: &str)
-        ensures { (text : List ℕ) → HasScanned (cut_of engine.now) text self.old
-            → HasScanned (cut_of engine.now) (text ++ chars part.now) self.new }
-    {
-        for c in part.chars() {
-            self.take(engine, c);
-        }
-    }
-
-    /// One more character.
-    pub fn pass(&mut self, engine: &Engine, c: char)
+    pub fn take(&mut self, engine: &Engine, c: char)
         ensures { (text : List ℕ) → HasScanned (cut_by (rules_of engine.now)) text self.old
             → HasScanned (cut_by (rules_of engine.now)) (text ++ c ∷ []) self.new }
     {
@@ -86,22 +47,22 @@ impl Scan {
     }
 
     /// Characters one after another.
-    pub fn pass_all(&mut self, engine: &Engine, part: &[char])
+    pub fn take_all(&mut self, engine: &Engine, part: &[char])
         ensures { (text : List ℕ) → HasScanned (cut_by (rules_of engine.now)) text self.old
             → HasScanned (cut_by (rules_of engine.now)) (text ++ part.now) self.new }
     {
         for c in part {
-            self.pass(engine, *c);
+            self.take(engine, *c);
         }
     }
 
     /// The characters of a text.
-    pub fn pass_text(&mut self, engine: &Engine, part: &str)
+    pub fn take_text(&mut self, engine: &Engine, part: &str)
         ensures { (text : List ℕ) → HasScanned (cut_by (rules_of engine.now)) text self.old
             → HasScanned (cut_by (rules_of engine.now)) (text ++ chars part.now) self.new }
     {
         for c in part.chars() {
-            self.pass(engine, c);
+            self.take(engine, c);
         }
     }
 

@@ -1,20 +1,25 @@
 //! A session that keeps the layout of a text under inserts, deletes and width changes, over any store of
 //! paragraphs.
-ghost use Rattle.std.specs.Prelude.{◌≡◌, ℕ, length, option_map, slice_get, IfOk, IfErr};
+ghost use Rattle.std.specs.Prelude.{◌≡◌, ℕ, length, take, option_map, slice_get};
+ghost use Rattle.std.specs.Prelude.{IfOk, IfErr, OnOk, OnErr};
 ghost use Rattle.std.specs.Str.{chars};
-ghost use Rattle.lines.specs.Engine.{analysed_of, filled_of};
-ghost use Rattle.session.specs.Calls.{text_at, Edits, EditsNot, OpensNotOn, OpensOn, Refills, RefillsNot};
-ghost use Rattle.session.specs.Changes.{changing, deletion, insertion};
+ghost use Rattle.device.specs.Device.{StoppedAt, Wrote};
+ghost use Rattle.lines.specs.Engine.{analysed_of, filled_of, SameRules};
+ghost use Rattle.session.specs.Changes.{after_all, changing, deletion, insertion};
 ghost use Rattle.session.specs.Kept.{lines_in};
+ghost use Rattle.session.specs.Sessions.{cuts_at, held_at, page_at, text_at, IsWholeLayout};
+ghost use Rattle.session.specs.Sessions.{Edits, EditsNot, Opens, OpensNot, Refills, RefillsNot};
 
 use crate::edit::edit;
-use crate::edits::{Damage, EditFault, TEXT_LIMIT};
+use crate::edits::{Damage, Edit, EditFault, TEXT_LIMIT};
 use crate::joined::lay_out_joined;
 use crate::kept::Kept;
+use crate::printing::write_store;
 use crate::width::change_width;
 use bidi::paragraphs_are_pieces;
-use lines::{Engine, Laid, VisualLine, lines_are_few};
-use std::alloc::Global;
+use device::Sink;
+use lines::{Engine, Laid, Print, VisualLine, WriteFault, lines_are_few};
+use std::alloc::{AllocError, Global};
 use std::marker::Model;
 use store::ParagraphStore;
 
@@ -28,9 +33,9 @@ pub struct Session<S: ParagraphStore<Kept>> {
 }
 
 impl<S: ParagraphStore<Kept>> Model for Session<S> {
-    ghost use Rattle.session.specs.Calls.{Holding, IsWholeLayout};
+    ghost use Rattle.session.specs.Sessions.{State, IsWholeLayout};
 
-    ghost Value = { Holding };
+    ghost Value = { State };
 
     ghost view = { λ s. record { engine = s.engine; width = s.width; kept = S.items s.store } };
 
@@ -45,9 +50,9 @@ fn fill_store<S: ParagraphStore<Kept> + Drop>(
     text: &str,
     width: u16,
 ) -> Result<S, EditFault>
-    ensures ok { IfOk result (λ store. OpensOn engine.old (chars text.now) width
+    ensures ok { IfOk result (λ store. Opens engine.old (chars text.now) width
         (record { engine = engine.new; width = width; kept = S.items store })) }
-    ensures err { IfErr result (λ fault. OpensNotOn engine.old (chars text.now) width (engine.new, fault)) }
+    ensures err { IfErr result (λ fault. OpensNot engine.old (chars text.now) width (engine.new, fault)) }
 {
     if width == 0 {
         return Err(EditFault::WidthOutOfRange);
@@ -77,8 +82,8 @@ impl<S: ParagraphStore<Kept> + Drop> Session<S> {
         text: &str,
         width: u16,
     ) -> Result<Session<S>, (Engine, EditFault)>
-        ensures ok { IfOk result (OpensOn engine (chars text.now) width) }
-        ensures err { IfErr result (OpensNotOn engine (chars text.now) width) }
+        ensures ok { IfOk result (Opens engine (chars text.now) width) }
+        ensures err { IfErr result (OpensNot engine (chars text.now) width) }
     {
         let mut engine = engine;
         match fill_store(alloc, &mut engine, text, width) {
@@ -185,6 +190,41 @@ impl<S: ParagraphStore<Kept>> Session<S> {
             &mut self.width,
             width,
         )
+    }
+
+    /// Writes all lines, and no more behind a failure of the sink. It takes no memory.
+    pub fn print<W: Sink>(&self, writer: &mut W, print: &Print) -> Result<(), WriteFault>
+        ensures ok { OnOk result (Wrote (page_at self.now print.now)
+            (W.state writer.old) (W.state writer.new)) }
+        ensures err { IfErr result (λ fault. StoppedAt fault.written (page_at self.now print.now)
+            (W.state writer.old) (W.state writer.new)) }
+    {
+        write_store(&self.store, writer, self.width, print)
+    }
+
+    /// Makes changes one after another. Those that are refused change nothing. It ends at the first for
+    /// which there is no memory.
+    pub fn run(&mut self, edits: &[Edit<'_>]) -> Result<(), AllocError>
+        ensures ok { OnOk result (held_at self.new
+            ≡ after_all (cuts_at self.old) (held_at self.old) edits.now) }
+        ensures err { OnErr result ((k : ℕ) × (held_at self.new
+            ≡ after_all (cuts_at self.old) (held_at self.old) (take k edits.now))) }
+        ensures laid_out { IsWholeLayout self.new }
+        ensures rules { SameRules self.old.engine self.new.engine }
+    {
+        // Shows that what is kept is laid out before the first change.
+        let _ = &self.engine;
+        for edit in edits {
+            let result = match *edit {
+                Edit::Insert(pos, text) => self.insert(pos, text),
+                Edit::Delete(pos, count) => self.delete(pos, count),
+                Edit::SetWidth(width) => self.set_width(width),
+            };
+            if result == Err(EditFault::NoMemory) {
+                return Err(AllocError);
+            }
+        }
+        Ok(())
     }
 
     // Puts a piece in place of `count` characters.

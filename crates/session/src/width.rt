@@ -2,8 +2,8 @@
 ghost use Rattle.std.specs.Prelude.{◌≡◌, ◌<◌, ℕ, length, map, IfOk, IfErr};
 ghost use Rattle.lines.specs.Engine.{rules_of, FillsAtMost, SameRules};
 ghost use Rattle.lines.specs.Layouts.{lines_of};
-ghost use Rattle.session.specs.Calls.{IsWholeLayout, Refills, RefillsNot};
-ghost use Rattle.session.specs.Kept.{text_in};
+ghost use Rattle.session.specs.Sessions.{IsWholeLayout, Refills, RefillsNot};
+ghost use Rattle.session.specs.Kept.{text_of};
 
 use crate::edits::{Damage, EditFault};
 use crate::kept::Kept;
@@ -24,7 +24,7 @@ fn fill_all<S: ParagraphStore<Kept>>(
     ensures ok { IfOk result (λ fills. fills.items
         ≡ map (λ l. lines_of (rules_of engine.old) width l.text) (S.items store.now)) }
     ensures rules { SameRules engine.old engine.new }
-    ensures counts { FillsAtMost (length (text_in (S.items store.now))) engine.old engine.new }
+    ensures counts { FillsAtMost (length (text_of (S.items store.now))) engine.old engine.new }
 {
     // The law by which each paragraph is one.
     paragraphs_are_pieces();

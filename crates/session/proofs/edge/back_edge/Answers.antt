@@ -1,4 +1,4 @@
-use Rattle.std.proofs.Common.{◌≡◌, Some, sym, ap, ◌∙◌, arith}
+use Rattle.std.proofs.Common.{arith}
 use Rattle.session.proofs.EdgeLemmas.{to_within, chars_next, lines_next, found_some, chars_of, IsBackEdge-found, IsBackEdge-end}
 use Rattle.session.proofs.edge.back_edge.Goals as goal
 

@@ -1,9 +1,6 @@
 use Rattle.std.proofs.Common.{refl, sum_by, sym, ap, ◌∙◌}
-use Rattle.std.specs.List.{splice}
-use Rattle.session.specs.Kept.{lines_in}
-use Rattle.session.specs.declared.edits.Damage.{Damage}
 use Rattle.session.proofs.EdgeLemmas.{lines_of}
-use Rattle.session.proofs.EditLemmas.{at_ok, AreSums, AreSums-splice}
+use Rattle.session.proofs.EditLemmas.{at_ok, AreSums-splice}
 use Rattle.session.proofs.edit.put.Goals as goal
 
 pub overflow_sub-old_lines : goal.overflow_sub-old_lines

@@ -11,5 +11,5 @@ returns c =
     let is_cut = cut_by (rules_of c.args.engine.now) in
     let front = c.args.front.now in
     let piece = chars c.args.piece.now in
-    let known = c.pass_all-2.ensures ([] ++ front ++ piece) (c.pass_text.ensures ([] ++ front) (c.pass_all.ensures [] (c.new-scan.ensures is_cut))) in
-    c.is_long.ensures ∙ long_of_parts is_cut front piece c.args.back.now c.pass_all-2.new.self known
+    let known = c.take_all-2.ensures ([] ++ front ++ piece) (c.take_text.ensures ([] ++ front) (c.take_all.ensures [] (c.new-scan.ensures is_cut))) in
+    c.is_long.ensures ∙ long_of_parts is_cut front piece c.args.back.now c.take_all-2.new.self known

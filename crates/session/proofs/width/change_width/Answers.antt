@@ -1,6 +1,5 @@
-use Rattle.std.proofs.Common.{sum_by, sym, ap, subst, ◌∙◌}
+use Rattle.std.proofs.Common.{sym, ap, subst, ◌∙◌}
 use Rattle.lines.specs.Engine.{rules_of}
-use Rattle.session.proofs.EdgeLemmas.{lines_of}
 use Rattle.session.proofs.WidthLemmas.{each_laid_out, all_fit, fits_any, refilled, refilled_fit, Refills-after}
 use Rattle.session.proofs.width.change_width.Goals as goal
 

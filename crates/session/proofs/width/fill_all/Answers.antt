@@ -1,9 +1,7 @@
-use Rattle.std.proofs.Common.{◌≡◌, ◌<◌, None, length, take, sym, ap, subst, ◌∙◌, arith}
-use Rattle.std.proofs.lemmas.List.{take_all}
-use Rattle.std.proofs.lemmas.Option.{slice_get-get_or}
+use Rattle.std.proofs.Common.{length, sym, ap, subst, ◌∙◌, arith}
 use Rattle.lines.specs.Engine.{rules_of, FillsAtMost}
 use Rattle.lines.specs.Layouts.{Layout, IsLaidOut, lines_of}
-use Rattle.session.proofs.WidthLemmas.{all_read, each_laid_out, none_read, FillsAtMost-so_far, FillsAtMost-next, AreFilled-next, fills_of}
+use Rattle.session.proofs.WidthLemmas.{all_read, each_laid_out, none_read, FillsAtMost-so_far, FillsAtMost-next, AreFilled-next}
 use Rattle.session.proofs.width.fill_all.Goals as goal
 
 pub refill-requires-clause-laid : goal.refill-requires-clause-laid
