@@ -12,3 +12,4 @@ mod ScanLemmas
 mod SpliceLemmas
 mod TouchedLemmas
 mod WidthLemmas
+mod WorkedRows

@@ -478,7 +478,7 @@ const PIECES: [&str; 16] = [
 fn random_edit(numbers: &mut Numbers, len: usize) -> Edit<'static> {
     let pos = numbers.below(len.saturating_add(2));
     match numbers.below(8) {
-        0 => Edit::SetWidth(numbers.below(90) as u16),
+        0 => Edit::SetWidth(u16::try_from(numbers.below(90)).unwrap_or(0)),
         1..=4 => {
             let piece = PIECES
                 .get(numbers.below(PIECES.len()))
