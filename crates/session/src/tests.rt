@@ -321,7 +321,7 @@ const ROWS: [Row<'_>; 17] = [
         "abc def\nghi jkl\nx",
         3,
         Edit::Delete(7, 1),
-        [0, 4, 3, 0, 2, 1],
+        [0, 4, 4, 0, 2, 1],
         [15, 15],
         "abc defghi jkl\nx",
     ),
