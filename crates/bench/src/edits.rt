@@ -1,9 +1,11 @@
 //! Edits at places that look random, in a text of many paragraphs that a session keeps.
 use crate::numbers::Numbers;
 use anyhow::{Result, bail};
-use bidi::{Base, BaseEngine};
-use session::BaseSession;
+use bidi::Base;
+use lines::Engine;
+use session::{Kept, Session};
 use std::alloc::{AllocError, Global};
+use store::VecStore;
 use ucd::{Tables, UcdFiles};
 
 const FILES: UcdFiles<'_> = UcdFiles {
@@ -53,9 +55,9 @@ fn text_of(alloc: Global, paragraphs: usize) -> Result<String, AllocError> {
     Ok(text)
 }
 
-fn open(alloc: Global, text: &str) -> Result<BaseSession> {
-    let engine = BaseEngine::new(Tables::read(alloc, &FILES)?, Base::WeakLtr);
-    match BaseSession::open(alloc, engine, text) {
+fn open(alloc: Global, text: &str) -> Result<Session<VecStore<Kept>>> {
+    let engine = Engine::new(Tables::read(alloc, &FILES)?, Base::WeakLtr, false);
+    match Session::open(alloc, engine, text, 80) {
         Ok(session) => Ok(session),
         Err((_, fault)) => bail!("{fault}"),
     }

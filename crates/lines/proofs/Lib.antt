@@ -1,5 +1,6 @@
 mod BareLemmas
 pub mod ClusterLemmas
+mod FewLines
 pub mod FillingLemmas
 mod InverseLemmas
 pub mod KeptLemmas

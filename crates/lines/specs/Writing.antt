@@ -1,4 +1,4 @@
--- Writing some bytes behind others of which they are a part, with one count for all of them. Only the code of `bytes` speaks of these.
+-- Writing some bytes behind others of which they are a part, with one count for all of them.
 use Rattle.std.specs.Prelude.{◌≡◌, ℕ, ◌+◌, ◌-◌, ◌≤◌, List, length}
 use Rattle.device.specs.Device.{Device, Wrote, StoppedAt}
 

@@ -21,14 +21,15 @@ pub(crate) struct Part<'a> {
 }
 
 impl Fill {
-    ghost use Rattle.std.specs.Prelude.{◌≡◌, length, map, option_map, slice_get, IfErr, IfSome, OnOk};
-    ghost use Rattle.device.specs.Device.{StoppedAt, Wrote};
+    ghost use Rattle.std.specs.Prelude.{◌≡◌, ◌≤◌, length, map, option_map, slice_get};
+    ghost use Rattle.std.specs.Prelude.{IfErr, IfOk, IfSome};
     ghost use Rattle.bidi.specs.Runs.{AreWithin};
     ghost use Rattle.lines.specs.Layouts;
     ghost use Rattle.lines.specs.Layouts.{start_of};
     ghost use Rattle.lines.specs.Pages.{lines_bytes};
     ghost use Rattle.lines.specs.Parts.{line_of};
     ghost use Rattle.lines.specs.Visual.{visual_of};
+    ghost use Rattle.lines.specs.Writing.{PassedOn, StoppedIn};
 
     /// Where each line starts.
     pub(crate) fn starts(&self) -> &[u32]
@@ -74,30 +75,34 @@ impl Fill {
         })
     }
 
-    /// Writes all lines of the paragraph of this text and base level.
-    pub(crate) fn write<W: Sink>(
+    /// Writes all lines of the paragraph of this text and base level behind so many bytes, and says how
+    /// many are written then.
+    pub(crate) fn write_behind<W: Sink>(
         &self,
         text: &[char],
         base: u8,
         writer: &mut W,
+        done: u64,
         width: u16,
         print: &Print,
-    ) -> Result<(), WriteFault>
-        requires { Layouts.AreWithin (length text.now) self.now }
-        ensures ok { OnOk result (Wrote (lines_bytes width print.now base text.now self.now)
-            (W.state writer.old) (W.state writer.new)) }
+    ) -> Result<u64, WriteFault>
+        requires within { Layouts.AreWithin (length text.now) self.now }
+        requires done { done ≤ (W.state writer.old).passed }
+        ensures ok { IfOk result (λ n. PassedOn (lines_bytes width print.now base text.now self.now) done
+            (W.state writer.old) (W.state writer.new) n) }
         ensures err { IfErr result (λ fault.
-            StoppedAt fault.written (lines_bytes width print.now base text.now self.now)
-            (W.state writer.old) (W.state writer.new)) }
+            StoppedIn (lines_bytes width print.now base text.now self.now) done
+            (W.state writer.old) (W.state writer.new) fault.written) }
+        ensures counted { IfOk result (λ n. n ≤ (W.state writer.new).passed) }
     {
-        let mut written = 0;
+        let mut written = done;
         for n in 0..self.starts().len() {
             let Some(line) = self.line(text, base, n) else {
                 unreachable!()
             };
             written = line.write_behind(writer, written, width, print)?;
         }
-        Ok(())
+        Ok(written)
     }
 }
 

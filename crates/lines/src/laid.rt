@@ -1,5 +1,5 @@
 //! A paragraph that is laid out, and the lines that it has at another width.
-ghost use Rattle.std.specs.Prelude.{◌≡◌, length, map, option_map, slice_get, IfErr, OnOk};
+ghost use Rattle.std.specs.Prelude.{◌≡◌, ◌≤◌, length, map, option_map, slice_get, IfErr, IfOk, OnOk};
 ghost use Rattle.device.specs.Device.{StoppedAt, Wrote};
 
 use crate::bytes::WriteFault;
@@ -42,6 +42,7 @@ impl Laid {
     ghost use Rattle.lines.specs.Layouts.{AreLinesOf, Exchanges, IsLaidOut, Rules, start_of};
     ghost use Rattle.lines.specs.Pages.{layout_bytes};
     ghost use Rattle.lines.specs.Visual.{visual_of};
+    ghost use Rattle.lines.specs.Writing.{PassedOn, StoppedIn};
 
     /// The characters.
     pub fn text(&self) -> &[char]
@@ -106,8 +107,28 @@ impl Laid {
             StoppedAt fault.written (layout_bytes width print.now self.now)
             (W.state writer.old) (W.state writer.new)) }
     {
+        self.write_behind(writer, 0, width, print)?;
+        Ok(())
+    }
+
+    /// Writes them behind `done` bytes that the sink passed before, and says how many bytes that makes;
+    /// a fault counts these too.
+    pub fn write_behind<W: Sink>(
+        &self,
+        writer: &mut W,
+        done: u64,
+        width: u16,
+        print: &Print,
+    ) -> Result<u64, WriteFault>
+        requires { done ≤ (W.state writer.old).passed }
+        ensures ok { IfOk result (λ n. PassedOn (layout_bytes width print.now self.now) done
+            (W.state writer.old) (W.state writer.new) n) }
+        ensures err { IfErr result (λ fault. StoppedIn (layout_bytes width print.now self.now) done
+            (W.state writer.old) (W.state writer.new) fault.written) }
+        ensures counted { IfOk result (λ n. n ≤ (W.state writer.new).passed) }
+    {
         self.lines
-            .write(&self.text, self.base, writer, width, print)
+            .write_behind(&self.text, self.base, writer, done, width, print)
     }
 
     /// Puts the lines of this paragraph at another width in, and hands the old ones out. Both are

@@ -6,17 +6,16 @@ use Rattle.std.proofs.lemmas.List.Folds.{concat-append, drop_split}
 use Rattle.bidi.specs.Cuts.{paragraphs}
 use Rattle.bidi.specs.Pieces.{ArePieces, ParagraphsArePieces}
 use Rattle.session.specs.Changes.{changed, changing, are_within, is_within_limit}
-use Rattle.session.specs.Sessions.{AreTouched, region_change}
+use Rattle.session.specs.Touched.{AreTouched, region_change, Span}
 use Rattle.session.specs.Touched.{start_of, first_touched, touched_count, fresh}
-use Rattle.session.specs.declared.touched.Touched.{Touched}
 use Rattle.session.proofs.SpliceLemmas.{paragraphs-splice, changed-middle, first-changed, last-changed, length-changed, are_within-splice}
 
 -- the changed text of the touched paragraphs
-abbrev pub region_of : List (List ℕ) → Touched → ℕ → ℕ → List ℕ → List ℕ
+abbrev pub region_of : List (List ℕ) → Span → ℕ → ℕ → List ℕ → List ℕ
 region_of pars touched pos end piece =
     changed (concat (slice_range pars touched.first touched.end)) (region_change (pos - touched.start) (end - touched.start) piece)
 
-pub record IsSpliced (is_cut : ℕ → ℕ → Bool) (pars : List (List ℕ)) (pos count : ℕ) (piece : List ℕ) (touched : Touched) : Type 0 where
+pub record IsSpliced (is_cut : ℕ → ℕ → Bool) (pars : List (List ℕ)) (pos count : ℕ) (piece : List ℕ) (touched : Span) : Type 0 where
   pub order : pos - touched.start ≤ pos + count - touched.start
   pub reach : pos + count - touched.start ≤ length (concat (slice_range pars touched.first touched.end))
   pub text : changed (concat pars) (changing pos count piece) ≡ concat (take touched.first pars) ++ (region_of pars touched pos (pos + count) piece ++ concat (drop touched.end pars))
@@ -29,7 +28,7 @@ pub record IsSpliced (is_cut : ℕ → ℕ → Bool) (pars : List (List ℕ)) (p
 pub length-changed_text : (text piece : List ℕ) (pos count : ℕ) → pos + count ≤ length text → length (changed text (changing pos count piece)) ≡ length text - count + length piece
 length-changed_text = length-changed
 
-pub IsSpliced-from_touched : ParagraphsArePieces → (is_cut : ℕ → ℕ → Bool) (pars : List (List ℕ)) (pos count : ℕ) (piece : List ℕ) (touched : Touched)
+pub IsSpliced-from_touched : ParagraphsArePieces → (is_cut : ℕ → ℕ → Bool) (pars : List (List ℕ)) (pos count : ℕ) (piece : List ℕ) (touched : Span)
     → paragraphs is_cut (concat pars) ≡ pars → pos + count ≤ length (concat pars) → AreTouched pars pos (pos + count) touched → IsSpliced is_cut pars pos count piece touched
 IsSpliced-from_touched law is_cut pars pos count piece touched whole within t =
     let left = take touched.first pars in

@@ -1,7 +1,15 @@
 mod ChangeLemmas
-mod RegionLemmas
+mod EdgeLemmas
+mod EditLemmas
+mod JoinedLemmas
+mod LineLemmas
+mod OpenLemmas
+mod PrintLemmas
+mod RefusalLemmas
+mod RegionParts
 mod RunLemmas
 mod ScanLemmas
-mod SessionLemmas
 mod SpliceLemmas
 mod TouchedLemmas
+mod WidthLemmas
+mod WorkedRows

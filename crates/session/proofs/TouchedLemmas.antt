@@ -1,15 +1,14 @@
 -- Where paragraphs start, and which of them a change touches: an interval, which two walks find.
-use Rattle.std.proofs.Common.{◌≡◌, ℕ, zero, suc, ◌+◌, ◌-◌, ◌<◌, ◌≤◌, max, Bool, true, false, cond, List, [], ◌∷◌, ◌++◌, length, take, get_or, Some, unwrap_or, count_by, vec_len, nat_le, sym, ap, ◌∙◌, inl, inr, arith}
+use Rattle.std.proofs.Common.{◌≡◌, ℕ, zero, suc, ◌+◌, ◌-◌, ◌<◌, ◌≤◌, max, Bool, true, false, cond, List, [], ◌∷◌, ◌++◌, length, take, get_or, Some, unwrap_or, count_by, nat_le, sym, ap, ◌∙◌, inl, inr, arith}
 use Rattle.std.specs.List.{concat, range_with_len}
-use Rattle.std.proofs.lemmas.List.{append-nil, length-append, take_more, take_all, get_or-map, length-map}
+use Rattle.std.proofs.lemmas.List.{append-nil, length-append, take_more, take_all}
 use Rattle.std.proofs.lemmas.List.Folds.{concat-append}
 use Rattle.std.proofs.lemmas.List.Sums.{sum_by-cons}
 use Rattle.std.proofs.lemmas.Bool.{cond-true, cond-false, cases_eq, cases_lt, le-leb, lt-leb, and_left, and_right, and_from}
 use Rattle.bidi.specs.Least.{least}
 use Rattle.session.specs.Changes.{Change}
-use Rattle.session.specs.Sessions.{AreTouched, region_change, texts_of}
+use Rattle.session.specs.Touched.{AreTouched, region_change}
 use Rattle.session.specs.Touched.{start_of, is_touched, first_touched, touched_count}
-use Rattle.session.specs.declared.region.Paragraph.{Paragraph}
 
 -- the first number of a range that passes
 least_found : (p : ℕ → Bool) (low count k : ℕ) → low ≤ k → k < low + count → p k ≡ true → ((m : ℕ) → low ≤ m → m < k → p m ≡ false) → least p low count ≡ Some k
@@ -62,16 +61,7 @@ start_of-le-length pars i =
     let last = start_of-le pars i (i + length pars) (omega arith) in
     let all = start_of-end pars (i + length pars) (omega arith) in omega arith
 
--- the step of a walk over the paragraphs
-pub start_of-step : (paragraphs : List Paragraph) (i n : ℕ) (p : Paragraph) → i < length paragraphs → n ≡ vec_len (get_or paragraphs i p).text
-    → start_of (texts_of paragraphs) (i + 1) ≡ start_of (texts_of paragraphs) i + n
-start_of-step paragraphs i n p within read =
-    let there : get_or (texts_of paragraphs) i [] ≡ (get_or paragraphs i p).text.items = get_or-map (λ q. q.text.items) paragraphs i p [] within in
-    let size : length (get_or (texts_of paragraphs) i []) ≡ n = ap length there ∙ sym (get_or paragraphs i p).text.ok.0 ∙ sym read in
-    let inside : i < length (texts_of paragraphs) = rw length-map within in
-    start_of-more (texts_of paragraphs) i [] inside ∙ ap (λ m. start_of (texts_of paragraphs) i + m) size
-
--- what two walks over the paragraphs find
+-- what two searches find
 pub AreTouched-from_walks : (pars : List (List ℕ)) (pos end first last start stop : ℕ) → pos ≤ end → end ≤ length (concat pars)
     → start ≡ start_of pars first → stop ≡ start_of pars last → first ≤ last → last ≤ length pars
     → (0 < first → start < pos) → (first < length pars → pos ≤ start_of pars (first + 1))

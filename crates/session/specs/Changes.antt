@@ -1,12 +1,12 @@
 -- What a change makes of a text, and which changes are refused.
-use Rattle.std.specs.Prelude.{ℕ, ◌+◌, nat_lt, nat_le, Bool, List, [], ◌∷◌, ◌++◌, length, take, drop, Option, Some, None, is_none, if◌then◌else◌}
+use Rattle.std.specs.Prelude.{ℕ, ◌+◌, nat_lt, nat_le, ◌==◌, Bool, List, [], ◌∷◌, ◌++◌, length, take, drop, Option, Some, None, is_none, if◌then◌else◌}
 use Rattle.std.specs.List.{list_all}
 use Rattle.std.specs.Str.{chars}
 use Rattle.bidi.specs.Cuts.{paragraphs}
 use Rattle.session.specs.declared.edits.Edit.{Edit}
-use Rattle.session.specs.declared.edits.Edit.TheVariants.{Insert, Delete}
+use Rattle.session.specs.declared.edits.Edit.TheVariants.{Insert, Delete, SetWidth}
 use Rattle.session.specs.declared.edits.EditFault.{EditFault}
-use Rattle.session.specs.declared.edits.EditFault.TheVariants.{OutOfRange, TextTooLong, ParagraphTooLong}
+use Rattle.session.specs.declared.edits.EditFault.TheVariants.{OutOfRange, WidthOutOfRange, TextTooLong, ParagraphTooLong}
 
 -- `count` characters from `pos` on are taken out, and a piece is put in their place
 pub record Change : Type 0 where
@@ -27,10 +27,6 @@ insertion pos piece = record { pos = pos; count = 0; piece = piece }
 abbrev pub deletion : ℕ → ℕ → Change
 deletion pos count = record { pos = pos; count = count; piece = [] }
 
-abbrev pub change_of : Edit → Change
-change_of (Insert pos text) = insertion pos (chars text.now)
-change_of (Delete pos count) = deletion pos count
-
 -- the limits of a text and of its paragraphs
 abbrev pub text_limit : ℕ
 text_limit = 16777216
@@ -45,6 +41,10 @@ are_within pars = list_all (λ p. nat_le (length p) paragraph_limit) pars
 abbrev pub is_within_limit : (ℕ → ℕ → Bool) → List ℕ → Bool
 is_within_limit is_cut text = are_within (paragraphs is_cut text)
 
+-- why paragraphs can't be kept, where their text isn't too long
+abbrev pub paragraphs_refusal : (ℕ → ℕ → Bool) → List ℕ → Option EditFault
+paragraphs_refusal is_cut text = if is_within_limit is_cut text then None else Some ParagraphTooLong
+
 -- why a text can't be kept
 abbrev pub text_refusal : (ℕ → ℕ → Bool) → List ℕ → Option EditFault
 text_refusal is_cut text =
@@ -57,10 +57,28 @@ refusal is_cut text change =
     if nat_lt (length text) (change.pos + change.count) then Some OutOfRange
     else text_refusal is_cut (changed text change)
 
--- the text after changes, of which those that are refused change nothing
-abbrev pub after_one : (ℕ → ℕ → Bool) → List ℕ → Change → List ℕ
-after_one is_cut text change = if is_none (refusal is_cut text change) then changed text change else text
+-- a text, and the width at which it is laid out
+pub record Held : Type 0 where
+  pub text : List ℕ
+  pub width : ℕ
 
-abbrev pub after_all : (ℕ → ℕ → Bool) → List ℕ → List Change → List ℕ
-after_all is_cut text [] = text
-after_all is_cut text (change ∷ changes) = after_all is_cut (after_one is_cut text change) changes
+-- why a width is refused
+abbrev pub width_refusal : ℕ → Option EditFault
+width_refusal width = if width == 0 then Some WidthOutOfRange else None
+
+-- the text after a change, and the width, of which one that is refused changes nothing
+abbrev pub after_change : (ℕ → ℕ → Bool) → List ℕ → Change → List ℕ
+after_change is_cut text change = if is_none (refusal is_cut text change) then changed text change else text
+
+abbrev pub after_width : ℕ → ℕ → ℕ
+after_width old width = if is_none (width_refusal width) then width else old
+
+abbrev pub after_one : (ℕ → ℕ → Bool) → Held → Edit → Held
+after_one is_cut held (Insert pos text) = record { text = after_change is_cut held.text (insertion pos (chars text.now)); width = held.width }
+after_one is_cut held (Delete pos count) = record { text = after_change is_cut held.text (deletion pos count); width = held.width }
+after_one is_cut held (SetWidth width) = record { text = held.text; width = after_width held.width width }
+
+-- and after a list of them
+abbrev pub after_all : (ℕ → ℕ → Bool) → Held → List Edit → Held
+after_all is_cut held [] = held
+after_all is_cut held (edit ∷ edits) = after_all is_cut (after_one is_cut held edit) edits

@@ -1,15 +1,23 @@
--- What is kept of a text: its paragraphs, each with what is computed of it, made anew from the text alone.
-use Rattle.std.specs.Prelude.{ℕ, Bool, List, map}
-use Rattle.std.specs.List.{concat}
+-- What is kept of a text: the layouts of its paragraphs, made anew from the text alone.
+use Rattle.std.specs.Prelude.{ℕ, List, map}
+use Rattle.std.specs.List.{concat, enumerate_from, flat_map}
 use Rattle.bidi.specs.Cuts.{paragraphs}
+use Rattle.lines.specs.Layouts.{Layout, Rules, cut_by, layout_of}
+use Rattle.lines.specs.Visual.{Visual, visual_of}
 
-module _ {K : Type 0} where
-  abbrev pub from_scratch : (ℕ → ℕ → Bool) → (List ℕ → K) → List ℕ → List (List ℕ × K)
-  from_scratch is_cut keep text = map (λ p. (p, keep p)) (paragraphs is_cut text)
+-- the paragraphs of layouts, the text that they make, and their lines as they are shown.
+abbrev pub pars_of : List Layout → List (List ℕ)
+pars_of kept = map (λ l. l.text) kept
 
-  -- the paragraphs that are kept, and the text that they make
-  abbrev pub pars_of : List (List ℕ × K) → List (List ℕ)
-  pars_of kept = map (λ k. k.0) kept
+abbrev pub text_of : List Layout → List ℕ
+text_of kept = concat (pars_of kept)
 
-  abbrev pub text_of : List (List ℕ × K) → List ℕ
-  text_of kept = concat (pars_of kept)
+abbrev pub visuals : Layout → List Visual
+visuals l = map (λ nth. visual_of l.base l.text nth.0 nth.1) (enumerate_from 0 l.lines)
+
+abbrev pub lines_in : List Layout → List Visual
+lines_in kept = flat_map visuals kept
+
+-- the layout of a text at a width from scratch
+abbrev pub layouts_of : Rules → ℕ → List ℕ → List Layout
+layouts_of rules width text = map (layout_of rules width) (paragraphs (cut_by rules) text)

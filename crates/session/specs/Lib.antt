@@ -1,6 +1,7 @@
 pub mod Changes
+pub mod Damage
+pub mod Edges
 pub mod Kept
 pub mod Scans
 pub mod Sessions
 pub mod Touched
-pub mod Views

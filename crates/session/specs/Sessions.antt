@@ -1,93 +1,105 @@
 -- What a session shows, and what its calls do.
-use Rattle.std.specs.Prelude.{◌≡◌, ℕ, ◌+◌, ◌-◌, ◌<◌, ◌≤◌, List, [], length, map, Option, Some, None}
-use Rattle.std.specs.List.{concat}
-use Rattle.bidi.specs.Engine.{analysed_of, cut_of, level_of, RisesBy, SameRules}
-use Rattle.bidi.specs.declared.engine.BaseEngine.{BaseEngine}
-use Rattle.session.specs.Changes.{Change, changed, refusal, text_refusal}
-use Rattle.session.specs.Kept.{from_scratch, pars_of, text_of}
-use Rattle.session.specs.Touched.{first_touched, touched_count, fresh, start_of, IsDamage}
+use Rattle.std.specs.Prelude.{◌≡◌, ℕ, ◌<◌, ◌==◌, Bool, List, length, Option, Some, None, if◌then◌else◌}
+use Rattle.bidi.specs.Cuts.{paragraphs}
+use Rattle.lines.specs.Engine.{rules_of, SameRules, LaysOutAtMost, FillsAtMost}
+use Rattle.lines.specs.Layouts.{Layout, cut_by}
+use Rattle.lines.specs.Pages.{page}
+use Rattle.lines.specs.declared.engine.Engine.{Engine}
+use Rattle.lines.specs.declared.print.Print.{Print}
+use Rattle.session.specs.Changes.{Change, Held, changed, refusal, text_refusal, width_refusal}
+use Rattle.session.specs.Damage.{IsDamage, NamesAll}
+use Rattle.session.specs.Kept.{pars_of, text_of, layouts_of}
+use Rattle.session.specs.Touched.{fresh}
+use Rattle.session.specs.declared.edits.Damage.{Damage}
 use Rattle.session.specs.declared.edits.EditFault.{EditFault}
-use Rattle.session.specs.declared.edits.EditFault.TheVariants.{NoMemory}
-use Rattle.session.specs.declared.edits.ParDamage.{ParDamage}
-use Rattle.session.specs.declared.region.Paragraph.{Paragraph}
-use Rattle.session.specs.declared.touched.Touched.{Touched}
+use Rattle.session.specs.declared.edits.EditFault.TheVariants.{WidthOutOfRange, NoMemory}
 
--- paragraphs by their characters and levels, without where they lie in memory
-abbrev pub view_of : Paragraph → List ℕ × ℕ
-view_of paragraph = (paragraph.text.items, paragraph.base)
-
-abbrev pub views_of : List Paragraph → List (List ℕ × ℕ)
-views_of paragraphs = map view_of paragraphs
-
-abbrev pub texts_of : List Paragraph → List (List ℕ)
-texts_of paragraphs = map (λ p. p.text.items) paragraphs
-
-abbrev pub text_of_all : List Paragraph → List ℕ
-text_of_all paragraphs = concat (texts_of paragraphs)
-
--- the characters from one place up to another, in place of which a piece is put
-abbrev pub region_change : ℕ → ℕ → List ℕ → Change
-region_change from to piece = record { pos = from; count = to - from; piece = piece }
-
--- the paragraphs that a change of the characters from pos up to end touches: where others stand before or behind them, a character stays at that side
-pub record AreTouched (pars : List (List ℕ)) (pos end : ℕ) (touched : Touched) : Type 0 where
-  pub first : touched.first ≡ first_touched pars (region_change pos end [])
-  pub count : touched.end ≡ touched.first + touched_count pars (region_change pos end [])
-  pub within : touched.end ≤ length pars
-  pub start : touched.start ≡ start_of pars touched.first
-  pub stop : touched.stop ≡ start_of pars touched.end
-  pub before : touched.start ≤ pos
-  pub behind : end ≤ touched.stop
-  pub before_strictly : 0 < touched.start → touched.start < pos
-  pub behind_strictly : touched.stop < length (concat pars) → end < touched.stop
-
--- what a session holds: its engine, and each paragraph with its level
+-- what a session holds: its engine, its width, and the layout of each paragraph
 pub record State : Type 0 where
-  pub engine : BaseEngine
-  pub kept : List (List ℕ × ℕ)
+  pub engine : Engine
+  pub width : ℕ
+  pub kept : List Layout
 
--- what is kept is that of the text from scratch, and the text can be kept
-pub record IsLaidOut (state : State) : Type 0 where
-  pub kept : state.kept ≡ from_scratch (cut_of state.engine) (level_of state.engine) (text_of state.kept)
-  pub allowed : text_refusal (cut_of state.engine) (text_of state.kept) ≡ None
+-- the text that a session holds, and where its engine cuts
+abbrev pub text_at : State → List ℕ
+text_at state = text_of state.kept
+
+abbrev pub cuts_at : State → ℕ → ℕ → Bool
+cuts_at state = cut_by (rules_of state.engine)
+
+abbrev pub held_at : State → Held
+held_at state = record { text = text_at state; width = state.width }
+
+-- what is printed of the whole text, laid out from scratch
+abbrev pub page_at : State → Print → List ℕ
+page_at state print = page (rules_of state.engine) state.width print (paragraphs (cuts_at state) (text_at state))
+
+-- what is kept is the layout of the text from scratch, and text and width are allowed
+pub record IsWholeLayout (state : State) : Type 0 where
+  pub kept : state.kept ≡ layouts_of (rules_of state.engine) state.width (text_at state)
+  pub allowed : text_refusal (cuts_at state) (text_at state) ≡ None
+  pub filled : 0 < state.width
+
+-- why a text and a width are refused together
+abbrev pub opening_refusal : (ℕ → ℕ → Bool) → List ℕ → ℕ → Option EditFault
+opening_refusal is_cut text width = if width == 0 then Some WidthOutOfRange else text_refusal is_cut text
 
 -- the fault that is answered: the reason of a refusal, or want of memory where there is none
 abbrev pub IsAnswerFor : Option EditFault → EditFault → Type 0
 IsAnswerFor reason NoMemory = reason ≡ None
 IsAnswerFor reason fault = reason ≡ Some fault
 
--- the count of analysed characters is as before where there was a reason to refuse, and else rises by at most n
-abbrev pub CountsAtMost : EditFault → ℕ → BaseEngine → BaseEngine → Type 0
-CountsAtMost NoMemory n old new = RisesBy n old new
-CountsAtMost fault n old new = analysed_of new ≡ analysed_of old
+-- where there was a reason to refuse the engine is as it was, and else it has worked within a bound
+abbrev pub IsCountedFor : EditFault → (Engine → Engine → Type 0) → Engine → Engine → Type 0
+IsCountedFor NoMemory bound old new = bound old new
+IsCountedFor fault bound old new = new ≡ old
 
--- a session was opened on a text
-pub record Opens (engine : BaseEngine) (whole : List ℕ) (state : State) : Type 0 where
-  pub allowed : text_refusal (cut_of engine) whole ≡ None
-  pub text : text_of state.kept ≡ whole
-  pub laid_out : IsLaidOut state
+-- a session was opened on a text at a width
+pub record Opens (engine : Engine) (whole : List ℕ) (width : ℕ) (state : State) : Type 0 where
+  pub allowed : opening_refusal (cut_by (rules_of engine)) whole width ≡ None
+  pub text : text_at state ≡ whole
+  pub at_width : state.width ≡ width
+  pub laid_out : IsWholeLayout state
   pub rules : SameRules engine state.engine
-  pub analysed : RisesBy (length whole) engine state.engine
+  pub counts : LaysOutAtMost (length whole) engine state.engine
 
 -- it was not, and the engine came back
-pub record OpensNot (engine : BaseEngine) (text : List ℕ) (back : BaseEngine × EditFault) : Type 0 where
-  pub reason : IsAnswerFor (text_refusal (cut_of engine) text) back.1
+pub record OpensNot (engine : Engine) (whole : List ℕ) (width : ℕ) (back : Engine × EditFault) : Type 0 where
+  pub reason : IsAnswerFor (opening_refusal (cut_by (rules_of engine)) whole width) back.1
   pub rules : SameRules engine back.0
-  pub analysed : CountsAtMost back.1 (length text) engine back.0
+  pub counts : IsCountedFor back.1 (LaysOutAtMost (length whole)) engine back.0
 
--- a change was made
-pub record Makes (change : Change) (old new : State) (answer : ParDamage) : Type 0 where
-  pub accepted : refusal (cut_of old.engine) (text_of old.kept) change ≡ None
-  pub text : text_of new.kept ≡ changed (text_of old.kept) change
-  pub laid_out : IsLaidOut new
+-- an edit was made
+pub record Edits (change : Change) (old new : State) (answer : Damage) : Type 0 where
+  pub accepted : refusal (cuts_at old) (text_at old) change ≡ None
+  pub text : text_at new ≡ changed (text_at old) change
+  pub at_width : new.width ≡ old.width
+  pub laid_out : IsWholeLayout new
   pub rules : SameRules old.engine new.engine
-  pub damage : IsDamage (pars_of old.kept) change old.kept new.kept answer
-  pub analysed : RisesBy (fresh (pars_of old.kept) change) old.engine new.engine
+  pub damage : IsDamage change old.kept new.kept answer
+  pub counts : LaysOutAtMost (fresh (pars_of old.kept) change) old.engine new.engine
+
+-- the lines were filled anew
+pub record Refills (width : ℕ) (old new : State) (answer : Damage) : Type 0 where
+  pub accepted : width_refusal width ≡ None
+  pub text : text_at new ≡ text_at old
+  pub at_width : new.width ≡ width
+  pub laid_out : IsWholeLayout new
+  pub rules : SameRules old.engine new.engine
+  pub damage : NamesAll old.kept new.kept answer
+  pub counts : FillsAtMost (length (text_at old)) old.engine new.engine
 
 -- a change was refused, and all is as before
-pub record Refuses (change : Change) (old new : State) (fault : EditFault) : Type 0 where
-  pub reason : IsAnswerFor (refusal (cut_of old.engine) (text_of old.kept) change) fault
+pub record Stays (reason : Option EditFault) (bound : Engine → Engine → Type 0) (old new : State) (fault : EditFault) : Type 0 where
+  pub answer : IsAnswerFor reason fault
   pub kept : new.kept ≡ old.kept
-  pub laid_out : IsLaidOut new
+  pub at_width : new.width ≡ old.width
+  pub laid_out : IsWholeLayout new
   pub rules : SameRules old.engine new.engine
-  pub analysed : CountsAtMost fault (fresh (pars_of old.kept) change) old.engine new.engine
+  pub counts : IsCountedFor fault bound old.engine new.engine
+
+abbrev pub EditsNot : Change → State → State → EditFault → Type 0
+EditsNot change old = Stays (refusal (cuts_at old) (text_at old) change) (LaysOutAtMost (fresh (pars_of old.kept) change)) old
+
+abbrev pub RefillsNot : ℕ → State → State → EditFault → Type 0
+RefillsNot width old = Stays (width_refusal width) (FillsAtMost (length (text_at old))) old

@@ -1,8 +1,7 @@
--- Which paragraphs a change touches, how much there is to analyse, and the damage.
-use Rattle.std.specs.Prelude.{◌≡◌, ℕ, ◌+◌, ◌-◌, nat_le, Bool, ◌&&◌, List, length, take, drop, count_by, unwrap_or}
+-- Which paragraphs a change touches, how much there is to analyse, and where these stand.
+use Rattle.std.specs.Prelude.{◌≡◌, ℕ, ◌+◌, ◌-◌, ◌<◌, ◌≤◌, nat_le, Bool, ◌&&◌, List, [], length, take, count_by, unwrap_or}
 use Rattle.std.specs.List.{concat, range_with_len, slice_range}
 use Rattle.bidi.specs.Least.{least}
-use Rattle.session.specs.declared.edits.ParDamage.{ParDamage}
 use Rattle.session.specs.Changes.{Change}
 
 -- where the paragraph at an index starts, which is where the one before it ends
@@ -25,10 +24,25 @@ module _ (pars : List (List ℕ)) (change : Change) where
   abbrev pub fresh : ℕ
   fresh = length (concat (slice_range pars first_touched (first_touched + touched_count))) - change.count + length change.piece
 
--- The damage names the touched paragraphs among the old ones, and how many of the new ones stand in their place: all the others stay.
-pub record IsDamage {K : Type 0} (pars : List (List ℕ)) (change : Change) (old new : List K) (damage : ParDamage) : Type 0 where
-  pub first : damage.first_par ≡ first_touched pars change
-  pub count : damage.old_pars ≡ touched_count pars change
-  pub fresh_ones : damage.new_pars + length old ≡ damage.old_pars + length new
-  pub front : take damage.first_par new ≡ take damage.first_par old
-  pub back : drop (damage.first_par + damage.new_pars) new ≡ drop (damage.first_par + damage.old_pars) old
+-- the characters from one place up to another, in place of which a piece is put
+abbrev pub region_change : ℕ → ℕ → List ℕ → Change
+region_change from to piece = record { pos = from; count = to - from; piece = piece }
+
+-- paragraphs that stand one after another: from the first up to the end, with the characters from start up to stop
+pub record Span : Type 0 where
+  pub first : ℕ
+  pub end : ℕ
+  pub start : ℕ
+  pub stop : ℕ
+
+-- the paragraphs that a change of the characters from pos up to end touches: where others stand before or behind them, a character stays at that side
+pub record AreTouched (pars : List (List ℕ)) (pos end : ℕ) (touched : Span) : Type 0 where
+  pub first : touched.first ≡ first_touched pars (region_change pos end [])
+  pub count : touched.end ≡ touched.first + touched_count pars (region_change pos end [])
+  pub within : touched.end ≤ length pars
+  pub start : touched.start ≡ start_of pars touched.first
+  pub stop : touched.stop ≡ start_of pars touched.end
+  pub before : touched.start ≤ pos
+  pub behind : end ≤ touched.stop
+  pub before_strictly : 0 < touched.start → touched.start < pos
+  pub behind_strictly : touched.stop < length (concat pars) → end < touched.stop

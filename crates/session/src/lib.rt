@@ -1,14 +1,20 @@
-//! Editing sessions: a text under inserts and deletes, and what is kept of its paragraphs.
+//! Sessions: a text under inserts, deletes and width changes, of which all that is kept is the layout of
+//! the whole current text.
 #![tactic(auto)]
 
-mod base_session;
+mod edge;
+mod edit;
 mod edits;
-mod region;
+mod joined;
+mod kept;
+mod printing;
 mod scan;
-mod touched;
+mod session;
+mod width;
 
-pub use base_session::BaseSession;
-pub use edits::{Edit, EditFault, ParDamage, TEXT_LIMIT};
+pub use edits::{Damage, Edit, EditFault, TEXT_LIMIT};
+pub use kept::Kept;
+pub use session::Session;
 
 #[cfg(test)]
 mod tests;

@@ -1,10 +1,10 @@
 //! Whether a text has a paragraph that is too long, found without memory, one character after another.
 ghost use Rattle.std.specs.Prelude.{◌≡◌, ℕ, Bool, List, [], ◌∷◌, ◌++◌};
 ghost use Rattle.std.specs.Str.{chars};
-ghost use Rattle.bidi.specs.Engine.{cut_of};
+ghost use Rattle.lines.specs.Engine.{rules_of};
+ghost use Rattle.lines.specs.Layouts.{cut_by};
 
-use bidi::BaseEngine;
-use lines::PARAGRAPH_LIMIT;
+use lines::{Engine, PARAGRAPH_LIMIT};
 
 /// What is known of the characters so far.
 #[derive(Clone, Copy, Debug)]
@@ -30,9 +30,9 @@ impl Scan {
     }
 
     /// One more character.
-    pub fn take(&mut self, engine: &BaseEngine, c: char)
-        ensures { (text : List ℕ) → HasScanned (cut_of engine.now) text self.old
-            → HasScanned (cut_of engine.now) (text ++ c ∷ []) self.new }
+    pub fn take(&mut self, engine: &Engine, c: char)
+        ensures { (text : List ℕ) → HasScanned (cut_by (rules_of engine.now)) text self.old
+            → HasScanned (cut_by (rules_of engine.now)) (text ++ c ∷ []) self.new }
     {
         let starts_paragraph = self.last.is_some_and(|last| engine.is_cut(last, c));
         if starts_paragraph {
@@ -47,9 +47,9 @@ impl Scan {
     }
 
     /// Characters one after another.
-    pub fn take_all(&mut self, engine: &BaseEngine, part: &[char])
-        ensures { (text : List ℕ) → HasScanned (cut_of engine.now) text self.old
-            → HasScanned (cut_of engine.now) (text ++ part.now) self.new }
+    pub fn take_all(&mut self, engine: &Engine, part: &[char])
+        ensures { (text : List ℕ) → HasScanned (cut_by (rules_of engine.now)) text self.old
+            → HasScanned (cut_by (rules_of engine.now)) (text ++ part.now) self.new }
     {
         for c in part {
             self.take(engine, *c);
@@ -57,9 +57,9 @@ impl Scan {
     }
 
     /// The characters of a text.
-    pub fn take_text(&mut self, engine: &BaseEngine, part: &str)
-        ensures { (text : List ℕ) → HasScanned (cut_of engine.now) text self.old
-            → HasScanned (cut_of engine.now) (text ++ chars part.now) self.new }
+    pub fn take_text(&mut self, engine: &Engine, part: &str)
+        ensures { (text : List ℕ) → HasScanned (cut_by (rules_of engine.now)) text self.old
+            → HasScanned (cut_by (rules_of engine.now)) (text ++ chars part.now) self.new }
     {
         for c in part.chars() {
             self.take(engine, c);

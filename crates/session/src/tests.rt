@@ -1,11 +1,14 @@
-//! Worked rows, and long lists of edits against sessions opened anew. The tests pass too where one
-//! allocation is refused, whichever it is: an edit that is refused for memory leaves all as it was,
-//! and is made when it is asked for again.
-use crate::{BaseSession, Edit, EditFault, ParDamage};
-use bidi::{Base, BaseEngine};
+//! Worked rows, and long lists of changes against sessions opened anew, over both stores. The tests pass
+//! too where one allocation is refused, whichever it is: a change that is refused for memory leaves all
+//! as it was, and is made when it is asked for again.
+use crate::{Damage, Edit, EditFault, Kept, Session};
+use bidi::Base;
+use device::ToWrite;
+use lines::{Engine, Laid, Print, VisualLine};
 use std::alloc::{AllocError, Global};
 use std::process::Abort;
 use std::test::Fail;
+use store::{ParagraphStore, TreeStore, VecStore};
 use ucd::{Cause, TableFault, Tables, UcdFiles};
 
 // The table files of the tests.
@@ -23,197 +26,378 @@ fn tables(alloc: Global) -> Result<Tables, TableFault> {
     Tables::read(alloc, &FILES)
 }
 
-fn engine(alloc: Global) -> Result<BaseEngine, Fail> {
+fn engine(alloc: Global) -> Result<Engine, Fail> {
     let tables = match tables(alloc) {
         Err(fault) if fault.cause == Cause::Memory => tables(alloc)?,
         tables => tables?,
     };
-    Ok(BaseEngine::new(tables, Base::WeakLtr))
+    Ok(Engine::new(tables, Base::WeakLtr, false))
 }
 
 // A session on a text. Where memory ran out once, the engine that came back opens it.
-fn session(alloc: Global, text: &str) -> Result<BaseSession, Fail> {
-    let engine = match BaseSession::open(alloc, engine(alloc)?, text) {
+fn session<S: ParagraphStore<Kept> + Drop>(
+    alloc: Global,
+    text: &str,
+    width: u16,
+) -> Result<Session<S>, Fail> {
+    let engine = match Session::open(alloc, engine(alloc)?, text, width) {
         Ok(session) => return Ok(session),
         Err((engine, EditFault::NoMemory)) => engine,
         Err((_, fault)) => return Err(Fail::from(fault)),
     };
-    match BaseSession::open(alloc, engine, text) {
+    match Session::open(alloc, engine, text, width) {
         Ok(session) => Ok(session),
         Err((_, fault)) => Err(Fail::from(fault)),
     }
 }
 
-// Whether the sessions keep the same.
-fn same(left: &BaseSession, right: &BaseSession) -> bool {
+fn same_paragraph(left: &Laid, right: &Laid) -> bool {
+    left.text() == right.text()
+        && left.base() == right.base()
+        && left.levels() == right.levels()
+        && left.marks() == right.marks()
+        && left.line_starts() == right.line_starts()
+}
+
+fn same_line(left: &VisualLine<'_>, right: &VisualLine<'_>) -> bool {
+    left.is_first() == right.is_first()
+        && left.base() == right.base()
+        && left.chars() == right.chars()
+        && left.levels() == right.levels()
+        && left.ltov() == right.ltov()
+        && left.vtol() == right.vtol()
+        && left.columns() == right.columns()
+}
+
+fn same_paragraphs<S: ParagraphStore<Kept>, T: ParagraphStore<Kept>>(
+    left: &Session<S>,
+    right: &Session<T>,
+) -> bool {
+    let mut all = left.paragraph_count() == right.paragraph_count()
+        && left.paragraph(left.paragraph_count()).is_none();
+    for i in 0..left.paragraph_count() {
+        all &= match (left.paragraph(i), right.paragraph(i)) {
+            (Some(left), Some(right)) => same_paragraph(left, right),
+            _ => false,
+        };
+    }
+    all
+}
+
+fn same_lines<S: ParagraphStore<Kept>, T: ParagraphStore<Kept>>(
+    left: &Session<S>,
+    right: &Session<T>,
+) -> bool {
+    let mut all = left.line_count() == right.line_count() && left.line(left.line_count()).is_none();
+    for n in 0..left.line_count() {
+        all &= match (left.line(n), right.line(n)) {
+            (Some(left), Some(right)) => same_line(&left, &right),
+            _ => false,
+        };
+    }
+    all
+}
+
+// All lines of a line's output.
+const ALL: Print = Print {
+    novisual: false,
+    basedir: true,
+    ltov: true,
+    vtol: true,
+    levels: true,
+    nopad: false,
+    nomirror: false,
+};
+
+// Whether the sessions print the same into so much room, and end it alike.
+fn same_page<S: ParagraphStore<Kept>, T: ParagraphStore<Kept>>(
+    left: &Session<S>,
+    right: &Session<T>,
+) -> bool {
+    let mut first = [0; 4096];
+    let mut writer = ToWrite::new(&mut first[..]);
+    let result = left.print(&mut writer, &ALL);
+    drop(writer);
+    let mut second = [0; 4096];
+    let mut writer = ToWrite::new(&mut second[..]);
+    let other = right.print(&mut writer, &ALL);
+    drop(writer);
+    result == other && first == second
+}
+
+// Whether the sessions keep and show the same.
+fn same<S: ParagraphStore<Kept>, T: ParagraphStore<Kept>>(
+    left: &Session<S>,
+    right: &Session<T>,
+) -> bool {
     left.char_count() == right.char_count()
-        && left.paragraph_count() == right.paragraph_count()
-        && (0..left.paragraph_count()).all(|i| left.paragraph(i) == right.paragraph(i))
-        && left.paragraph(left.paragraph_count()).is_none()
+        && left.width() == right.width()
+        && same_paragraphs(left, right)
+        && same_lines(left, right)
+        && same_page(left, right)
 }
 
 // The session keeps what one does that is opened on the text.
-fn check_same(
+fn check_same<S: ParagraphStore<Kept> + Drop>(
     rt: &impl Abort,
     alloc: Global,
-    edited: &BaseSession,
+    edited: &Session<S>,
     text: &str,
 ) -> Result<(), Fail> {
-    let opened = session(alloc, text)?;
+    let opened: Session<VecStore<Kept>> = session(alloc, text, edited.width())?;
     assert!(rt; same(edited, &opened), "{text:?}");
     Ok(())
 }
 
-fn make(edited: &mut BaseSession, edit: Edit<'_>) -> Result<ParDamage, EditFault> {
+fn make<S: ParagraphStore<Kept>>(
+    edited: &mut Session<S>,
+    edit: Edit<'_>,
+) -> Result<Damage, EditFault> {
     match edit {
         Edit::Insert(pos, text) => edited.insert(pos, text),
         Edit::Delete(pos, count) => edited.delete(pos, count),
+        Edit::SetWidth(width) => edited.set_width(width),
     }
 }
 
-// Makes the edit of a text, in which at most so many characters may be analysed.
-fn make_within(
+// Makes the change, by which the counts may rise by so much, and once more where it was refused for
+// memory.
+fn make_within<S: ParagraphStore<Kept>>(
     rt: &impl Abort,
-    edited: &mut BaseSession,
-    text: &str,
+    edited: &mut Session<S>,
     edit: Edit<'_>,
-    fresh: u64,
-) -> Result<ParDamage, EditFault> {
-    let before = edited.analysed();
+    [analysed, filled]: [u64; 2],
+) -> Result<Damage, EditFault> {
+    let before = (edited.analysed(), edited.filled());
     let result = make(edited, edit);
-    assert!(rt;
-        edited.analysed().saturating_sub(before) <= fresh,
-        "{text:?}"
-    );
-    result
-}
-
-// The same once more, where it was refused for memory and all is as it was.
-fn make_again(
-    rt: &impl Abort,
-    alloc: Global,
-    edited: &mut BaseSession,
-    text: &str,
-    edit: Edit<'_>,
-    fresh: u64,
-) -> Result<ParDamage, Fail> {
-    let mut result = make_within(rt, edited, text, edit, fresh);
-    if result == Err(EditFault::NoMemory) {
-        check_same(rt, alloc, edited, text)?;
-        result = make_within(rt, edited, text, edit, fresh);
-    }
-    Ok(result?)
-}
-
-// The paragraphs have these levels, and there are no others.
-fn check_levels(rt: &impl Abort, edited: &BaseSession, text: &str, levels: &[u8]) {
-    assert_eq!(rt; edited.paragraph_count(), levels.len(), "{text:?}");
-    for (i, level) in levels.iter().enumerate() {
-        let found = edited.paragraph(i).map(|p| p.1);
-        assert_eq!(rt; found, Some(*level), "{text:?}");
+    assert!(rt; edited.analysed().saturating_sub(before.0) <= analysed);
+    assert!(rt; edited.filled().saturating_sub(before.1) <= filled);
+    match result {
+        Err(EditFault::NoMemory) => make(edited, edit),
+        result => result,
     }
 }
 
-// A text, an edit, its damage, how many characters may be analysed, the text behind it, and its levels.
-type Row<'a> = (&'a str, Edit<'a>, [usize; 3], u64, &'a str, &'a [u8]);
+// A text, its width, a change, the damage, by how much the counts may rise, and the text behind it.
+type Row<'a> = (&'a str, u16, Edit<'a>, [usize; 6], [u64; 2], &'a str);
 
-// Makes the edit of a row in a session on its text.
-fn check_made(
+fn check_row<S: ParagraphStore<Kept> + Drop>(
     rt: &impl Abort,
     alloc: Global,
-    edited: &mut BaseSession,
     row: &Row<'_>,
 ) -> Result<(), Fail> {
-    let (text, edit, [first_par, old_pars, new_pars], fresh, after, levels) = *row;
-    let expected = ParDamage {
+    let (text, width, edit, numbers, most, after) = *row;
+    let [
+        first_line,
+        old_lines,
+        new_lines,
+        first_par,
+        old_pars,
+        new_pars,
+    ] = numbers;
+    let expected = Damage {
+        first_line,
+        old_lines,
+        new_lines,
         first_par,
         old_pars,
         new_pars,
     };
-    let damage = make_again(rt, alloc, edited, text, edit, fresh)?;
+    let mut edited: Session<S> = session(alloc, text, width)?;
+    let damage = make_within(rt, &mut edited, edit, most)?;
     assert_eq!(rt; damage, expected, "{text:?}");
-    check_levels(rt, edited, text, levels);
-    check_same(rt, alloc, edited, after)
+    check_same(rt, alloc, &edited, after)
 }
 
-fn check_row(rt: &impl Abort, alloc: Global, row: &Row<'_>) -> Result<(), Fail> {
-    let mut edited = session(alloc, row.0)?;
-    check_made(rt, alloc, &mut edited, row)
-}
+const HEBREW: &str = "\u{5d0}\nab";
 
-const ROWS: [Row<'_>; 9] = [
-    ("a\r", Edit::Insert(2, "\n"), [0, 1, 1], 3, "a\r\n", &[0]),
-    ("a\n", Edit::Insert(1, "\r"), [0, 1, 1], 3, "a\r\n", &[0]),
+const ROWS: [Row<'_>; 17] = [
+    (
+        "a\r",
+        80,
+        Edit::Insert(2, "\n"),
+        [0, 1, 1, 0, 1, 1],
+        [3, 3],
+        "a\r\n",
+    ),
+    (
+        "a\n",
+        80,
+        Edit::Insert(1, "\r"),
+        [0, 1, 1, 0, 1, 1],
+        [3, 3],
+        "a\r\n",
+    ),
     (
         "a\r\nb",
+        80,
         Edit::Insert(2, "x"),
-        [0, 1, 2],
-        4,
+        [0, 1, 2, 0, 1, 2],
+        [4, 4],
         "a\rx\nb",
-        &[0, 0, 0],
     ),
     (
         "ab\ncd\nef",
+        80,
         Edit::Insert(3, "x"),
-        [0, 2, 2],
-        7,
+        [0, 2, 2, 0, 2, 2],
+        [7, 7],
         "ab\nxcd\nef",
-        &[0, 0, 0],
     ),
-    ("ab\ncd\nef", Edit::Delete(2, 4), [0, 3, 1], 4, "abef", &[0]),
     (
-        "\u{5d0}\nab",
+        "ab\ncd\nef",
+        80,
+        Edit::Insert(4, "x"),
+        [1, 1, 1, 1, 1, 1],
+        [4, 4],
+        "ab\ncxd\nef",
+    ),
+    (
+        "ab\ncd\nef",
+        80,
+        Edit::Delete(2, 4),
+        [0, 3, 1, 0, 3, 1],
+        [4, 4],
+        "abef",
+    ),
+    (
+        HEBREW,
+        80,
         Edit::Delete(1, 1),
-        [0, 2, 1],
-        3,
+        [0, 2, 1, 0, 2, 1],
+        [3, 3],
         "\u{5d0}ab",
-        &[1],
+    ),
+    (
+        "ab\n\u{5d0}\u{5d1}",
+        80,
+        Edit::Delete(2, 1),
+        [0, 2, 1, 0, 2, 1],
+        [4, 4],
+        "ab\u{5d0}\u{5d1}",
     ),
     (
         "ab\ncd",
+        80,
         Edit::Insert(0, "\u{5d0}"),
-        [0, 1, 1],
-        4,
+        [0, 1, 1, 0, 1, 1],
+        [4, 4],
         "\u{5d0}ab\ncd",
-        &[1, 0],
     ),
-    ("abc", Edit::Delete(0, 3), [0, 1, 0], 0, "", &[]),
-    ("", Edit::Insert(0, ""), [0, 0, 0], 0, "", &[]),
+    (
+        "abc",
+        80,
+        Edit::Delete(0, 3),
+        [0, 1, 0, 0, 1, 0],
+        [0, 0],
+        "",
+    ),
+    ("", 80, Edit::Insert(0, ""), [0, 0, 0, 0, 0, 0], [0, 0], ""),
+    (
+        "",
+        80,
+        Edit::Insert(0, "x"),
+        [0, 0, 1, 0, 0, 1],
+        [1, 1],
+        "x",
+    ),
+    (
+        "abc",
+        80,
+        Edit::Insert(0, ""),
+        [0, 1, 1, 0, 1, 1],
+        [3, 3],
+        "abc",
+    ),
+    (
+        "abc def\nghi jkl\nx",
+        3,
+        Edit::Insert(9, "y"),
+        [2, 2, 3, 1, 1, 1],
+        [9, 9],
+        "abc def\ngyhi jkl\nx",
+    ),
+    (
+        "abc def\nghi jkl\nx",
+        3,
+        Edit::Delete(7, 1),
+        [0, 4, 4, 0, 2, 1],
+        [15, 15],
+        "abc defghi jkl\nx",
+    ),
+    (
+        "abc def ghi",
+        80,
+        Edit::SetWidth(3),
+        [0, 1, 3, 0, 1, 1],
+        [0, 11],
+        "abc def ghi",
+    ),
+    (
+        "abc def ghi",
+        3,
+        Edit::SetWidth(3),
+        [0, 3, 3, 0, 1, 1],
+        [0, 11],
+        "abc def ghi",
+    ),
 ];
 
 #[test]
-fn edits_of_rows(rt: HostRuntime) -> Result<(), Fail> {
+fn changes_of_rows(rt: HostRuntime) -> Result<(), Fail> {
     for row in &ROWS {
-        check_row(&rt, rt.alloc(), row)?;
+        check_row::<TreeStore<Kept>>(&rt, rt.alloc(), row)?;
     }
     Ok(())
 }
 
-fn check_out_of_range(rt: &impl Abort, edited: &mut BaseSession) {
+fn check_refused(rt: &impl Abort, edited: &mut Session<TreeStore<Kept>>) {
     for (pos, count) in [(6, 0), (3, 3), (0, 6), (1, usize::MAX), (usize::MAX, 1)] {
         assert_eq!(rt; edited.delete(pos, count), Err(EditFault::OutOfRange));
     }
     assert_eq!(rt; edited.insert(6, "x"), Err(EditFault::OutOfRange));
+    assert_eq!(rt; edited.set_width(0), Err(EditFault::WidthOutOfRange));
 }
 
 #[test]
-fn edits_out_of_range(rt: HostRuntime) -> Result<(), Fail> {
+fn changes_that_are_refused(rt: HostRuntime) -> Result<(), Fail> {
     let alloc = rt.alloc();
-    let mut edited = session(alloc, "ab\ncd")?;
-    let before = edited.analysed();
-    check_out_of_range(&rt, &mut edited);
-    assert_eq!(rt; edited.analysed(), before);
+    let mut edited = session(alloc, "ab\ncd", 7)?;
+    let before = (edited.analysed(), edited.filled());
+    check_refused(&rt, &mut edited);
+    assert_eq!(rt; (edited.analysed(), edited.filled()), before);
     check_same(&rt, alloc, &edited, "ab\ncd")
 }
 
-fn check_too_long(rt: &impl Abort, edited: &mut BaseSession, long: &str) {
-    let before = edited.analysed();
-    assert_eq!(rt; edited.insert(1, long), Err(EditFault::ParagraphTooLong));
-    assert_eq!(rt; edited.analysed(), before);
+#[test]
+fn sessions_that_are_refused(rt: HostRuntime) -> Result<(), Fail> {
+    let alloc = rt.alloc();
+    let opened: Result<Session<VecStore<Kept>>, (Engine, EditFault)> = Session::open(
+        alloc,
+        engine(alloc)?,
+        "a",
+        0,
+    );
+    assert!(rt; matches!(opened, Err((_, EditFault::WidthOutOfRange))));
+    Ok(())
+}
+
+fn letters(alloc: Global, count: usize) -> Result<Vec<u8>, AllocError> {
+    vec![in alloc; b'a'; count]
+}
+
+fn str_of(bytes: &[u8]) -> &str {
+    std::str::from_utf8(bytes).unwrap_or("")
 }
 
 // A paragraph of the greatest length in front of a separator takes no more.
-fn check_long_paragraph(rt: &impl Abort, edited: &mut BaseSession, long: &str) -> Result<(), Fail> {
+fn check_long(
+    rt: &impl Abort,
+    edited: &mut Session<VecStore<Kept>>,
+    long: &str,
+) -> Result<(), Fail> {
+    assert_eq!(rt; edited.insert(1, long), Err(EditFault::ParagraphTooLong));
+    assert_eq!(rt; edited.analysed(), 5);
     for edit in [
         Edit::Insert(0, "\n"),
         Edit::Delete(1, 5),
@@ -228,34 +412,33 @@ fn check_long_paragraph(rt: &impl Abort, edited: &mut BaseSession, long: &str) -
     Ok(())
 }
 
-// Edits of the session on two short paragraphs with a text of the greatest length.
-fn check_long(
-    rt: &impl Abort,
-    alloc: Global,
-    edited: &mut BaseSession,
-    long: &str,
-) -> Result<(), Fail> {
-    check_too_long(rt, edited, long);
-    check_same(rt, alloc, edited, "ab\ncd")?;
-    check_long_paragraph(rt, edited, long)
-}
-
-fn letters(alloc: Global, count: usize) -> Result<Vec<u8>, AllocError> {
-    vec![in alloc; b'a'; count]
-}
-
 #[test]
-fn edits_of_long_paragraphs(rt: HostRuntime) -> Result<(), Fail> {
+fn changes_of_long_paragraphs(rt: HostRuntime) -> Result<(), Fail> {
     let alloc = rt.alloc();
-    let mut edited = session(alloc, "ab\ncd")?;
+    let mut edited = session(alloc, "ab\ncd", 80)?;
     let Ok(long) = letters(alloc, 1_048_576) else {
         return Ok(());
     };
-    check_long(&rt, alloc, &mut edited, str_of(&long))
+    if edited.analysed() != 5 {
+        return Ok(());
+    }
+    check_long(&rt, &mut edited, str_of(&long))
 }
 
-fn str_of(bytes: &[u8]) -> &str {
-    std::str::from_utf8(bytes).unwrap_or("")
+#[test]
+fn widths_there_and_back(rt: HostRuntime) -> Result<(), Fail> {
+    let alloc = rt.alloc();
+    let text = "abc def ghi\n\u{5d0}\u{5d1} (1) x";
+    let mut edited: Session<TreeStore<Kept>> = session(alloc, text, 80)?;
+    let analysed = edited.analysed();
+    for width in [3, 1, 65_535, 80] {
+        if edited.set_width(width) == Err(EditFault::NoMemory) {
+            edited.set_width(width)?;
+        }
+        check_same(&rt, alloc, &edited, text)?;
+    }
+    assert_eq!(rt; edited.analysed(), analysed);
+    Ok(())
 }
 
 // Numbers that look random, from a fixed seed.
@@ -273,7 +456,7 @@ impl Numbers {
     }
 }
 
-const PIECES: [&str; 12] = [
+const PIECES: [&str; 16] = [
     "",
     "a",
     "\u{5d0}",
@@ -286,67 +469,28 @@ const PIECES: [&str; 12] = [
     "\r\n",
     "a\n\u{5d0}",
     "\n\n",
+    "abc de f",
+    "(\u{5d0}) 12 ",
+    "e\u{300}",
+    "[a b c d e f] \u{5d0}\u{5d1}\u{5d2} 1 2 3",
 ];
 
 fn random_edit(numbers: &mut Numbers, len: usize) -> Edit<'static> {
     let pos = numbers.below(len.saturating_add(2));
-    if numbers.below(3) < 2 {
-        let piece = PIECES
-            .get(numbers.below(PIECES.len()))
-            .copied()
-            .unwrap_or("");
-        Edit::Insert(pos, piece)
-    } else {
-        Edit::Delete(pos, numbers.below(6))
+    match numbers.below(8) {
+        0 => Edit::SetWidth(u16::try_from(numbers.below(90)).unwrap_or(0)),
+        1..=4 => {
+            let piece = PIECES
+                .get(numbers.below(PIECES.len()))
+                .copied()
+                .unwrap_or("");
+            Edit::Insert(pos, piece)
+        }
+        _ => Edit::Delete(pos, numbers.below(15)),
     }
 }
 
-// The session keeps what one does that is opened on the characters.
-fn check_anew(
-    rt: &impl Abort,
-    alloc: Global,
-    edited: &BaseSession,
-    text: &[char],
-    turn: usize,
-) -> Result<(), Fail> {
-    let opened = anew(alloc, text)?;
-    assert!(rt; same(edited, &opened), "turn {turn}");
-    Ok(())
-}
-
-// An edit that is refused for memory leaves all as it was, and is then made.
-fn check_edit(
-    rt: &impl Abort,
-    alloc: Global,
-    edited: &mut BaseSession,
-    text: &mut Vec<char>,
-    edit: Edit<'_>,
-    turn: usize,
-) -> Result<(), Fail> {
-    let mut result = make(edited, edit);
-    if result == Err(EditFault::NoMemory) {
-        check_anew(rt, alloc, edited, text, turn)?;
-        result = make(edited, edit);
-    }
-    let accepted = change(text, edit)?;
-    assert_eq!(rt; result.is_ok(), accepted, "turn {turn}");
-    check_anew(rt, alloc, edited, text, turn)
-}
-
-#[test]
-fn edits_at_random(rt: HostRuntime) -> Result<(), Fail> {
-    let alloc = rt.alloc();
-    let mut numbers = Numbers(15);
-    let mut text = Vec::new(alloc);
-    let mut edited = session(alloc, "")?;
-    for turn in 0..400 {
-        let edit = random_edit(&mut numbers, text.len());
-        check_edit(&rt, alloc, &mut edited, &mut text, edit, turn)?;
-    }
-    Ok(())
-}
-
-// Makes the edit in a plain list, unless it reaches past the end.
+// Makes the change in a plain list, unless it is refused.
 fn change(text: &mut Vec<char>, edit: Edit<'_>) -> Result<bool, Fail> {
     match edit {
         Edit::Insert(pos, piece) => {
@@ -374,31 +518,88 @@ fn change(text: &mut Vec<char>, edit: Edit<'_>) -> Result<bool, Fail> {
                 }
             }
         }
+        Edit::SetWidth(width) => return Ok(width > 0),
     }
     Ok(true)
 }
 
-// A session on the characters, opened anew.
-fn anew(alloc: Global, characters: &[char]) -> Result<BaseSession, Fail> {
+// The session keeps what one does whose whole text gave way to the characters at once.
+fn check_anew(
+    rt: &impl Abort,
+    alloc: Global,
+    edited: &Session<TreeStore<Kept>>,
+    anew: &mut Session<VecStore<Kept>>,
+    characters: &[char],
+    turn: usize,
+) -> Result<(), Fail> {
     let mut text = String::new(alloc);
     for c in characters {
         if text.push(*c).is_err() {
             text.push(*c)?;
         }
     }
-    session(alloc, text.as_str())
+    let edits = [
+        Edit::Delete(0, anew.char_count()),
+        Edit::SetWidth(edited.width()),
+        Edit::Insert(0, text.as_str()),
+    ];
+    for edit in edits {
+        if make(anew, edit) == Err(EditFault::NoMemory) {
+            make(anew, edit)?;
+        }
+    }
+    assert!(rt; same(edited, anew), "turn {turn}");
+    Ok(())
 }
 
-// A session on a text, in which the edits are made.
-fn run(alloc: Global, text: &str, edits: &[Edit<'_>]) -> Result<BaseSession, Fail> {
-    let mut edited = session(alloc, text)?;
+// A change that is refused for memory is made when it is asked for again.
+fn check_edit(
+    rt: &impl Abort,
+    alloc: Global,
+    edited: &mut Session<TreeStore<Kept>>,
+    anew: &mut Session<VecStore<Kept>>,
+    text: &mut Vec<char>,
+    edit: Edit<'_>,
+    turn: usize,
+) -> Result<(), Fail> {
+    let mut result = make(edited, edit);
+    if result == Err(EditFault::NoMemory) {
+        check_anew(rt, alloc, edited, anew, text, turn)?;
+        result = make(edited, edit);
+    }
+    let accepted = change(text, edit)?;
+    assert_eq!(rt; result.is_ok(), accepted, "turn {turn}");
+    check_anew(rt, alloc, edited, anew, text, turn)
+}
+
+#[test]
+fn changes_at_random(rt: HostRuntime) -> Result<(), Fail> {
+    let alloc = rt.alloc();
+    let mut numbers = Numbers(15);
+    let mut text = Vec::new(alloc);
+    let mut edited = session(alloc, "", 20)?;
+    let mut anew = session(alloc, "", 20)?;
+    for turn in 0..2_000 {
+        let edit = random_edit(&mut numbers, text.len());
+        check_edit(&rt, alloc, &mut edited, &mut anew, &mut text, edit, turn)?;
+    }
+    Ok(())
+}
+
+// A session on a text, in which the changes are made.
+fn run(alloc: Global, text: &str, edits: &[Edit<'_>]) -> Result<Session<TreeStore<Kept>>, Fail> {
+    let mut edited = session(alloc, text, 80)?;
     edited.run(edits)?;
     Ok(edited)
 }
 
-// Where memory ran out once, some of the edits were made: those of the whole list follow on the first text.
-fn run_again(alloc: Global, text: &str, edits: &[Edit<'_>]) -> Result<BaseSession, Fail> {
-    let mut edited = session(alloc, text)?;
+// Where memory ran out once, some of the changes were made: those of the whole list follow on the first text.
+fn run_again(
+    alloc: Global,
+    text: &str,
+    edits: &[Edit<'_>],
+) -> Result<Session<TreeStore<Kept>>, Fail> {
+    let mut edited = session(alloc, text, 80)?;
     if edited.run(edits).is_err() {
         return run(alloc, text, edits);
     }
@@ -406,14 +607,17 @@ fn run_again(alloc: Global, text: &str, edits: &[Edit<'_>]) -> Result<BaseSessio
 }
 
 #[test]
-fn runs_of_edits(rt: HostRuntime) -> Result<(), Fail> {
+fn runs_of_changes(rt: HostRuntime) -> Result<(), Fail> {
     let alloc = rt.alloc();
     let edits = [
         Edit::Insert(3, "\u{5d0}"),
         Edit::Delete(5, 10),
+        Edit::SetWidth(2),
+        Edit::SetWidth(0),
         Edit::Delete(0, 3),
         Edit::Insert(3, "\ne"),
     ];
     let edited = run_again(alloc, "ab\ncd", &edits)?;
+    assert_eq!(rt; edited.width(), 2);
     check_same(&rt, alloc, &edited, "\u{5d0}cd\ne")
 }

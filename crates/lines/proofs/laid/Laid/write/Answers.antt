@@ -1,11 +1,10 @@
-use Rattle.std.proofs.Common.{◌≡◌, ◌∙◌, IfErr, ap, subst}
 use Rattle.device.specs.Device.{StoppedAt}
-use Rattle.lines.specs.Pages.{layout_bytes, lines_bytes}
+use Rattle.lines.proofs.WriteLemmas.{stopped-whole, same_fault}
 use Rattle.lines.proofs.laid.Laid.write.Goals as goal
 
-pub returns-clause-err : goal.returns-clause-err
-returns-clause-err g c =
-    let l = c.self.inside in
-    let same : lines_bytes c.args.width c.args.print.now l.base c.deref.result.now l.lines ≡ layout_bytes c.args.width c.args.print.now c.args.self.now =
-    ap (λ xs. lines_bytes c.args.width c.args.print.now l.base xs l.lines) c.deref.ensures.value ∙ ap (layout_bytes c.args.width c.args.print.now) c.self.view_is in
-    subst (λ bytes. IfErr c.write.result (λ fault. StoppedAt fault.written bytes (g.W.Sink.state c.args.writer.now) (g.W.Sink.state c.write.new.writer))) same c.write.ensures.err
+pub returns-in_err-write_behind-clause-err : goal.returns-in_err-write_behind-clause-err
+returns-in_err-write_behind-clause-err g c =
+    same_fault _ _ (λ n. StoppedAt n _ _ _) c.from_residual.ensures.1 (stopped-whole c.in_err-write_behind.ensures.err)
+
+pub returns-clause-ok : goal.returns-clause-ok
+returns-clause-ok g c = c.in_ok-write_behind.ensures.ok.wrote

@@ -1,6 +1,7 @@
 use Rattle.std.proofs.Common.{◌≡◌, sym, ap, ◌∙◌, rules, if◌then◌else◌}
 use Rattle.std.proofs.lemmas.Bool.{cond-true, cond-false}
-use Rattle.bidi.specs.Engine.{cut_of}
+use Rattle.lines.specs.Engine.{rules_of}
+use Rattle.lines.specs.Layouts.{cut_by}
 use Rattle.session.proofs.ScanLemmas.{starts_piece, starts_piece_from, scanned_within, scanned_past}
 use Rattle.session.proofs.scan.Scan.take.Goals as goal
 use Rattle.session.proofs.scan.Scan.take.Goals.{then-starts_paragraph, else-starts_paragraph, then-self-lt-PARAGRAPH_LIMIT, else-self-lt-PARAGRAPH_LIMIT}
@@ -8,7 +9,7 @@ use Rattle.session.proofs.scan.Scan.take.Goals.{then-starts_paragraph, else-star
 -- the length is that of the last paragraph, or 0 where one starts here
 pub returns : goal.returns
 returns c =
-    let is_cut = cut_of c.args.engine.now in
+    let is_cut = cut_by (rules_of c.args.engine.now) in
     let scan = c.args.self.now in
     let ready = c.if-starts_paragraph.self in
     let starts : c.is_some_and-starts_paragraph.result ≡ starts_piece is_cut scan.last c.args.c = starts_piece_from is_cut _ c.args.c _ (search rules) in

@@ -1,8 +1,9 @@
 use Rattle.std.proofs.Common.{ℕ, List, ◌++◌, take}
-use Rattle.bidi.specs.Engine.{cut_of}
+use Rattle.lines.specs.Engine.{rules_of}
+use Rattle.lines.specs.Layouts.{cut_by}
 use Rattle.session.specs.Scans.{HasScanned}
 use Rattle.session.proofs.scan.Scan.take_all.Given as goal
 
 -- the characters so far are taken
 abbrev pub invariant-loop-c : goal.invariant-loop-c
-invariant-loop-c l = (text : List ℕ) → HasScanned (cut_of l.engine) text l.fn.self → HasScanned (cut_of l.engine) (text ++ take l.c-index l.part) l.self
+invariant-loop-c l = (text : List ℕ) → HasScanned (cut_by (rules_of l.engine)) text l.fn.self → HasScanned (cut_by (rules_of l.engine)) (text ++ take l.c-index l.part) l.self

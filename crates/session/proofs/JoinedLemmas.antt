@@ -1,0 +1,74 @@
+-- A text that stands in three parts, and its paragraphs one by one.
+use Rattle.std.proofs.Common.{◌≡◌, ℕ, ◌<◌, ◌≤◌, Bool, true, false, not, ◌==◌, List, [], ◌∷◌, ◌++◌, length, map, take, drop, Some, None, nat_le, sym, ap, subst, ◌∙◌, arith}
+use Rattle.std.proofs.lemmas.Bool.{and_parts, both_ways, eqb-true, leb-true}
+use Rattle.std.proofs.lemmas.List.{append-nil, append_assoc, nil_from_length}
+use Rattle.bidi.specs.Cuts.{paragraphs, SplitsAt}
+use Rattle.bidi.specs.Pieces.{ArePieces, ParagraphsArePieces}
+use Rattle.lines.specs.Layouts.{Layout, Rules, cut_by, layout_of, IsParagraph}
+use Rattle.session.specs.Changes.{are_within, is_within_limit, paragraph_limit}
+use Rattle.session.specs.Kept.{layouts_of}
+use Rattle.session.specs.Scans.{HasScanned}
+use Rattle.session.specs.declared.scan.Scan.{Scan}
+
+module _ (is_cut : ℕ → ℕ → Bool) where
+  pub long_of_parts : (front piece back : List ℕ) (scan : Scan) → HasScanned is_cut ([] ++ front ++ piece ++ back) scan
+      → scan.is_long ≡ not (is_within_limit is_cut (front ++ (piece ++ back)))
+  long_of_parts front piece back scan known = known.is_long ∙ ap (λ text. not (is_within_limit is_cut text)) (append_assoc front piece back)
+
+  -- a piece between cuts is one paragraph
+  pub first_piece : (piece : List ℕ) (pieces : List (List ℕ)) → ArePieces is_cut (piece ∷ pieces) → ArePieces is_cut (piece ∷ [])
+  first_piece piece [] h = h
+  first_piece piece (next ∷ pieces) h = h.0
+
+  pub whole_piece : ParagraphsArePieces → (text first : List ℕ) (pieces : List (List ℕ)) → paragraphs is_cut text ≡ first ∷ pieces → paragraphs is_cut first ≡ first ∷ []
+  whole_piece law text first pieces e =
+      let one : ArePieces is_cut (first ∷ []) = first_piece first pieces (subst (ArePieces is_cut) e (law.pieces is_cut text)) in
+      ap (paragraphs is_cut) (sym (append-nil first)) ∙ law.only is_cut (first ∷ []) one
+
+  -- the first paragraph is not too long, and nor are the others
+  pub within_parts : (text first : List ℕ) (pieces : List (List ℕ)) → paragraphs is_cut text ≡ first ∷ pieces → is_within_limit is_cut text ≡ true → (length first ≤ 1048576) × (are_within pieces ≡ true)
+  within_parts text first pieces e within =
+      let parts = and_parts (nat_le (length first) paragraph_limit) (are_within pieces) (sym (ap are_within e) ∙ within) in
+      (leb-true (length first) paragraph_limit parts.0, parts.1)
+
+module _ (law : ParagraphsArePieces) (rules : Rules) (text : List ℕ) (within : is_within_limit (cut_by rules) text ≡ true) where
+  pub paragraph_in_front : (k : ℕ) → SplitsAt (cut_by rules) text (Some k) → IsParagraph rules (take k text)
+  paragraph_in_front k split = record {
+    whole = whole_piece (cut_by rules) law text (take k text) (paragraphs (cut_by rules) (drop k text)) split.2;
+    within = (within_parts (cut_by rules) text (take k text) (paragraphs (cut_by rules) (drop k text)) split.2 within).0;
+  }
+
+  pub rest_within : (k : ℕ) → SplitsAt (cut_by rules) text (Some k) → is_within_limit (cut_by rules) (drop k text) ≡ true
+  rest_within k split = (within_parts (cut_by rules) text (take k text) (paragraphs (cut_by rules) (drop k text)) split.2 within).1
+
+  pub last_paragraph : SplitsAt (cut_by rules) text None → 0 < length text → IsParagraph rules text
+  last_paragraph split some = record {
+    whole = split some;
+    within = (within_parts (cut_by rules) text text [] (split some) within).0;
+  }
+
+-- the layouts so far with one more
+pub layouts_more : (rules : Rules) (width : ℕ) (text rest first behind : List ℕ) (kept more : List Layout) (one : Layout) → paragraphs (cut_by rules) rest ≡ first ∷ paragraphs (cut_by rules) behind
+    → one ≡ layout_of rules width first → more ≡ kept ++ one ∷ [] → kept ++ layouts_of rules width rest ≡ layouts_of rules width text → more ++ layouts_of rules width behind ≡ layouts_of rules width text
+layouts_more rules width text rest first behind kept more one split one-is more-is so_far =
+    ap (λ ks. ks ++ layouts_of rules width behind) more-is
+    ∙ append_assoc kept (one ∷ []) (layouts_of rules width behind)
+    ∙ ap (λ k. kept ++ k ∷ layouts_of rules width behind) one-is
+    ∙ ap (λ ps. kept ++ map (layout_of rules width) ps) (sym split)
+    ∙ so_far
+
+pub layouts_last : (rules : Rules) (width : ℕ) (text rest : List ℕ) (kept more : List Layout) (one : Layout) → paragraphs (cut_by rules) rest ≡ rest ∷ []
+    → one ≡ layout_of rules width rest → more ≡ kept ++ one ∷ [] → kept ++ layouts_of rules width rest ≡ layouts_of rules width text → more ≡ layouts_of rules width text
+layouts_last rules width text rest kept more one split one-is more-is so_far =
+    more-is ∙ ap (λ k. kept ++ k ∷ []) one-is ∙ ap (λ ps. kept ++ map (layout_of rules width) ps) (sym split) ∙ so_far
+
+pub layouts_none : (rules : Rules) (width : ℕ) (text rest : List ℕ) (kept : List Layout) → rest ≡ [] → kept ++ layouts_of rules width rest ≡ layouts_of rules width text → kept ≡ layouts_of rules width text
+layouts_none rules width text rest kept none so_far = sym (append-nil kept) ∙ ap (λ r. kept ++ layouts_of rules width r) (sym none) ∙ so_far
+
+-- what the test for an empty list tells
+pub some_left : (xs : List ℕ) (b : Bool) → b ≡ (length xs == 0) → b ≡ false → 0 < length xs
+some_left [] b e t = absurd (both_ways b t e)
+some_left (x ∷ xs) b e t = omega arith
+
+pub none_left : (xs : List ℕ) (b : Bool) → b ≡ (length xs == 0) → b ≡ true → xs ≡ []
+none_left xs b e t = nil_from_length xs (eqb-true (length xs) 0 (sym e ∙ t))

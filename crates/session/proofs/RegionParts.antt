@@ -1,0 +1,156 @@
+-- The touched paragraphs of a text after a change: what the first has in front of it, the piece, and what the last has behind it.
+use Rattle.std.proofs.Common.{◌≡◌, ℕ, zero, suc, zero-add, suc-add, ◌+◌, ◌-◌, ◌<◌, ◌≤◌, List, [], ◌∷◌, ◌++◌, length, take, drop, get_or, refl, sym, ap, ap₂, ◌∙◌, ◌⊎◌, inl, inr, arith}
+use Rattle.std.specs.List.{concat, slice_range}
+use Rattle.std.proofs.lemmas.Bool.{cases_eq, cases_lt}
+use Rattle.std.proofs.lemmas.List.{append-nil, length-append, length-drop, length-map, take-append-le, take_all, drop-drop, drop_at, drop_all, drop_more, get_or_past, take_more, get_or-drop}
+use Rattle.std.proofs.lemmas.List.Folds.{concat-append}
+use Rattle.lines.specs.Layouts.{Layout}
+use Rattle.session.specs.Edges.{IsFrontEdge, IsBackEdge}
+use Rattle.session.specs.Kept.{pars_of, text_of}
+use Rattle.session.specs.Touched.{AreTouched, Span}
+use Rattle.session.specs.Touched.{start_of}
+use Rattle.session.specs.declared.edge.Edge.{Edge}
+use Rattle.session.proofs.ChangeLemmas.{region_of}
+use Rattle.session.proofs.TouchedLemmas.{start_of-more, start_of-le, start_of-end, AreTouched-from_walks}
+
+-- the start of a paragraph behind others
+pub take-both : {A : Type 0} (m n : ℕ) (xs : List A) → take (m + n) xs ≡ take m xs ++ take n (drop m xs)
+take-both zero n xs = rw zero-add refl
+take-both (suc m) n [] = rw suc-add (sym (take_all n [] (omega arith)))
+take-both (suc m) n (x ∷ xs) = rw suc-add (ap (λ ys. x ∷ ys) (take-both m n xs))
+
+start_of-behind : (pars : List (List ℕ)) (first n : ℕ) → start_of pars (first + n) ≡ start_of pars first + length (concat (take n (drop first pars)))
+start_of-behind pars first n =
+    ap (λ ps. length (concat ps)) (take-both first n pars) ∙ ap length (concat-append (take first pars) (take n (drop first pars)))
+    ∙ length-append (concat (take first pars)) (concat (take n (drop first pars)))
+
+drop_behind : (left rest : List ℕ) (n : ℕ) → drop (length left + n) (left ++ rest) ≡ drop n rest
+drop_behind left rest n = sym (drop-drop n (length left) (left ++ rest)) ∙ ap (drop n) (drop_at left rest (length left) refl)
+
+module _ (pars : List (List ℕ)) (first last pos to : ℕ) (some : first < last) (within : last ≤ length pars) where
+  -- the first of the paragraphs, in front of the others
+  first_is : slice_range pars first last ≡ get_or pars first [] ∷ take (last - first - 1) (drop (first + 1) pars)
+  first_is =
+      let n : last - first ≡ suc (last - first - 1) = omega arith in
+      ap (λ m. take m (drop first pars)) n ∙ ap (take (suc (last - first - 1))) (drop_more pars first [] (omega arith))
+
+  pub front_part : pos ≤ start_of pars (first + 1) → take (pos - start_of pars first) (concat (slice_range pars first last)) ≡ take (pos - start_of pars first) (get_or pars first [])
+  front_part reach =
+      let p = get_or pars first [] in
+      let others = take (last - first - 1) (drop (first + 1) pars) in
+      let size = start_of-more pars first [] (omega arith) in
+      ap (λ ps. take (pos - start_of pars first) (concat ps)) first_is ∙ take-append-le (pos - start_of pars first) p (concat others) (omega arith)
+
+  -- the last one, behind the others
+  last_is : slice_range pars first last ≡ take (last - first - 1) (drop first pars) ++ get_or pars (last - 1) [] ∷ []
+  last_is =
+      let i = last - first - 1 in
+      let n : last - first ≡ i + 1 = omega arith in
+      let place : first + i ≡ last - 1 = omega arith in
+      let size = length-drop first pars in
+      ap (λ m. take m (drop first pars)) n ∙ take_more (drop first pars) i [] (omega arith)
+      ∙ ap (λ p. take i (drop first pars) ++ p ∷ []) (get_or-drop first pars i [] ∙ ap (λ k. get_or pars k []) place)
+
+  pub back_part : start_of pars (last - 1) ≤ to → to ≤ start_of pars last → drop (to - start_of pars first) (concat (slice_range pars first last))
+      ≡ drop (length (get_or pars (last - 1) []) - (start_of pars last - to)) (get_or pars (last - 1) [])
+  back_part reach within_last =
+      let i = last - first - 1 in
+      let q = get_or pars (last - 1) [] in
+      let others = take i (drop first pars) in
+      let place : first + i ≡ last - 1 = omega arith in
+      let next : last - 1 + 1 ≡ last = omega arith in
+      let behind : start_of pars (last - 1) ≡ start_of pars first + length (concat others) = ap (start_of pars) (sym place) ∙ start_of-behind pars first i in
+      let size : start_of pars last ≡ start_of pars (last - 1) + length q = ap (start_of pars) (sym next) ∙ start_of-more pars (last - 1) [] (omega arith) in
+      let whole : concat (slice_range pars first last) ≡ concat others ++ q = ap concat last_is ∙ concat-append others (q ∷ []) ∙ ap (λ t. concat others ++ t) (append-nil q) in
+      let from : to - start_of pars first ≡ length (concat others) + (to - start_of pars (last - 1)) = omega arith in
+      let left : to - start_of pars (last - 1) ≡ length q - (start_of pars last - to) = omega arith in
+      ap₂ drop from whole ∙ drop_behind (concat others) q (to - start_of pars (last - 1)) ∙ ap (λ n. drop n q) left
+
+-- where there are no paragraphs
+no_slice : (pars : List (List ℕ)) (first last : ℕ) → length pars ≡ 0 → concat (slice_range pars first last) ≡ []
+no_slice pars first last none =
+    let nothing : drop first pars ≡ [] = drop_all first pars (omega arith) in
+    ap (λ ps. concat (take (last - first) ps)) nothing ∙ ap concat (take_all (last - first) [] (omega arith))
+
+no_front : (pars : List (List ℕ)) (first last n : ℕ) → length pars ≡ 0 → take n (concat (slice_range pars first last)) ≡ take n (get_or pars first [])
+no_front pars first last n none = ap (take n) (no_slice pars first last none ∙ sym (get_or_past pars first [] (omega arith)))
+
+no_back : (pars : List (List ℕ)) (first last n m k : ℕ) → length pars ≡ 0 → drop n (concat (slice_range pars first last)) ≡ drop m (get_or pars k [])
+no_back pars first last n m k none =
+    ap (drop n) (no_slice pars first last none) ∙ drop_all n [] (omega arith) ∙ sym (ap (drop m) (get_or_past pars k [] (omega arith)) ∙ drop_all m [] (omega arith))
+
+-- the touched paragraphs, between two edges
+abbrev pub touched_by : Edge → Edge → Span
+touched_by front back = record { first = front.index; end = back.index; start = front.chars; stop = back.chars }
+
+-- what the first touched paragraph has in front of a place, and what the last one has behind another
+abbrev pub front_of : List (List ℕ) → Edge → ℕ → List ℕ
+front_of pars front pos = take (pos - front.chars) (get_or pars front.index [])
+
+abbrev pub back_of : List (List ℕ) → Edge → ℕ → List ℕ
+back_of pars back to = let text = get_or pars (back.index - 1) [] in drop (length text - (back.chars - to)) text
+
+module _ (kept : List Layout) (pos to : ℕ) (front back : Edge) (order : pos ≤ to) (within : to ≤ length (text_of kept)) (f : IsFrontEdge kept pos front) (b : IsBackEdge kept to back) where
+  pars_number : length (pars_of kept) ≡ length kept
+  pars_number = length-map kept (λ l. l.text)
+
+  -- an edge in front of no paragraph stands at 0
+  front_low : front.chars ≤ pos
+  front_low = elim (cases_eq front.index 0) [
+    | inl e ↦ let start : front.chars ≡ 0 = f.edge_is.chars ∙ ap (start_of (pars_of kept)) e in omega arith
+    | inr ne ↦ omega (arith, f.before (omega arith))
+  ]
+
+  back_high : to ≤ back.chars
+  back_high = elim (cases_lt back.index (length kept)) [
+    | inl more ↦ omega (arith, b.behind more)
+    | inr all ↦ omega (arith, b.edge_is.chars, start_of-end (pars_of kept) back.index (omega (arith, pars_number)))
+  ]
+
+  -- some paragraph is touched, unless there is none
+  some_or_none : (front.index < back.index) ⊎ (length (pars_of kept) ≡ 0)
+  some_or_none = elim (cases_lt front.index back.index) [
+    | inl some ↦ inl some
+    | inr none ↦
+        let le = start_of-le (pars_of kept) back.index front.index (omega arith) in
+        let last : back.index ≡ length kept = elim (cases_lt back.index (length kept)) [
+          | inl more ↦ absurd (omega (arith, b.behind more, b.edge_is.chars, f.edge_is.chars, front_low, le))
+          | inr all ↦ omega (arith, b.edge_is.within)
+        ] in
+        let whole = start_of-end (pars_of kept) front.index (omega (arith, pars_number, f.edge_is.within)) in
+        let first : front.index ≡ 0 = elim (cases_eq front.index 0) [
+          | inl e ↦ e
+          | inr ne ↦ absurd (omega (arith, f.before (omega arith), f.edge_is.chars, whole))
+        ] in
+        inr (omega (arith, pars_number, f.edge_is.within))
+  ]
+
+  pub edges_rise : front.index ≤ back.index
+  edges_rise = elim some_or_none [
+    | inl some ↦ omega arith
+    | inr none ↦ omega (arith, f.edge_is.within, pars_number)
+  ]
+
+  pub AreTouched-edges : AreTouched (pars_of kept) pos to (touched_by front back)
+  AreTouched-edges =
+      AreTouched-from_walks (pars_of kept) pos to front.index back.index front.chars back.chars order within f.edge_is.chars b.edge_is.chars edges_rise
+      (omega (arith, b.edge_is.within, pars_number)) f.before (λ some. f.behind (omega (arith, pars_number))) (λ i above below. b.before i below) (λ more. b.behind (omega (arith, pars_number)))
+
+  -- the changed text of the touched paragraphs
+  pub region_parts : (piece : List ℕ) → region_of (pars_of kept) (touched_by front back) pos to piece ≡ front_of (pars_of kept) front pos ++ (piece ++ back_of (pars_of kept) back to)
+  region_parts piece =
+      let pars = pars_of kept in
+      let place : pos - front.chars + (to - front.chars - (pos - front.chars)) ≡ to - front.chars = omega (arith, front_low) in
+      let first : take (pos - front.chars) (concat (slice_range pars front.index back.index)) ≡ front_of pars front pos = elim some_or_none [
+        | inl some ↦ ap (λ n. take (pos - n) (concat (slice_range pars front.index back.index))) f.edge_is.chars
+            ∙ front_part pars front.index back.index pos to some (omega (arith, b.edge_is.within, pars_number)) (f.behind (omega (arith, b.edge_is.within)))
+            ∙ ap (λ n. take (pos - n) (get_or pars front.index [])) (sym f.edge_is.chars)
+        | inr none ↦ no_front pars front.index back.index (pos - front.chars) none
+      ] in
+      let last : drop (to - front.chars) (concat (slice_range pars front.index back.index)) ≡ back_of pars back to = elim some_or_none [
+        | inl some ↦ ap (λ n. drop (to - n) (concat (slice_range pars front.index back.index))) f.edge_is.chars
+            ∙ back_part pars front.index back.index pos to some (omega (arith, b.edge_is.within, pars_number)) (b.before (back.index - 1) (omega arith)) (omega (arith, b.edge_is.chars, back_high))
+            ∙ ap (λ n. drop (length (get_or pars (back.index - 1) []) - (n - to)) (get_or pars (back.index - 1) [])) (sym b.edge_is.chars)
+        | inr none ↦ no_back pars front.index back.index (to - front.chars) (length (get_or pars (back.index - 1) []) - (back.chars - to)) (back.index - 1) none
+      ] in
+      ap₂ (λ xs ys. xs ++ (piece ++ ys)) first (ap (λ n. drop n (concat (slice_range pars front.index back.index))) place ∙ last)

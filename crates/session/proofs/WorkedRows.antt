@@ -1,0 +1,34 @@
+-- The definitions of touched paragraphs and of lists of changes, worked on rows.
+use Rattle.std.proofs.Common.{◌≡◌, ℕ, ◌==◌, Bool, List, [], ◌∷◌, refl}
+use Rattle.session.specs.Changes.{Held, after_all, deletion, insertion}
+use Rattle.session.specs.Touched.{first_touched, touched_count, fresh}
+use Rattle.session.specs.declared.edits.Edit.{Edit}
+use Rattle.session.specs.declared.edits.Edit.TheVariants.{Delete, SetWidth}
+
+-- "ab\ncd\nef"
+abbrev three : List (List ℕ)
+three = (97 ∷ 98 ∷ 10 ∷ []) ∷ (99 ∷ 100 ∷ 10 ∷ []) ∷ (101 ∷ 102 ∷ []) ∷ []
+
+-- a letter between two paragraphs touches both, one inside a paragraph that alone
+between-two : (first_touched three (insertion 3 (120 ∷ [])) ≡ 0) × (touched_count three (insertion 3 (120 ∷ [])) ≡ 2) × (fresh three (insertion 3 (120 ∷ [])) ≡ 7)
+between-two = (refl, refl, refl)
+
+inside-one : (first_touched three (insertion 4 (120 ∷ [])) ≡ 1) × (touched_count three (insertion 4 (120 ∷ [])) ≡ 1) × (fresh three (insertion 4 (120 ∷ [])) ≡ 4)
+inside-one = (refl, refl, refl)
+
+over-three : (first_touched three (deletion 2 4) ≡ 0) × (touched_count three (deletion 2 4) ≡ 3) × (fresh three (deletion 2 4) ≡ 4)
+over-three = (refl, refl, refl)
+
+-- in an empty text nothing is touched
+in-nothing : (first_touched [] (insertion 0 (120 ∷ [])) ≡ 0) × (touched_count [] (insertion 0 (120 ∷ [])) ≡ 0) × (fresh [] (insertion 0 (120 ∷ [])) ≡ 1)
+in-nothing = (refl, refl, refl)
+
+-- changes that are refused change nothing
+abbrev behind_newline : ℕ → ℕ → Bool
+behind_newline before after = before == 10
+
+abbrev four_changes : List Edit
+four_changes = SetWidth 0 ∷ SetWidth 5 ∷ Delete 2 2 ∷ Delete 0 1 ∷ []
+
+after-four : after_all behind_newline (record { text = 97 ∷ 10 ∷ 98 ∷ []; width = 80 }) four_changes ≡ record { text = 10 ∷ 98 ∷ []; width = 5 }
+after-four = refl

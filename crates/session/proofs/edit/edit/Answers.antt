@@ -1,0 +1,163 @@
+use Rattle.std.proofs.Common.{◌≡◌, ◌+◌, ◌-◌, ◌<◌, ◌≤◌, ◌++◌, true, Some, None, length, refl, sym, ap, ap₂, subst, ◌∙◌, arith}
+use Rattle.std.specs.Str.{chars}
+use Rattle.std.proofs.lemmas.Bool.{cond-true}
+use Rattle.std.proofs.lemmas.Iterator.{YieldsList-from_chars}
+use Rattle.std.proofs.lemmas.Iterator.Consumers.{count_from_yields_List}
+use Rattle.lines.specs.Engine.{rules_of, LaysOutAtMost}
+use Rattle.lines.specs.Layouts.{cut_by}
+use Rattle.session.specs.Sessions.{State, Edits, EditsNot, IsCountedFor}
+use Rattle.session.specs.Changes.{changing, text_limit, is_within_limit, paragraphs_refusal}
+use Rattle.session.specs.Kept.{text_of, layouts_of}
+use Rattle.session.specs.Sessions.{IsAnswerFor}
+use Rattle.session.specs.declared.edits.EditFault.TheVariants.{OutOfRange, TextTooLong, ParagraphTooLong, NoMemory}
+use Rattle.session.proofs.EdgeLemmas.{length-text}
+use Rattle.session.proofs.EditLemmas.{rise, chars_fit, lines_fit, refusal-past, EditsNot-unchanged, EditsNot-by_region, Edits-after, ends_ok, ends_err}
+use Rattle.session.proofs.RefusalLemmas.{allowed-length, refusal-too_long}
+use Rattle.session.proofs.edit.edit.Goals as goal
+use Rattle.session.proofs.edit.edit.Goals.{then-pos-len-via-then-pos-len, then-pos-len-via-else-pos-len+then-count-len}
+
+pub returns-then-pos-len-clause-err : goal.returns-then-pos-len-clause-err
+returns-then-pos-len-clause-err g c =
+    let kept = g.S.ParagraphStore.items c.args.store.now in
+    let piece = chars c.args.piece.now in
+    let size : c.total_chars-len.result ≡ length (text_of kept) = c.total_chars-len.ensures ∙ sym (length-text kept) in
+    let past : length (text_of kept) < c.args.pos + c.args.count = elim c.then-pos-len.branch [
+      | then-pos-len-via-then-pos-len w ↦ omega (arith, size, w.if-pos-len.true)
+      | then-pos-len-via-else-pos-len+then-count-len w ↦ omega (arith, size, w.if-pos-len.false, w.if-count-len.true)
+    ] in
+    let state : State = record { engine = c.args.engine.now; width = c.args.width; kept = kept } in
+    EditsNot-unchanged (changing c.args.pos c.args.count piece) state OutOfRange c.requires
+    (refusal-past (cut_by (rules_of c.args.engine.now)) (text_of kept) (changing c.args.pos c.args.count piece) past) refl
+
+pub overflow_add-len : goal.overflow_add-len
+overflow_add-len g c =
+    let kept = g.S.ParagraphStore.items c.args.store.now in
+    let piece = chars c.args.piece.now in
+    let size : c.total_chars-len.result ≡ length (text_of kept) = c.total_chars-len.ensures ∙ sym (length-text kept) in
+    let most = allowed-length (cut_by (rules_of c.args.engine.now)) (text_of kept) c.requires.allowed in
+    omega (arith, size, most, c.count.ensures.bound, c.chars.ensures.len)
+
+pub returns-then-len-count-gt-TEXT_LIMIT-clause-err : goal.returns-then-len-count-gt-TEXT_LIMIT-clause-err
+returns-then-len-count-gt-TEXT_LIMIT-clause-err g c =
+    let kept = g.S.ParagraphStore.items c.args.store.now in
+    let piece = chars c.args.piece.now in
+    let size : c.total_chars-len.result ≡ length (text_of kept) = c.total_chars-len.ensures ∙ sym (length-text kept) in
+    let within : c.args.pos + c.args.count ≤ length (text_of kept) = omega (arith, size) in
+    let n : c.count.result ≡ length piece = count_from_yields_List c.chars.result c.count.result c.count.ensures.ran (YieldsList-from_chars c.args.piece.now c.utf8.piece cc) in
+    let state : State = record { engine = c.args.engine.now; width = c.args.width; kept = kept } in
+    EditsNot-unchanged (changing c.args.pos c.args.count piece) state TextTooLong c.requires
+    (refusal-too_long (cut_by (rules_of c.args.engine.now)) (text_of kept) piece c.args.pos c.args.count within (omega (arith, size, n))) refl
+
+pub front_edge-front-requires : goal.front_edge-front-requires
+front_edge-front-requires g c =
+    let kept = g.S.ParagraphStore.items c.args.store.now in
+    let piece = chars c.args.piece.now in
+    let size : c.total_chars-len.result ≡ length (text_of kept) = c.total_chars-len.ensures ∙ sym (length-text kept) in
+    omega (arith, size)
+
+pub back_edge-back-requires : goal.back_edge-back-requires
+back_edge-back-requires g c =
+    let kept = g.S.ParagraphStore.items c.args.store.now in
+    let piece = chars c.args.piece.now in
+    let size : c.total_chars-len.result ≡ length (text_of kept) = c.total_chars-len.ensures ∙ sym (length-text kept) in
+    let within : c.args.pos + c.args.count ≤ length (text_of kept) = omega (arith, size) in
+    within
+
+pub returns-in-Err-clause-err : goal.returns-in-Err-clause-err
+returns-in-Err-clause-err g c =
+    let kept = g.S.ParagraphStore.items c.args.store.now in
+    let piece = chars c.args.piece.now in
+    let size : c.total_chars-len.result ≡ length (text_of kept) = c.total_chars-len.ensures ∙ sym (length-text kept) in
+    let within : c.args.pos + c.args.count ≤ length (text_of kept) = omega (arith, size) in
+    let n : c.count.result ≡ length piece = count_from_yields_List c.chars.result c.count.result c.count.ensures.ran (YieldsList-from_chars c.args.piece.now c.utf8.piece cc) in
+    let short : length (text_of kept) - c.args.count + length piece ≤ text_limit = omega (arith, size, n) in
+    let parts = ap₂ (λ xs ys. xs ++ (piece ++ ys)) c.front_text.ensures (c.back_text.ensures _ refl) in
+    let f = c.front_edge-front.ensures in
+    let b = c.back_edge-back.ensures in
+    let law = c.paragraphs_are_pieces.ensures in
+    let few = c.lines_are_few.ensures in
+    let by = rules_of c.args.engine.now in
+    let answer = subst (λ t. IsAnswerFor (paragraphs_refusal (cut_by by) t) c.in-Err.fault) parts c.in-Err.ensures.err in
+    let counts = subst (λ t. IsCountedFor c.in-Err.fault (LaysOutAtMost (length t)) c.args.engine.now c.lay_out_joined.new.engine) parts c.in-Err.ensures.refused in
+    EditsNot-by_region law few c.args.engine.now c.args.width kept c.requires c.args.pos c.args.count piece within c.front_edge-front.result c.back_edge-back.result f b c.lay_out_joined.new.engine c.in-Err.fault short answer c.lay_out_joined.ensures.rules counts
+
+pub put-requires-clause-order : goal.put-requires-clause-order
+put-requires-clause-order g c =
+    let kept = g.S.ParagraphStore.items c.args.store.now in
+    let piece = chars c.args.piece.now in
+    let size : c.total_chars-len.result ≡ length (text_of kept) = c.total_chars-len.ensures ∙ sym (length-text kept) in
+    let within : c.args.pos + c.args.count ≤ length (text_of kept) = omega (arith, size) in
+    rise c.paragraphs_are_pieces.ensures c.lines_are_few.ensures c.args.engine.now c.args.width kept c.requires c.args.pos c.args.count piece within c.front_edge-front.result c.back_edge-back.result c.front_edge-front.ensures c.back_edge-back.ensures
+
+pub put-requires-clause-chars_fit : goal.put-requires-clause-chars_fit
+put-requires-clause-chars_fit g c =
+    let kept = g.S.ParagraphStore.items c.args.store.now in
+    let piece = chars c.args.piece.now in
+    let size : c.total_chars-len.result ≡ length (text_of kept) = c.total_chars-len.ensures ∙ sym (length-text kept) in
+    let within : c.args.pos + c.args.count ≤ length (text_of kept) = omega (arith, size) in
+    let n : c.count.result ≡ length piece = count_from_yields_List c.chars.result c.count.result c.count.ensures.ran (YieldsList-from_chars c.args.piece.now c.utf8.piece cc) in
+    let short : length (text_of kept) - c.args.count + length piece ≤ text_limit = omega (arith, size, n) in
+    let parts = ap₂ (λ xs ys. xs ++ (piece ++ ys)) c.front_text.ensures (c.back_text.ensures _ refl) in
+    let f = c.front_edge-front.ensures in
+    let b = c.back_edge-back.ensures in
+    let law = c.paragraphs_are_pieces.ensures in
+    let few = c.lines_are_few.ensures in
+    let laid = c.in-Ok.ensures.ok ∙ ap (layouts_of (rules_of c.args.engine.now) c.args.width) parts in
+    chars_fit law few c.args.engine.now c.args.width kept c.requires c.args.pos c.args.count piece within c.front_edge-front.result c.back_edge-back.result f b c.in-Ok.new.items laid short
+
+pub put-requires-clause-lines_fit : goal.put-requires-clause-lines_fit
+put-requires-clause-lines_fit g c =
+    let kept = g.S.ParagraphStore.items c.args.store.now in
+    let piece = chars c.args.piece.now in
+    let size : c.total_chars-len.result ≡ length (text_of kept) = c.total_chars-len.ensures ∙ sym (length-text kept) in
+    let within : c.args.pos + c.args.count ≤ length (text_of kept) = omega (arith, size) in
+    let n : c.count.result ≡ length piece = count_from_yields_List c.chars.result c.count.result c.count.ensures.ran (YieldsList-from_chars c.args.piece.now c.utf8.piece cc) in
+    let short : length (text_of kept) - c.args.count + length piece ≤ text_limit = omega (arith, size, n) in
+    let parts = ap₂ (λ xs ys. xs ++ (piece ++ ys)) c.front_text.ensures (c.back_text.ensures _ refl) in
+    let f = c.front_edge-front.ensures in
+    let b = c.back_edge-back.ensures in
+    let law = c.paragraphs_are_pieces.ensures in
+    let few = c.lines_are_few.ensures in
+    let laid = c.in-Ok.ensures.ok ∙ ap (layouts_of (rules_of c.args.engine.now) c.args.width) parts in
+    lines_fit law few c.args.engine.now c.args.width kept c.requires c.args.pos c.args.count piece within c.front_edge-front.result c.back_edge-back.result f b c.in-Ok.new.items laid short
+
+pub returns-clause-ok : goal.returns-clause-ok
+returns-clause-ok g c =
+    let kept = g.S.ParagraphStore.items c.args.store.now in
+    let piece = chars c.args.piece.now in
+    let size : c.total_chars-len.result ≡ length (text_of kept) = c.total_chars-len.ensures ∙ sym (length-text kept) in
+    let within : c.args.pos + c.args.count ≤ length (text_of kept) = omega (arith, size) in
+    let n : c.count.result ≡ length piece = count_from_yields_List c.chars.result c.count.result c.count.ensures.ran (YieldsList-from_chars c.args.piece.now c.utf8.piece cc) in
+    let short : length (text_of kept) - c.args.count + length piece ≤ text_limit = omega (arith, size, n) in
+    let parts = ap₂ (λ xs ys. xs ++ (piece ++ ys)) c.front_text.ensures (c.back_text.ensures _ refl) in
+    let f = c.front_edge-front.ensures in
+    let b = c.back_edge-back.ensures in
+    let law = c.paragraphs_are_pieces.ensures in
+    let few = c.lines_are_few.ensures in
+    let by = rules_of c.args.engine.now in
+    let old : State = record { engine = c.args.engine.now; width = c.args.width; kept = kept } in
+    let laid = c.in-Ok.ensures.ok ∙ ap (layouts_of by c.args.width) parts in
+    let allowed = subst (λ t. is_within_limit (cut_by by) t ≡ true) parts c.in-Ok.ensures.allowed in
+    let counts = subst (λ t. LaysOutAtMost (length t) c.args.engine.now c.lay_out_joined.new.engine) parts c.lay_out_joined.ensures.counts in
+    ends_ok (λ ks. Edits (changing c.args.pos c.args.count piece) old (record { engine = c.lay_out_joined.new.engine; width = c.args.width; kept = ks })) c.put.result _ _ _ c.put.ensures.ok c.put.ensures.damage
+    (Edits-after law few c.args.engine.now c.args.width kept c.requires c.args.pos c.args.count piece within c.front_edge-front.result c.back_edge-back.result f b c.in-Ok.new.items laid short c.lay_out_joined.new.engine allowed c.lay_out_joined.ensures.rules counts)
+
+pub returns-clause-err : goal.returns-clause-err
+returns-clause-err g c =
+    let kept = g.S.ParagraphStore.items c.args.store.now in
+    let piece = chars c.args.piece.now in
+    let size : c.total_chars-len.result ≡ length (text_of kept) = c.total_chars-len.ensures ∙ sym (length-text kept) in
+    let within : c.args.pos + c.args.count ≤ length (text_of kept) = omega (arith, size) in
+    let n : c.count.result ≡ length piece = count_from_yields_List c.chars.result c.count.result c.count.ensures.ran (YieldsList-from_chars c.args.piece.now c.utf8.piece cc) in
+    let short : length (text_of kept) - c.args.count + length piece ≤ text_limit = omega (arith, size, n) in
+    let parts = ap₂ (λ xs ys. xs ++ (piece ++ ys)) c.front_text.ensures (c.back_text.ensures _ refl) in
+    let f = c.front_edge-front.ensures in
+    let b = c.back_edge-back.ensures in
+    let law = c.paragraphs_are_pieces.ensures in
+    let few = c.lines_are_few.ensures in
+    let by = rules_of c.args.engine.now in
+    let old : State = record { engine = c.args.engine.now; width = c.args.width; kept = kept } in
+    let allowed = subst (λ t. is_within_limit (cut_by by) t ≡ true) parts c.in-Ok.ensures.allowed in
+    let counts = subst (λ t. LaysOutAtMost (length t) c.args.engine.now c.lay_out_joined.new.engine) parts c.lay_out_joined.ensures.counts in
+    ends_err (λ ks. EditsNot (changing c.args.pos c.args.count piece) old (record { engine = c.lay_out_joined.new.engine; width = c.args.width; kept = ks })) c.put.result _ _ c.put.ensures.err c.put.ensures.fault
+    (EditsNot-by_region law few c.args.engine.now c.args.width kept c.requires c.args.pos c.args.count piece within c.front_edge-front.result c.back_edge-back.result f b c.lay_out_joined.new.engine NoMemory short (cond-true _ None (Some ParagraphTooLong) allowed) c.lay_out_joined.ensures.rules counts)

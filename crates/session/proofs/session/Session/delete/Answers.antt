@@ -1,0 +1,8 @@
+use Rattle.std.proofs.lemmas.Str.{chars-nil}
+use Rattle.session.proofs.session.Session.delete.Goals as goal
+
+pub returns-clause-ok : goal.returns-clause-ok
+returns-clause-ok g c = rw chars-nil at c.change.ensures.ok
+
+pub returns-clause-err : goal.returns-clause-err
+returns-clause-err g c = rw chars-nil at c.change.ensures.err

@@ -1,0 +1,31 @@
+-- What a change names as replaced, among the lines and among the paragraphs.
+use Rattle.std.specs.Prelude.{◌≡◌, ℕ, ◌+◌, List, length, take, drop, slice_range}
+use Rattle.lines.specs.Layouts.{Layout}
+use Rattle.session.specs.Changes.{Change}
+use Rattle.session.specs.Kept.{pars_of, lines_in}
+use Rattle.session.specs.Touched.{first_touched, touched_count}
+use Rattle.session.specs.declared.edits.Damage.{Damage}
+
+-- `count` items from `first` on give way to `fresh` others, and all the others stay
+pub record Replaces {A : Type 0} (old new : List A) (first count fresh : ℕ) : Type 0 where
+  pub size : fresh + length old ≡ count + length new
+  pub front : take first new ≡ take first old
+  pub back : drop (first + fresh) new ≡ drop (first + count) old
+
+-- The damage of an edit names the touched paragraphs and their lines among the old ones, and how many stand in their place.
+pub record IsDamage (change : Change) (old new : List Layout) (damage : Damage) : Type 0 where
+  pub first_par : damage.first_par ≡ first_touched (pars_of old) change
+  pub old_pars : damage.old_pars ≡ touched_count (pars_of old) change
+  pub first_line : damage.first_line ≡ length (lines_in (take damage.first_par old))
+  pub old_lines : damage.old_lines ≡ length (lines_in (slice_range old damage.first_par (damage.first_par + damage.old_pars)))
+  pub pars : Replaces old new damage.first_par damage.old_pars damage.new_pars
+  pub lines : Replaces (lines_in old) (lines_in new) damage.first_line damage.old_lines damage.new_lines
+
+-- that of a width change names all
+pub record NamesAll (old new : List Layout) (damage : Damage) : Type 0 where
+  pub first_line : damage.first_line ≡ 0
+  pub old_lines : damage.old_lines ≡ length (lines_in old)
+  pub new_lines : damage.new_lines ≡ length (lines_in new)
+  pub first_par : damage.first_par ≡ 0
+  pub old_pars : damage.old_pars ≡ length old
+  pub new_pars : damage.new_pars ≡ length new

@@ -1,0 +1,96 @@
+//! An edit of the text that a store keeps. What can fail is done before anything is changed.
+ghost use Rattle.std.specs.Prelude.{◌≡◌, ◌^◌, ◌<◌, ◌≤◌, List, ℕ, length, sum_by};
+ghost use Rattle.std.specs.Prelude.{IfOk, IfErr, OnOk, OnErr};
+ghost use Rattle.std.specs.List.{splice};
+ghost use Rattle.std.specs.Str.{chars};
+ghost use Rattle.session.specs.Sessions.{Edits, EditsNot, IsWholeLayout};
+ghost use Rattle.session.specs.Changes.{changing};
+ghost use Rattle.session.specs.Edges.{damage_between, IsEdge};
+ghost use Rattle.session.specs.declared.edits.EditFault.TheVariants.{NoMemory};
+
+use crate::edge::{Edge, back_edge, back_text, front_edge, front_text};
+use crate::edits::{Damage, EditFault, TEXT_LIMIT};
+use crate::joined::lay_out_joined;
+use crate::kept::Kept;
+use bidi::paragraphs_are_pieces;
+use lines::{Engine, lines_are_few};
+use std::alloc::Global;
+use store::ParagraphStore;
+
+// Puts new paragraphs in place of those between two edges, unless memory is wanting.
+fn put<S: ParagraphStore<Kept>>(
+    store: &mut S,
+    front: Edge,
+    back: Edge,
+    new: Vec<Kept>,
+) -> Result<Damage, EditFault>
+    requires front { IsEdge (S.items store.old) front }
+    requires back { IsEdge (S.items store.old) back }
+    requires order { front.index ≤ back.index }
+    requires chars_fit { sum_by (λ l. length l.text)
+        (splice (S.items store.old) front.index back.index new.items) < 2 ^ 64 }
+    requires lines_fit { sum_by (λ l. length l.lines)
+        (splice (S.items store.old) front.index back.index new.items) < 2 ^ 64 }
+    ensures ok { OnOk result (S.items store.new ≡ splice (S.items store.old) front.index back.index new.items) }
+    ensures damage { IfOk result (λ damage. damage ≡ damage_between front back new.items) }
+    ensures err { OnErr result (S.items store.new ≡ S.items store.old) }
+    ensures fault { IfErr result (λ fault. fault ≡ NoMemory) }
+{
+    let (total, new_pars) = (store.total_lines(), new.len());
+    if store.replace(front.index..back.index, new).is_err() {
+        return Err(EditFault::NoMemory);
+    }
+    let old_lines = back.lines - front.lines;
+    Ok(Damage {
+        first_line: front.lines,
+        old_lines,
+        new_lines: store.total_lines() - (total - old_lines),
+        first_par: front.index,
+        old_pars: back.index - front.index,
+        new_pars,
+    })
+}
+
+/// Puts a piece in place of `count` characters.
+pub fn edit<S: ParagraphStore<Kept>>(
+    alloc: Global,
+    engine: &mut Engine,
+    store: &mut S,
+    width: u16,
+    pos: usize,
+    count: usize,
+    piece: &str,
+) -> Result<Damage, EditFault>
+    requires { IsWholeLayout (record { engine = engine.old; width = width; kept = S.items store.old }) }
+    ensures ok { IfOk result (Edits (changing pos count (chars piece.now))
+        (record { engine = engine.old; width = width; kept = S.items store.old })
+        (record { engine = engine.new; width = width; kept = S.items store.new })) }
+    ensures err { IfErr result (EditsNot (changing pos count (chars piece.now))
+        (record { engine = engine.old; width = width; kept = S.items store.old })
+        (record { engine = engine.new; width = width; kept = S.items store.new })) }
+{
+    let len = store.total_chars();
+    if pos > len || count > len - pos {
+        return Err(EditFault::OutOfRange);
+    }
+    let end = pos + count;
+    if len - count + piece.chars().count() > TEXT_LIMIT {
+        return Err(EditFault::TextTooLong);
+    }
+    // The laws by which the paragraphs that are not touched stay, and the sum of lines fits.
+    paragraphs_are_pieces();
+    lines_are_few();
+    let (front, back) = (front_edge(store, pos), back_edge(store, end));
+    let new = match lay_out_joined(
+        alloc,
+        engine,
+        front_text(store, front, pos),
+        piece,
+        back_text(store, back, end),
+        width,
+    ) {
+        Ok(new) => new,
+        Err(fault) => return Err(fault),
+    };
+    put(store, front, back, new)
+}

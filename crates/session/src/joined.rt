@@ -1,0 +1,129 @@
+//! The paragraphs of a text that stands in three parts, laid out: what is in front of a change, the new
+//! piece, and what is behind it.
+ghost use Rattle.std.specs.Prelude.{◌≡◌, ◌<◌, ◌++◌, true, not, List, [], ℕ, length};
+ghost use Rattle.std.specs.Prelude.{IfOk, IfErr};
+ghost use Rattle.std.specs.Str.{chars};
+ghost use Rattle.lines.specs.Engine.{rules_of, LaysOutAtMost, SameRules};
+ghost use Rattle.lines.specs.Layouts.{cut_by, layout_of, IsParagraph};
+ghost use Rattle.session.specs.Sessions.{IsCountedFor};
+ghost use Rattle.session.specs.Changes.{is_within_limit, paragraphs_refusal};
+ghost use Rattle.session.specs.Kept.{layouts_of};
+ghost use Rattle.session.specs.Sessions.{IsAnswerFor};
+
+use crate::edits::EditFault;
+use crate::kept::Kept;
+use crate::scan::Scan;
+use bidi::paragraphs_are_pieces;
+use lines::Engine;
+use std::alloc::{AllocError, Global};
+
+// Whether a paragraph is too long. It takes no memory.
+fn has_long(engine: &Engine, front: &[char], piece: &str, back: &[char]) -> bool
+    ensures { result ≡ not (is_within_limit (cut_by (rules_of engine.now))
+        (front.now ++ (chars piece.now ++ back.now))) }
+{
+    let mut scan = Scan::new();
+    scan.take_all(engine, front);
+    scan.take_text(engine, piece);
+    scan.take_all(engine, back);
+    scan.is_long()
+}
+
+// The three parts as one.
+fn joined(
+    alloc: Global,
+    front: &[char],
+    piece: &str,
+    back: &[char],
+) -> Result<Vec<char>, AllocError>
+    ensures { IfOk result (λ text. text.items ≡ front.now ++ (chars piece.now ++ back.now)) }
+{
+    let mut text = Vec::new(alloc);
+    text.extend_from_slice(front)?;
+    for c in piece.chars() {
+        text.push(c)?;
+    }
+    text.extend_from_slice(back)?;
+    Ok(text)
+}
+
+// One paragraph, laid out.
+fn lay_out_one(
+    alloc: Global,
+    engine: &mut Engine,
+    text: &[char],
+    width: u16,
+) -> Result<Kept, AllocError>
+    requires paragraph { IsParagraph (rules_of engine.old) text.now }
+    requires width { 0 < width }
+    ensures ok { IfOk result (λ kept. kept ≡ layout_of (rules_of engine.old) width text.now) }
+    ensures rules { SameRules engine.old engine.new }
+    ensures counts { LaysOutAtMost (length text.now) engine.old engine.new }
+{
+    match engine.lay_out(alloc, Vec::from_slice(alloc, text)?, width) {
+        Ok(laid) => Ok(Kept::new(laid)),
+        Err((_, error)) => Err(error),
+    }
+}
+
+// The paragraphs of a text, each laid out once.
+fn lay_out(
+    alloc: Global,
+    engine: &mut Engine,
+    text: &[char],
+    width: u16,
+) -> Result<Vec<Kept>, AllocError>
+    requires within { is_within_limit (cut_by (rules_of engine.old)) text.now ≡ true }
+    requires width { 0 < width }
+    ensures ok { IfOk result (λ kept. kept.items ≡ layouts_of (rules_of engine.old) width text.now) }
+    ensures rules { SameRules engine.old engine.new }
+    ensures counts { LaysOutAtMost (length text.now) engine.old engine.new }
+{
+    // The law by which what stands between two cuts is one paragraph.
+    paragraphs_are_pieces();
+    let mut kept = Vec::new(alloc);
+    let mut rest = text;
+    while let Some(end) = engine.first_cut(rest) {
+        let (first, behind) = rest.split_at(end);
+        kept.push(lay_out_one(alloc, engine, first, width)?)?;
+        rest = behind;
+    }
+    if !rest.is_empty() {
+        kept.push(lay_out_one(alloc, engine, rest, width)?)?;
+    }
+    Ok(kept)
+}
+
+/// The paragraphs of the three parts, laid out, unless one is too long or memory is wanting.
+pub fn lay_out_joined(
+    alloc: Global,
+    engine: &mut Engine,
+    front: &[char],
+    piece: &str,
+    back: &[char],
+    width: u16,
+) -> Result<Vec<Kept>, EditFault>
+    requires width { 0 < width }
+    ensures allowed { IfOk result (λ kept. is_within_limit (cut_by (rules_of engine.old))
+        (front.now ++ (chars piece.now ++ back.now)) ≡ true) }
+    ensures ok { IfOk result (λ kept. kept.items ≡ layouts_of (rules_of engine.old) width
+        (front.now ++ (chars piece.now ++ back.now))) }
+    ensures err { IfErr result (IsAnswerFor (paragraphs_refusal (cut_by (rules_of engine.old))
+        (front.now ++ (chars piece.now ++ back.now)))) }
+    ensures rules { SameRules engine.old engine.new }
+    ensures counts { LaysOutAtMost (length (front.now ++ (chars piece.now ++ back.now)))
+        engine.old engine.new }
+    ensures refused { IfErr result (λ fault. IsCountedFor fault (LaysOutAtMost
+        (length (front.now ++ (chars piece.now ++ back.now)))) engine.old engine.new) }
+{
+    if has_long(engine, front, piece, back) {
+        return Err(EditFault::ParagraphTooLong);
+    }
+    let Ok(text) = joined(alloc, front, piece, back) else {
+        return Err(EditFault::NoMemory);
+    };
+    match lay_out(alloc, engine, &text, width) {
+        Ok(kept) => Ok(kept),
+        Err(_) => Err(EditFault::NoMemory),
+    }
+}

@@ -1,0 +1,245 @@
+//! A session that keeps the layout of a text under inserts, deletes and width changes, over any store of
+//! paragraphs.
+ghost use Rattle.std.specs.Prelude.{◌≡◌, ℕ, length, take, option_map, slice_get};
+ghost use Rattle.std.specs.Prelude.{IfOk, IfErr, OnOk, OnErr};
+ghost use Rattle.std.specs.Str.{chars};
+ghost use Rattle.device.specs.Device.{StoppedAt, Wrote};
+ghost use Rattle.lines.specs.Engine.{analysed_of, filled_of, SameRules};
+ghost use Rattle.session.specs.Changes.{after_all, changing, deletion, insertion};
+ghost use Rattle.session.specs.Kept.{lines_in};
+ghost use Rattle.session.specs.Sessions.{cuts_at, held_at, page_at, text_at, IsWholeLayout};
+ghost use Rattle.session.specs.Sessions.{Edits, EditsNot, Opens, OpensNot, Refills, RefillsNot};
+
+use crate::edit::edit;
+use crate::edits::{Damage, Edit, EditFault, TEXT_LIMIT};
+use crate::joined::lay_out_joined;
+use crate::kept::Kept;
+use crate::printing::write_store;
+use crate::width::change_width;
+use bidi::paragraphs_are_pieces;
+use device::Sink;
+use lines::{Engine, Laid, Print, VisualLine, WriteFault, lines_are_few};
+use std::alloc::{AllocError, Global};
+use std::marker::Model;
+use store::ParagraphStore;
+
+/// A text at a width, with the layout of each paragraph.
+#[derive(Drop)]
+pub struct Session<S: ParagraphStore<Kept>> {
+    engine: Engine,
+    store: S,
+    width: u16,
+    alloc: Global,
+}
+
+impl<S: ParagraphStore<Kept>> Model for Session<S> {
+    ghost use Rattle.session.specs.Sessions.{State, IsWholeLayout};
+
+    ghost Value = { State };
+
+    ghost view = { λ s. record { engine = s.engine; width = s.width; kept = S.items s.store } };
+
+    ghost invariant = { λ s.
+        IsWholeLayout (record { engine = s.engine; width = s.width; kept = S.items s.store }) };
+}
+
+// A store of the paragraphs of a text, laid out.
+fn fill_store<S: ParagraphStore<Kept> + Drop>(
+    alloc: Global,
+    engine: &mut Engine,
+    text: &str,
+    width: u16,
+) -> Result<S, EditFault>
+    ensures ok { IfOk result (λ store. Opens engine.old (chars text.now) width
+        (record { engine = engine.new; width = width; kept = S.items store })) }
+    ensures err { IfErr result (λ fault. OpensNot engine.old (chars text.now) width (engine.new, fault)) }
+{
+    if width == 0 {
+        return Err(EditFault::WidthOutOfRange);
+    }
+    if text.chars().count() > TEXT_LIMIT {
+        return Err(EditFault::TextTooLong);
+    }
+    // The laws by which the paragraphs make up the text again, and the sum of lines fits.
+    paragraphs_are_pieces();
+    lines_are_few();
+    let paragraphs = match lay_out_joined(alloc, engine, &[], text, &[], width) {
+        Ok(paragraphs) => paragraphs,
+        Err(fault) => return Err(fault),
+    };
+    let mut store = S::new(alloc);
+    if store.replace(0..0, paragraphs).is_err() {
+        return Err(EditFault::NoMemory);
+    }
+    Ok(store)
+}
+
+impl<S: ParagraphStore<Kept> + Drop> Session<S> {
+    /// A session on a text at a width in columns. On a fault the engine comes back.
+    pub fn open(
+        alloc: Global,
+        engine: Engine,
+        text: &str,
+        width: u16,
+    ) -> Result<Session<S>, (Engine, EditFault)>
+        ensures ok { IfOk result (Opens engine (chars text.now) width) }
+        ensures err { IfErr result (OpensNot engine (chars text.now) width) }
+    {
+        let mut engine = engine;
+        match fill_store(alloc, &mut engine, text, width) {
+            Ok(store) => Ok(Session {
+                engine,
+                store,
+                width,
+                alloc,
+            }),
+            Err(fault) => Err((engine, fault)),
+        }
+    }
+}
+
+impl<S: ParagraphStore<Kept>> Session<S> {
+    /// How many lines the text has.
+    pub fn line_count(&self) -> usize
+        ensures { result ≡ length (lines_in self.now.kept) }
+    {
+        self.store.total_lines()
+    }
+
+    /// A line, counted from 0.
+    pub fn line(&self, n: usize) -> Option<VisualLine<'_>>
+        ensures { result ≡ slice_get (lines_in self.now.kept) n }
+    {
+        if n >= self.store.total_lines() {
+            return None;
+        }
+        let found = self.store.find_line(n);
+        match self.store.get(found.index) {
+            Some(kept) => kept.laid().line(found.rest),
+            None => None,
+        }
+    }
+
+    /// How many characters the text has.
+    pub fn char_count(&self) -> usize
+        ensures { result ≡ length (text_at self.now) }
+    {
+        self.store.total_chars()
+    }
+
+    /// How many paragraphs the text has.
+    pub fn paragraph_count(&self) -> usize
+        ensures { result ≡ length self.now.kept }
+    {
+        self.store.count()
+    }
+
+    /// A paragraph, counted from 0.
+    pub fn paragraph(&self, index: usize) -> Option<&Laid>
+        ensures { option_map (λ laid. laid.now) result ≡ slice_get self.now.kept index }
+    {
+        Some(self.store.get(index)?.laid())
+    }
+
+    /// The width, in columns.
+    pub fn width(&self) -> u16
+        ensures { result ≡ self.now.width }
+    {
+        self.width
+    }
+
+    /// How many characters were analysed, up to the greatest `u64`, at which the count stays.
+    pub fn analysed(&self) -> u64
+        ensures { result ≡ analysed_of self.now.engine }
+    {
+        self.engine.analysed()
+    }
+
+    /// How many characters were filled into lines, up to the greatest `u64`, at which the count stays.
+    pub fn filled(&self) -> u64
+        ensures { result ≡ filled_of self.now.engine }
+    {
+        self.engine.filled()
+    }
+
+    /// Puts a text in front of the character at `pos`, or at the end.
+    pub fn insert(&mut self, pos: usize, text: &str) -> Result<Damage, EditFault>
+        ensures ok { IfOk result (Edits (insertion pos (chars text.now)) self.old self.new) }
+        ensures err { IfErr result (EditsNot (insertion pos (chars text.now)) self.old self.new) }
+    {
+        self.change(pos, 0, text)
+    }
+
+    /// Takes `count` characters out, from `pos` on.
+    pub fn delete(&mut self, pos: usize, count: usize) -> Result<Damage, EditFault>
+        ensures ok { IfOk result (Edits (deletion pos count) self.old self.new) }
+        ensures err { IfErr result (EditsNot (deletion pos count) self.old self.new) }
+    {
+        self.change(pos, count, "")
+    }
+
+    /// Brings all lines to another width, in columns.
+    pub fn set_width(&mut self, width: u16) -> Result<Damage, EditFault>
+        ensures ok { IfOk result (Refills width self.old self.new) }
+        ensures err { IfErr result (RefillsNot width self.old self.new) }
+    {
+        change_width(
+            self.alloc,
+            &mut self.engine,
+            &mut self.store,
+            &mut self.width,
+            width,
+        )
+    }
+
+    /// Writes all lines, and no more behind a failure of the sink. It takes no memory.
+    pub fn print<W: Sink>(&self, writer: &mut W, print: &Print) -> Result<(), WriteFault>
+        ensures ok { OnOk result (Wrote (page_at self.now print.now)
+            (W.state writer.old) (W.state writer.new)) }
+        ensures err { IfErr result (λ fault. StoppedAt fault.written (page_at self.now print.now)
+            (W.state writer.old) (W.state writer.new)) }
+    {
+        write_store(&self.store, writer, self.width, print)
+    }
+
+    /// Makes changes one after another. Those that are refused change nothing. It ends at the first for
+    /// which there is no memory.
+    pub fn run(&mut self, edits: &[Edit<'_>]) -> Result<(), AllocError>
+        ensures ok { OnOk result (held_at self.new
+            ≡ after_all (cuts_at self.old) (held_at self.old) edits.now) }
+        ensures err { OnErr result ((k : ℕ) × (held_at self.new
+            ≡ after_all (cuts_at self.old) (held_at self.old) (take k edits.now))) }
+        ensures laid_out { IsWholeLayout self.new }
+        ensures rules { SameRules self.old.engine self.new.engine }
+    {
+        // Shows that what is kept is laid out before the first change.
+        let _ = &self.engine;
+        for edit in edits {
+            let result = match *edit {
+                Edit::Insert(pos, text) => self.insert(pos, text),
+                Edit::Delete(pos, count) => self.delete(pos, count),
+                Edit::SetWidth(width) => self.set_width(width),
+            };
+            if result == Err(EditFault::NoMemory) {
+                return Err(AllocError);
+            }
+        }
+        Ok(())
+    }
+
+    // Puts a piece in place of `count` characters.
+    fn change(&mut self, pos: usize, count: usize, piece: &str) -> Result<Damage, EditFault>
+        ensures ok { IfOk result (Edits (changing pos count (chars piece.now)) self.old self.new) }
+        ensures err { IfErr result (EditsNot (changing pos count (chars piece.now)) self.old self.new) }
+    {
+        edit(
+            self.alloc,
+            &mut self.engine,
+            &mut self.store,
+            self.width,
+            pos,
+            count,
+            piece,
+        )
+    }
+}
