@@ -50,8 +50,11 @@ impl Parts {
             FailedAs fault (lines_bytes width print.now self.now.base text.now self.now.lines)
             (W.state writer.old) (W.state writer.new)) }
     {
-        match self.lines.write(text, self.base, writer, width, print) {
-            Ok(()) => Ok(()),
+        match self
+            .lines
+            .write_behind(text, self.base, writer, 0, width, print)
+        {
+            Ok(_) => Ok(()),
             Err(fault) => Err(PrintFault::Write(fault)),
         }
     }
