@@ -3,7 +3,7 @@
 # make demo   both, and the command on the sample text
 # make test   the gate: every proof from nothing, the must-fail edits, the tests and the stored run
 # make bench  the time of the command beside that of Debian's fribidi and of ICU, edits a second of a session, and the time
-#             of levels, of break marks and of filling by what a text is made of, and of stores
+#             of levels, of break marks and of filling by what a text is made of, of stores, and of a long text
 
 UNICODE = /usr/share/unicode
 
@@ -44,3 +44,4 @@ bench: program ucd
 	bench/marks
 	bench/fill
 	bench/store
+	bench/stream
