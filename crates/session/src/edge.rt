@@ -75,7 +75,8 @@ fn back(text: &[char], from: usize) -> &[char]
 
 /// The characters of the paragraph behind an edge up to `pos`.
 pub fn front_text<S: ParagraphStore<Kept>>(store: &S, edge: Edge, pos: usize) -> &[char]
-    ensures { result.now ≡ take (pos - edge.chars) (slice_index_or (pars_of (S.items store.now)) edge.index []) }
+    ensures { result.now
+        ≡ take (pos - edge.chars) (slice_index_or (pars_of (S.items store.now)) edge.index []) }
 {
     match store.get(edge.index) {
         Some(kept) => front(kept.laid().text(), pos.saturating_sub(edge.chars)),

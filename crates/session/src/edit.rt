@@ -31,7 +31,8 @@ fn put<S: ParagraphStore<Kept>>(
         (splice (S.items store.old) front.index back.index new.items) < 2 ^ 64 }
     requires lines_fit { sum_by (λ l. length l.lines)
         (splice (S.items store.old) front.index back.index new.items) < 2 ^ 64 }
-    ensures ok { OnOk result (S.items store.new ≡ splice (S.items store.old) front.index back.index new.items) }
+    ensures ok { OnOk result
+        (S.items store.new ≡ splice (S.items store.old) front.index back.index new.items) }
     ensures damage { IfOk result (λ damage. damage ≡ damage_between front back new.items) }
     ensures err { OnErr result (S.items store.new ≡ S.items store.old) }
     ensures fault { IfErr result (λ fault. fault ≡ NoMemory) }

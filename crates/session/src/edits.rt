@@ -4,7 +4,8 @@ use thiserror::Error;
 /// How many characters a text may have.
 pub const TEXT_LIMIT: usize = 16_777_216;
 
-/// A change of a text, or of the width at which it is laid out. Positions count characters (Unicode scalar values).
+/// A change of a text, or of the width at which it is laid out. Positions count characters (Unicode
+/// scalar values).
 #[derive(Clone, Copy, Debug)]
 pub enum Edit<'a> {
     /// Puts a text in front of the character at a position, or at the end.

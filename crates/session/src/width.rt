@@ -19,7 +19,8 @@ fn fill_all<S: ParagraphStore<Kept>>(
     store: &S,
     width: u16,
 ) -> Result<Vec<Fill>, AllocError>
-    requires laid { (old : ℕ) × IsWholeLayout (record { engine = engine.old; width = old; kept = S.items store.now }) }
+    requires laid { (old : ℕ)
+        × IsWholeLayout (record { engine = engine.old; width = old; kept = S.items store.now }) }
     requires width { 0 < width }
     ensures ok { IfOk result (λ fills. fills.items
         ≡ map (λ l. lines_of (rules_of engine.old) width l.text) (S.items store.now)) }

@@ -8,8 +8,8 @@ use Rattle.std.proofs.Math.Seq.{take-append-add, drop-append-add}
 use Rattle.std.proofs.lemmas.List.Folds.{list_all-append, concat-append}
 use Rattle.std.proofs.lemmas.Bool.Decides.{nat_tests}
 use Rattle.bidi.specs.Cuts.{paragraphs, SplitsAt}
-use Rattle.tool.specs.TextRun.{is_within, are_within}
-use Rattle.tool.specs.Streaming.{IsFront, StartsLong, IsOpen}
+use Rattle.tool.specs.TextRun.{is_within}
+use Rattle.tool.specs.Streaming.{IsFront, StartsLong}
 
 first_of_two : (t : Bool) (a : ℕ) (ps : List (List ℕ)) → (p : List ℕ) × (qs : List (List ℕ)) × ((if t then (a ∷ []) ∷ ps else onto_first a ps) ≡ (a ∷ p) ∷ qs)
 first_of_two true a ps = ([], ps, refl)
@@ -89,9 +89,11 @@ module _ (is_cut : ℕ → ℕ → Bool) where
       let front : xs ++ take k rest ≡ take (n + k) text =
       sym (take-append-add xs rest k) ∙ ap (take (length xs + k)) (sym at.3) ∙ ap (λ i. take (i + k) text) len in
       let behind : drop k rest ≡ drop (n + k) text =
-      sym (drop-append-add xs rest k) ∙ ap (drop (length xs + k)) (sym at.3) ∙ ap (λ i. drop (i + k) text) len in
-      (omega (arith, splits.0), omega (arith, splits.1, length-drop n text),
-      ap (paragraphs is_cut) at.3 ∙ joined ∙ ap₂ (λ p ps. p ∷ ps) front (ap (paragraphs is_cut) behind))
+      sym (drop-append-add xs rest k) ∙ ap (drop (length xs + k)) (sym at.3) ∙ ap (λ i. drop (i + k) text) len in (
+        omega (arith, splits.0),
+        omega (arith, splits.1, length-drop n text),
+        ap (paragraphs is_cut) at.3 ∙ joined ∙ ap₂ (λ p ps. p ∷ ps) front (ap (paragraphs is_cut) behind),
+      )
 
   pub skip_none : (text : List ℕ) (n : ℕ) → n < length text → paragraphs is_cut (take (n + 1) text) ≡ take (n + 1) text ∷ [] → SplitsAt is_cut (drop n text) None → SplitsAt is_cut text None
   skip_none text n within whole splits some =

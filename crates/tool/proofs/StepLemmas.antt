@@ -1,17 +1,16 @@
 -- One step of a run, by what its calls do.
-use Rattle.std.proofs.Common.{◌≡◌, ◌⊎◌, inl, inr, ⊎_elim, ℕ, zero, suc, ◌+◌, ◌-◌, ◌*◌, ◌<◌, ◌≤◌, ◌==◌, ◌&&◌, Bool, true, false, List, [], ◌∷◌, ◌++◌, length, take, drop, min, Option, Some, None, IfSome, unwrap_or, Result, Ok, Err, vec_len, Vec, Global, encode_utf8_all, refl, sym, subst, ap, ap₂, ◌∙◌, arith, true≢false, if◌then◌else◌}
+use Rattle.std.proofs.Common.{◌≡◌, ℕ, ◌+◌, ◌*◌, ◌<◌, ◌≤◌, ◌==◌, ◌&&◌, Bool, true, false, List, [], ◌∷◌, ◌++◌, length, take, drop, min, Option, Some, None, unwrap_or, Result, Ok, Err, vec_len, Vec, Global, encode_utf8_all, refl, sym, subst, ap, ap₂, ◌∙◌, arith, true≢false, if◌then◌else◌}
 use Rattle.std.specs.Prelude.{is_none, is_some, MatchBool}
-use Rattle.std.specs.List.{concat, flat_map}
-use Rattle.std.specs.Str.{IsUtf8, chars}
+use Rattle.std.specs.List.{concat}
+use Rattle.std.specs.Str.{chars}
 use Rattle.std.specs.Str.Lossy.{utf8_valid_len, utf8_error_len}
-use Rattle.std.specs.Io.KnownBytes.{Appends, Consumes, IsAtEnd, Keeps}
+use Rattle.std.specs.Io.KnownBytes.{Consumes}
 use Rattle.std.proofs.lemmas.Bool.Decides.{nat_tests}
-use Rattle.std.proofs.lemmas.List.{append_assoc, append-nil, nil_from_length, length-append, length-take-le, length-drop, take_all, take-append-drop}
-use Rattle.std.proofs.lemmas.List.Folds.{concat-append}
+use Rattle.std.proofs.lemmas.List.{append_assoc, append-nil, length-append, length-take-le, length-drop, take-append-drop}
 use Rattle.std.proofs.lemmas.Grind.{flat_map-append}
 use Rattle.std.proofs.lemmas.Str.{chars-append, chars-nil, encodes-append, encodes-chars, IsUtf8-append, len_utf8_bounds, length-encode, utf8_valid_len_le}
 use Rattle.bidi.specs.Cuts.{paragraphs}
-use Rattle.device.specs.Device.{Device, FailedLast, Fails, Gives, StoppedAt, Took, Wrote, greatest}
+use Rattle.device.specs.Device.{Device, Fails, Gives, StoppedAt, Wrote, greatest}
 use Rattle.lines.specs.Layouts.{Rules, cut_by}
 use Rattle.lines.specs.Pages.{page, paragraph_bytes}
 use Rattle.lines.specs.declared.print.Print.{Print}
@@ -19,12 +18,12 @@ use Rattle.tool.specs.declared.faults.RunFault.{RunFault}
 use Rattle.tool.specs.declared.faults.RunFault.TheVariants as f
 use Rattle.tool.specs.declared.text.Held.{Held}
 use Rattle.tool.specs.declared.text.Ending.TheVariants.{AtEnd, AtFailure}
-use Rattle.tool.specs.TextRun.{are_within, input_fault, front_of, front_paragraphs, is_bad, written_of, ending_of, read_ahead, Gave}
+use Rattle.tool.specs.TextRun.{are_within, input_fault, front_of, front_paragraphs, is_bad, written_of, Gave}
 use Rattle.tool.specs.Streaming.{Ends, Finishes, Gathers, IsAt, IsBeginning, IsFront, IsOpen, IsRead, Stands, StartsLong, Steps, StopsWriting, Writes, last_lines}
 use Rattle.tool.proofs.Devices.{Took-nothing}
 use Rattle.tool.proofs.Fronts.{front_join, front_more, front_none}
-use Rattle.tool.proofs.StreamLemmas.{Consumes-append, Consumes-kept, IsSent, at_fault, at_long, at_memory, at_write, at_written, ends_write, gave_all, had_all, pars_sent, rest_of, sent_ahead, sent_within, short_is, within_more, written_whole, Wrote-append}
-use Rattle.tool.proofs.Utf8Lemmas.{bad_stays, drop-valid-behind, is_bad-behind, nothing_valid, utf8_error_len-nil, utf8_front, utf8_valid_len-behind}
+use Rattle.tool.proofs.StreamLemmas.{Consumes-append, Consumes-kept, IsSent, at_fault, at_long, at_memory, at_write, at_written, ends_write, gave_all, had_all, pars_sent, sent_ahead, sent_within, short_is, within_more, written_whole, Wrote-append}
+use Rattle.tool.proofs.Utf8Lemmas.{bad_stays, is_bad-behind, nothing_valid, utf8_error_len-nil, utf8_front, utf8_valid_len-behind}
 use lib.Utf8.{encode}
 
 -- how many bytes characters take at most
@@ -81,22 +80,27 @@ module _ (rules : Rules) (width : ℕ) (print : Print) (reader_old writer_old re
   pub at_read : (reader_new : Device) (waiting text more : List ℕ) (at : IsAt rules width print reader_old reader writer_old writer waiting text []) → at.gathered ≡ [] → length text ≤ 1048576 → length waiting < 4
       → Consumes reader.bytes reader_new.bytes more → reader_new.passed ≡ reader.passed + length more → reader_new.failures ≡ reader.failures → length more ≤ 65536
       → (next : IsAt rules width print reader_old reader_new writer_old writer (waiting ++ more) text []) × (next.gathered ≡ []) × (next.decoded ≡ at.decoded) × (next.sent ≡ at.sent)
-  at_read reader_new waiting text more at sent short few consumed passed failures piece = (record {
-    decoded = at.decoded;
-    sent = at.sent;
-    gathered = at.gathered;
-    read = subst (Consumes reader_old.bytes reader_new.bytes) (append_assoc at.decoded waiting more) (Consumes-append reader_old.bytes reader.bytes reader_new.bytes (at.decoded ++ waiting) more at.read consumed);
-    passed = omega (arith, passed, at.passed, length-append at.decoded waiting, length-append at.decoded (waiting ++ more), length-append waiting more);
-    failures = failures ∙ at.failures;
-    utf8 = at.utf8;
-    front = at.front;
-    wrote = at.wrote;
-    lines_are = at.lines_are;
-    ahead =
-        let text_is : chars at.decoded ≡ concat at.sent ++ text = at.front.whole ∙ ap (λ ps. concat (at.sent ++ ps) ++ text) sent ∙ ap (λ ps. concat ps ++ text) (append-nil at.sent) in
-        let bytes : at.decoded ≡ encode_utf8_all (concat at.sent) ++ encode_utf8_all text = sym (encodes-chars at.decoded at.utf8) ∙ ap encode_utf8_all text_is ∙ encodes-append (concat at.sent) text in
-        omega (arith, passed, at.passed, piece, few, short, encoded_len text, length-append at.decoded waiting, ap length bytes, length-append (encode_utf8_all (concat at.sent)) (encode_utf8_all text));
-  }, sent, refl, refl)
+  at_read reader_new waiting text more at sent short few consumed passed failures piece = (
+    record {
+      decoded = at.decoded;
+      sent = at.sent;
+      gathered = at.gathered;
+      read = subst (Consumes reader_old.bytes reader_new.bytes) (append_assoc at.decoded waiting more) (Consumes-append reader_old.bytes reader.bytes reader_new.bytes (at.decoded ++ waiting) more at.read consumed);
+      passed = omega (arith, passed, at.passed, length-append at.decoded waiting, length-append at.decoded (waiting ++ more), length-append waiting more);
+      failures = failures ∙ at.failures;
+      utf8 = at.utf8;
+      front = at.front;
+      wrote = at.wrote;
+      lines_are = at.lines_are;
+      ahead =
+          let text_is : chars at.decoded ≡ concat at.sent ++ text = at.front.whole ∙ ap (λ ps. concat (at.sent ++ ps) ++ text) sent ∙ ap (λ ps. concat ps ++ text) (append-nil at.sent) in
+          let bytes : at.decoded ≡ encode_utf8_all (concat at.sent) ++ encode_utf8_all text = sym (encodes-chars at.decoded at.utf8) ∙ ap encode_utf8_all text_is ∙ encodes-append (concat at.sent) text in
+          omega (arith, passed, at.passed, piece, few, short, encoded_len text, length-append at.decoded waiting, ap length bytes, length-append (encode_utf8_all (concat at.sent)) (encode_utf8_all text));
+    },
+    sent,
+    refl,
+    refl,
+  )
 
   -- a failed read, behind the beginning of a character or none
   pub ends_read : (reader_new : Device) (held : Held) → Stands rules width print reader_old writer_old reader writer held → Fails reader reader_new → Ends rules width print reader_old writer_old reader_new writer (Err f.Read)
@@ -105,9 +109,11 @@ module _ (rules : Rules) (width : ℕ) (print : Print) (reader_old writer_old re
       let waiting = take held.waiting held.piece.items in
       let good : is_bad (at.decoded ++ waiting) ≡ false =
       is_bad-behind at.decoded waiting at.utf8 ∙ ap (λ n. is_some (utf8_error_len (drop n waiting))) s.beginning.none ∙ ap is_some s.beginning.fault in
-      at_fault rules width print reader_old reader writer_old writer waiting held.text.items [] at s.all_sent reader_new AtFailure waiting f.Read
-      (Consumes-kept reader_old.bytes reader.bytes reader_new.bytes (at.decoded ++ waiting) at.read fails.bytes, fails.passed ∙ at.passed,
-      record { failures = fails.failures ∙ ap (λ n. min (n + 1) greatest) at.failures; last = fails.failed_at ∙ sym fails.passed })
+      at_fault rules width print reader_old reader writer_old writer waiting held.text.items [] at s.all_sent reader_new AtFailure waiting f.Read (
+        Consumes-kept reader_old.bytes reader.bytes reader_new.bytes (at.decoded ++ waiting) at.read fails.bytes,
+        fails.passed ∙ at.passed,
+        record { failures = fails.failures ∙ ap (λ n. min (n + 1) greatest) at.failures; last = fails.failed_at ∙ sym fails.passed },
+      )
       (record { ahead = omega (arith, at.ahead, fails.passed) }) s.text s.beginning.none
       (ap (λ (b : Bool). if b then Some (f.NotUtf8 (utf8_valid_len (at.decoded ++ waiting))) else Some f.Read) good)
       (λ written wrong is wrote. (is, wrote))
@@ -195,9 +201,16 @@ module _ (rules : Rules) (width : ℕ) (print : Print) (reader_old writer_old re
           subst (λ (t : List ℕ). Wrote t writer_old writer_new) (sym (flat_map-append (paragraph_bytes rules width print) s.is_at.sent last))
           (Wrote-append writer_old writer writer_new (page rules width print s.is_at.sent) (page rules width print last) s.is_at.wrote (subst (λ (t : List ℕ). Wrote t writer writer_new) lines_last wrote)) in
           record {
-            run = (AtEnd, bytes, gave, (gives.end refl, passed_all),
-            (sym (ap (λ (b : Bool). if b then input_fault AtEnd bytes else Some f.ParagraphTooLong) within_all ∙ no_fault),
-            subst (λ (ps : List (List ℕ)). Wrote (page rules width print ps) writer_old writer_new) (sym written_last) wrote_all));
+            run = (
+              AtEnd,
+              bytes,
+              gave,
+              (gives.end refl, passed_all),
+              (
+                sym (ap (λ (b : Bool). if b then input_fault AtEnd bytes else Some f.ParagraphTooLong) within_all ∙ no_fault),
+                subst (λ (ps : List (List ℕ)). Wrote (page rules width print ps) writer_old writer_new) (sym written_last) wrote_all,
+              ),
+            );
             ahead = tt;
           }
 
@@ -283,21 +296,24 @@ module _ (rules : Rules) (width : ℕ) (print : Print) (reader_old writer_old re
           let front : IsFront (cut_by rules) (at.sent ++ g.pushed.pars) (chars decoded) held_new.text.items =
           subst (λ (t : List ℕ). IsFront (cut_by rules) (at.sent ++ g.pushed.pars) t held_new.text.items) (sym (chars-append at.decoded (take v bytes_read) at.utf8))
           (subst (λ (ps : List (List ℕ)). IsFront (cut_by rules) (ps ++ g.pushed.pars) (chars at.decoded ++ front_of bytes_read) held_new.text.items) sent_is joined) in
-          let no_lines : held_read.page.bytes.items ≡ [] = ap (λ (h : Held). h.page.bytes.items) same ∙ s.lines in (record {
-            decoded = decoded;
-            sent = at.sent;
-            gathered = g.pushed.pars;
-            read = subst (Consumes reader_old.bytes reader_new.bytes) (sym bytes_are) at.read;
-            passed = at.passed ∙ ap (λ t. reader_old.passed + length t) (sym bytes_are);
-            failures = at.failures;
-            utf8 = IsUtf8-append at.decoded (take v bytes_read) at.utf8 (utf8_front bytes_read);
-            front = front;
-            wrote = at.wrote;
-            lines_are = g.pushed.lines ∙ ap (λ t. t ++ page rules width print g.pushed.pars) no_lines;
-            ahead = at.ahead;
-          },
-          omega (arith, length-append at.decoded (take v bytes_read), length-take-le v bytes_read (utf8_valid_len_le bytes_read), g.decoded, ap (λ (h : Held). h.decoded) same, s.decoded, ap length next_is.2),
-          next_is.3, refl)
+          let no_lines : held_read.page.bytes.items ≡ [] = ap (λ (h : Held). h.page.bytes.items) same ∙ s.lines in (
+            record {
+              decoded = decoded;
+              sent = at.sent;
+              gathered = g.pushed.pars;
+              read = subst (Consumes reader_old.bytes reader_new.bytes) (sym bytes_are) at.read;
+              passed = at.passed ∙ ap (λ t. reader_old.passed + length t) (sym bytes_are);
+              failures = at.failures;
+              utf8 = IsUtf8-append at.decoded (take v bytes_read) at.utf8 (utf8_front bytes_read);
+              front = front;
+              wrote = at.wrote;
+              lines_are = g.pushed.lines ∙ ap (λ t. t ++ page rules width print g.pushed.pars) no_lines;
+              ahead = at.ahead;
+            },
+            omega (arith, length-append at.decoded (take v bytes_read), length-take-le v bytes_read (utf8_valid_len_le bytes_read), g.decoded, ap (λ (h : Held). h.decoded) same, s.decoded, ap length next_is.2),
+            next_is.3,
+            refl,
+          )
 
       pub read_stopped : (writer_new : Device) (wrong : RunFault) → StopsWriting held_new wrong writer writer_new → Ends rules width print reader_old writer_old reader_new writer_new (Err wrong)
       read_stopped writer_new wrong stops =
@@ -340,10 +356,14 @@ module _ (rules : Rules) (width : ℕ) (print : Print) (reader_old writer_old re
             let pages : page rules width print at.sent ≡ page rules width print s.is_at.sent ++ page rules width print g.pushed.pars =
             ap (page rules width print) (written_is.3 ∙ ap₂ (λ x y. x ++ y) gathered_is.2 gathered_is.3) ∙ flat_map-append (paragraph_bytes rules width print) s.is_at.sent g.pushed.pars in
             let lines_new : held_new.page.bytes.items ≡ page rules width print g.pushed.pars = gathered_is.0.lines_are ∙ ap (page rules width print) gathered_is.3 in
-            stands_by rules width print reader_old writer_old reader_new writer_new held_last left held_new.text.items
-            (at, written_is.1, omega (arith, ap (λ (h : Held). h.decoded) last, gathered_is.1, ap length written_is.2),
-            omega (arith, ap (λ (h : Held). h.written) last, g.written, ap (λ (h : Held). h.written) same, s.written, ap length lines_new, ap length pages, length-append (page rules width print s.is_at.sent) (page rules width print g.pushed.pars)),
-            is_open, record { none = left_none; fault = not_bad left good; few = omega (arith, left_len, g.beginning good) })
+            stands_by rules width print reader_old writer_old reader_new writer_new held_last left held_new.text.items (
+              at,
+              written_is.1,
+              omega (arith, ap (λ (h : Held). h.decoded) last, gathered_is.1, ap length written_is.2),
+              omega (arith, ap (λ (h : Held). h.written) last, g.written, ap (λ (h : Held). h.written) same, s.written, ap length lines_new, ap length pages, length-append (page rules width print s.is_at.sent) (page rules width print g.pushed.pars)),
+              is_open,
+              record { none = left_none; fault = not_bad left good; few = omega (arith, left_len, g.beginning good) },
+            )
             waiting text writes.empty (ap (λ (h : Held). vec_len h.piece) last ∙ g.room ∙ room_is)
             (omega (arith, ap length waiting, left_len, g.few, ap (λ (h : Held). h.waiting) last, bytes_len))
 

@@ -1,30 +1,30 @@
 -- How a run that reads in pieces ends: as one that has read all would.
-use Rattle.std.proofs.Common.{◌≡◌, ◌⊎◌, inl, inr, ⊎_elim, ℕ, zero, suc, ◌+◌, ◌-◌, ◌*◌, ◌<◌, ◌≤◌, ◌==◌, ◌&&◌, Bool, true, false, not, List, [], ◌∷◌, ◌++◌, length, take, drop, min, Option, Some, None, IfSome, unwrap_or, Ok, Err, encode_utf8_all, refl, sym, subst, ap, ap₂, ◌∙◌, arith, if◌then◌else◌}
-use Rattle.std.specs.Prelude.{take_while, is_none, is_some}
-use Rattle.std.specs.List.{concat, flat_map, prefix_len}
-use Rattle.std.specs.Str.{IsUtf8, chars}
-use Rattle.std.specs.Str.Lossy.{utf8_valid_len, utf8_error_len}
+use Rattle.std.proofs.Common.{◌≡◌, ◌⊎◌, inl, inr, ⊎_elim, ℕ, suc, ◌+◌, ◌-◌, ◌<◌, ◌≤◌, ◌&&◌, Bool, true, false, List, [], ◌∷◌, ◌++◌, length, take, drop, min, Option, Some, None, IfSome, unwrap_or, Err, encode_utf8_all, refl, sym, subst, ap, ◌∙◌, arith, if◌then◌else◌}
+use Rattle.std.specs.Prelude.{take_while, is_none}
+use Rattle.std.specs.List.{concat, prefix_len}
+use Rattle.std.specs.Str.{chars}
+use Rattle.std.specs.Str.Lossy.{utf8_valid_len}
 use Rattle.std.specs.Io.KnownBytes.{Appends, Consumes, IsAtEnd, Keeps}
 use Rattle.std.proofs.lemmas.Bool.{and_parts, cases_lt}
 use Rattle.std.proofs.lemmas.Bool.Decides.{nat_tests}
-use Rattle.std.proofs.lemmas.List.{append_assoc, append-nil, nil_from_length, length-append, length-take-le, length-drop, take_all, take_at, take-append-drop, take-append-le}
+use Rattle.std.proofs.lemmas.List.{append_assoc, append-nil, length-append, take-append-le}
 use Rattle.std.proofs.lemmas.List.Folds.{list_all-append, concat-append}
 use Rattle.std.proofs.lemmas.Grind.{flat_map-append}
-use Rattle.std.proofs.Math.Seq.{take-append-add, drop-append-add, take-append_seam, drop-append_seam}
+use Rattle.std.proofs.Math.Seq.{take-append-add, take-append_seam, drop-append_seam}
 use Rattle.std.proofs.lemmas.Str.{chars-append, chars-nil, encodes-append}
-use Rattle.bidi.specs.Cuts.{SplitsAt, paragraphs}
-use Rattle.device.specs.Device.{Device, FailedLast, Fails, Gives, Passes, StoppedAt, Took, Wrote, greatest}
+use Rattle.bidi.specs.Cuts.{paragraphs}
+use Rattle.device.specs.Device.{Device, FailedLast, StoppedAt, Took, Wrote, greatest}
 use Rattle.lines.specs.Layouts.{Rules, cut_by}
 use Rattle.lines.specs.Pages.{page, paragraph_bytes}
 use Rattle.lines.specs.declared.print.Print.{Print}
 use Rattle.tool.specs.declared.faults.RunFault.{RunFault}
 use Rattle.tool.specs.declared.faults.RunFault.TheVariants as f
 use Rattle.tool.specs.declared.text.Ending.{Ending}
-use Rattle.tool.specs.declared.text.Ending.TheVariants.{AtEnd, AtFailure}
-use Rattle.tool.specs.TextRun.{are_within, is_within, written_of, ending_of, input_fault, front_of, front_paragraphs, is_bad, read_ahead, Gave, EndsWith, IsTextRun, ReadsAhead}
+use Rattle.tool.specs.declared.text.Ending.TheVariants.{AtEnd}
+use Rattle.tool.specs.TextRun.{are_within, is_within, written_of, ending_of, input_fault, front_of, front_paragraphs, read_ahead, Gave, EndsWith, ReadsAhead}
 use Rattle.tool.specs.Streaming.{Ends, IsAt, IsFront, IsOpen, StartsLong}
 use Rattle.tool.proofs.Fronts.{first_paragraph}
-use Rattle.tool.proofs.Utf8Lemmas.{drop-valid-behind, take-valid-behind, utf8_front, utf8_valid_len-behind}
+use Rattle.tool.proofs.Utf8Lemmas.{take-valid-behind}
 
 -- ---- which paragraphs are written
 
@@ -132,11 +132,18 @@ module _ (rules : Rules) (width : ℕ) (print : Print) (reader_old writer_old : 
       → Took writer_old writer_new (page rules width print sent ++ take n (page rules width print (take 1 others))) → IsSent reader_new sent → ReadsAhead rules width print reader_old reader_new writer_old writer_new
   ahead_at reader_new writer_new ending bytes sent others n gave pars took ahead =
       let first : take (length sent) (front_paragraphs rules bytes) ≡ sent = ap (take (length sent)) pars ∙ take-append_seam sent others in
-      let rest : drop (length sent) (front_paragraphs rules bytes) ≡ others = ap (drop (length sent)) pars ∙ drop-append_seam sent others in
-      (ending, bytes, gave, (length sent, n,
-      subst (λ (ps : List (List ℕ)). Took writer_old writer_new (page rules width print ps ++ take n (page rules width print (take 1 (drop (length sent) (front_paragraphs rules bytes)))))) (sym first)
-      (subst (λ (ps : List (List ℕ)). Took writer_old writer_new (page rules width print sent ++ take n (page rules width print (take 1 ps)))) (sym rest) took),
-      subst (λ (ps : List (List ℕ)). reader_new.passed ≤ reader_old.passed + length (encode_utf8_all (concat ps)) + read_ahead) (sym first) ahead.ahead))
+      let rest : drop (length sent) (front_paragraphs rules bytes) ≡ others = ap (drop (length sent)) pars ∙ drop-append_seam sent others in (
+        ending,
+        bytes,
+        gave,
+        (
+          length sent,
+          n,
+          subst (λ (ps : List (List ℕ)). Took writer_old writer_new (page rules width print ps ++ take n (page rules width print (take 1 (drop (length sent) (front_paragraphs rules bytes)))))) (sym first)
+              (subst (λ (ps : List (List ℕ)). Took writer_old writer_new (page rules width print sent ++ take n (page rules width print (take 1 ps)))) (sym rest) took),
+          subst (λ (ps : List (List ℕ)). reader_new.passed ≤ reader_old.passed + length (encode_utf8_all (concat ps)) + read_ahead) (sym first) ahead.ahead,
+        ),
+      )
 
   -- where the lines of these paragraphs and no more are written
   ahead_done : (reader_new writer_new : Device) (ending : Ending) (bytes : List ℕ) (sent others : List (List ℕ)) → Gave reader_old reader_new ending bytes → front_paragraphs rules bytes ≡ sent ++ others
@@ -167,8 +174,10 @@ module _ (rules : Rules) (width : ℕ) (print : Print) (reader_old writer_old : 
     where
       lines : List ℕ
       lines = paragraph_bytes rules width print p
+
       rest : List ℕ
       rest = page rules width print ps
+
       go : (length lines < m) ⊎ (m ≤ length lines) → IsWithin (p ∷ ps) m
       go (inr here) = record { before = []; next = p; behind = ps; n = m; parts = refl; lines = take-append-le m lines rest here ∙ ap (take m) (sym (append-nil lines)) }
       go (inl past) =
@@ -288,21 +297,26 @@ module _ (rules : Rules) (width : ℕ) (print : Print) (reader_old reader_new wr
   pub at_written : (writer_last : Device) → Wrote lines writer_new writer_last
       → (next : IsAt rules width print reader_old reader_new writer_old writer_last waiting text []) × (next.gathered ≡ []) × (next.decoded ≡ at.decoded) × (next.sent ≡ at.sent ++ at.gathered)
   at_written writer_last wrote =
-      let all = at.sent ++ at.gathered in (record {
-        decoded = at.decoded;
-        sent = all;
-        gathered = [];
-        read = at.read;
-        passed = at.passed;
-        failures = at.failures;
-        utf8 = at.utf8;
-        front = subst (λ (ps : List (List ℕ)). IsFront (cut_by rules) ps (chars at.decoded) text) (sym (append-nil all)) at.front;
-        wrote = subst (λ (t : List ℕ). Wrote t writer_old writer_last)
-            (ap (λ t. page rules width print at.sent ++ t) at.lines_are ∙ sym (flat_map-append (paragraph_bytes rules width print) at.sent at.gathered))
-            (Wrote-append writer_old writer_new writer_last (page rules width print at.sent) lines at.wrote wrote);
-        lines_are = refl;
-        ahead = (ahead_more rules width print reader_old writer_old reader_new at.sent at.gathered sent_ahead).ahead;
-      }, refl, refl, refl)
+      let all = at.sent ++ at.gathered in (
+        record {
+          decoded = at.decoded;
+          sent = all;
+          gathered = [];
+          read = at.read;
+          passed = at.passed;
+          failures = at.failures;
+          utf8 = at.utf8;
+          front = subst (λ (ps : List (List ℕ)). IsFront (cut_by rules) ps (chars at.decoded) text) (sym (append-nil all)) at.front;
+          wrote = subst (λ (t : List ℕ). Wrote t writer_old writer_last)
+              (ap (λ t. page rules width print at.sent ++ t) at.lines_are ∙ sym (flat_map-append (paragraph_bytes rules width print) at.sent at.gathered))
+              (Wrote-append writer_old writer_new writer_last (page rules width print at.sent) lines at.wrote wrote);
+          lines_are = refl;
+          ahead = (ahead_more rules width print reader_old writer_old reader_new at.sent at.gathered sent_ahead).ahead;
+        },
+        refl,
+        refl,
+        refl,
+      )
 
   -- where no lines wait
   module _ (nothing : at.gathered ≡ []) where
@@ -327,9 +341,16 @@ module _ (rules : Rules) (width : ℕ) (print : Print) (reader_old reader_new wr
         let not_within : are_within (front_paragraphs rules bytes) ≡ false =
         ap are_within pars ∙ within_more at.sent (starts.first more ∷ starts.others more) sent_within ∙ ap (λ (b : Bool). b && are_within (starts.others more)) (starts.long more) in
         record {
-          run = (AtEnd, bytes, gave_all, tt,
-          (sym (ap (λ (b : Bool). if b then wrong else Some f.ParagraphTooLong) not_within),
-          subst (λ (ps : List (List ℕ)). Wrote (page rules width print ps) writer_old writer_new) (sym written) at.wrote));
+          run = (
+            AtEnd,
+            bytes,
+            gave_all,
+            tt,
+            (
+              sym (ap (λ (b : Bool). if b then wrong else Some f.ParagraphTooLong) not_within),
+              subst (λ (ps : List (List ℕ)). Wrote (page rules width print ps) writer_old writer_new) (sym written) at.wrote,
+            ),
+          );
           ahead = ahead_done rules width print reader_old writer_old reader_new writer_new AtEnd bytes at.sent (starts.first more ∷ starts.others more) gave_all pars at.wrote sent_ahead;
         }
 
@@ -339,9 +360,10 @@ module _ (rules : Rules) (width : ℕ) (print : Print) (reader_old reader_new wr
     open_part [] is_open (inr none) = (ap (λ ps. written_of (ps ++ []) false) none ∙ sym none, ap (λ ps. are_within (ps ++ [])) none)
     open_part (a ∷ rest) is_open some =
         let pars : paragraphs (cut_by rules) (a ∷ rest) ≡ (a ∷ rest) ∷ [] = is_open.uncut (omega arith) in
-        let short : is_within (a ∷ rest) ≡ true = short_is (a ∷ rest) is_open.short in
-        (ap (λ ps. written_of (at.sent ++ ps) false) pars ∙ written_part at.sent (a ∷ rest) sent_within short,
-        ap (λ ps. are_within (at.sent ++ ps)) pars ∙ within_more at.sent ((a ∷ rest) ∷ []) sent_within ∙ ap (λ (b : Bool). b && true) short)
+        let short : is_within (a ∷ rest) ≡ true = short_is (a ∷ rest) is_open.short in (
+          ap (λ ps. written_of (at.sent ++ ps) false) pars ∙ written_part at.sent (a ∷ rest) sent_within short,
+          ap (λ ps. are_within (at.sent ++ ps)) pars ∙ within_more at.sent ((a ∷ rest) ∷ []) sent_within ∙ ap (λ (b : Bool). b && true) short,
+        )
 
     text_or_none : (0 < length text) ⊎ (at.sent ≡ [])
     text_or_none = ⊎_elim (λ none. inr (sym sent_is ∙ none)) (λ some. inl some) (gone_on (cut_by rules) (at.sent ++ at.gathered) (chars at.decoded) text at.front)

@@ -1,8 +1,8 @@
 -- Bytes that are UTF-8 up to a place, and what may follow them.
-use Rattle.std.proofs.Common.{◌≡◌, ◌⊎◌, Bool, if◌then◌else◌, inl, inr, ⊎_elim, ℕ, zero, suc, ◌+◌, ◌-◌, ◌*◌, ◌<◌, ◌≤◌, ◌==◌, true, false, List, [], ◌∷◌, ◌++◌, length, take, drop, Some, None, refl, sym, subst, ap, ◌∙◌, arith, true≢false, encode_utf8_all}
+use Rattle.std.proofs.Common.{◌≡◌, ◌⊎◌, Bool, if◌then◌else◌, inl, inr, ⊎_elim, ℕ, zero, suc, ◌+◌, ◌-◌, ◌*◌, ◌<◌, ◌≤◌, true, false, List, [], ◌∷◌, ◌++◌, length, take, drop, Some, None, refl, sym, subst, ap, ◌∙◌, arith, true≢false}
 use Rattle.std.proofs.lemmas.Bool.{cases_Bool, cases_lt, cond-true, cond-false, and_parts}
 use Rattle.std.proofs.lemmas.Bool.Decides.{nat_tests}
-use Rattle.std.proofs.lemmas.List.{append_assoc, append-nil, nil_from_length, drop_all, length-append, length-take-le, length-drop, take_all, take-append-drop, take-append-le}
+use Rattle.std.proofs.lemmas.List.{append_assoc, append-nil, nil_from_length, drop_all, length-append, length-take-le, take_all, take-append-drop, take-append-le}
 use Rattle.std.proofs.Math.Seq.{take-append-add, drop-append-add}
 use Rattle.std.proofs.lemmas.Str.{IsUtf8-append, IsUtf8-from_is_utf8, is_utf8-from_IsUtf8, utf8_valid_len_le, utf8_valid_len-IsUtf8, utf8_valid_len-IsValidUpTo, cons_from_encodes, IsUtf8-encode, len_utf8_bounds, length-encode}
 use Rattle.std.proofs.str.Laws.{Follows, Scalar, Shape, of1, of2, of3, of4, shape, one, two, three}
@@ -188,8 +188,10 @@ second_of_4 c a b d e valid least low f g h is = go (cases_lt 240 a) (cases_lt a
   where
     top : c < 1114112
     top = ⊎_elim (λ x. omega arith) (λ x. x.1) valid
+
     at_most : a ≤ 244
     at_most = omega (arith, is, top)
+
     go : (240 < a) ⊎ (a ≤ 240) → (a < 244) ⊎ (244 ≤ a) → (a ≤ 244) × (is_in_range (second_byte_min a) (second_byte_max a) b ≡ true)
     go (inr first) _ =
         let a_is : a ≡ 240 = omega arith in
@@ -242,6 +244,7 @@ char_in_front x more r c s is none fault = go (cases_lt (length x) (length (enco
   where
     front : (n : ℕ) → n ≤ length x → n ≤ length (encode c) → take n x ≡ take n (encode c)
     front n le le_2 = sym (take-append-le n x more le) ∙ ap (take n) is ∙ take-append-le n (encode c) r le_2
+
     go : (length x < length (encode c)) ⊎ (length (encode c) ≤ length x) → ⊥
     go (inl less) =
         let x_is : x ≡ take (length x) (encode c) = sym (take_all (length x) x (omega arith)) ∙ front (length x) (omega arith) (omega arith) in

@@ -1,5 +1,5 @@
 -- What is written for a text, and how its run ends.
-use Rattle.std.specs.Prelude.{◌≡◌, ℕ, ◌+◌, ◌-◌, ◌==◌, nat_le, not, Bool, List, ◌++◌, ◌≤◌, length, take, drop, take_while, encode_utf8_all, Option, Some, None, IfSome, ⊤, is_some, is_none, Result, Ok, Err, if◌then◌else◌}
+use Rattle.std.specs.Prelude.{◌≡◌, ℕ, ◌+◌, ◌-◌, ◌==◌, nat_le, Bool, List, ◌++◌, ◌≤◌, length, take, drop, take_while, encode_utf8_all, Option, Some, None, IfSome, ⊤, is_some, is_none, Result, Ok, Err, if◌then◌else◌}
 use Rattle.std.specs.List.{concat, list_all}
 use Rattle.std.specs.Str.{chars}
 use Rattle.std.specs.Str.Lossy.{utf8_valid_len, utf8_error_len}

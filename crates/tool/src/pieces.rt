@@ -59,7 +59,8 @@ fn checked(bytes: &[u8]) -> (&str, bool)
     }
 }
 
-// Whether some bytes are the beginning of a character and no more, or none at all. It may say no of such bytes.
+// Whether some bytes are the beginning of a character and no more, or none at all. It may say no of
+// such bytes.
 fn is_beginning(bytes: &[u8]) -> bool
     ensures none { result ≡ true → utf8_valid_len bytes.now ≡ 0 }
     ensures fault { result ≡ true → utf8_error_len bytes.now ≡ None }

@@ -1,13 +1,15 @@
 //! The run of a text: its bytes are read piece by piece, its paragraphs are laid out as soon as it is known
 //! where they end, and their lines are written before more is read. What is written and how the run ends is
 //! one function of what the source gives.
-ghost use Rattle.std.specs.Prelude.{◌≡◌, ◌+◌, ◌-◌, ◌<◌, ◌≤◌, ◌^◌, [], true, None, Some, Ok, take, drop, length, vec_len};
+ghost use Rattle.std.specs.Prelude.{◌≡◌, ◌+◌, ◌-◌, ◌<◌, ◌≤◌, ◌^◌, [], true, None, Some, Ok};
+ghost use Rattle.std.specs.Prelude.{take, drop, length, vec_len};
 ghost use Rattle.std.specs.Prelude.{IfOk, IfErr, OnOk, OnErr, if◌then◌else◌};
 ghost use Rattle.bidi.specs.Cuts.{SplitsAt};
 ghost use Rattle.device.specs.Device.{Device, Fails};
 ghost use Rattle.lines.specs.Engine.{rules_of, SameRules};
 ghost use Rattle.lines.specs.Layouts.{cut_by};
-ghost use Rattle.tool.specs.Streaming.{Finishes, Gathers, GathersLast, IsRead, IsReadTo, Stands, Steps, StopsWriting, Writes};
+ghost use Rattle.tool.specs.Streaming.{Finishes, Gathers, GathersLast, IsRead, IsReadTo};
+ghost use Rattle.tool.specs.Streaming.{Stands, Steps, StopsWriting, Writes};
 ghost use Rattle.tool.specs.TextRun.{IsTextRun, ReadsAhead};
 
 use crate::faults::RunFault;
@@ -66,7 +68,8 @@ fn read_to<R: Source>(reader: &mut R, buffer: &mut [u8], place: usize) -> Result
     }
 }
 
-// What ends a run that has decoded so many bytes: a paragraph that is too long, or else bytes that are no text.
+// What ends a run that has decoded so many bytes: a paragraph that is too long, or else bytes that
+// are no text.
 fn fault_of(is_long: bool, is_bad: bool, decoded: u64) -> Option<RunFault>
     ensures { result ≡ (if is_long then Some RunFault.ParagraphTooLong else
         (if is_bad then Some (RunFault.NotUtf8 decoded) else None)) }
@@ -129,8 +132,15 @@ impl Held {
         let filled = self.waiting + len;
         let (front, is_bad) = decode(&self.piece[..filled], &mut self.text)?;
         let text = self.text.as_slice();
-        let (rest, is_long) =
-            push_paragraphs(alloc, &mut self.page, engine, width, print, text, seen)?;
+        let (rest, is_long) = push_paragraphs(
+            alloc,
+            &mut self.page,
+            engine,
+            width,
+            print,
+            text,
+            seen,
+        )?;
         let rest = rest.len();
         self.keep_text(rest);
         self.keep_bytes(front, filled);
@@ -162,7 +172,8 @@ impl Held {
     fn write<W: Sink>(&mut self, writer: &mut W) -> Result<(), RunFault>
         requires { self.old.written ≤ (W.state writer.old).passed }
         ensures ok { OnOk result (Writes self.old self.new (W.state writer.old) (W.state writer.new)) }
-        ensures err { IfErr result (λ fault. StopsWriting self.old fault (W.state writer.old) (W.state writer.new)) }
+        ensures err { IfErr result (λ fault.
+            StopsWriting self.old fault (W.state writer.old) (W.state writer.new)) }
     {
         match write_all(writer, self.page.bytes()) {
             Ok(()) => {
@@ -192,7 +203,8 @@ impl Held {
     fn keep_bytes(&mut self, start: usize, end: usize)
         requires within { (start ≤ end) × (end ≤ vec_len self.old.piece) }
         requires counted { self.old.decoded + start ≤ 2 ^ 64 - 1 }
-        ensures bytes { take self.new.waiting self.new.piece.items ≡ drop start (take end self.old.piece.items) }
+        ensures bytes { take self.new.waiting self.new.piece.items
+            ≡ drop start (take end self.old.piece.items) }
         ensures waiting { self.new.waiting ≡ end - start }
         ensures decoded { self.new.decoded ≡ self.old.decoded + start }
         ensures room { vec_len self.new.piece ≡ vec_len self.old.piece }
@@ -219,7 +231,8 @@ fn finish<W: Sink>(
     requires uncut { SplitsAt (cut_by (rules_of engine.old)) held.old.text.items None }
     requires short { length held.old.text.items ≤ 1048576 }
     requires counted { held.old.written ≤ (W.state writer.old).passed }
-    ensures ends { Finishes (rules_of engine.old) width print.now held.old (W.state writer.old) (W.state writer.new) result }
+    ensures ends { Finishes (rules_of engine.old) width print.now held.old
+        (W.state writer.old) (W.state writer.new) result }
     ensures rules { SameRules engine.old engine.new }
 {
     if held.waiting > 0 {

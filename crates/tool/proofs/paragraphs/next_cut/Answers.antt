@@ -1,5 +1,5 @@
-use Rattle.std.proofs.Common.{◌≡◌, ◌⊎◌, ℕ, zero, suc, ◌+◌, ◌-◌, ◌<◌, ◌≤◌, min, List, [], ◌∷◌, length, take, drop, Option, Some, None, refl, sym, ap, subst, ◌∙◌, arith}
-use Rattle.bidi.specs.Cuts.{SplitsAt, paragraphs}
+use Rattle.std.proofs.Common.{ℕ, ◌-◌, List, Some, None, ap, subst, ◌∙◌}
+use Rattle.bidi.specs.Cuts.{SplitsAt}
 use Rattle.lines.specs.Engine.{rules_of}
 use Rattle.lines.specs.Layouts.{cut_by}
 use Rattle.tool.proofs.Fronts.{skip_none_seen, skip_some_seen}

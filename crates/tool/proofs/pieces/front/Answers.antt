@@ -1,6 +1,5 @@
 use Rattle.std.proofs.Common.{◌≡◌, ◌++◌, ◌∙◌, sym, ap₂, subst}
 use Rattle.std.proofs.lemmas.List.{take-append-drop}
-use Rattle.std.specs.Str.{IsUtf8}
 use Rattle.tool.proofs.Utf8Lemmas.{IsTextUpTo, text_up_to}
 use Rattle.tool.proofs.pieces.front.Goals as goal
 

@@ -1,5 +1,5 @@
-use Rattle.std.proofs.Common.{Bool, Some, None, if◌then◌else◌, ◌≡◌, ◌∙◌, ◌+◌, ◌-◌, ◌≤◌, ◌++◌, ℕ, List, length, take, drop, vec_len, sym, subst, ap, ap₂, arith, refl}
-use Rattle.std.proofs.lemmas.List.{drop_at, length-append, length-drop, length-take-le, take-append-drop}
+use Rattle.std.proofs.Common.{Bool, Some, None, if◌then◌else◌, ◌≡◌, ◌∙◌, ◌+◌, ◌-◌, ◌++◌, ℕ, List, length, take, drop, vec_len, sym, subst, ap, arith}
+use Rattle.std.proofs.lemmas.List.{drop_at, length-append, length-take-le}
 use Rattle.std.proofs.lemmas.Str.{utf8_valid_len_le}
 use Rattle.std.specs.Str.Lossy.{utf8_valid_len}
 use Rattle.lines.specs.Engine.{rules_of}
@@ -13,9 +13,10 @@ use Rattle.tool.proofs.text.Held.gather.Goals as goal
 
 pub keep_bytes-requires-clause-within : goal.keep_bytes-requires-clause-within
 keep_bytes-requires-clause-within c =
-    let bytes = take (c.args.self.now.waiting + c.args.len) c.deref.result.now in
-    (omega (arith, c.in_ok-front.ensures.len, utf8_valid_len_le bytes, length-take-le (c.args.self.now.waiting + c.args.len) c.deref.result.now (omega (arith, c.requires.len, c.deref.ensures.len))),
-    omega (arith, c.requires.len, ap (λ (h : Held). vec_len h.piece) c.keep_text.ensures.same))
+    let bytes = take (c.args.self.now.waiting + c.args.len) c.deref.result.now in (
+      omega (arith, c.in_ok-front.ensures.len, utf8_valid_len_le bytes, length-take-le (c.args.self.now.waiting + c.args.len) c.deref.result.now (omega (arith, c.requires.len, c.deref.ensures.len))),
+      omega (arith, c.requires.len, ap (λ (h : Held). vec_len h.piece) c.keep_text.ensures.same),
+    )
 
 pub keep_bytes-requires-clause-counted : goal.keep_bytes-requires-clause-counted
 keep_bytes-requires-clause-counted c =

@@ -1,4 +1,4 @@
-use Rattle.std.proofs.Common.{◌≡◌, ◌∙◌, ◌++◌, ◌==◌, [], ◌∷◌, Bool, false, length, List, ℕ, sym, ap, refl, if◌then◌else◌}
+use Rattle.std.proofs.Common.{◌≡◌, ◌∙◌, ◌++◌, ◌==◌, [], ◌∷◌, Bool, false, length, sym, ap, refl, if◌then◌else◌}
 use Rattle.std.proofs.lemmas.List.{append-nil}
 use Rattle.lines.specs.Engine.{rules_of}
 use Rattle.lines.specs.Pages.{page, paragraph_bytes}
