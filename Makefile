@@ -7,23 +7,12 @@
 
 UNICODE = /usr/share/unicode
 
-# The libraries below the program: two that don't stand on one another are proved side by side.
-LIBRARIES = $(addprefix lib-,device ucd bidi breaks lines tool)
-MAKEFLAGS += --jobs=2
-
-.PHONY: all program ucd demo test bench $(LIBRARIES)
+.PHONY: all program ucd demo test bench
 
 all: program
 
-lib-bidi lib-breaks: lib-ucd
-lib-lines: lib-device lib-bidi lib-breaks
-lib-tool: lib-lines
-
-$(LIBRARIES): lib-%:
-	cd crates/$* && rt lib > /dev/null
-
 # rt proves and builds the crates where they have changed, and runs the program, which stays in out/.
-program: lib-tool
+program:
 	cd crates/fribidi && rt run -- --help > /dev/null
 	mkdir -p bin
 	cp crates/fribidi/out/fribidi bin/fribidi
