@@ -1,10 +1,11 @@
 //! A session that keeps the layout of a text under inserts, deletes and width changes, over any store of
 //! paragraphs.
-ghost use Rattle.std.specs.Prelude.{◌≡◌, ℕ, length, take, option_map, slice_get};
+ghost use Rattle.std.specs.Prelude.{◌≡◌, ◌≤◌, ℕ, length, take, option_map, slice_get};
 ghost use Rattle.std.specs.Prelude.{IfOk, IfErr, OnOk, OnErr};
 ghost use Rattle.std.specs.Str.{chars};
 ghost use Rattle.device.specs.Device.{StoppedAt, Wrote};
 ghost use Rattle.lines.specs.Engine.{analysed_of, filled_of, SameRules};
+ghost use Rattle.lines.specs.Writing.{PassedOn, StoppedIn};
 ghost use Rattle.session.specs.Changes.{after_all, changing, deletion, insertion};
 ghost use Rattle.session.specs.Kept.{lines_in};
 ghost use Rattle.session.specs.Sessions.{cuts_at, held_at, page_at, text_at, IsWholeLayout};
@@ -199,7 +200,26 @@ impl<S: ParagraphStore<Kept>> Session<S> {
         ensures err { IfErr result (λ fault. StoppedAt fault.written (page_at self.now print.now)
             (W.state writer.old) (W.state writer.new)) }
     {
-        write_store(&self.store, writer, self.width, print)
+        self.print_behind(writer, 0, print)?;
+        Ok(())
+    }
+
+    /// Writes them behind `done` bytes that the sink passed before, and says how many bytes that makes; a
+    /// fault counts these too.
+    pub fn print_behind<W: Sink>(
+        &self,
+        writer: &mut W,
+        done: u64,
+        print: &Print,
+    ) -> Result<u64, WriteFault>
+        requires { done ≤ (W.state writer.old).passed }
+        ensures ok { IfOk result (λ n. PassedOn (page_at self.now print.now) done
+            (W.state writer.old) (W.state writer.new) n) }
+        ensures err { IfErr result (λ fault. StoppedIn (page_at self.now print.now) done
+            (W.state writer.old) (W.state writer.new) fault.written) }
+        ensures counted { IfOk result (λ n. n ≤ (W.state writer.new).passed) }
+    {
+        write_store(&self.store, writer, done, self.width, print)
     }
 
     /// Makes changes one after another. Those that are refused change nothing. It ends at the first for

@@ -9,6 +9,6 @@ abbrev pub invariant-loop-index : goal.invariant-loop-index
 invariant-loop-index g l =
     let state = g.W.Sink.state in
     record {
-      passed : PassedOn (concat (take l.index (pieces l.width l.print (g.S.ParagraphStore.items l.store)))) 0 (state l.fn.writer) (state l.writer) l.written;
+      passed : PassedOn (concat (take l.index (pieces l.width l.print (g.S.ParagraphStore.items l.store)))) l.done (state l.fn.writer) (state l.writer) l.written;
       counted : l.written ≤ (state l.writer).passed;
     }

@@ -1,17 +1,10 @@
-use Rattle.std.proofs.Common.{OnOk, IfErr, subst}
-use Rattle.device.specs.Device.{StoppedAt, Wrote}
-use Rattle.session.specs.Sessions.{State}
-use Rattle.session.proofs.PrintLemmas.{page_of_kept}
+use Rattle.device.specs.Device.{StoppedAt}
+use Rattle.lines.proofs.WriteLemmas.{stopped-whole, same_fault}
 use Rattle.session.proofs.session.Session.print.Goals as goal
 
-pub returns-clause-ok : goal.returns-clause-ok
-returns-clause-ok g c =
-    let state : State = record { engine = c.self.inside.engine; width = c.self.inside.width; kept = g.S.ParagraphStore.items c.self.inside.store } in
-    rw (← c.self.view_is)
-    (subst (λ bytes. OnOk c.write_store.result (Wrote bytes (g.W.Sink.state c.args.writer.now) (g.W.Sink.state c.write_store.new.writer))) (page_of_kept state c.args.print.now c.self.invariant) c.write_store.ensures.ok)
+pub returns-in_err-print_behind-clause-err : goal.returns-in_err-print_behind-clause-err
+returns-in_err-print_behind-clause-err g c =
+    same_fault _ _ (λ n. StoppedAt n _ _ _) c.from_residual.ensures.1 (stopped-whole c.in_err-print_behind.ensures.err)
 
-pub returns-clause-err : goal.returns-clause-err
-returns-clause-err g c =
-    let state : State = record { engine = c.self.inside.engine; width = c.self.inside.width; kept = g.S.ParagraphStore.items c.self.inside.store } in
-    rw (← c.self.view_is)
-    (subst (λ bytes. IfErr c.write_store.result (λ fault. StoppedAt fault.written bytes (g.W.Sink.state c.args.writer.now) (g.W.Sink.state c.write_store.new.writer))) (page_of_kept state c.args.print.now c.self.invariant) c.write_store.ensures.err)
+pub returns-clause-ok : goal.returns-clause-ok
+returns-clause-ok g c = c.in_ok-print_behind.ensures.ok.wrote
