@@ -1,7 +1,9 @@
 pub mod CommandLineLemmas
 pub mod DefaultLemmas
+pub mod EscapeLemmas
 pub mod Fronts
 pub mod Devices
+pub mod NumberLemmas
 pub mod PieceLemmas
 pub mod PushLemmas
 pub mod StepLemmas

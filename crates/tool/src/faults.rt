@@ -1,7 +1,7 @@
 //! Why a run ends before its input does.
 use thiserror::Error;
 
-/// Why the run of a text ended. The bytes that were written before are told by the run's contract.
+/// Why the run of a text or of a script ended. The bytes that were written before are told by the run's contract.
 #[derive(Clone, Copy, Debug, PartialEq, Eq, Error)]
 pub enum RunFault {
     /// The source failed.
@@ -16,7 +16,13 @@ pub enum RunFault {
     /// A paragraph has more than 1,048,576 characters.
     #[error("paragraph too long")]
     ParagraphTooLong,
+    /// This line of a script, counted from 1, is none.
+    #[error("bad script line {0}")]
+    BadLine(u64),
     /// Memory ran out.
     #[error("out of memory")]
     Memory,
+    /// The text of a session has more than 16,777,216 characters.
+    #[error("text too long")]
+    TextTooLong,
 }

@@ -1,0 +1,59 @@
+-- The characters that a text writes, one after another.
+use Rattle.std.proofs.Common.{◌≡◌, ℕ, zero, suc, ◌+◌, ◌-◌, ◌<◌, ◌≤◌, List, [], ◌∷◌, ◌++◌, length, get_or, drop, Option, Some, None, option_map, encode_utf8, refl, add-one, sym, ap, ◌∙◌, arith}
+use Rattle.std.specs.Char.{IsScalar}
+use Rattle.std.specs.Str.{chars, IsUtf8}
+use Rattle.std.proofs.lemmas.List.{append_assoc, append-nil, drop-drop}
+use Rattle.std.proofs.lemmas.Str.{chars-append, chars-encodes}
+use Rattle.tool.specs.Scripts.{onto, unescaped, unescaped_behind, written}
+
+-- an escape is passed over
+skipped : (n : ℕ) (text : List ℕ) → unescaped_behind n text ≡ unescaped (drop n text)
+unfolding unescaped_behind
+skipped zero text = refl
+skipped (suc n) [] = refl
+skipped (suc n) (c ∷ text) = skipped n text
+
+begins_at : (text : List ℕ) (n d : ℕ) → n < length text → drop n text ≡ get_or text n d ∷ drop (n + 1) text
+begins_at [] n d within = absurd (omega arith)
+begins_at (c ∷ text) zero d within = refl
+begins_at (c ∷ text) (suc n) d within = let later = begins_at text n d (omega (arith, within)) in rw add-one (rw add-one at later)
+
+one : (c : ℕ) (behind : List ℕ) (w : Option (ℕ × ℕ)) → written c behind ≡ w → unescaped (c ∷ behind) ≡ onto w (λ len. unescaped_behind (len - 1) behind)
+unfolding unescaped_behind
+one c behind w is = ap (λ (o : Option (ℕ × ℕ)). onto o (λ len. unescaped_behind (len - 1) behind)) is
+
+none_left : unescaped [] ≡ Some []
+unfolding unescaped_behind
+none_left = refl
+
+joined : (front : List ℕ) (c : ℕ) (rest : Option (List ℕ)) → option_map (λ cs. front ++ cs) (option_map (λ cs. c ∷ cs) rest) ≡ option_map (λ cs. (front ++ c ∷ []) ++ cs) rest
+joined front c None = refl
+joined front c (Some cs) = ap Some (sym (append_assoc front (c ∷ []) cs))
+
+pub chars-push : (bytes : List ℕ) (c : ℕ) → IsUtf8 bytes → IsScalar c → chars (bytes ++ encode_utf8 c) ≡ chars bytes ++ c ∷ []
+chars-push bytes c utf8 is =
+    let one : chars (encode_utf8 c) ≡ c ∷ [] = ap chars (sym (append-nil (encode_utf8 c))) ∙ chars-encodes (c ∷ []) (rw is refl) in
+    chars-append bytes (encode_utf8 c) utf8 ∙ ap (λ t. chars bytes ++ t) one
+
+module _ (text : List ℕ) (n d : ℕ) (within : n < length text) where
+  -- the next character is written
+  pub next_written : (front : List ℕ) (c len : ℕ) → written (get_or text n d) (drop (n + 1) text) ≡ Some (c, len) → 0 < len
+      → option_map (λ cs. front ++ cs) (unescaped (drop n text)) ≡ option_map (λ cs. (front ++ c ∷ []) ++ cs) (unescaped (drop (n + len) text))
+  next_written front c len is some =
+      let place : (n + 1) + (len - 1) ≡ n + len = omega (arith, some) in
+      let rest : unescaped_behind (len - 1) (drop (n + 1) text) ≡ unescaped (drop (n + len) text) =
+      skipped (len - 1) (drop (n + 1) text) ∙ ap unescaped (drop-drop (len - 1) (n + 1) text ∙ ap (λ k. drop k text) place) in
+      let here : unescaped (drop n text) ≡ option_map (λ cs. c ∷ cs) (unescaped (drop (n + len) text)) =
+      ap unescaped (begins_at text n d within) ∙ one (get_or text n d) (drop (n + 1) text) (Some (c, len)) is ∙ ap (option_map (λ cs. c ∷ cs)) rest in
+      ap (option_map (λ cs. front ++ cs)) here ∙ joined front c (unescaped (drop (n + len) text))
+
+  -- or none is
+  pub none_written : (front : List ℕ) → written (get_or text n d) (drop (n + 1) text) ≡ None → option_map (λ cs. front ++ cs) (unescaped (drop n text)) ≡ None
+  none_written front is =
+      ap (option_map (λ cs. front ++ cs)) (ap unescaped (begins_at text n d within) ∙ one (get_or text n d) (drop (n + 1) text) None is)
+
+pub all_written : (text front : List ℕ) (n : ℕ) → length text ≤ n → option_map (λ cs. front ++ cs) (unescaped (drop n text)) ≡ Some front
+all_written [] front zero past = ap (option_map (λ cs. front ++ cs)) none_left ∙ ap Some (append-nil front)
+all_written [] front (suc n) past = ap (option_map (λ cs. front ++ cs)) none_left ∙ ap Some (append-nil front)
+all_written (c ∷ text) front zero past = absurd (omega arith)
+all_written (c ∷ text) front (suc n) past = all_written text front n (omega (arith, past))

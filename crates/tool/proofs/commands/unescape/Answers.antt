@@ -1,0 +1,47 @@
+use Rattle.std.proofs.Common.{◌≡◌, ◌+◌, ◌<◌, ◌≤◌, ◌++◌, ◌-◌, ℕ, List, Option, Some, None, [], ◌∷◌, take, drop, length, get_or, option_map, string_bytes, sym, ap, ◌∙◌, arith, refl, rules}
+use Rattle.std.specs.Char.{IsScalar}
+use Rattle.std.specs.Str.{chars}
+use Rattle.std.proofs.lemmas.List.{take_rest}
+use Rattle.std.proofs.lemmas.Str.{IsUtf8-string_bytes, chars-nil}
+use Rattle.tool.specs.Scripts.{unescaped, written}
+use Rattle.tool.proofs.EscapeLemmas.{all_written, chars-push, next_written, none_written}
+use Rattle.tool.proofs.commands.unescape.Goals as goal
+
+-- nothing in front
+id_map : (o : Option (List ℕ)) → option_map (λ cs. [] ++ cs) o ≡ o
+id_map None = refl
+id_map (Some cs) = refl
+
+pub loop-at-init : goal.loop-at-init
+loop-at-init c =
+    record { within = omega arith; whole = ap (λ (front : List ℕ). option_map (λ cs. front ++ cs) (unescaped c.args.text.now)) (ap chars c.new-piece.ensures.bytes ∙ chars-nil) ∙ id_map (unescaped c.args.text.now) }
+
+pub loop-at-preserved : goal.loop-at-preserved
+loop-at-preserved c =
+    let text = c.args.text.now in
+    let n = c.loop-at.at in
+    let d = c.index-text-at.result in
+    let front = chars (string_bytes c.loop-at.piece) in
+    let is : written (get_or text n d) (drop (n + 1) text) ≡ Some (c.in-Some.c, c.in-Some.len) =
+    ap (λ (x : ℕ). written x (drop (n + 1) text)) (sym c.index-text-at.is) ∙ ap (written d) (sym (take_rest text (n + 1))) ∙ sym c.in-Some.ensures.value in
+    let scalar_is : IsScalar c.in-Some.c = search rules in
+    let piece : chars (string_bytes c.push.new.self) ≡ front ++ c.in-Some.c ∷ [] =
+    ap chars c.in_ok-push-in-Some.ensures.bytes ∙ chars-push (string_bytes c.loop-at.piece) c.in-Some.c (IsUtf8-string_bytes c.loop-at.piece) scalar_is in
+    record {
+      within = search arith;
+      whole =
+          ap (λ (t : List ℕ). option_map (λ cs. t ++ cs) (unescaped (drop (n + c.in-Some.len) text))) piece
+          ∙ sym (next_written text n d c.loop-at-test.true front c.in-Some.c c.in-Some.len is c.in-Some.ensures.within.0) ∙ c.loop-at.invariant.whole;
+    }
+
+pub returns-in-None : goal.returns-in-None
+returns-in-None c =
+    let text = c.args.text.now in
+    let n = c.loop-at.at in
+    let d = c.index-text-at.result in
+    let is : written (get_or text n d) (drop (n + 1) text) ≡ None =
+    ap (λ (x : ℕ). written x (drop (n + 1) text)) (sym c.index-text-at.is) ∙ ap (written d) (sym (take_rest text (n + 1))) ∙ sym c.in-None.ensures.value in
+    sym (none_written text n d c.loop-at-test.true (chars (string_bytes c.loop-at.piece)) is) ∙ c.loop-at.invariant.whole
+
+pub returns : goal.returns
+returns c = sym (all_written c.args.text.now (chars (string_bytes c.loop-at.piece)) c.loop-at.at (omega (arith, c.loop-at-test.false))) ∙ c.loop-at.invariant.whole

@@ -1,0 +1,14 @@
+use Rattle.std.proofs.Common.{◌≡◌, ◌≤◌, ◌-◌, ◌++◌, length, drop, option_map, string_bytes}
+use Rattle.std.specs.Str.{chars}
+use Rattle.tool.specs.Scripts.{unescaped}
+use Rattle.tool.proofs.commands.unescape.Given as goal
+
+-- the piece and what the rest writes are what the whole text writes
+abbrev pub invariant-loop-at : goal.invariant-loop-at
+invariant-loop-at l = record {
+  within : l.at ≤ length l.text;
+  whole : option_map (λ cs. chars (string_bytes l.piece) ++ cs) (unescaped (drop l.at l.text)) ≡ unescaped l.text;
+}
+
+abbrev pub decreases-loop-at : goal.decreases-loop-at
+decreases-loop-at l = length l.text - l.at

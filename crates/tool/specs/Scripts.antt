@@ -1,0 +1,135 @@
+-- The lines of an edit script, and what each asks for.
+use Rattle.std.specs.Prelude.{ℕ, zero, suc, ◌+◌, ◌*◌, ◌-◌, ◌==◌, nat_lt, nat_le, ◌&&◌, ◌||◌, Bool, List, [], ◌∷◌, length, fold, take, drop, take_while, slice_index, codes, Option, Some, None, option_map, if◌then◌else◌}
+use Rattle.std.specs.Char.{digit_value, is_digit}
+use Rattle.std.specs.Cmp.Lexicographic.{pointwise}
+use Rattle.std.specs.List.{after_first, before_first, list_all, position_or_len, slice_split}
+use Rattle.std.specs.Str.{chars}
+use Rattle.std.specs.Str.Lossy.{utf8_valid_len}
+use Rattle.tool.specs.declared.text.Ending.{Ending}
+use Rattle.tool.specs.declared.text.Ending.TheVariants.{AtEnd, AtFailure}
+
+-- ---- lines
+
+-- a line ends at U+000A
+abbrev pub is_line_end : ℕ → Bool
+is_line_end b = b == 10
+
+-- the bytes of a line, without its end, are limited
+abbrev pub line_limit : ℕ
+line_limit = 1048576
+
+-- What stands behind the last end is a line too, where the script ended and it isn't empty. Where the source failed it is none,
+-- unless it is over the limit already.
+abbrev pub is_last_line : Ending → List ℕ → Bool
+is_last_line AtEnd rest = nat_lt 0 (length rest)
+is_last_line AtFailure rest = nat_lt line_limit (length rest)
+
+-- the lines among the parts between ends
+abbrev pub lines_among : Ending → List (List ℕ) → List (List ℕ)
+lines_among ending [] = []
+lines_among ending (rest ∷ []) = if is_last_line ending rest then rest ∷ [] else []
+lines_among ending (line ∷ next ∷ parts) = line ∷ lines_among ending (next ∷ parts)
+
+abbrev pub script_lines : Ending → List ℕ → List (List ℕ)
+script_lines ending bytes = lines_among ending (slice_split is_line_end bytes)
+
+-- ---- what a line asks for
+
+-- to put a piece in front of the character at a place, to take characters out from a place on, to set the width, or to show all lines
+pub data Order : Type 0 where
+  Insertion : (pos : ℕ) (piece : List ℕ) → Order
+  Deletion : (pos count : ℕ) → Order
+  Filling : (width : ℕ) → Order
+  Showing : Order
+
+-- a number is 1 to 9 decimal digits
+abbrev pub number_by : ℕ → List ℕ → ℕ
+number_by radix digits = fold (λ n d. radix * n + digit_value d) 0 digits
+
+abbrev pub are_digits : ℕ → List ℕ → Bool
+are_digits radix text = list_all (λ c. is_digit c radix) text
+
+abbrev pub number_in : List ℕ → Option ℕ
+number_in text = if nat_lt 0 (length text) && (nat_le (length text) 9 && are_digits 10 text) then Some (number_by 10 text) else None
+
+-- An escape is a backslash and `n`, `r`, another backslash, or `u{H}`, where H is 1 to 6 hexadecimal digits that write the number of a
+-- character. By the text behind the backslash: the character, and how many characters the whole escape has.
+abbrev pub is_character : ℕ → Bool
+is_character n = nat_lt n 0xD800 || (nat_le 0xE000 n && nat_le n 0x10FFFF)
+
+abbrev pub braced_by : List ℕ → List ℕ → Option (ℕ × ℕ)
+braced_by digits text =
+    if nat_lt 0 (length digits) && (nat_le (length digits) 6 && (slice_index text (length digits) == 125 && is_character (number_by 16 digits)))
+    then Some (number_by 16 digits, length digits + 4) else None
+
+abbrev pub braced : List ℕ → Option (ℕ × ℕ)
+braced text = braced_by (take_while (λ c. is_digit c 16) text) text
+
+abbrev pub escaped : List ℕ → Option (ℕ × ℕ)
+escaped text =
+    if slice_index text 0 == 110 then Some (10, 2)
+    else (if slice_index text 0 == 114 then Some (13, 2)
+    else (if slice_index text 0 == 92 then Some (92, 2)
+    else (if slice_index text 0 == 117 && slice_index text 1 == 123 then braced (drop 2 text) else None)))
+
+-- the character that a text begins to write, by its first one and those behind it, and how many write it
+abbrev pub written : ℕ → List ℕ → Option (ℕ × ℕ)
+written c behind = if c == 92 then escaped behind else Some (c, 1)
+
+-- the characters that a text writes, of which the first `skip` belong to an escape before it
+abbrev pub onto : Option (ℕ × ℕ) → (ℕ → Option (List ℕ)) → Option (List ℕ)
+onto None others = None
+onto (Some (c, len)) others = option_map (λ cs. c ∷ cs) (others len)
+
+unfoldable pub unescaped_behind : ℕ → List ℕ → Option (List ℕ)
+unescaped_behind skip [] = Some []
+unescaped_behind (suc skip) (c ∷ text) = unescaped_behind skip text
+unescaped_behind zero (c ∷ text) = onto (written c text) (λ len. unescaped_behind (len - 1) text)
+
+abbrev pub unescaped : List ℕ → Option (List ℕ)
+unescaped text = unescaped_behind 0 text
+
+-- what stands on both sides of the first space
+abbrev pub is_space : ℕ → Bool
+is_space c = c == 32
+
+abbrev pub parted : List ℕ → Option (List ℕ × List ℕ)
+parted text = if nat_lt (position_or_len is_space text) (length text) then Some (before_first is_space text, after_first is_space text) else None
+
+-- what stands behind a beginning
+abbrev pub stripped : List ℕ → List ℕ → Option (List ℕ)
+stripped word text = if pointwise (◌==◌) (take (length word) text) word then Some (drop (length word) text) else None
+
+-- `insert POS TEXT`, `delete POS COUNT`, `width N` and `show`
+abbrev pub insertion_of : Option ℕ → Option (List ℕ) → Option Order
+insertion_of (Some pos) (Some piece) = Some (Insertion pos piece)
+insertion_of (Some pos) None = None
+insertion_of None piece = None
+
+abbrev pub insertion_in : Option (List ℕ × List ℕ) → Option Order
+insertion_in None = None
+insertion_in (Some (pos, text)) = insertion_of (number_in pos) (unescaped text)
+
+abbrev pub deletion_of : Option ℕ → Option ℕ → Option Order
+deletion_of (Some pos) (Some count) = Some (Deletion pos count)
+deletion_of (Some pos) None = None
+deletion_of None count = None
+
+abbrev pub deletion_in : Option (List ℕ × List ℕ) → Option Order
+deletion_in None = None
+deletion_in (Some (pos, count)) = deletion_of (number_in pos) (number_in count)
+
+abbrev pub order_by : Option (List ℕ) → Option (List ℕ) → Option (List ℕ) → Option (List ℕ) → Option Order
+order_by (Some rest) insert delete width = if length rest == 0 then Some Showing else None
+order_by None (Some rest) delete width = insertion_in (parted rest)
+order_by None None (Some rest) width = deletion_in (parted rest)
+order_by None None None (Some rest) = option_map Filling (number_in rest)
+order_by None None None None = None
+
+abbrev pub order_in : List ℕ → Option Order
+order_in line =
+    order_by (stripped (codes "show") line) (stripped (codes "insert ") line) (stripped (codes "delete ") line) (stripped (codes "width ") line)
+
+-- what the bytes of a line ask for, if they are UTF-8 and no more than may be
+abbrev pub order_of_line : List ℕ → Option Order
+order_of_line line = if nat_le (length line) line_limit && utf8_valid_len line == length line then order_in (chars line) else None

@@ -1,0 +1,217 @@
+//! The lines of an edit script: what each asks for.
+ghost use Rattle.std.specs.Prelude.{◌≡◌, ◌+◌, ◌<◌, ◌≤◌, ◌^◌, List, ℕ, take, drop, length, true};
+ghost use Rattle.std.specs.Prelude.{IfOk, IfSome, option_map, string_bytes};
+ghost use Rattle.std.specs.List.{prefix_len};
+ghost use Rattle.std.specs.Char.{is_digit};
+ghost use Rattle.std.specs.Str.{chars};
+ghost use Rattle.tool.specs.Commands.{order_of};
+ghost use Rattle.tool.specs.Scripts.{Filling, are_digits, braced, deletion_in, escaped, insertion_in, number_by};
+ghost use Rattle.tool.specs.Scripts.{number_in, order_in, parted, stripped, unescaped, written};
+
+use std::alloc::{AllocError, Global};
+
+/// What a line of a script asks for.
+#[derive(Debug, Drop)]
+pub enum Command {
+    /// To put a text in front of the character at a place.
+    Insert(usize, String),
+    /// To take so many characters out, from a place on.
+    Delete(usize, usize),
+    /// To set the width, in columns.
+    SetWidth(usize),
+    /// To write all lines.
+    Show,
+}
+
+const SHOW: [char; 4] = ['s', 'h', 'o', 'w'];
+const INSERT: [char; 7] = ['i', 'n', 's', 'e', 'r', 't', ' '];
+const DELETE: [char; 7] = ['d', 'e', 'l', 'e', 't', 'e', ' '];
+const WIDTH: [char; 6] = ['w', 'i', 'd', 't', 'h', ' '];
+
+/// What the characters of a line ask for, if it is a line of a script.
+pub fn read_command(alloc: Global, line: &[char]) -> Result<Option<Command>, AllocError>
+    ensures { IfOk result (λ command. option_map order_of command ≡ order_in line.now) }
+{
+    if let Some(rest) = behind(&SHOW, line) {
+        return Ok(if rest.is_empty() {
+            Some(Command::Show)
+        } else {
+            None
+        });
+    }
+    if let Some(rest) = behind(&INSERT, line) {
+        return insertion(alloc, rest);
+    }
+    if let Some(rest) = behind(&DELETE, line) {
+        return Ok(deletion(rest));
+    }
+    match behind(&WIDTH, line) {
+        Some(rest) => Ok(filling(rest)),
+        None => Ok(None),
+    }
+}
+
+fn insertion(alloc: Global, text: &[char]) -> Result<Option<Command>, AllocError>
+    ensures { IfOk result (λ command. option_map order_of command ≡ insertion_in (parted text.now)) }
+{
+    let Some((pos, text)) = words(text) else {
+        return Ok(None);
+    };
+    let Some(pos) = number(pos) else {
+        return Ok(None);
+    };
+    match unescape(alloc, text) {
+        Ok(Some(piece)) => Ok(Some(Command::Insert(pos, piece))),
+        Ok(None) => Ok(None),
+        Err(error) => Err(error),
+    }
+}
+
+fn deletion(text: &[char]) -> Option<Command>
+    ensures { option_map order_of result ≡ deletion_in (parted text.now) }
+{
+    let (pos, count) = words(text)?;
+    Some(Command::Delete(number(pos)?, number(count)?))
+}
+
+fn filling(text: &[char]) -> Option<Command>
+    ensures { option_map order_of result ≡ option_map Filling (number_in text.now) }
+{
+    Some(Command::SetWidth(number(text)?))
+}
+
+// What stands behind a beginning of a text, if it begins so.
+fn behind<'a>(word: &[char], text: &'a [char]) -> Option<&'a [char]>
+    ensures { option_map (λ rest. rest.now) result ≡ stripped word.now text.now }
+{
+    text.strip_prefix(word)
+}
+
+// What stands on both sides of the first space, if there is one.
+fn words(text: &[char]) -> Option<(&[char], &[char])>
+    ensures { option_map (λ words. (words.0.now, words.1.now)) result ≡ parted text.now }
+{
+    match text.iter().position(|&c| c == ' ') {
+        Some(at) => Some((&text[..at], &text[at + 1..])),
+        None => None,
+    }
+}
+
+// The number that 1 to 9 decimal digits write.
+fn number(text: &[char]) -> Option<usize>
+    ensures { result ≡ number_in text.now }
+{
+    if text.is_empty() || text.len() > 9 || !are_digits(text, 10) {
+        return None;
+    }
+    Some(value(text, 10))
+}
+
+fn are_digits(text: &[char], radix: u32) -> bool
+    requires { (2 ≤ radix) × (radix ≤ 16) }
+    ensures { result ≡ are_digits radix text.now }
+{
+    for c in text {
+        if !c.is_digit(radix) {
+            return false;
+        }
+    }
+    true
+}
+
+// The number that digits write.
+fn value(digits: &[char], radix: u32) -> usize
+    requires radix { (2 ≤ radix) × (radix ≤ 16) }
+    requires digits { are_digits radix digits.now ≡ true }
+    requires few { length digits.now ≤ 9 }
+    ensures value { result ≡ number_by radix digits.now }
+    ensures bound { result < radix ^ length digits.now }
+{
+    let mut number = 0;
+    for c in digits {
+        match c.to_digit(radix) {
+            Some(digit) => number = radix as usize * number + digit as usize,
+            None => unreachable!(),
+        }
+    }
+    number
+}
+
+// The text that these characters write, if their escapes are right.
+fn unescape(alloc: Global, text: &[char]) -> Result<Option<String>, AllocError>
+    ensures { IfOk result (λ piece. option_map (λ p. chars (string_bytes p)) piece ≡ unescaped text.now) }
+{
+    let mut piece = String::new(alloc);
+    let mut at = 0;
+    while at < text.len() {
+        match written(text[at], &text[at + 1..]) {
+            Some((c, len)) => {
+                piece.push(c)?;
+                at += len;
+            }
+            None => return Ok(None),
+        }
+    }
+    Ok(Some(piece))
+}
+
+// The character that a text begins to write, and how many characters write it.
+fn written(c: char, behind: &[char]) -> Option<(char, usize)>
+    ensures value { result ≡ written c behind.now }
+    ensures within { IfSome result (λ w. (0 < w.1) × (w.1 ≤ length behind.now + 1)) }
+{
+    if c == '\\' {
+        escaped(behind)
+    } else {
+        Some((c, 1))
+    }
+}
+
+// The same of an escape, by what stands behind its backslash.
+fn escaped(text: &[char]) -> Option<(char, usize)>
+    ensures value { result ≡ escaped text.now }
+    ensures within { IfSome result (λ w. (0 < w.1) × (w.1 ≤ length text.now + 1)) }
+{
+    let letter = *text.first()?;
+    if letter == 'n' {
+        Some(('\n', 2))
+    } else if letter == 'r' {
+        Some(('\r', 2))
+    } else if letter == '\\' {
+        Some(('\\', 2))
+    } else if letter == 'u' && text.len() > 1 && text[1] == '{' {
+        braced(&text[2..])
+    } else {
+        None
+    }
+}
+
+// The same behind `\u{`.
+fn braced(text: &[char]) -> Option<(char, usize)>
+    ensures value { result ≡ braced text.now }
+    ensures within { IfSome result (λ w. (0 < w.1) × (w.1 ≤ length text.now + 3)) }
+{
+    let len = hex_len(text);
+    if len == 0 || len > 6 || len == text.len() || text[len] != '}' {
+        return None;
+    }
+    let number = value(&text[..len], 16);
+    match char::from_u32(number as u32) {
+        Some(c) => Some((c, len + 4)),
+        None => None,
+    }
+}
+
+// How many hexadecimal digits a text begins with.
+fn hex_len(text: &[char]) -> usize
+    ensures len { result ≡ prefix_len (λ c. is_digit c 16) text.now }
+    ensures within { result ≤ length text.now }
+    ensures digits { are_digits 16 (take result text.now) ≡ true }
+{
+    for (at, c) in text.iter().enumerate() {
+        if !c.is_digit(16) {
+            return at;
+        }
+    }
+    text.len()
+}
