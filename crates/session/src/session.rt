@@ -144,7 +144,8 @@ impl<S: ParagraphStore<Kept>> Session<S> {
 
     /// The width, in columns.
     pub fn width(&self) -> u16
-        ensures { result ≡ self.now.width }
+        ensures width { result ≡ self.now.width }
+        ensures laid_out { IsWholeLayout self.now }
     {
         self.width
     }

@@ -2,6 +2,7 @@ pub mod CommandLine
 pub mod Commands
 pub mod Pages
 pub mod Program
+pub mod Reading
 pub mod ScriptRun
 pub mod Scripts
 pub mod Streaming

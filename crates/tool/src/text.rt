@@ -22,7 +22,7 @@ use std::alloc::{AllocError, Global};
 use std::io::ErrorKind;
 
 /// How many bytes are asked of a source at a time.
-const PIECE: usize = 65_536;
+pub(crate) const PIECE: usize = 65_536;
 
 /// How an input ended: the source had no more, or it failed.
 #[derive(Clone, Copy, Debug, PartialEq, Eq)]
@@ -47,7 +47,7 @@ struct Held {
 }
 
 // Room for so many bytes.
-fn room(alloc: Global, len: usize) -> Result<Vec<u8>, AllocError>
+pub(crate) fn room(alloc: Global, len: usize) -> Result<Vec<u8>, AllocError>
     ensures { IfOk result (λ piece. vec_len piece ≡ len) }
 {
     vec![in alloc; 0; len]

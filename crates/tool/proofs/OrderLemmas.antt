@@ -1,0 +1,49 @@
+-- What a session answers to a change is what a script answers.
+use Rattle.std.proofs.Common.{◌≡◌, ℕ, Bool, true, false, List, Option, Some, None, Result, Ok, Err, IfOk, IfErr, refl, sym, subst, ap, ◌∙◌, if◌then◌else◌}
+use Rattle.std.specs.Prelude.{is_none}
+use Rattle.std.proofs.lemmas.Bool.{true≢false}
+use Rattle.device.specs.Device.{Device}
+use Rattle.lines.specs.Layouts.{Rules}
+use Rattle.lines.specs.Writing.{PassedOn, StoppedIn}
+use Rattle.lines.specs.declared.print.Print.{Print}
+use Rattle.session.specs.Changes.{Held}
+use Rattle.session.specs.declared.edits.Damage.{Damage}
+use Rattle.session.specs.declared.edits.EditFault.{EditFault}
+use Rattle.session.specs.declared.edits.EditFault.TheVariants as e
+use Rattle.tool.specs.Reading.{Changed, Obeys, Stops, change_text, lacks_memory}
+use Rattle.tool.specs.ScriptRun.{after_order, answer_by, answer_to, obeyed, obeyed_text, order_refusal}
+use Rattle.tool.specs.Scripts.{Order}
+use Rattle.tool.specs.declared.faults.RunFault.{RunFault}
+
+module _ (rules : Rules) (print : Print) (order : Order) (old new : Held) where
+  -- what became of the text and the width, and what is answered
+  record Told (change : Result Damage EditFault) : Type 0 where
+    pub held : new ≡ after_order rules old order
+    pub text : answer_to rules print old order ≡ change_text change
+
+  refused : (reason : EditFault) → order_refusal rules old order ≡ Some reason → new ≡ old → Told (Err reason)
+  refused reason is stays = record {
+    held = stays ∙ sym (ap (λ (o : Option EditFault). if is_none o then obeyed old order else old) is);
+    text = ap (λ (o : Option EditFault). answer_by o (obeyed_text rules print old order)) is;
+  }
+
+  told : (change : Result Damage EditFault) → Changed rules order old new change → lacks_memory change ≡ false → Told change
+  told (Ok damage) (accepted, made, text) room = record {
+    held = made ∙ sym (ap (λ (o : Option EditFault). if is_none o then obeyed old order else old) accepted);
+    text = ap (λ (o : Option EditFault). answer_by o (obeyed_text rules print old order)) accepted ∙ text print;
+  }
+  told (Err e.NoMemory) changed room = absurd (true≢false room)
+  told (Err e.OutOfRange) (is, stays) room = refused e.OutOfRange is stays
+  told (Err e.WidthOutOfRange) (is, stays) room = refused e.WidthOutOfRange is stays
+  told (Err e.TextTooLong) (is, stays) room = refused e.TextTooLong is stays
+  told (Err e.ParagraphTooLong) (is, stays) room = refused e.ParagraphTooLong is stays
+
+  module _ (change : Result Damage EditFault) (changed : Changed rules order old new change) (room : lacks_memory change ≡ false) (written : ℕ) (writer_old writer_new : Device) where
+    pub obeys : (r : Result ℕ RunFault) → IfOk r (PassedOn (change_text change) written writer_old writer_new) → IfOk r (Obeys rules print order written old new writer_old writer_new)
+    obeys (Ok n) passed =
+        let t = told change changed room in
+        record { held = t.held; wrote = subst (λ text. PassedOn text written writer_old writer_new n) (sym t.text) passed }
+    obeys (Err fault) passed = tt
+
+    pub stops : (r : Result ℕ RunFault) → IfErr r (Stops (change_text change) written writer_old writer_new) → IfErr r (Stops (answer_to rules print old order) written writer_old writer_new)
+    stops r stopped = subst (λ text. IfErr r (Stops text written writer_old writer_new)) (sym (told change changed room).text) stopped

@@ -1,0 +1,226 @@
+-- How the run of a script that reads in pieces ends: as one that has read all would.
+use Rattle.std.proofs.Common.{◌≡◌, ◌⊎◌, inl, inr, ℕ, zero, suc, ◌+◌, ◌-◌, ◌<◌, ◌≤◌, ◌==◌, ◌&&◌, Bool, true, false, All, List, [], ◌∷◌, ◌++◌, length, map, take, drop, min, Option, Some, None, unwrap_or, Result, Ok, Err, OnErr, nat_lt, nat_le, refl, sym, subst, ap, ◌∙◌, arith, if◌then◌else◌}
+use Rattle.std.specs.Prelude.{take_while}
+use Rattle.std.specs.List.{concat, list_all, onto_first, prefix_len, slice_split}
+use Rattle.std.specs.Io.KnownBytes.{Consumes, IsAtEnd, Keeps}
+use Rattle.std.proofs.lemmas.Bool.{and_parts}
+use Rattle.std.proofs.lemmas.Bool.Decides.{nat_tests}
+use Rattle.std.proofs.lemmas.List.{append_assoc, append-nil, length-append, take-append-le, take_all}
+use Rattle.std.proofs.lemmas.List.Folds.{list_all-append, concat-append}
+use Rattle.std.proofs.lemmas.List.Splits.{slice_split_at, slice_split_none}
+use Rattle.std.proofs.Math.Seq.{take-append-add, take-append_seam, drop-append_seam}
+use Rattle.device.specs.Device.{Device, FailedLast, Fails, StoppedAt, Took, Wrote, greatest}
+use Rattle.lines.specs.Layouts.{Rules}
+use Rattle.lines.specs.Writing.{PassedOn, StoppedIn}
+use Rattle.lines.specs.declared.print.Print.{Print}
+use Rattle.session.specs.Changes.{Held}
+use Rattle.tool.specs.Reading.{Ends, EndsIn, FailsAt, IsAt, NoEnd}
+use Rattle.tool.specs.Scripts.{is_last_line, is_line_end, line_limit, lines_among, order_of_line, script_lines}
+use Rattle.tool.specs.ScriptRun.{after_line, after_lines, answer_line, answers, good_lines, input_fault, is_good, line_read_ahead, script_fault, with_ends, LinesReadAhead}
+use Rattle.tool.specs.TextRun.{Gave}
+use Rattle.tool.specs.declared.faults.RunFault.{RunFault}
+use Rattle.tool.specs.declared.faults.RunFault.TheVariants as f
+use Rattle.tool.specs.declared.script.Reading.{Reading}
+use Rattle.tool.specs.declared.text.Ending.{Ending}
+use Rattle.tool.specs.declared.text.Ending.TheVariants.{AtEnd, AtFailure}
+use Rattle.tool.proofs.StreamLemmas.{Consumes-append, Took-append, Wrote-append, had, had_all}
+
+-- ---- lines
+
+-- there is always a part, and bytes in front of it in which no line ends go on with it
+pub parts_some : (bytes : List ℕ) → (p : List ℕ) × (ps : List (List ℕ)) × (slice_split is_line_end bytes ≡ p ∷ ps)
+parts_some [] = ([], [], refl)
+parts_some (b ∷ bytes) =
+    let later = parts_some bytes in
+    go (is_line_end b) refl later.0 later.1 later.2
+  where
+    go : (t : Bool) → is_line_end b ≡ t → (p : List ℕ) (ps : List (List ℕ)) → slice_split is_line_end bytes ≡ p ∷ ps → (q : List ℕ) × (qs : List (List ℕ)) × (slice_split is_line_end (b ∷ bytes) ≡ q ∷ qs)
+    go true is p ps parts = ([], slice_split is_line_end bytes, rw is refl)
+    go false is p ps parts = (b ∷ p, ps, rw (is, parts) refl)
+
+no_end_tail : (b : ℕ) (bytes : List ℕ) → NoEnd (b ∷ bytes) → NoEnd bytes
+no_end_tail b bytes none = λ k e within. none (suc k) e (omega (arith, within))
+
+-- the first part goes on in front
+pub first_part : (front bytes p : List ℕ) (ps : List (List ℕ)) → NoEnd front → slice_split is_line_end bytes ≡ p ∷ ps → slice_split is_line_end (front ++ bytes) ≡ (front ++ p) ∷ ps
+first_part [] bytes p ps none parts = parts
+first_part (b ∷ front) bytes p ps none parts =
+    let isnt : is_line_end b ≡ false = none 0 b (omega arith) in
+    let later = first_part front bytes p ps (no_end_tail b front none) parts in
+    rw (isnt, later) refl
+
+-- a part behind others is a line, whatever becomes of those behind it
+pub lines_behind : (ending : Ending) (done : List (List ℕ)) (p : List ℕ) (ps : List (List ℕ)) → lines_among ending (done ++ p ∷ ps) ≡ done ++ lines_among ending (p ∷ ps)
+lines_behind ending [] p ps = refl
+lines_behind ending (d ∷ []) p ps = refl
+lines_behind ending (d ∷ e ∷ done) p ps = ap (λ l. d ∷ l) (lines_behind ending (e ∷ done) p ps)
+
+-- ---- which lines are answered
+
+take_while_more : (ls ms : List (List ℕ)) → list_all is_good ls ≡ true → good_lines (ls ++ ms) ≡ ls ++ good_lines ms
+take_while_more [] ms all = refl
+take_while_more (l ∷ ls) ms all =
+    let both = and_parts (is_good l) (list_all is_good ls) all in
+    let one_more : 1 + prefix_len is_good (ls ++ ms) ≡ suc (prefix_len is_good (ls ++ ms)) = omega arith in
+    let here : good_lines (l ∷ (ls ++ ms)) ≡ l ∷ good_lines (ls ++ ms) = simp (both.0, one_more) in
+    here ∙ ap (λ t. l ∷ t) (take_while_more ls ms both.1)
+
+good_all : (ls : List (List ℕ)) → list_all is_good ls ≡ true → good_lines ls ≡ ls
+good_all ls all = ap good_lines (sym (append-nil ls)) ∙ take_while_more ls [] all ∙ append-nil ls
+
+good_one : (line : List ℕ) (others : List (List ℕ)) → is_good line ≡ true → good_lines (line ∷ others) ≡ line ∷ good_lines others
+good_one line others good = take_while_more (line ∷ []) others (rw good refl)
+
+good_none : (line : List ℕ) (others : List (List ℕ)) → is_good line ≡ false → good_lines (line ∷ others) ≡ []
+good_none line others bad = simp bad
+
+all_but : (ls : List (List ℕ)) (line : List ℕ) (others : List (List ℕ)) → is_good line ≡ false → list_all is_good (ls ++ line ∷ others) ≡ false
+all_but [] line others bad = rw bad refl
+all_but (l ∷ ls) line others bad = go (is_good l) (all_but ls line others bad)
+  where
+    go : (t : Bool) → list_all is_good (ls ++ line ∷ others) ≡ false → (t && list_all is_good (ls ++ line ∷ others)) ≡ false
+    go true later = later
+    go false later = refl
+
+-- ---- one line behind others
+
+module _ (rules : Rules) (print : Print) where
+  pub after_more : (held : Held) (ls ms : List (List ℕ)) → after_lines rules held (ls ++ ms) ≡ after_lines rules (after_lines rules held ls) ms
+  after_more held [] ms = refl
+  after_more held (l ∷ ls) ms = after_more (after_line rules held (order_of_line l)) ls ms
+
+  pub answers_more : (held : Held) (ls ms : List (List ℕ)) → answers rules print held (ls ++ ms) ≡ answers rules print held ls ++ answers rules print (after_lines rules held ls) ms
+  answers_more held [] ms = refl
+  answers_more held (l ∷ ls) ms =
+      let here = answer_line rules print held (order_of_line l) in
+      let next = after_line rules held (order_of_line l) in
+      ap (λ t. here ++ t) (answers_more next ls ms) ∙ sym (append_assoc here (answers rules print next ls) (answers rules print (after_lines rules next ls) ms))
+
+-- ---- how the run ends
+
+module _ (rules : Rules) (print : Print) (start : Held) (reader_old writer_old reader_new writer_new : Device) where
+  -- these lines are answered, and what was read behind them is no more than may be
+  pub record IsDone (done : List (List ℕ)) : Type 0 where
+    pub ahead : reader_new.passed ≤ reader_old.passed + length (with_ends done) + line_read_ahead
+
+  -- the lines done and a beginning of the next one's answer are written
+  ahead_at : (ending : Ending) (bytes : List ℕ) (done others : List (List ℕ)) (n : ℕ) → Gave reader_old reader_new ending bytes → good_lines (script_lines ending bytes) ≡ done ++ others
+      → Took writer_old writer_new (answers rules print start done ++ take n (answers rules print (after_lines rules start done) (take 1 others)))
+      → IsDone done → LinesReadAhead rules print start reader_old reader_new writer_old writer_new
+  ahead_at ending bytes done others n gave lines took ahead =
+      let all = good_lines (script_lines ending bytes) in
+      let first : take (length done) all ≡ done = ap (take (length done)) lines ∙ take-append_seam done others in
+      let rest : drop (length done) all ≡ others = ap (drop (length done)) lines ∙ drop-append_seam done others in (
+        ending,
+        bytes,
+        gave,
+        (
+          length done,
+          n,
+          subst (λ (ls : List (List ℕ)). Took writer_old writer_new (answers rules print start ls ++ take n (answers rules print (after_lines rules start ls) (take 1 (drop (length done) all))))) (sym first)
+              (subst (λ (ls : List (List ℕ)). Took writer_old writer_new (answers rules print start done ++ take n (answers rules print (after_lines rules start done) (take 1 ls)))) (sym rest) took),
+          subst (λ (ls : List (List ℕ)). reader_new.passed ≤ reader_old.passed + length (with_ends ls) + line_read_ahead) (sym first) ahead.ahead,
+        ),
+      )
+
+  ahead_done : (ending : Ending) (bytes : List ℕ) (done others : List (List ℕ)) → Gave reader_old reader_new ending bytes → good_lines (script_lines ending bytes) ≡ done ++ others
+      → Wrote (answers rules print start done) writer_old writer_new → IsDone done → LinesReadAhead rules print start reader_old reader_new writer_old writer_new
+  ahead_done ending bytes done others gave lines wrote ahead =
+      ahead_at ending bytes done others 0 gave lines (subst (Took writer_old writer_new) (sym (append-nil (answers rules print start done))) wrote.0) ahead
+
+  -- all lines are done
+  pub ends_whole : (bytes : List ℕ) (done : List (List ℕ)) → Gave reader_old reader_new AtEnd bytes → script_lines AtEnd bytes ≡ done → list_all is_good done ≡ true
+      → IsAtEnd reader_new.bytes → reader_new.passed ≡ reader_old.passed + length bytes → Wrote (answers rules print start done) writer_old writer_new
+      → Ends rules print start reader_old writer_old reader_new writer_new (Ok tt)
+  ends_whole bytes done gave lines good finished passed wrote =
+      let all : good_lines (script_lines AtEnd bytes) ≡ done = ap good_lines lines ∙ good_all done good in
+      let none : None ≡ script_fault AtEnd (script_lines AtEnd bytes) =
+      sym (ap (script_fault AtEnd) lines ∙ ap (λ (b : Bool). if b then None else Some (f.BadLine (length (good_lines done) + 1))) good) in
+      record {
+        run = (AtEnd, bytes, gave, (finished, passed), (none, subst (λ (ls : List (List ℕ)). Wrote (answers rules print start ls) writer_old writer_new) (sym all) wrote));
+        ahead = tt;
+      }
+
+  -- a read failed behind all that are whole
+  pub ends_at_failure : (bytes : List ℕ) (done : List (List ℕ)) → Gave reader_old reader_new AtFailure bytes → script_lines AtFailure bytes ≡ done → list_all is_good done ≡ true
+      → Wrote (answers rules print start done) writer_old writer_new → IsDone done → Ends rules print start reader_old writer_old reader_new writer_new (Err f.Read)
+  ends_at_failure bytes done gave lines good wrote ahead =
+      let all : good_lines (script_lines AtFailure bytes) ≡ done = ap good_lines lines ∙ good_all done good in
+      let fault : Some f.Read ≡ script_fault AtFailure (script_lines AtFailure bytes) =
+      sym (ap (script_fault AtFailure) lines ∙ ap (λ (b : Bool). if b then Some f.Read else Some (f.BadLine (length (good_lines done) + 1))) good) in
+      record {
+        run = (AtFailure, bytes, gave, tt, (fault, subst (λ (ls : List (List ℕ)). Wrote (answers rules print start ls) writer_old writer_new) (sym all) wrote));
+        ahead = ahead_done AtFailure bytes done [] gave (all ∙ sym (append-nil done)) wrote ahead;
+      }
+
+  -- memory was wanting
+  pub ends_short : (ending : Ending) (bytes : List ℕ) (done others : List (List ℕ)) → Gave reader_old reader_new ending bytes → script_lines ending bytes ≡ done ++ others → list_all is_good done ≡ true
+      → Wrote (answers rules print start done) writer_old writer_new → IsDone done → Ends rules print start reader_old writer_old reader_new writer_new (Err f.Memory)
+  ends_short ending bytes done others gave lines good wrote ahead =
+      let all : good_lines (script_lines ending bytes) ≡ done ++ good_lines others = ap good_lines lines ∙ take_while_more done others good in
+      let first : take (length done) (good_lines (script_lines ending bytes)) ≡ done = ap (take (length done)) all ∙ take-append_seam done (good_lines others) in
+      record {
+        run = (ending, bytes, gave, tt, (length done, subst (λ (ls : List (List ℕ)). Wrote (answers rules print start ls) writer_old writer_new) (sym first) wrote));
+        ahead = ahead_done ending bytes done (good_lines others) gave all wrote ahead;
+      }
+
+  -- a line is none
+  ends_bad : (ending : Ending) (bytes : List ℕ) (done : List (List ℕ)) (line : List ℕ) (others : List (List ℕ)) (n : ℕ) → Gave reader_old reader_new ending bytes → script_lines ending bytes ≡ done ++ line ∷ others → list_all is_good done ≡ true
+      → is_good line ≡ false → n ≡ length done + 1 → Wrote (answers rules print start done) writer_old writer_new → IsDone done
+      → Ends rules print start reader_old writer_old reader_new writer_new (Err (f.BadLine n))
+  ends_bad ending bytes done line others n gave lines good bad number wrote ahead =
+      let all : good_lines (script_lines ending bytes) ≡ done = ap good_lines lines ∙ take_while_more done (line ∷ others) good ∙ ap (λ t. done ++ t) (good_none line others bad) ∙ append-nil done in
+      let not_all : list_all is_good (script_lines ending bytes) ≡ false = ap (list_all is_good) lines ∙ all_but done line others bad in
+      let fault : Some (f.BadLine n) ≡ script_fault ending (script_lines ending bytes) =
+      ap (λ k. Some (f.BadLine k)) (number ∙ ap (λ (ls : List (List ℕ)). length ls + 1) (sym all))
+      ∙ sym (ap (λ (b : Bool). if b then input_fault ending else Some (f.BadLine (length (good_lines (script_lines ending bytes)) + 1))) not_all) in
+      record {
+        run = (ending, bytes, gave, tt, (fault, subst (λ (ls : List (List ℕ)). Wrote (answers rules print start ls) writer_old writer_new) (sym all) wrote));
+        ahead = ahead_done ending bytes done [] gave (all ∙ sym (append-nil done)) wrote ahead;
+      }
+
+  -- its answer was written in part
+  ends_write : (ending : Ending) (bytes : List ℕ) (done : List (List ℕ)) (line : List ℕ) (others : List (List ℕ)) (held : Held) (written n : ℕ) (writer_mid : Device) → Gave reader_old reader_new ending bytes
+      → script_lines ending bytes ≡ done ++ line ∷ others → list_all is_good done ≡ true → is_good line ≡ true → held ≡ after_lines rules start done → written ≡ length (answers rules print start done)
+      → Wrote (answers rules print start done) writer_old writer_mid → StoppedIn (answer_line rules print held (order_of_line line)) written writer_mid writer_new n → IsDone done
+      → Ends rules print start reader_old writer_old reader_new writer_new (Err (f.Write n))
+  ends_write ending bytes done line others held written n writer_mid gave lines good here held_is count wrote stopped ahead =
+      let all : good_lines (script_lines ending bytes) ≡ done ++ line ∷ good_lines others = ap good_lines lines ∙ take_while_more done (line ∷ others) good ∙ ap (λ t. done ++ t) (good_one line others here) in
+      let front = answers rules print start done in
+      let next = answer_line rules print (after_lines rules start done) (order_of_line line) in
+      let m = n - written in
+      let stopped_next : StoppedAt m next writer_mid writer_new = subst (λ (h : Held). StoppedAt m (answer_line rules print h (order_of_line line)) writer_mid writer_new) held_is stopped.stopped in
+      let m_is : n ≡ length front + m = omega (arith, stopped.behind, count) in
+      let took : Took writer_old writer_new (front ++ take m next) = Took-append writer_old writer_mid writer_new front (take m next) wrote.0 stopped_next.1 in
+      let rest = answers rules print (after_line rules (after_lines rules start done) (order_of_line line)) (good_lines others) in
+      let text : answers rules print start (good_lines (script_lines ending bytes)) ≡ front ++ (next ++ rest) = ap (answers rules print start) all ∙ answers_more rules print start done (line ∷ good_lines others) in
+      let cut : take n (front ++ (next ++ rest)) ≡ front ++ take m next =
+      ap (λ k. take k (front ++ (next ++ rest))) m_is ∙ take-append-add front (next ++ rest) m ∙ ap (λ t. front ++ t) (take-append-le m next rest (omega (arith, stopped_next.0))) in
+      let stopped_all : StoppedAt n (front ++ (next ++ rest)) writer_old writer_new = (
+        omega (arith, m_is, stopped_next.0, length-append front (next ++ rest), length-append next rest),
+        subst (Took writer_old writer_new) (sym cut) took,
+        record { failures = stopped_next.2.failures ∙ ap (λ k. min (k + 1) greatest) wrote.1; last = stopped_next.2.last },
+      )
+      in
+      record {
+        run = (ending, bytes, gave, tt, subst (λ (t : List ℕ). StoppedAt n t writer_old writer_new) (sym text) stopped_all);
+        ahead =
+            ahead_at ending bytes done (line ∷ good_lines others) m gave all
+            (subst (λ (t : List ℕ). Took writer_old writer_new (front ++ take m t)) (sym (append-nil next)) took) ahead;
+      }
+
+  -- a line fails
+  pub ends_line : (ending : Ending) (bytes : List ℕ) (done : List (List ℕ)) (line : List ℕ) (others : List (List ℕ)) (held : Held) (lines written : ℕ) (writer_mid : Device) (fault : RunFault) → Gave reader_old reader_new ending bytes
+      → script_lines ending bytes ≡ done ++ line ∷ others → list_all is_good done ≡ true → held ≡ after_lines rules start done → lines ≡ length done → written ≡ length (answers rules print start done)
+      → Wrote (answers rules print start done) writer_old writer_mid → FailsAt rules print held line lines written writer_mid writer_new fault → IsDone done
+      → Ends rules print start reader_old writer_old reader_new writer_new (Err fault)
+  ends_line ending bytes done line others held lines written writer_mid (f.BadLine n) gave parts good held_is count written_is wrote (bad, number, same) ahead =
+      ends_bad ending bytes done line others n gave parts good bad (number ∙ ap (λ k. k + 1) count) (subst (λ w. Wrote (answers rules print start done) writer_old w) (sym same) wrote) ahead
+  ends_line ending bytes done line others held lines written writer_mid (f.Write n) gave parts good held_is count written_is wrote (here, stopped) ahead =
+      ends_write ending bytes done line others held written n writer_mid gave parts good here held_is written_is wrote stopped ahead
+  ends_line ending bytes done line others held lines written writer_mid f.Memory gave parts good held_is count written_is wrote same ahead =
+      ends_short ending bytes done (line ∷ others) gave parts good (subst (λ w. Wrote (answers rules print start done) writer_old w) (sym same) wrote) ahead
+  ends_line ending bytes done line others held lines written writer_mid f.Read gave parts good held_is count written_is wrote fails ahead = absurd fails
+  ends_line ending bytes done line others held lines written writer_mid (f.NotUtf8 n) gave parts good held_is count written_is wrote fails ahead = absurd fails
+  ends_line ending bytes done line others held lines written writer_mid f.ParagraphTooLong gave parts good held_is count written_is wrote fails ahead = absurd fails
+  ends_line ending bytes done line others held lines written writer_mid f.TextTooLong gave parts good held_is count written_is wrote fails ahead = absurd fails

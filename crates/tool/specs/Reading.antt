@@ -1,0 +1,146 @@
+-- Where the run of a script stands between two lines. Only the code speaks of these.
+use Rattle.std.specs.Prelude.{◌≡◌, ◌⊎◌, ℕ, ◌+◌, ◌<◌, ◌≤◌, false, true, All, Bool, List, [], ◌∷◌, ◌++◌, length, take, Option, Some, None, Result, Ok, Err, OnErr}
+use Rattle.std.specs.List.{list_all, slice_split}
+use Rattle.std.specs.Io.KnownBytes.{Consumes}
+use Rattle.device.specs.Device.{Device, Wrote, greatest}
+use Rattle.lines.specs.Layouts.{Rules}
+use Rattle.lines.specs.Writing.{PassedOn, StoppedIn}
+use Rattle.lines.specs.declared.print.Print.{Print}
+use Rattle.session.specs.Changes.{Held}
+use Rattle.session.specs.declared.edits.Damage.{Damage}
+use Rattle.session.specs.declared.edits.EditFault.{EditFault}
+use Rattle.session.specs.declared.edits.EditFault.TheVariants.{NoMemory}
+use Rattle.tool.specs.Scripts.{Order, is_line_end, line_limit, order_of_line}
+use Rattle.tool.specs.ScriptRun.{after_line, after_lines, answer_line, answer_to, after_order, answers, damage_text, is_good, obeyed, obeyed_text, order_refusal, refusal_text, with_ends, IsScriptRun, LinesReadAhead}
+use Rattle.tool.specs.declared.faults.RunFault.{RunFault}
+use Rattle.tool.specs.declared.faults.RunFault.TheVariants as f
+use Rattle.tool.specs.declared.script.Reading.{Reading}
+
+-- a change was made, and this is its damage; or it was refused, and all stays
+abbrev pub Changed : Rules → Order → Held → Held → Result Damage EditFault → Type 0
+Changed rules order old new (Ok damage) =
+    (order_refusal rules old order ≡ None) × (new ≡ obeyed old order)
+    × ((print : Print) → obeyed_text rules print old order ≡ damage_text damage.first_line damage.old_lines damage.new_lines)
+Changed rules order old new (Err NoMemory) = Unit {0}
+Changed rules order old new (Err reason) = (order_refusal rules old order ≡ Some reason) × (new ≡ old)
+
+abbrev pub lacks_memory : Result Damage EditFault → Bool
+lacks_memory (Err NoMemory) = true
+lacks_memory change = false
+
+-- what is answered to a change
+abbrev pub change_text : Result Damage EditFault → List ℕ
+change_text (Ok damage) = damage_text damage.first_line damage.old_lines damage.new_lines
+change_text (Err reason) = refusal_text reason
+
+-- an answer was written only in part, or not at all
+abbrev pub Stops : List ℕ → ℕ → Device → Device → RunFault → Type 0
+Stops answer written old new (f.Write n) = StoppedIn answer written old new n
+Stops answer written old new f.Memory = new ≡ old
+Stops answer written old new fault = ⊥
+
+-- the order was obeyed and its answer written
+pub record Obeys (rules : Rules) (print : Print) (order : Order) (written : ℕ) (held_old held_new : Held) (old new : Device) (n : ℕ) : Type 0 where
+  pub held : held_new ≡ after_order rules held_old order
+  pub wrote : PassedOn (answer_to rules print held_old order) written old new n
+
+-- a line was obeyed
+pub record ObeysLine (rules : Rules) (print : Print) (line : List ℕ) (held_old held_new : Held) (old new : Reading) (writer_old writer_new : Device) : Type 0 where
+  pub good : is_good line ≡ true
+  pub held : held_new ≡ after_line rules held_old (order_of_line line)
+  pub wrote : PassedOn (answer_line rules print held_old (order_of_line line)) old.written writer_old writer_new new.written
+  pub lines : new.lines ≡ old.lines + 1
+  pub empty : new.line.items ≡ []
+
+-- or it was not
+abbrev pub FailsAt : Rules → Print → Held → List ℕ → ℕ → ℕ → Device → Device → RunFault → Type 0
+FailsAt rules print held line lines written old new (f.BadLine n) = (is_good line ≡ false) × (n ≡ lines + 1) × (new ≡ old)
+FailsAt rules print held line lines written old new (f.Write n) =
+    (is_good line ≡ true) × StoppedIn (answer_line rules print held (order_of_line line)) written old new n
+FailsAt rules print held line lines written old new f.Memory = new ≡ old
+FailsAt rules print held line lines written old new fault = ⊥
+
+-- no line ends within some bytes
+abbrev pub NoEnd : List ℕ → Type 0
+NoEnd bytes = All (λ b. is_line_end b ≡ false) bytes
+
+-- a line ends within a piece, behind its first bytes
+pub record EndsIn (piece front behind : List ℕ) : Type 0 where
+  pub whole : piece ≡ front ++ 10 ∷ behind
+  pub none : NoEnd front
+
+-- Of a piece, the first n bytes were taken: all of it goes on with the line, or a line ended and was obeyed.
+pub record GoesOn (piece : List ℕ) (n : ℕ) (held_old held_new : Held) (old new : Reading) (writer_old writer_new : Device) : Type 0 where
+  pub all : n ≡ length piece
+  pub none : NoEnd piece
+  pub line : new.line.items ≡ old.line.items ++ piece
+  pub short : length new.line.items ≤ line_limit
+  pub lines : new.lines ≡ old.lines
+  pub written : new.written ≡ old.written
+  pub held : held_new ≡ held_old
+  pub writer : writer_new ≡ writer_old
+
+pub record EndsLine (rules : Rules) (print : Print) (piece : List ℕ) (n : ℕ) (held_old held_new : Held) (old new : Reading) (writer_old writer_new : Device) : Type 0 where
+  pub front : List ℕ
+  pub behind : List ℕ
+  pub ends : EndsIn piece front behind
+  pub taken : n ≡ length front + 1
+  pub obeys : ObeysLine rules print (old.line.items ++ front) held_old held_new old new writer_old writer_new
+
+abbrev pub Takes : Rules → Print → List ℕ → ℕ → Held → Held → Reading → Reading → Device → Device → Type 0
+Takes rules print piece n held_old held_new old new writer_old writer_new =
+    GoesOn piece n held_old held_new old new writer_old writer_new ⊎ EndsLine rules print piece n held_old held_new old new writer_old writer_new
+
+-- a line that ends in a piece fails; or none ends, and it is too long already
+abbrev pub FailsIn : Rules → Print → List ℕ → Held → Reading → Device → Device → RunFault → Type 0
+FailsIn rules print piece held reading old new fault =
+    ((front : List ℕ) × (behind : List ℕ) × EndsIn piece front behind
+        × FailsAt rules print held (reading.line.items ++ front) reading.lines reading.written old new fault)
+    ⊎ ((fault ≡ f.BadLine (reading.lines + 1)) × (new ≡ old) × NoEnd piece × (line_limit < length (reading.line.items ++ piece)))
+    ⊎ ((fault ≡ f.Memory) × (new ≡ old))
+
+-- Between two states of its devices a run has read some bytes and obeyed some lines. Behind these it holds the beginning of a line, and
+-- bytes that wait.
+pub record IsAt (rules : Rules) (print : Print) (start : Held) (reader_old reader_new writer_old writer_new : Device) (held : Held) (reading : Reading) (waiting : List ℕ) : Type 0 where
+  pub bytes : List ℕ
+  pub done : List (List ℕ)
+  pub read : Consumes reader_old.bytes reader_new.bytes bytes
+  pub passed : reader_new.passed ≡ reader_old.passed + length bytes
+  pub failures : reader_new.failures ≡ reader_old.failures
+  pub parts : (more : List ℕ) → slice_split is_line_end (bytes ++ more) ≡ done ++ slice_split is_line_end (reading.line.items ++ (waiting ++ more))
+  pub good : list_all is_good done ≡ true
+  pub none : NoEnd reading.line.items
+  pub size : length bytes ≡ length (with_ends done) + (length reading.line.items + length waiting)
+  pub wrote : Wrote (answers rules print start done) writer_old writer_new
+  pub held_is : held ≡ after_lines rules start done
+  pub lines : reading.lines ≡ length done
+  pub written : reading.written ≡ length (answers rules print start done)
+  pub ahead : length reading.line.items + length waiting ≤ 1114112
+  pub short : length reading.line.items ≤ line_limit
+
+-- the run ends so
+pub record Ends (rules : Rules) (print : Print) (start : Held) (reader_old writer_old reader_new writer_new : Device) (result : Result (Unit {0}) RunFault) : Type 0 where
+  pub run : IsScriptRun rules print start reader_old reader_new writer_old writer_new result
+  pub ahead : OnErr result (LinesReadAhead rules print start reader_old reader_new writer_old writer_new)
+
+-- a run stands somewhere, and its counts fit
+abbrev pub CanFeed : Rules → Print → Held → Reading → Device → List ℕ → Type 0
+CanFeed rules print held reading writer_new waiting =
+    (start : Held) × (reader_old : Device) × (writer_old : Device) × (reader_new : Device)
+    × IsAt rules print start reader_old reader_new writer_old writer_new held reading waiting × (reader_new.passed ≤ greatest)
+
+-- a step goes on, or ends the run
+abbrev pub Steps : Rules → Print → Held → Device → Device → Device → Device → Held → Reading → Result Bool RunFault → Type 0
+Steps rules print start reader_old writer_old reader_new writer_new held reading (Ok true) =
+    IsAt rules print start reader_old reader_new writer_old writer_new held reading []
+Steps rules print start reader_old writer_old reader_new writer_new held reading (Ok false) =
+    Ends rules print start reader_old writer_old reader_new writer_new (Ok tt)
+Steps rules print start reader_old writer_old reader_new writer_new held reading (Err fault) =
+    Ends rules print start reader_old writer_old reader_new writer_new (Err fault)
+
+-- the piece that was read was taken, or the run ends within it
+abbrev pub Feeds : Rules → Print → Held → Device → Device → Device → Device → Held → Reading → Result (Unit {0}) RunFault → Type 0
+Feeds rules print start reader_old writer_old reader_new writer_new held reading (Ok done) =
+    IsAt rules print start reader_old reader_new writer_old writer_new held reading []
+Feeds rules print start reader_old writer_old reader_new writer_new held reading (Err fault) =
+    Ends rules print start reader_old writer_old reader_new writer_new (Err fault)

@@ -1,0 +1,418 @@
+//! The run of an edit script: its bytes are read piece by piece, each line is obeyed as soon as its end was
+//! read, and its answer is written before more is read.
+ghost use Rattle.std.specs.Prelude.{◌≡◌, ◌+◌, ◌-◌, ◌<◌, ◌≤◌, ◌++◌, ◌^◌, ◌∷◌, [], true, false, None, Ok};
+ghost use Rattle.std.specs.Prelude.{length, take, drop, vec_len, option_map};
+ghost use Rattle.std.specs.Prelude.{IfOk, IfErr, OnOk, OnErr, MatchOption, MatchResult};
+ghost use Rattle.std.specs.Str.{chars};
+ghost use Rattle.device.specs.Device.{Device};
+ghost use Rattle.lines.specs.Engine.{rules_of, SameRules};
+ghost use Rattle.lines.specs.Writing.{PassedOn};
+ghost use Rattle.session.specs.Changes.{Held};
+ghost use Rattle.session.specs.Sessions.{held_at, page_at};
+ghost use Rattle.std.specs.Io.KnownBytes.{IsAtEnd};
+ghost use Rattle.tool.specs.Commands.{order_of};
+ghost use Rattle.tool.specs.Reading.{CanFeed, Changed, Ends, EndsIn, FailsAt, FailsIn, Feeds, IsAt};
+ghost use Rattle.tool.specs.Reading.{NoEnd, Obeys, ObeysLine, Steps, Stops, Takes, change_text, lacks_memory};
+ghost use Rattle.tool.specs.ScriptRun.{answer_to, IsScriptRun, LinesReadAhead};
+ghost use Rattle.tool.specs.Scripts.{Order, Deletion, Filling, Insertion, Showing};
+ghost use Rattle.tool.specs.Scripts.{order_of_line};
+
+use crate::answers::push_answer;
+use crate::commands::{Command, read_command};
+use crate::faults::RunFault;
+use crate::pieces::decode;
+use crate::text::{PIECE, room};
+use device::{Sink, Source, write_all};
+use lines::Print;
+use session::{Damage, EditFault, Kept, Session};
+use std::alloc::{AllocError, Global};
+use store::ParagraphStore;
+
+/// How many bytes a line may have, without its end.
+const LINE_LIMIT: usize = 1_048_576;
+
+/// What a run holds between two reads.
+#[derive(Debug, Drop)]
+struct Reading {
+    // The bytes behind the last end of a line.
+    line: Vec<u8>,
+    // How many lines were obeyed, and how many bytes are written.
+    lines: u64,
+    written: u64,
+    // The characters of a line, and its answer.
+    text: Vec<char>,
+    answer: Vec<u8>,
+}
+
+// Sets the width of a session, if it is a width.
+fn set_width<S: ParagraphStore<Kept>>(
+    session: &mut Session<S>,
+    width: usize,
+) -> Result<Damage, EditFault>
+    ensures changed { Changed (rules_of session.old.engine) (Filling width)
+        (held_at session.old) (held_at session.new) result }
+    ensures rules { SameRules session.old.engine session.new.engine }
+{
+    // Shows that what is kept is laid out.
+    let _width = session.width();
+    match u16::try_from(width) {
+        Ok(width) => session.set_width(width),
+        Err(_) => Err(EditFault::WidthOutOfRange),
+    }
+}
+
+fn insert<S: ParagraphStore<Kept>>(
+    session: &mut Session<S>,
+    pos: usize,
+    piece: &str,
+) -> Result<Damage, EditFault>
+    ensures changed { Changed (rules_of session.old.engine) (Insertion pos (chars piece.now))
+        (held_at session.old) (held_at session.new) result }
+    ensures rules { SameRules session.old.engine session.new.engine }
+{
+    // Shows that what is kept is laid out.
+    let _width = session.width();
+    session.insert(pos, piece)
+}
+
+fn delete<S: ParagraphStore<Kept>>(
+    session: &mut Session<S>,
+    pos: usize,
+    count: usize,
+) -> Result<Damage, EditFault>
+    ensures changed { Changed (rules_of session.old.engine) (Deletion pos count)
+        (held_at session.old) (held_at session.new) result }
+    ensures rules { SameRules session.old.engine session.new.engine }
+{
+    // Shows that what is kept is laid out.
+    let _width = session.width();
+    session.delete(pos, count)
+}
+
+// Writes the answer to a change behind so many bytes.
+fn write_answer<W: Sink>(
+    writer: &mut W,
+    written: u64,
+    change: &Result<Damage, EditFault>,
+    answer: &mut Vec<u8>,
+) -> Result<u64, RunFault>
+    requires { written ≤ (W.state writer.old).passed }
+    ensures ok { IfOk result (PassedOn (change_text change.now) written
+        (W.state writer.old) (W.state writer.new)) }
+    ensures err { IfErr result (Stops (change_text change.now) written
+        (W.state writer.old) (W.state writer.new)) }
+    ensures counted { IfOk result (λ n. n ≤ (W.state writer.new).passed) }
+{
+    answer.clear();
+    let Ok(()) = push_answer(answer, change) else {
+        return Err(RunFault::Memory);
+    };
+    match write_all(writer, answer) {
+        Ok(()) => Ok(written + answer.len() as u64),
+        Err(n) => Err(RunFault::Write(written + n as u64)),
+    }
+}
+
+// Writes all lines behind so many bytes.
+fn show<W: Sink, S: ParagraphStore<Kept>>(
+    session: &Session<S>,
+    writer: &mut W,
+    written: u64,
+    print: &Print,
+) -> Result<u64, RunFault>
+    requires { written ≤ (W.state writer.old).passed }
+    ensures ok { IfOk result (PassedOn (page_at session.now print.now) written
+        (W.state writer.old) (W.state writer.new)) }
+    ensures err { IfErr result (Stops (page_at session.now print.now) written
+        (W.state writer.old) (W.state writer.new)) }
+    ensures counted { IfOk result (λ n. n ≤ (W.state writer.new).passed) }
+{
+    match session.print_behind(writer, written, print) {
+        Ok(n) => Ok(n),
+        Err(fault) => Err(RunFault::Write(fault.written)),
+    }
+}
+
+fn lacks_memory(change: &Result<Damage, EditFault>) -> bool
+    ensures { result ≡ lacks_memory change.now }
+{
+    match change {
+        Err(EditFault::NoMemory) => true,
+        _ => false,
+    }
+}
+
+// Obeys a line, and writes its answer behind so many bytes.
+fn obey<W: Sink, S: ParagraphStore<Kept>>(
+    session: &mut Session<S>,
+    writer: &mut W,
+    written: u64,
+    print: &Print,
+    command: &Command,
+    answer: &mut Vec<u8>,
+) -> Result<u64, RunFault>
+    requires { written ≤ (W.state writer.old).passed }
+    ensures ok { IfOk result (Obeys (rules_of session.old.engine) print.now (order_of command.now)
+        written (held_at session.old) (held_at session.new) (W.state writer.old) (W.state writer.new)) }
+    ensures err { IfErr result (Stops (answer_to (rules_of session.old.engine) print.now
+        (held_at session.old) (order_of command.now)) written (W.state writer.old) (W.state writer.new)) }
+    ensures counted { IfOk result (λ n. n ≤ (W.state writer.new).passed) }
+    ensures rules { SameRules session.old.engine session.new.engine }
+{
+    let change = match command {
+        Command::Insert(pos, piece) => insert(session, *pos, piece),
+        Command::Delete(pos, count) => delete(session, *pos, *count),
+        Command::SetWidth(width) => set_width(session, *width),
+        Command::Show => return show(session, writer, written, print),
+    };
+    if lacks_memory(&change) {
+        return Err(RunFault::Memory);
+    }
+    write_answer(writer, written, &change, answer)
+}
+
+// What the bytes of a line ask for, if they are a line of a script.
+fn read_line(
+    alloc: Global,
+    line: &[u8],
+    text: &mut Vec<char>,
+) -> Result<Option<Command>, AllocError>
+    ensures { IfOk result (λ command. option_map order_of command ≡ order_of_line line.now) }
+{
+    if line.len() > LINE_LIMIT {
+        return Ok(None);
+    }
+    text.clear();
+    let (len, _) = decode(line, text)?;
+    if len < line.len() {
+        return Ok(None);
+    }
+    read_command(alloc, text)
+}
+
+// Obeys the line that was read.
+fn obey_line<W: Sink, S: ParagraphStore<Kept>>(
+    alloc: Global,
+    session: &mut Session<S>,
+    writer: &mut W,
+    print: &Print,
+    reading: &mut Reading,
+) -> Result<(), RunFault>
+    requires written { reading.old.written ≤ (W.state writer.old).passed }
+    requires lines { reading.old.lines < 2 ^ 64 - 1 }
+    ensures ok { OnOk result (ObeysLine (rules_of session.old.engine) print.now reading.old.line.items
+        (held_at session.old) (held_at session.new) reading.old reading.new
+        (W.state writer.old) (W.state writer.new)) }
+    ensures err { IfErr result (FailsAt (rules_of session.old.engine) print.now (held_at session.old)
+        reading.old.line.items reading.old.lines reading.old.written
+        (W.state writer.old) (W.state writer.new)) }
+    ensures rules { SameRules session.old.engine session.new.engine }
+{
+    let command = match read_line(alloc, &reading.line, &mut reading.text) {
+        Ok(Some(command)) => command,
+        Ok(None) => return Err(RunFault::BadLine(reading.lines + 1)),
+        Err(_) => return Err(RunFault::Memory),
+    };
+    let written = reading.written;
+    match obey(
+        session,
+        writer,
+        written,
+        print,
+        &command,
+        &mut reading.answer,
+    ) {
+        Ok(written) => {
+            reading.written = written;
+            reading.lines += 1;
+            reading.line.clear();
+            Ok(())
+        }
+        Err(fault) => Err(fault),
+    }
+}
+
+// Where the first end of a line stands.
+fn line_end(piece: &[u8]) -> Option<usize>
+    ensures { MatchOption result (NoEnd piece.now) (λ n. (n < length piece.now)
+        × EndsIn piece.now (take n piece.now) (drop (n + 1) piece.now)) }
+{
+    piece.iter().position(|&b| b == b'\n')
+}
+
+// Takes the bytes of a piece up to the first end of a line, and obeys the line; or, where none ends there,
+// takes all of them. Says how many it took.
+fn take_part<W: Sink, S: ParagraphStore<Kept>>(
+    alloc: Global,
+    session: &mut Session<S>,
+    writer: &mut W,
+    print: &Print,
+    reading: &mut Reading,
+    piece: &[u8],
+) -> Result<usize, RunFault>
+    requires written { reading.old.written ≤ (W.state writer.old).passed }
+    requires lines { reading.old.lines < 2 ^ 64 - 1 }
+    ensures ok { IfOk result (λ n. Takes (rules_of session.old.engine) print.now piece.now n
+        (held_at session.old) (held_at session.new) reading.old reading.new
+        (W.state writer.old) (W.state writer.new)) }
+    ensures err { IfErr result (FailsIn (rules_of session.old.engine) print.now piece.now
+        (held_at session.old) reading.old (W.state writer.old) (W.state writer.new)) }
+    ensures rules { SameRules session.old.engine session.new.engine }
+{
+    match line_end(piece) {
+        Some(end) => {
+            let Ok(()) = reading.line.extend_from_slice(&piece[..end]) else {
+                return Err(RunFault::Memory);
+            };
+            match obey_line(alloc, session, writer, print, reading) {
+                Ok(()) => Ok(end + 1),
+                Err(fault) => Err(fault),
+            }
+        }
+        None => {
+            let Ok(()) = reading.line.extend_from_slice(piece) else {
+                return Err(RunFault::Memory);
+            };
+            if reading.line.len() > LINE_LIMIT {
+                return Err(RunFault::BadLine(reading.lines + 1));
+            }
+            Ok(piece.len())
+        }
+    }
+}
+
+// Obeys the lines that end in a piece, and keeps what stands behind them.
+fn feed<W: Sink, S: ParagraphStore<Kept>>(
+    alloc: Global,
+    session: &mut Session<S>,
+    writer: &mut W,
+    print: &Print,
+    reading: &mut Reading,
+    piece: &[u8],
+) -> Result<(), RunFault>
+    requires { CanFeed (rules_of session.old.engine) print.now (held_at session.old) reading.old
+        (W.state writer.old) piece.now }
+    ensures feeds { (start : Held) (reader_start writer_start reader_now : Device)
+        → IsAt (rules_of session.old.engine) print.now start reader_start reader_now
+        writer_start (W.state writer.old) (held_at session.old) reading.old piece.now
+        → Feeds (rules_of session.old.engine) print.now start reader_start writer_start reader_now
+        (W.state writer.new) (held_at session.new) reading.new result }
+    ensures rules { SameRules session.old.engine session.new.engine }
+{
+    let mut at = 0;
+    while at < piece.len() {
+        match take_part(alloc, session, writer, print, reading, &piece[at..]) {
+            Ok(taken) => at += taken,
+            Err(fault) => return Err(fault),
+        }
+    }
+    Ok(())
+}
+
+// Ends a script of which no more comes: what stands behind the last end is a line too, unless it is empty.
+fn finish<W: Sink, S: ParagraphStore<Kept>>(
+    alloc: Global,
+    session: &mut Session<S>,
+    writer: &mut W,
+    print: &Print,
+    reading: &mut Reading,
+) -> Result<(), RunFault>
+    requires { CanFeed (rules_of session.old.engine) print.now (held_at session.old) reading.old
+        (W.state writer.old) [] }
+    ensures ends { (start : Held) (reader_start writer_start reader_now : Device)
+        → IsAt (rules_of session.old.engine) print.now start reader_start reader_now
+        writer_start (W.state writer.old) (held_at session.old) reading.old []
+        → IsAtEnd reader_now.bytes
+        → Ends (rules_of session.old.engine) print.now start reader_start writer_start reader_now
+        (W.state writer.new) result }
+    ensures rules { SameRules session.old.engine session.new.engine }
+{
+    if reading.line.is_empty() {
+        return Ok(());
+    }
+    obey_line(alloc, session, writer, print, reading)
+}
+
+// Reads a piece, and obeys the lines that end in it. Says whether the script goes on.
+fn step<R: Source, W: Sink, S: ParagraphStore<Kept>>(
+    alloc: Global,
+    reader: &mut R,
+    writer: &mut W,
+    session: &mut Session<S>,
+    print: &Print,
+    piece: &mut [u8],
+    reading: &mut Reading,
+) -> Result<bool, RunFault>
+    requires room { length piece.old ≡ 65536 }
+    requires stands { (start : Held) × (reader_start : Device) × (writer_start : Device)
+        × IsAt (rules_of session.old.engine) print.now start reader_start (R.state reader.old)
+        writer_start (W.state writer.old) (held_at session.old) reading.old [] }
+    ensures steps { (start : Held) (reader_start writer_start : Device)
+        → IsAt (rules_of session.old.engine) print.now start reader_start (R.state reader.old)
+        writer_start (W.state writer.old) (held_at session.old) reading.old []
+        → Steps (rules_of session.old.engine) print.now start reader_start writer_start
+        (R.state reader.new) (W.state writer.new) (held_at session.new) reading.new result }
+    ensures rises { result ≡ Ok true → (R.state reader.old).passed < (R.state reader.new).passed }
+    ensures counted { result ≡ Ok true → (R.state reader.new).passed ≤ 2 ^ 64 - 1 }
+    ensures room { length piece.new ≡ length piece.old }
+    ensures rules { SameRules session.old.engine session.new.engine }
+{
+    let len = match reader.read(piece) {
+        Ok(len) => len,
+        Err(_) => return Err(RunFault::Read),
+    };
+    if len == 0 {
+        return match finish(alloc, session, writer, print, reading) {
+            Ok(()) => Ok(false),
+            Err(fault) => Err(fault),
+        };
+    }
+    match feed(alloc, session, writer, print, reading, &piece[..len]) {
+        Ok(()) => Ok(true),
+        Err(fault) => Err(fault),
+    }
+}
+
+/// Obeys the lines of a script over a session, which is given up however the run ends. Each line is obeyed as
+/// soon as its end was read, and its answer is written before more is read: of the script, no more is held
+/// than a line and one piece.
+pub fn run_script<R: Source, W: Sink, S: ParagraphStore<Kept> + Drop>(
+    alloc: Global,
+    reader: &mut R,
+    writer: &mut W,
+    session: Session<S>,
+    print: &Print,
+) -> Result<(), RunFault>
+    ensures run { IsScriptRun (rules_of session.engine) print.now (held_at session)
+        (R.state reader.old) (R.state reader.new) (W.state writer.old) (W.state writer.new) result }
+    ensures ahead { OnErr result (LinesReadAhead (rules_of session.engine) print.now
+        (held_at session) (R.state reader.old) (R.state reader.new)
+        (W.state writer.old) (W.state writer.new)) }
+{
+    let mut session = session;
+    let Ok(mut piece) = room(alloc, PIECE) else {
+        return Err(RunFault::Memory);
+    };
+    let mut reading = Reading {
+        line: Vec::new(alloc),
+        lines: 0,
+        written: 0,
+        text: Vec::new(alloc),
+        answer: Vec::new(alloc),
+    };
+    loop {
+        match step(
+            alloc,
+            reader,
+            writer,
+            &mut session,
+            print,
+            &mut piece,
+            &mut reading,
+        ) {
+            Ok(true) => (),
+            Ok(false) => return Ok(()),
+            Err(fault) => return Err(fault),
+        }
+    }
+}
