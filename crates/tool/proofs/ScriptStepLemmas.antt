@@ -4,7 +4,7 @@ use Rattle.std.specs.List.{concat, list_all, slice_split}
 use Rattle.std.specs.Io.KnownBytes.{Consumes, IsAtEnd, Keeps}
 use Rattle.std.proofs.lemmas.Bool.{and_parts}
 use Rattle.std.proofs.lemmas.Bool.Decides.{nat_tests}
-use Rattle.std.proofs.lemmas.List.{append_assoc, append-nil, drop_all, length-append, length-take-le}
+use Rattle.std.proofs.lemmas.List.{append_assoc, append-nil, drop-drop, drop_all, length-append, length-take-le}
 use Rattle.std.proofs.Math.Seq.{drop-append-add}
 use Rattle.std.proofs.lemmas.List.Elements.{All-append}
 use Rattle.std.proofs.lemmas.List.Folds.{list_all-append, concat-append}
@@ -277,3 +277,46 @@ at_start rules print start reader writer reading line lines written = record {
     kept : (known : Option (List ℕ)) → Consumes known known []
     kept None = tt
     kept (Some xs) = refl
+
+-- ---- the counts fit
+done_short : (done : List (List ℕ)) → length done ≤ length (with_ends done)
+done_short [] = omega arith
+done_short (l ∷ done) = omega (arith, done_short done, length-append (l ++ 10 ∷ []) (with_ends done), length-append l (10 ∷ []))
+
+module _ (rules : Rules) (print : Print) (start : Held) (reader_old reader writer_old writer : Device) (held : Held) (reading : Reading) (waiting : List ℕ) (at : IsAt rules print start reader_old reader writer_old writer held reading waiting) where
+  pub lines_fit : reader.passed ≤ greatest → 0 < length reading.line.items + length waiting → reading.lines < greatest
+  lines_fit counted some = omega (arith, counted, some, at.passed, at.size, at.lines, done_short at.done)
+
+  pub written_fits : reading.written ≤ writer.passed
+  written_fits = omega (arith, at.written, at.wrote.0.passed)
+
+-- the last line was obeyed, or failed
+pub ends_finish : (rules : Rules) (print : Print) (start : Held) (reader_old reader writer_old writer : Device) (held held_new : Held) (reading new : Reading) (writer_new : Device) → IsAt rules print start reader_old reader writer_old writer held reading []
+    → IsAtEnd reader.bytes → 0 < length reading.line.items → (r : Result (Unit {0}) RunFault) → OnOk r (ObeysLine rules print reading.line.items held held_new reading new writer writer_new)
+    → IfErr r (FailsAt rules print held reading.line.items reading.lines reading.written writer writer_new) → Ends rules print start reader_old writer_old reader writer_new r
+ends_finish rules print start reader_old reader writer_old writer held held_new reading new writer_new at finished some (Ok tt) obeys fails =
+    ends_last rules print start reader_old reader writer_old writer held reading at finished some held_new new writer_new obeys
+ends_finish rules print start reader_old reader writer_old writer held held_new reading new writer_new at finished some (Err fault) obeys fails =
+    ends_last_not rules print start reader_old reader writer_old writer held reading at finished some writer_new fault fails
+
+-- ---- a part of a piece, under the rules that the run began with
+module _ (rules now : Rules) (print : Print) (start : Held) (reader_old reader writer_old writer writer_new : Device) (held held_new : Held) (reading new : Reading) (piece part : List ℕ) (n at : ℕ)
+    (same : now ≡ rules) (part_is : part ≡ drop at piece) (stands : IsAt rules print start reader_old reader writer_old writer held reading (drop at piece)) where
+  pub took_part : Takes now print part n held held_new reading new writer writer_new → IsAt rules print start reader_old reader writer_old writer_new held_new new (drop (at + n) piece)
+  took_part takes =
+      let taken : Takes rules print (drop at piece) n held held_new reading new writer writer_new =
+      subst (λ (p : List ℕ). Takes rules print p n held held_new reading new writer writer_new) part_is (subst (λ (r : Rules). Takes r print part n held held_new reading new writer writer_new) same takes) in
+      subst (IsAt rules print start reader_old reader writer_old writer_new held_new new) (drop-drop n at piece)
+      (at_taken rules print start reader_old reader writer_old writer held reading (drop at piece) stands n held_new new writer_new taken)
+
+  pub failed_part : (fault : RunFault) → FailsIn now print part held reading writer writer_new fault → Ends rules print start reader_old writer_old reader writer_new (Err fault)
+  failed_part fault fails =
+      let failed : FailsIn rules print (drop at piece) held reading writer writer_new fault =
+      subst (λ (p : List ℕ). FailsIn rules print p held reading writer writer_new fault) part_is (subst (λ (r : Rules). FailsIn r print part held reading writer writer_new fault) same fails) in
+      ends_in rules print start reader_old reader writer_old writer held reading (drop at piece) stands writer_new fault failed
+
+-- of the first n of a list that is longer, some are taken
+pub takes_some : (rules : Rules) (print : Print) (piece : List ℕ) (n : ℕ) (held held_new : Held) (reading new : Reading) (writer writer_new : Device) → 0 < length piece → Takes rules print piece n held held_new reading new writer writer_new → (0 < n) × (n ≤ length piece)
+takes_some rules print piece n held held_new reading new writer writer_new some (inl more) = (omega (arith, some, more.all), omega (arith, more.all))
+takes_some rules print piece n held held_new reading new writer writer_new some (inr ended) =
+    (omega (arith, ended.taken), omega (arith, ended.taken, ap length ended.ends.whole, length-append ended.front (10 ∷ ended.behind)))

@@ -1,0 +1,22 @@
+use Rattle.std.proofs.Common.{◌≤◌, ◌-◌, length, drop}
+use Rattle.device.specs.Device.{Device}
+use Rattle.lines.specs.Engine.{rules_of, SameRules}
+use Rattle.session.specs.Changes.{Held}
+use Rattle.session.specs.Sessions.{held_at}
+use Rattle.tool.specs.Reading.{IsAt}
+use Rattle.tool.proofs.script.feed.Given as goal
+
+-- wherever the run stood, it stands behind the part of the piece that is taken
+abbrev pub invariant-loop-at : goal.invariant-loop-at
+invariant-loop-at g l =
+    let state = g.W.Sink.state in
+    let rules = rules_of l.fn.session.engine in
+    record {
+      within : l.at ≤ length l.piece;
+      stands : (start : Held) (reader_start writer_start reader_now : Device) → IsAt rules l.print start reader_start reader_now writer_start (state l.fn.writer) (held_at l.fn.session) l.fn.reading l.piece
+          → IsAt rules l.print start reader_start reader_now writer_start (state l.writer) (held_at l.session) l.reading (drop l.at l.piece);
+      rules : SameRules l.fn.session.engine l.session.engine;
+    }
+
+abbrev pub decreases-loop-at : goal.decreases-loop-at
+decreases-loop-at g l = length l.piece - l.at
