@@ -13,7 +13,7 @@ use Rattle.device.specs.Device.{Device, Fails, Gives, Wrote, greatest}
 use Rattle.lines.specs.Layouts.{Rules}
 use Rattle.lines.specs.declared.print.Print.{Print}
 use Rattle.session.specs.Changes.{Held}
-use Rattle.tool.specs.Reading.{EndsIn, EndsLine, Ends, FailsAt, FailsIn, GoesOn, IsAt, NoEnd, ObeysLine, Takes}
+use Rattle.tool.specs.Reading.{EndsIn, EndsLine, Ends, FailsAt, FailsIn, GoesOn, IsAt, NoEnd, ObeysLine, Steps, Takes}
 use Rattle.tool.specs.Scripts.{is_last_line, is_line_end, line_limit, lines_among, order_of_line, script_lines}
 use Rattle.tool.specs.ScriptRun.{after_line, after_lines, answer_line, answers, is_good, line_read_ahead, with_ends}
 use Rattle.tool.specs.TextRun.{Gave}
@@ -254,12 +254,16 @@ module _ (rules : Rules) (print : Print) (start : Held) (reader_old reader write
               ends_line rules print start reader_old writer_old reader writer_new AtEnd at.bytes at.done reading.line.items [] held reading.lines reading.written writer fault gave_all last_line at.good at.held_is at.lines at.written at.wrote fails
               (ahead_now [] at writer_new)
 
+nothing_read : (known : Option (List ℕ)) → Consumes known known []
+nothing_read None = tt
+nothing_read (Some xs) = refl
+
 -- the run begins
 pub at_start : (rules : Rules) (print : Print) (start : Held) (reader writer : Device) (reading : Reading) → reading.line.items ≡ [] → reading.lines ≡ 0 → reading.written ≡ 0 → IsAt rules print start reader reader writer writer start reading []
 at_start rules print start reader writer reading line lines written = record {
   bytes = [];
   done = [];
-  read = kept reader.bytes;
+  read = nothing_read reader.bytes;
   passed = omega arith;
   failures = refl;
   parts = λ more. ap (λ t. slice_split is_line_end (t ++ more)) (sym line);
@@ -273,10 +277,6 @@ at_start rules print start reader writer reading line lines written = record {
   ahead = omega (arith, ap length line);
   short = omega (arith, ap length line);
 }
-  where
-    kept : (known : Option (List ℕ)) → Consumes known known []
-    kept None = tt
-    kept (Some xs) = refl
 
 -- ---- the counts fit
 done_short : (done : List (List ℕ)) → length done ≤ length (with_ends done)
@@ -320,3 +320,29 @@ pub takes_some : (rules : Rules) (print : Print) (piece : List ℕ) (n : ℕ) (h
 takes_some rules print piece n held held_new reading new writer writer_new some (inl more) = (omega (arith, some, more.all), omega (arith, more.all))
 takes_some rules print piece n held held_new reading new writer writer_new some (inr ended) =
     (omega (arith, ended.taken), omega (arith, ended.taken, ap length ended.ends.whole, length-append ended.front (10 ∷ ended.behind)))
+
+-- a read that gave nothing leaves the run where it stands
+pub at_none : (rules : Rules) (print : Print) (start : Held) (reader_old reader writer_old writer : Device) (held : Held) (reading : Reading) (reader_new : Device) (n : ℕ) (buffer : List ℕ)
+    → IsAt rules print start reader_old reader writer_old writer held reading [] → Gives reader reader_new n buffer → n ≡ 0 → IsAt rules print start reader_old reader_new writer_old writer held reading []
+at_none rules print start reader_old reader writer_old writer held reading reader_new n buffer at gives none =
+    subst (IsAt rules print start reader_old reader_new writer_old writer held reading) (ap (λ k. take k buffer) none)
+    (at_read rules print start reader_old reader writer_old writer held reading reader_new n buffer at gives (omega (arith, none)) (omega (arith, none)))
+
+-- a step of a run under the rules that it began with
+module _ (rules now : Rules) (print : Print) (start : Held) (reader_old writer_old reader writer reader_new writer_new : Device) (held held_new : Held) (reading new : Reading) (kept : now ≡ rules)
+    (stands : IsAt rules print start reader_old reader writer_old writer held reading []) (result : Result Bool RunFault)
+    (steps : IsAt now print start reader_old reader writer_old writer held reading [] → Steps now print start reader_old writer_old reader_new writer_new held_new new result) where
+  stepped : Steps rules print start reader_old writer_old reader_new writer_new held_new new result
+  stepped =
+      subst (λ (r : Rules). Steps r print start reader_old writer_old reader_new writer_new held_new new result) kept
+      (steps (subst (λ (r : Rules). IsAt r print start reader_old reader writer_old writer held reading []) (sym kept) stands))
+
+  pub script_stepped : (is : Result Bool RunFault) → result ≡ is → Steps rules print start reader_old writer_old reader_new writer_new held_new new is
+  script_stepped is same = subst (Steps rules print start reader_old writer_old reader_new writer_new held_new new) same stepped
+
+-- memory ran out before anything was read
+pub ends_at_once : (rules : Rules) (print : Print) (start : Held) (reader writer : Device) → Ends rules print start reader writer reader writer (Err f.Memory)
+ends_at_once rules print start reader writer =
+    let some = parts_some (unwrap_or reader.bytes []) in
+    ends_short rules print start reader writer reader writer AtEnd (unwrap_or reader.bytes []) [] (lines_among AtEnd (some.0 ∷ some.1))
+    (had reader.bytes reader.bytes [] (nothing_read reader.bytes), refl) (ap (lines_among AtEnd) some.2) refl (Took-nothing writer, refl) (record { ahead = omega arith })
