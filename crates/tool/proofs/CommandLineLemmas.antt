@@ -6,7 +6,7 @@ use Rattle.std.specs.Str.{bytes_eq}
 use Rattle.std.proofs.Math.ListN.{get_or-map}
 use Rattle.std.proofs.lemmas.List.{length-map}
 use Rattle.std.proofs.lemmas.List.Folds.{list_any_at}
-use Rattle.clap.specs.Words.{App, IsParsedFrom, IsPlain, Rule, Text, app_of, args_of, first_of, found_of, one_of, is_simple, is_simple_and_free, rows_of, rule_of}
+use Rattle.clap.specs.Words.{AddsArg, App, IsParsedFrom, IsPlain, Rule, Text, app_of, args_of, first_of, found_of, one_of, is_simple, is_simple_and_free, rows_of, rule_of, with_rule}
 use Rattle.clap.specs.Facts.{least_values, unwrap_or_range}
 use Rattle.clap.specs.Faults.{has_free_rules}
 use Rattle.clap.specs.Simple.{IsSimple, is_ready, is_ready_leaf}
@@ -69,7 +69,7 @@ module _ (c : Command) (same : app_of c ≡ program) where
   rule_at : (k : ℕ) (d : Arg) → rule_of (slice_index_or (args_of c) k d) ≡ slice_index_or program.top.rules k (rule_of d)
   rule_at k d = sym (get_or-map rule_of (args_of c) k d) ∙ ap (λ xs. slice_index_or xs k (rule_of d)) rules
 
-  count : length (args_of c) ≡ 15
+  count : length (args_of c) ≡ 16
   unfolding program
   count = sym (length-map (args_of c) rule_of) ∙ ap length rules
 
@@ -142,3 +142,8 @@ pub required_there : (c : Command) (m : ArgMatches) → app_of c ≡ program →
 required_there c m same parsed =
     let d = some_arg (args_of c) (omega (arith, count c same)) in
     (ucd_valued c same m parsed d, width_valued c same m parsed d)
+
+-- an argument more is a rule more
+pub with_arg : (old new : Command) (a : Arg) (app : App) (r : Rule) → app_of old ≡ app → rule_of a ≡ r → a.global ≡ false → AddsArg old a new
+    → app_of new ≡ with_rule app r
+with_arg old new a app r same rule local added = added.shape local ∙ ap₂ with_rule same rule

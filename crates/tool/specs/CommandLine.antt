@@ -1,5 +1,5 @@
 -- The command line as `clap` is told of it, and what its words ask for.
-use Rattle.std.specs.Prelude.{◌≡◌, ◌≤◌, ℕ, pos, Bool, true, false, List, [], ◌∷◌, ◌++◌, map, fold, codes, Option, Some, None, is_some, option_map, unwrap_or}
+use Rattle.std.specs.Prelude.{◌≡◌, ◌≤◌, ◌==◌, ◌||◌, not, ℕ, pos, Bool, true, false, List, [], ◌∷◌, ◌++◌, length, map, fold, codes, Option, Some, None, is_some, option_map, unwrap_or}
 use Rattle.std.specs.Str.Parse.{IsNumeral, digits_value, without_leading_plus}
 use Rattle.bidi.specs.declared.base.Base.{Base}
 use Rattle.bidi.specs.declared.base.Base.TheVariants as base
@@ -10,7 +10,7 @@ use Rattle.clap.specs.declared.builder.action.ArgAction.TheVariants.{Append, Set
 use Rattle.clap.specs.declared.builder.value_parser.ValueParser.TheVariants.{Signed}
 use Rattle.clap.specs.declared.parser.matches.ArgMatches.{ArgMatches}
 use Rattle.tool.specs.declared.options.LineFault.{LineFault}
-use Rattle.tool.specs.declared.options.LineFault.TheVariants.{Words, Directions, NoMemory}
+use Rattle.tool.specs.declared.options.LineFault.TheVariants.{Words, Directions, ScriptFiles, NoMemory}
 use Rattle.tool.specs.declared.options.Settings.{Settings}
 
 -- an option without a value, named by its long name
@@ -30,23 +30,32 @@ width_rule = record (new_rule (codes "width")) {
   defaults = codes "80" ∷ [];
 }
 
+-- an edit script
+abbrev pub script_rule : Rule
+script_rule = record (new_rule (codes "script")) { long = Some (codes "script"); value_names = 1; action = Some Set }
+
 -- any number of texts
 abbrev pub files_rule : Rule
 files_rule = record (new_rule (codes "files")) { value_names = 1; action = Some Append }
 
--- the options without a value
-abbrev pub flags : List Text
-flags =
-    codes "rtl" ∷ codes "ltr" ∷ codes "wrtl" ∷ codes "wltr"
-    ∷ codes "nobreak" ∷ codes "nopad" ∷ codes "nomirror"
-    ∷ codes "novisual" ∷ codes "basedir" ∷ codes "ltov" ∷ codes "vtol" ∷ codes "levels" ∷ []
+-- the options by which texts are laid out, and those by which lines are printed
+abbrev pub layout_rules : List Rule
+layout_rules =
+    ucd_rule ∷ width_rule
+    ∷ map flag_rule (codes "rtl" ∷ codes "ltr" ∷ codes "wrtl" ∷ codes "wltr" ∷ codes "nobreak" ∷ [])
+
+abbrev pub print_rules : List Rule
+print_rules =
+    map flag_rule (
+      codes "nopad" ∷ codes "nomirror" ∷ codes "novisual" ∷ codes "basedir" ∷ codes "ltov" ∷ codes "vtol" ∷ codes "levels" ∷ []
+    )
 
 -- the command line: the words behind the program's name, with these options, and texts
 abbrev pub start : App
 start = on_top (λ s. record s { no_binary_name = true }) (new_app (codes "fribidi"))
 
 unfoldable pub program : App
-program = fold with_rule start ((ucd_rule ∷ width_rule ∷ map flag_rule flags) ++ files_rule ∷ [])
+program = fold with_rule start (layout_rules ++ (print_rules ++ script_rule ∷ files_rule ∷ []))
 
 -- how base levels are found: by the one option that is set, or by the first strong character
 abbrev pub base_by : Bool → Bool → Bool → Bool → Option Base
@@ -60,6 +69,16 @@ base_by rtl ltr weak_rtl weak_ltr = None
 abbrev pub base_of : List Row → Option Base
 base_of rows =
     base_by (is_given (codes "rtl") rows) (is_given (codes "ltr") rows) (is_given (codes "wrtl") rows) (is_given (codes "wltr") rows)
+
+-- a script runs over one text
+abbrev pub fits_script : Bool → ℕ → Bool
+fits_script has_script texts = not has_script || texts == 1
+
+abbrev pub texts_of : List Row → List Text
+texts_of rows = unwrap_or (all_of (codes "files") rows) []
+
+abbrev pub script_fits : List Row → Bool
+script_fits rows = fits_script (is_some (first_of (codes "script") rows)) (length (texts_of rows))
 
 -- the number that a text of decimal digits writes
 abbrev pub number_of : Text → ℕ
@@ -80,7 +99,9 @@ pub record AreSettings (words : List Text) (settings : Settings) : Type 0 where
   pub levels : settings.print.levels ≡ is_given (codes "levels") (matches_of program words)
   pub nopad : settings.print.nopad ≡ is_given (codes "nopad") (matches_of program words)
   pub nomirror : settings.print.nomirror ≡ is_given (codes "nomirror") (matches_of program words)
-  pub files : map (λ file. file.now) settings.files.items ≡ unwrap_or (all_of (codes "files") (matches_of program words)) []
+  pub script : option_map (λ script. script.now) settings.script ≡ first_of (codes "script") (matches_of program words)
+  pub files : map (λ file. file.now) settings.files.items ≡ texts_of (matches_of program words)
+  pub one : script_fits (matches_of program words) ≡ true
 
 -- the width's text, which is a number of columns that is allowed
 pub record HasWidth (rows : List Row) : Type 0 where
@@ -96,8 +117,11 @@ pub record AreMatches (words : List Text) (matches : ArgMatches) : Type 0 where
   pub ucd : is_some (first_of (codes "ucd") (rows_of (found_of matches))) ≡ true
   pub width : HasWidth (rows_of (found_of matches))
 
--- `clap` refuses the words, for this kind of error; or it takes them, and more than one direction is set
+-- `clap` refuses the words, for this kind of error; or it takes them, and more than one direction is set, or else a script beside another
+-- number of texts than one
 abbrev pub IsLineFault : List Text → LineFault → Type 0
 IsLineFault words (Words error) = IsAmong (kind_of error) (fault_of program words)
 IsLineFault words Directions = (fault_of program words ≡ []) × (base_of (matches_of program words) ≡ None)
+IsLineFault words ScriptFiles =
+    (fault_of program words ≡ []) × (is_some (base_of (matches_of program words)) ≡ true) × (script_fits (matches_of program words) ≡ false)
 IsLineFault words NoMemory = Unit {0}

@@ -1,9 +1,10 @@
 //! The command line: its words, read with `clap`, and what they ask for.
-ghost use Rattle.std.specs.Prelude.{◌≡◌, map, true, false, IfOk, IfErr};
-ghost use Rattle.clap.specs.Words.{app_of, found_of, rows_of, rule_of};
+ghost use Rattle.std.specs.Prelude.{◌≡◌, fold, map, true, false, is_some, IfOk, IfErr};
+ghost use Rattle.clap.specs.Words.{app_of, found_of, rows_of, rule_of, with_rule};
 ghost use Rattle.clap.specs.Takes.{is_given};
-ghost use Rattle.tool.specs.CommandLine.{program, ucd_rule, width_rule, files_rule, flag_rule, base_by};
-ghost use Rattle.tool.specs.CommandLine.{AreMatches, AreSettings, IsLineFault};
+ghost use Rattle.tool.specs.CommandLine.{program, ucd_rule, width_rule, script_rule, files_rule, flag_rule};
+ghost use Rattle.tool.specs.CommandLine.{AreMatches, AreSettings, IsLineFault, base_by, fits_script};
+ghost use Rattle.tool.specs.CommandLine.{layout_rules, print_rules};
 
 use crate::options::{LineFault, Settings as Options};
 use bidi::Base;
@@ -17,9 +18,19 @@ use std::alloc::{AllocError, Global};
 fn command<'a>(alloc: Global) -> Result<Command<'a>, AllocError>
     ensures { IfOk result (λ command. app_of command ≡ program) }
 {
-    Command::new(alloc, "fribidi")
+    let command = Command::new(alloc, "fribidi")
         .no_binary_name(true)
-        .about("Prints text as visual lines")
+        .about("Prints text as visual lines");
+    let command = with_layout(alloc, command)?;
+    let command = with_print(alloc, command)?;
+    command.arg(script(alloc))?.arg(files(alloc))
+}
+
+// The options by which texts are laid out.
+fn with_layout<'a>(alloc: Global, command: Command<'a>) -> Result<Command<'a>, AllocError>
+    ensures { IfOk result (λ new. app_of new ≡ fold with_rule (app_of command.entry) layout_rules) }
+{
+    command
         .arg(ucd(alloc))?
         .arg(width(alloc))?
         .arg(flag(alloc, "rtl", "from right to left"))?
@@ -34,7 +45,14 @@ fn command<'a>(alloc: Global) -> Result<Command<'a>, AllocError>
             "wltr",
             "from left to right where no character is strong, which is the default",
         ))?
-        .arg(flag(alloc, "nobreak", "end lines at mandatory breaks only"))?
+        .arg(flag(alloc, "nobreak", "end lines at mandatory breaks only"))
+}
+
+// The options by which lines are printed.
+fn with_print<'a>(alloc: Global, command: Command<'a>) -> Result<Command<'a>, AllocError>
+    ensures { IfOk result (λ new. app_of new ≡ fold with_rule (app_of command.entry) print_rules) }
+{
+    command
         .arg(flag(
             alloc,
             "nopad",
@@ -53,8 +71,7 @@ fn command<'a>(alloc: Global) -> Result<Command<'a>, AllocError>
             "vtol",
             "print the logical position of each visual one",
         ))?
-        .arg(flag(alloc, "levels", "print the level of each character"))?
-        .arg(files(alloc))
+        .arg(flag(alloc, "levels", "print the level of each character"))
 }
 
 // The folder of the table files.
@@ -82,6 +99,18 @@ fn width<'a>(alloc: Global) -> Arg<'a>
         .value_parser(value_parser!(u16).range(1..))
         .default_value("80")
         .help("the columns of a line, 1 to 65535")
+}
+
+// The edit script.
+fn script<'a>(alloc: Global) -> Arg<'a>
+    ensures rule { rule_of result ≡ script_rule }
+    ensures local { result.global ≡ false }
+{
+    Arg::new(alloc, "script")
+        .long("script")
+        .value_name("FILE")
+        .action(ArgAction::Set)
+        .help("an edit script to run over the one text")
 }
 
 // The texts.
@@ -124,6 +153,13 @@ fn base_of(rtl: bool, ltr: bool, weak_rtl: bool, weak_ltr: bool) -> Option<Base>
         (false, false, false, true) | (false, false, false, false) => Some(Base::WeakLtr),
         _ => None,
     }
+}
+
+// A script runs over one text.
+fn fits_script(script: Option<&str>, texts: usize) -> bool
+    ensures { result ≡ fits_script (is_some script.entry) texts }
+{
+    script.is_none() || texts == 1
 }
 
 // The matches of the words.
@@ -174,12 +210,17 @@ pub fn settings<'a>(alloc: Global, words: &'a [&'a str]) -> Result<Options<'a>, 
     let Ok(files) = Vec::from_slice(alloc, matches.get_strs("files").unwrap_or(&[])) else {
         return Err(LineFault::NoMemory);
     };
+    let script = matches.get_str("script");
+    if !fits_script(script, files.len()) {
+        return Err(LineFault::ScriptFiles);
+    }
     Ok(Options {
         ucd,
         width,
         base,
         nobreak,
         print,
+        script,
         files,
     })
 }

@@ -16,6 +16,8 @@ pub struct Settings<'a> {
     pub nobreak: bool,
     /// What is printed of each line.
     pub print: Print,
+    /// The edit script to run over the one text, if there is one.
+    pub script: Option<&'a str>,
     /// The texts, in order, or none for standard input.
     pub files: Vec<&'a str>,
 }
@@ -28,6 +30,8 @@ pub enum LineFault {
     Words(clap::Error),
     #[error("fribidi: more than one base direction")]
     Directions,
+    #[error("fribidi: --script takes one file")]
+    ScriptFiles,
     #[error("fribidi: out of memory")]
     NoMemory,
 }

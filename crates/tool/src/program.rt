@@ -33,6 +33,7 @@ impl ProgramFault {
                 if error.use_stderr() { 2 } else { 0 }
             }
             ProgramFault::Line(LineFault::Directions) => 2,
+            ProgramFault::Line(LineFault::ScriptFiles) => 2,
             _ => 1,
         }
     }

@@ -1,10 +1,11 @@
-use Rattle.std.proofs.Common.{◌≡◌, ◌∙◌, ℕ, Bor, List, Result, arith, [], Option, Some, None, ap, codes, is_some, map, option_map, refl, sym, true≢false, unwrap_or}
-use Rattle.clap.specs.Words.{ReadsOne, Text, all_of, first_of, found_of, one_text, rows_of}
+use Rattle.std.proofs.Common.{◌≡◌, ◌∙◌, ℕ, Bor, List, Result, arith, [], Option, Some, None, ap, codes, is_some, length, map, option_map, refl, ap₂, true, false, rules, sym, true≢false, unwrap_or}
+use Rattle.clap.specs.Words.{ReadsOne, Row, Text, all_of, matches_of, first_of, found_of, one_text, rows_of}
 use Rattle.clap.specs.declared.parser.matches.Found.{Found}
 use Rattle.clap.specs.Takes.{is_given}
 use Rattle.clap.proofs.WalkLemmas.{first_value-rows, one_text-rows, raw_values-rows}
 use Rattle.std.specs.Str.Parse.{ParsesUnsigned, ExplainsUnsignedError, HasUnsignedDigitsIfOk}
-use Rattle.tool.specs.CommandLine.{HasWidth, base_by, number_of}
+use Rattle.tool.specs.CommandLine.{HasWidth, base_by, fits_script, number_of, program, script_fits, texts_of}
+use Rattle.std.proofs.lemmas.List.{length-map}
 use Rattle.tool.proofs.DefaultLemmas.{number_read}
 use Rattle.tool.proofs.command_line.settings.Goals as goal
 
@@ -13,6 +14,14 @@ texts_or_none : (o : Option (Bor (List (Bor Text)))) (none : Bor (List (Bor Text
     → map (λ s. s.now) (unwrap_or o none).now ≡ unwrap_or (option_map (λ s. map (λ v. v.now) s.now) o) []
 texts_or_none None none empty = ap (map (λ s. s.now)) empty
 texts_or_none (Some s) none empty = refl
+
+-- whether the texts fit a script, by what was read of both
+some_told : (o : Option (Bor Text)) → is_some (option_map (λ s. s.now) o) ≡ is_some o
+some_told None = refl
+some_told (Some s) = refl
+
+script_one : (script : Option (Bor Text)) (n : ℕ) (rows : List Row) → option_map (λ s. s.now) script ≡ first_of (codes "script") rows → length (texts_of rows) ≡ n → script_fits rows ≡ fits_script (is_some script) n
+script_one script n rows told texts = ap₂ fits_script (ap is_some (sym told) ∙ some_told script) texts
 
 pub unreachable-requires : goal.unreachable-requires
 unreachable-requires c =
@@ -45,6 +54,11 @@ returns-clause-ok c =
     let wltr = c.is_set-4.ensures ∙ given (codes "wltr") in
     let width = read_width _ (λ t r. ParsesUnsigned 16 10 t r × ExplainsUnsignedError 10 t r × HasUnsignedDigitsIfOk t r) (λ t r gives. gives.0) found (Some c.in-Some-get_one.width) m.width c.in-Some-get_one.ensures.value in
     let is_width : number_of m.width.text ≡ c.in-Some-get_one.width = ap (λ o. unwrap_or o 0) (sym (ap (option_map number_of) m.width.first) ∙ width) in
+    let script = c.get_str-script.ensures ∙ first_value-rows found (codes "script") ∙ ap (first_of (codes "script")) m.rows in
+    let files = ap (map (λ s. s.now)) c.in-Ok.ensures.items ∙ ap (λ (s : Bor (List (Bor Text))). map (λ v. v.now) s.now) c.unwrap_or.ensures
+    ∙ texts_or_none c.get_strs.result _ refl
+    ∙ ap (λ texts. unwrap_or texts []) (c.get_strs.ensures ∙ raw_values-rows found (codes "files") ∙ ap (all_of (codes "files")) m.rows) in
+    let fits : c.fits_script.result ≡ true = search rules in
     record {
       taken = m.taken;
       ucd = sym (c.in-Some-get_str.ensures ∙ first_value-rows found (codes "ucd") ∙ ap (first_of (codes "ucd")) m.rows);
@@ -59,7 +73,23 @@ returns-clause-ok c =
       nopad = c.is_set-10.ensures ∙ given (codes "nopad");
       nomirror = c.is_set-11.ensures ∙ given (codes "nomirror");
       nobreak = c.is_set-nobreak.ensures ∙ given (codes "nobreak");
-      files = ap (map (λ s. s.now)) c.in-Ok.ensures.items ∙ ap (λ (s : Bor (List (Bor Text))). map (λ v. v.now) s.now) c.unwrap_or.ensures
-          ∙ texts_or_none c.get_strs.result _ refl
-          ∙ ap (λ texts. unwrap_or texts []) (c.get_strs.ensures ∙ raw_values-rows found (codes "files") ∙ ap (all_of (codes "files")) m.rows);
+      script = script;
+      files = files;
+      one = script_one c.get_str-script.result c.len.result (matches_of program _) script (omega (arith, c.len.ensures, ap length files, length-map c.in-Ok.files.items (λ (s : Bor Text). s.now))) ∙ sym c.fits_script.ensures ∙ fits;
     }
+
+pub returns-then-not-fits_script-clause-err : goal.returns-then-not-fits_script-clause-err
+returns-then-not-fits_script-clause-err c =
+    let found = found_of c.in_ok-matches.matches in
+    let m = c.in_ok-matches.ensures.ok in
+    let given = λ (name : Text). ap (is_given name) m.rows in
+    let rtl = c.is_set.ensures ∙ given (codes "rtl") in
+    let ltr = c.is_set-2.ensures ∙ given (codes "ltr") in
+    let wrtl = c.is_set-3.ensures ∙ given (codes "wrtl") in
+    let wltr = c.is_set-4.ensures ∙ given (codes "wltr") in
+    let script = c.get_str-script.ensures ∙ first_value-rows found (codes "script") ∙ ap (first_of (codes "script")) m.rows in
+    let files = ap (map (λ s. s.now)) c.in-Ok.ensures.items ∙ ap (λ (s : Bor (List (Bor Text))). map (λ v. v.now) s.now) c.unwrap_or.ensures
+    ∙ texts_or_none c.get_strs.result _ refl
+    ∙ ap (λ texts. unwrap_or texts []) (c.get_strs.ensures ∙ raw_values-rows found (codes "files") ∙ ap (all_of (codes "files")) m.rows) in
+    let isnt : c.fits_script.result ≡ false = search rules in
+    (m.taken, ap is_some (sym (c.in-Some.ensures ∙ (λ i. base_by (rtl i) (ltr i) (wrtl i) (wltr i)))), script_one c.get_str-script.result c.len.result (matches_of program _) script (omega (arith, c.len.ensures, ap length files, length-map c.in-Ok.files.items (λ (s : Bor Text). s.now))) ∙ sym c.fits_script.ensures ∙ isnt)
