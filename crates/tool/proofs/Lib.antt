@@ -9,6 +9,7 @@ pub mod PieceLemmas
 pub mod PushLemmas
 pub mod ScriptLemmas
 pub mod ScriptStepLemmas
+pub mod StartLemmas
 pub mod StepLemmas
 pub mod StreamLemmas
 pub mod Utf8Lemmas

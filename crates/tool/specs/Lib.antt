@@ -5,5 +5,6 @@ pub mod Program
 pub mod Reading
 pub mod ScriptRun
 pub mod Scripts
+pub mod Starts
 pub mod Streaming
 pub mod TextRun

@@ -11,6 +11,7 @@ mod paragraphs;
 mod pieces;
 mod program;
 mod script;
+mod start;
 mod text;
 
 pub use command_line::settings;
@@ -18,10 +19,13 @@ pub use faults::RunFault;
 pub use options::{LineFault, Settings};
 pub use program::ProgramFault;
 pub use script::run_script;
+pub use start::open_text;
 pub use text::run_text;
 
 #[cfg(test)]
 mod levels_tests;
+#[cfg(test)]
+mod script_tests;
 #[cfg(test)]
 mod tests;
 #[cfg(test)]

@@ -30,7 +30,7 @@ fn push_characters(text: &str, characters: &mut Vec<char>) -> Result<(), AllocEr
 }
 
 // The longest front of some bytes that is UTF-8, and whether what stands behind it can begin no character.
-fn front(bytes: &[u8]) -> (&str, bool)
+pub(crate) fn front(bytes: &[u8]) -> (&str, bool)
     ensures text { result.0.now ≡ take (utf8_valid_len bytes.now) bytes.now }
     ensures bad { result.1 ≡ is_bad bytes.now }
     ensures few { result.1 ≡ false → length bytes.now < utf8_valid_len bytes.now + 4 }

@@ -25,10 +25,10 @@ pub const FILES: UcdFiles<'_> = UcdFiles {
 
 // Gives so many bytes a call, and fails behind the last of them if it is to.
 #[derive(Drop)]
-struct Pieces<'a> {
-    bytes: &'a [u8],
-    size: usize,
-    fails: bool,
+pub struct Pieces<'a> {
+    pub bytes: &'a [u8],
+    pub size: usize,
+    pub fails: bool,
 }
 
 impl Read for Pieces<'_> {
@@ -77,9 +77,9 @@ impl Read for FailsOnce<'_> {
 
 // Takes so many bytes in all, and then fails.
 #[derive(Drop)]
-struct Short<'a> {
-    taken: &'a mut Vec<u8>,
-    room: usize,
+pub struct Short<'a> {
+    pub taken: &'a mut Vec<u8>,
+    pub room: usize,
 }
 
 impl Write for Short<'_> {

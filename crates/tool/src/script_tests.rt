@@ -1,0 +1,304 @@
+//! Worked rows: edit scripts over texts, and what they answer.
+use crate::tests::{LINES, Pieces, Short, repeated, tables};
+use crate::{RunFault, open_text, run_script};
+use bidi::Base;
+use device::{FromRead, ToWrite};
+use lines::{Engine, Print};
+use session::{Kept, Session};
+use std::alloc::Global;
+use std::process::Abort;
+use std::test::Fail;
+use store::{ParagraphStore, TreeStore, VecStore};
+
+// The levels too.
+const LEVELS: Print = Print {
+    novisual: false,
+    basedir: false,
+    ltov: false,
+    vtol: false,
+    levels: true,
+    nopad: false,
+    nomirror: false,
+};
+
+// What was answered to a script, and how its run ended.
+type Answered = (Vec<u8>, Result<(), RunFault>);
+
+fn run_over<S: ParagraphStore<Kept> + Drop>(
+    alloc: Global,
+    session: Session<S>,
+    script: Pieces<'_>,
+    print: &Print,
+    room: usize,
+) -> Answered {
+    let mut taken = Vec::new(alloc);
+    let mut reader = FromRead::new(script);
+    let mut writer = ToWrite::new(Short {
+        taken: &mut taken,
+        room,
+    });
+    let result = run_script(alloc, &mut reader, &mut writer, session, print);
+    drop(writer);
+    (taken, result)
+}
+
+// The same over a text at width 80.
+fn answered<S: ParagraphStore<Kept> + Drop>(
+    alloc: Global,
+    text: &[u8],
+    script: Pieces<'_>,
+    print: &Print,
+    room: usize,
+) -> Result<Answered, Fail> {
+    let engine = Engine::new(tables(alloc)?, Base::WeakLtr, false);
+    let session: Session<S> = open_text(alloc, engine, text, 80)?;
+    Ok(run_over(alloc, session, script, print, room))
+}
+
+// A text, a script, and its answers.
+type Row<'a> = (&'a str, &'a str, &'a str);
+
+const ROWS: [Row<'_>; 17] = [
+    ("abc", "", ""),
+    ("a\r", "insert 2 \\n\n", "@ 0 1 1\n"),
+    ("a\r\nb", "insert 2 x\n", "@ 0 1 2\n"),
+    (
+        "abcdefgh",
+        "delete 5 10\nshow\ndelete 0 8\nshow\ninsert 0 x\n",
+        "! range\nabcdefgh\n@ 0 1 0\n@ 0 0 1\n",
+    ),
+    (
+        "abc def ghi",
+        "width 3\nwidth 80\nshow\nwidth 0\nwidth 70000",
+        "@ 0 1 3\n@ 0 3 1\nabc def ghi\n! width\n! width\n",
+    ),
+    ("ab\ncd\nef", "insert 4 x\n", "@ 1 1 1\n"),
+    ("ab\ncd\nef", "insert 3 x\n", "@ 0 2 2\n"),
+    ("ab\ncd\nef", "insert 4 x\\ny\n", "@ 1 1 2\n"),
+    ("abc", "insert 0 \n", "@ 0 1 1\n"),
+    ("abc", "delete 3 0\n", "@ 0 1 1\n"),
+    ("abc", "delete 3 1\n", "! range\n"),
+    ("abc", "insert 4 x\n", "! range\n"),
+    ("abc", "width 999999999\n", "! width\n"),
+    ("abc", "insert 000000003 d\nshow", "@ 0 1 1\nabcd\n"),
+    ("a", "insert 1  b\nshow", "@ 0 1 1\na b\n"),
+    (
+        "",
+        "insert 0 \\u{41}\\u{00004e}\\\\\nshow",
+        "@ 0 0 1\nAN\\\n",
+    ),
+    (
+        "a\nb\nc",
+        "delete 1 1\nshow\ninsert 1 \\r\\n\nshow\n",
+        "@ 0 2 1\nab\nc\n@ 0 1 2\na\nb\nc\n",
+    ),
+];
+
+// A text, a script, its answers, and the line that is none.
+type BadRow<'a> = (&'a str, &'a [u8], &'a str, u64);
+
+const BAD_ROWS: [BadRow<'_>; 24] = [
+    ("a", b"show\nfoo\nshow\n", "a\n", 2),
+    ("a", b"show\n\nshow\n", "a\n", 2),
+    ("abc", b"width 1000000000\n", "", 1),
+    ("abc", b"width +5", "", 1),
+    ("abc", b"width \n", "", 1),
+    ("abc", b"width", "", 1),
+    ("abc", b"insert 0 \\u{D800}\n", "", 1),
+    ("abc", b"insert 0 \\u{}\n", "", 1),
+    ("abc", b"insert 0 \\u{110000}\n", "", 1),
+    ("abc", b"insert 0 \\u{0000041}\n", "", 1),
+    ("abc", b"insert 0 \\u{41\n", "", 1),
+    ("abc", b"insert 0 \\\n", "", 1),
+    ("abc", b"insert 0 \\t\n", "", 1),
+    ("abc", b"insert 0\n", "", 1),
+    ("abc", b"insert  0 x\n", "", 1),
+    ("abc", b"insert\t0 x\n", "", 1),
+    ("abc", b"insert 1234567890 x\n", "", 1),
+    ("abc", b"insert -1 x\n", "", 1),
+    ("abc", b"insert 0 \xd7\n", "", 1),
+    ("abc", b"insert 0 \xff", "", 1),
+    ("abc", b"delete 1\n", "", 1),
+    ("abc", b"delete 1 2 3\n", "", 1),
+    ("abc", b"show\r\n", "", 1),
+    ("abc", b"show \n", "", 1),
+];
+
+fn check<S: ParagraphStore<Kept> + Drop>(
+    rt: &impl Abort,
+    alloc: Global,
+    text: &str,
+    script: &[u8],
+    size: usize,
+    answers: &str,
+    expected: Result<(), RunFault>,
+) -> Result<(), Fail> {
+    let pieces = Pieces {
+        bytes: script,
+        size,
+        fails: false,
+    };
+    let (taken, result) = answered::<S>(alloc, text.as_bytes(), pieces, &LINES, 1000)?;
+    assert_eq!(rt; taken.as_slice(), answers.as_bytes(), "{text:?} by {size}");
+    assert_eq!(rt; result, expected, "{text:?} by {size}");
+    Ok(())
+}
+
+fn check_row<S: ParagraphStore<Kept> + Drop>(
+    rt: &impl Abort,
+    alloc: Global,
+    row: &Row<'_>,
+) -> Result<(), Fail> {
+    let (text, script, answers) = *row;
+    for size in [1, 2, 3, 65_536] {
+        check::<S>(rt, alloc, text, script.as_bytes(), size, answers, Ok(()))?;
+    }
+    Ok(())
+}
+
+fn check_rows<S: ParagraphStore<Kept> + Drop>(rt: &impl Abort, alloc: Global) -> Result<(), Fail> {
+    for row in &ROWS {
+        check_row::<S>(rt, alloc, row)?;
+    }
+    Ok(())
+}
+
+#[test]
+fn answers_over_a_tree(rt: HostRuntime) -> Result<(), Fail> {
+    check_rows::<TreeStore<Kept>>(&rt, rt.alloc())
+}
+
+#[test]
+fn answers_over_a_list(rt: HostRuntime) -> Result<(), Fail> {
+    check_rows::<VecStore<Kept>>(&rt, rt.alloc())
+}
+
+fn check_bad_row(rt: &impl Abort, alloc: Global, row: &BadRow<'_>) -> Result<(), Fail> {
+    let (text, script, answers, line) = *row;
+    let fault = Err(RunFault::BadLine(line));
+    for size in [1, 2, 3, 65_536] {
+        check::<TreeStore<Kept>>(rt, alloc, text, script, size, answers, fault)?;
+    }
+    Ok(())
+}
+
+#[test]
+fn bad_lines(rt: HostRuntime) -> Result<(), Fail> {
+    for row in &BAD_ROWS {
+        check_bad_row(&rt, rt.alloc(), row)?;
+    }
+    Ok(())
+}
+
+const JOINED: Row<'_> = (
+    "ab\n\u{5d0}\u{5d1}",
+    "delete 2 1\nshow\n",
+    "@ 0 2 1\nab\u{5d1}\u{5d0}\n0 0 1 1\n",
+);
+
+// A writer that fails behind so many bytes.
+fn check_room(rt: &impl Abort, alloc: Global, room: usize) -> Result<(), Fail> {
+    let (text, script, answers) = JOINED;
+    let pieces = Pieces {
+        bytes: script.as_bytes(),
+        size: 65_536,
+        fails: false,
+    };
+    let (taken, result) =
+        answered::<TreeStore<Kept>>(alloc, text.as_bytes(), pieces, &LEVELS, room)?;
+    let front = answers.as_bytes().get(..room).unwrap_or_default();
+    assert_eq!(rt; taken.as_slice(), front, "up to {room}");
+    assert_eq!(rt; result, Err(RunFault::Write(room as u64)), "up to {room}");
+    Ok(())
+}
+
+#[test]
+fn a_writer_that_fails(rt: HostRuntime) -> Result<(), Fail> {
+    for room in 0..JOINED.2.len() {
+        check_room(&rt, rt.alloc(), room)?;
+    }
+    Ok(())
+}
+
+// A reader that fails behind so many bytes: a line that isn't ended is none.
+fn check_cut(rt: &impl Abort, alloc: Global, len: usize) -> Result<(), Fail> {
+    let (text, script, answers) = JOINED;
+    let pieces = Pieces {
+        bytes: script.as_bytes().get(..len).unwrap_or_default(),
+        size: 65_536,
+        fails: true,
+    };
+    let (taken, result) =
+        answered::<TreeStore<Kept>>(alloc, text.as_bytes(), pieces, &LEVELS, 1000)?;
+    let end = if len < 11 {
+        0
+    } else if len < 16 {
+        8
+    } else {
+        answers.len()
+    };
+    let front = answers.as_bytes().get(..end).unwrap_or_default();
+    assert_eq!(rt; taken.as_slice(), front, "behind {len}");
+    assert_eq!(rt; result, Err(RunFault::Read), "behind {len}");
+    Ok(())
+}
+
+#[test]
+fn a_reader_that_fails(rt: HostRuntime) -> Result<(), Fail> {
+    for len in 0..=JOINED.1.len() {
+        check_cut(&rt, rt.alloc(), len)?;
+    }
+    Ok(())
+}
+
+// A line of so many letters behind `insert 0 `, over an empty text.
+fn check_long(
+    rt: &impl Abort,
+    alloc: Global,
+    letters: usize,
+    answers: &[u8],
+    expected: Result<(), RunFault>,
+) -> Result<(), Fail> {
+    let script = repeated(alloc, b"insert 0 ", b"a", letters, b"\n")?;
+    let pieces = Pieces {
+        bytes: &script,
+        size: 65_536,
+        fails: false,
+    };
+    let (taken, result) = answered::<TreeStore<Kept>>(alloc, b"", pieces, &LINES, 1000)?;
+    assert_eq!(rt; taken.as_slice(), answers);
+    assert_eq!(rt; result, expected);
+    Ok(())
+}
+
+#[test]
+fn lines_up_to_the_limit(rt: HostRuntime) -> Result<(), Fail> {
+    check_long(&rt, rt.alloc(), 1_048_567, b"@ 0 0 13108\n", Ok(()))?;
+    check_long(&rt, rt.alloc(), 1_048_568, b"", Err(RunFault::BadLine(1)))
+}
+
+fn check_start(
+    rt: &impl Abort,
+    alloc: Global,
+    bytes: &[u8],
+    expected: RunFault,
+) -> Result<(), Fail> {
+    let engine = Engine::new(tables(alloc)?, Base::WeakLtr, false);
+    match open_text::<TreeStore<Kept>>(alloc, engine, bytes, 80) {
+        Ok(_) => Err(Fail::new("the text was taken")),
+        Err(fault) => {
+            assert_eq!(rt; fault, expected);
+            Ok(())
+        }
+    }
+}
+
+#[test]
+fn texts_that_no_script_begins_with(rt: HostRuntime) -> Result<(), Fail> {
+    let alloc = rt.alloc();
+    check_start(&rt, alloc, b"a\nb\xff", RunFault::NotUtf8(3))?;
+    let long = repeated(alloc, b"a\n", b"a", 1_048_577, b"")?;
+    check_start(&rt, alloc, &long, RunFault::ParagraphTooLong)?;
+    let whole = repeated(alloc, b"", b"a", 16_777_217, b"")?;
+    check_start(&rt, alloc, &whole, RunFault::TextTooLong)
+}

@@ -1,0 +1,43 @@
+//! The text that a script begins with, as a session.
+ghost use Rattle.std.specs.Prelude.{◌≡◌, ◌<◌, IfOk, IfErr};
+ghost use Rattle.lines.specs.Engine.{rules_of};
+ghost use Rattle.tool.specs.Starts.{IsStartFault, Starts, start_fault};
+
+use crate::faults::RunFault;
+use crate::pieces::front;
+use lines::Engine;
+use session::{EditFault, Kept, Session};
+use std::alloc::Global;
+use store::ParagraphStore;
+
+/// A session on the text that some bytes are, at a width in columns, which is not 0.
+pub fn open_text<S: ParagraphStore<Kept> + Drop>(
+    alloc: Global,
+    engine: Engine,
+    bytes: &[u8],
+    width: u16,
+) -> Result<Session<S>, RunFault>
+    requires { 0 < width }
+    ensures ok { IfOk result (Starts engine bytes.now width) }
+    ensures err { IfErr result (IsStartFault (rules_of engine) bytes.now) }
+{
+    let (text, _) = front(bytes);
+    if text.len() < bytes.len() {
+        return Err(RunFault::NotUtf8(text.len() as u64));
+    }
+    match Session::open(alloc, engine, text, width) {
+        Ok(session) => Ok(session),
+        Err((_, fault)) => Err(start_fault(fault)),
+    }
+}
+
+// A text is refused for its length or for that of a paragraph.
+fn start_fault(fault: EditFault) -> RunFault
+    ensures { result ≡ start_fault fault }
+{
+    match fault {
+        EditFault::TextTooLong => RunFault::TextTooLong,
+        EditFault::ParagraphTooLong => RunFault::ParagraphTooLong,
+        _ => RunFault::Memory,
+    }
+}
