@@ -36,7 +36,7 @@ test:
 	rt ci
 
 bench: program ucd
-	cd crates/bench && rt run -- edits 1 1 > /dev/null
+	cd crates/bench && rt run -- edits tree 1 1 > /dev/null
 	cp crates/bench/out/bench bin/bench
 	bench/compare
 	bench/edits

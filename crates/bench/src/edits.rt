@@ -5,60 +5,83 @@ use bidi::Base;
 use lines::Engine;
 use session::{Kept, Session};
 use std::alloc::{AllocError, Global};
-use store::VecStore;
+use store::{ParagraphStore, TreeStore, VecStore};
 use ucd::{Tables, UcdFiles};
 
 const FILES: UcdFiles<'_> = UcdFiles {
     bidi_class: b"000A;B\n0061..007A;L\n05D0..05EA;R",
     bidi_brackets: b"",
     bidi_mirroring: b"",
-    line_break: b"",
+    line_break: b"0020;SP",
     general_category: b"",
     east_asian_width: b"",
     emoji_data: b"",
 };
 
-/// Makes the edits, and prints what the session keeps in the end.
-pub fn run(rt: &HostRuntime, paragraphs: usize, edits: usize) -> Result<()> {
-    let text = text_of(rt.alloc(), paragraphs)?;
-    let mut session = open(rt.alloc(), text.as_str())?;
-    let mut numbers = Numbers::new();
-    for _ in 0..edits {
-        let number = numbers.next();
-        let pos = (number >> 33) as usize % session.char_count().max(1);
-        let result = match number % 4 {
-            0 => session.delete(pos, 1),
-            1 => session.insert(pos, "\n"),
-            2 => session.insert(pos, "\u{5d0}"),
-            _ => session.insert(pos, "ab"),
-        };
-        let _ = result;
+/// A paragraph of 80 characters, with two Hebrew words.
+pub const PARAGRAPH: &str =
+    "the quick brown fox jumps over שלום עולם and (then) runs away before a dog wake\n";
+
+/// Makes the edits in a session over a `list` or a `tree`, and prints what it keeps in the end.
+pub fn run(rt: &HostRuntime, kind: &str, paragraphs: usize, edits: usize) -> Result<()> {
+    match kind {
+        "list" => show::<VecStore<Kept>>(rt, paragraphs, edits),
+        "tree" => show::<TreeStore<Kept>>(rt, paragraphs, edits),
+        _ => bail!("a list or a tree?"),
     }
+}
+
+fn show<S: ParagraphStore<Kept> + Drop>(
+    rt: &HostRuntime,
+    paragraphs: usize,
+    edits: usize,
+) -> Result<()> {
+    let tables = Tables::read(rt.alloc(), &FILES)?;
+    let text = text_of(rt.alloc(), paragraphs)?;
+    let mut session: Session<S> = open(rt.alloc(), tables, text.as_str())?;
+    make_edits(&mut session, edits);
     println!(rt;
-        "{} paragraphs, {} characters, {} analysed",
+        "{} paragraphs, {} lines, {} characters, {} analysed",
         session.paragraph_count(),
+        session.line_count(),
         session.char_count(),
         session.analysed()
     )?;
     Ok(())
 }
 
-// Paragraphs of 80 characters.
-fn text_of(alloc: Global, paragraphs: usize) -> Result<String, AllocError> {
+/// Paragraphs of 80 characters.
+pub fn text_of(alloc: Global, paragraphs: usize) -> Result<String, AllocError> {
     let mut text = String::new(alloc);
     for _ in 0..paragraphs {
-        for _ in 0..79 {
-            text.push('a')?;
-        }
-        text.push('\n')?;
+        text.push_str(PARAGRAPH)?;
     }
     Ok(text)
 }
 
-fn open(alloc: Global, text: &str) -> Result<Session<VecStore<Kept>>> {
-    let engine = Engine::new(Tables::read(alloc, &FILES)?, Base::WeakLtr, false);
-    match Session::open(alloc, engine, text, 80) {
+/// A session on a text, 80 columns wide.
+pub fn open<S: ParagraphStore<Kept> + Drop>(
+    alloc: Global,
+    tables: Tables,
+    text: &str,
+) -> Result<Session<S>> {
+    match Session::open(alloc, Engine::new(tables, Base::WeakLtr, false), text, 80) {
         Ok(session) => Ok(session),
         Err((_, fault)) => bail!("{fault}"),
+    }
+}
+
+/// Edits of two characters, as many put in as taken out. Paragraphs are split about as often as joined, so
+/// that they stay as many and as long.
+pub fn make_edits<S: ParagraphStore<Kept>>(session: &mut Session<S>, edits: usize) {
+    let mut numbers = Numbers::new();
+    for _ in 0..edits {
+        let number = numbers.next();
+        let pos = (number >> 33) as usize % session.char_count().max(1);
+        let _ = match (number >> 20) % 80 {
+            0 => session.insert(pos, "a\n"),
+            1..=39 => session.insert(pos, "ab"),
+            _ => session.delete(pos, 2),
+        };
     }
 }

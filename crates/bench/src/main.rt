@@ -1,6 +1,9 @@
 //! Measures what the command itself can't show, for the scripts of `bench/`:
 //!
-//! - `bench edits PARAGRAPHS EDITS` makes edits in a session and prints what it keeps in the end.
+//! - `bench edits KIND PARAGRAPHS EDITS` makes edits in a session over a `list` or a `tree` of paragraphs,
+//!   and prints what it keeps in the end.
+//! - `bench session UCD KIND PARAGRAPHS EDITS` prints how long a session takes to be opened, and for an edit.
+//! - `bench width UCD KIND PARAGRAPHS` prints how long a width change takes, beside laying out and filling.
 //! - `bench levels UCD CHARACTERS` prints how long the levels of a paragraph take, for texts of many
 //!   kinds, with the table files of the folder UCD.
 //! - `bench marks UCD CHARACTERS` prints the same of break marks.
@@ -15,6 +18,7 @@ mod levels;
 mod marks;
 mod numbers;
 mod paragraphs;
+mod sessions;
 mod stores;
 
 use anyhow::{Result, bail};
@@ -28,9 +32,12 @@ fn main(rt: HostRuntime) -> Result<()> {
     };
     match subject.as_str() {
         "edits" => {
+            let Some(kind) = words.next() else {
+                bail!("a list or a tree?");
+            };
             let paragraphs = number(words.next());
             let edits = number(words.next());
-            edits::run(&rt, paragraphs, edits)
+            edits::run(&rt, kind.as_str(), paragraphs, edits)
         }
         "store" => {
             let Some(kind) = words.next() else {
@@ -39,6 +46,20 @@ fn main(rt: HostRuntime) -> Result<()> {
             let paragraphs = number(words.next());
             let times = number(words.next());
             stores::run(&rt, kind.as_str(), paragraphs, times)
+        }
+        "session" | "width" => {
+            let Some(folder) = words.next() else {
+                bail!("where are the table files?");
+            };
+            let Some(kind) = words.next() else {
+                bail!("a list or a tree?");
+            };
+            let paragraphs = number(words.next());
+            let edits = number(words.next());
+            match subject.as_str() {
+                "session" => sessions::run(&rt, folder.as_str(), kind.as_str(), paragraphs, edits),
+                _ => sessions::change_width(&rt, folder.as_str(), kind.as_str(), paragraphs),
+            }
         }
         "levels" | "marks" | "fill" => {
             let Some(folder) = words.next() else {

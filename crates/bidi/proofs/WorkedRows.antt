@@ -1,11 +1,10 @@
 -- Rows of the definitions, worked.
-use Rattle.std.proofs.Common.{◌≡◌, ℕ, ◌-◌, ◌^◌, ◌==◌, true, false, cond, ◌||◌, [], ◌∷◌, Some, None, refl}
+use Rattle.std.proofs.Common.{◌≡◌, ℕ, ◌==◌, true, false, cond, ◌||◌, [], ◌∷◌, Some, None, refl}
 use Rattle.ucd.specs.declared.bidi_class.BidiClass.{BidiClass}
 use Rattle.ucd.specs.declared.bidi_class.BidiClass.TheVariants.{L, R, AL, EN, B, RLE, PDF, LRI, RLI, FSI, PDI}
 use Rattle.bidi.specs.declared.base.Base.TheVariants.{Rtl, Ltr, WeakRtl, WeakLtr}
 use Rattle.bidi.specs.Base.{match_of, base_level_of}
 use Rattle.bidi.specs.Cuts.{cut, paragraphs, first_cut}
-use Rattle.bidi.specs.Engine.{counted}
 
 -- the first strong character decides, and a weak option speaks only where there is none
 strong_right : base_level_of (R ∷ B ∷ []) WeakLtr ≡ 1
@@ -92,7 +91,3 @@ first_place = refl
 
 no_place : first_cut (cut class_of_code) (97 ∷ 10 ∷ []) ≡ None
 no_place = refl
-
--- the count stays at the greatest number
-count_stays : counted (2 ^ 64 - 3) 7 ≡ 2 ^ 64 - 1
-count_stays = refl

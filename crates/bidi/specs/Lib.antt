@@ -3,7 +3,6 @@ pub mod Brackets
 pub mod Classes
 pub mod Closers
 pub mod Cuts
-pub mod Engine
 pub mod Explicit
 pub mod Isolates
 pub mod Least
@@ -16,7 +15,6 @@ pub mod Pieces
 pub mod Plain
 pub mod Resolving
 pub mod Rows
-pub mod Rules
 pub mod Runs
 pub mod Sequences
 pub mod Stayed

@@ -6,7 +6,6 @@ mod base;
 mod brackets;
 mod classes;
 mod cuts;
-mod engine;
 mod explicit;
 mod fill;
 mod isolates;
@@ -20,7 +19,6 @@ mod weak;
 
 pub use base::{Base, base_level, base_level_by};
 pub use cuts::{first_cut, is_cut, paragraphs_are_pieces};
-pub use engine::BaseEngine;
 pub use resolver::{Resolver, resolve};
 
 #[cfg(test)]

@@ -1,6 +1,7 @@
 -- Rows of the definitions, worked.
-use Rattle.std.proofs.Common.{◌≡◌, ℕ, true, false, List, [], ◌∷◌, refl}
+use Rattle.std.proofs.Common.{◌≡◌, ℕ, ◌-◌, ◌^◌, true, false, List, [], ◌∷◌, refl}
 use Rattle.breaks.specs.declared.mark.Mark.TheVariants.{Never, May, Must}
+use Rattle.lines.specs.Engine.{counted}
 use Rattle.lines.specs.Filling.{line_starts_of, shown}
 use Rattle.lines.specs.declared.places.Place.{Place}
 
@@ -72,3 +73,7 @@ wide = record { columns = 2; is_trailing = false; mark = May; ends_cluster = tru
 too_wide : starts 1 (wide ∷ record wide { mark = Must } ∷ []) ≡ 0 ∷ 1 ∷ []
 unfolding line_starts_of
 too_wide = refl
+
+-- a count stays at the greatest number
+count_stays : counted (2 ^ 64 - 3) 7 ≡ 2 ^ 64 - 1
+count_stays = refl

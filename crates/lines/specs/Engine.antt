@@ -1,6 +1,5 @@
 -- What calls of an engine do to what it shows.
-use Rattle.std.specs.Prelude.{◌≡◌, ℕ, ◌+◌, ◌≤◌}
-use Rattle.bidi.specs.Engine.{counted}
+use Rattle.std.specs.Prelude.{◌≡◌, ℕ, ◌+◌, ◌-◌, ◌^◌, ◌≤◌, min}
 use Rattle.lines.specs.Layouts.{Rules}
 use Rattle.lines.specs.declared.engine.Engine.{Engine}
 
@@ -16,6 +15,10 @@ filled_of engine = engine.filled
 -- an engine keeps its rules
 abbrev pub SameRules : Engine → Engine → Type 0
 SameRules old new = rules_of new ≡ rules_of old
+
+-- a count after n more, which stays at the greatest number of 64 bits once there
+abbrev pub counted : ℕ → ℕ → ℕ
+counted count n = min (count + n) (2 ^ 64 - 1)
 
 -- a count rises, by at most n
 pub record RisesBy (n old new : ℕ) : Type 0 where

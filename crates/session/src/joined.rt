@@ -61,7 +61,7 @@ fn lay_out_one(
     ensures counts { LaysOutAtMost (length text.now) engine.old engine.new }
 {
     match engine.lay_out(alloc, Vec::from_slice(alloc, text)?, width) {
-        Ok(laid) => Ok(Kept::new(laid)),
+        Ok(laid) => Ok(Kept::new(alloc, laid)?),
         Err((_, error)) => Err(error),
     }
 }

@@ -1,31 +1,43 @@
 //! A paragraph as a session keeps it in a store.
-ghost use Rattle.std.specs.Prelude.{◌≡◌, length};
+ghost use Rattle.std.specs.Prelude.{◌≡◌, length, IfOk};
 
 use lines::{Fill, Laid};
+use std::alloc::{AllocError, Global};
 use std::marker::Model;
 use store::{Exchange, Measured};
 
 /// A paragraph that is laid out, as an item of a store. Its part is its lines, which are exchanged for
-/// those at another width.
+/// those at another width. It is two numbers and a place of the paragraph's own, so that a store that
+/// looks for another one doesn't read it.
 #[derive(Debug, Drop)]
 pub struct Kept {
-    laid: Laid,
+    chars: usize,
+    lines: usize,
+    laid: Box<Laid>,
 }
 
 impl Model for Kept {
+    ghost use Rattle.std.specs.Prelude.{◌≡◌, length};
     ghost use Rattle.lines.specs.Layouts.{Layout};
 
     ghost Value = { Layout };
 
-    ghost view = { λ k. k.laid };
+    ghost view = { λ k. k.laid.value };
+
+    ghost invariant = { λ k.
+        (k.chars ≡ length k.laid.value.text) × (k.lines ≡ length k.laid.value.lines) };
 }
 
 impl Kept {
     /// Of a paragraph that is laid out.
-    pub fn new(laid: Laid) -> Kept
-        ensures { result ≡ laid }
+    pub fn new(alloc: Global, laid: Laid) -> Result<Kept, AllocError>
+        ensures { IfOk result (λ kept. kept ≡ laid) }
     {
-        Kept { laid }
+        Ok(Kept {
+            chars: laid.text().len(),
+            lines: laid.line_count(),
+            laid: Box::new(alloc, laid)?,
+        })
     }
 
     /// The paragraph.
@@ -42,11 +54,11 @@ impl Measured for Kept {
     ghost lines = { λ kept. length kept.lines };
 
     fn chars(&self) -> usize {
-        self.laid.text().len()
+        self.chars
     }
 
     fn lines(&self) -> usize {
-        self.laid.line_count()
+        self.lines
     }
 }
 
@@ -67,5 +79,6 @@ impl Exchange for Kept {
 
     fn exchange(&mut self, part: &mut Fill) {
         self.laid.exchange(part);
+        self.lines = self.laid.line_count();
     }
 }
