@@ -240,7 +240,20 @@ fn encode_number<I: Integer>(number: I, is_first: bool, buffer: &mut [u8], at: u
 {
     let mut digits = Buffer::new();
     let start = if is_first { at } else { put(buffer, at, b' ') };
-    put_all(buffer, start, digits.format(number).as_bytes())
+    // Byte by byte, since so few are no work for a copy.
+    match digits.format(number).as_bytes() {
+        [first] => put(buffer, start, *first),
+        [first, second] => {
+            let behind = put(buffer, start, *first);
+            put(buffer, behind, *second)
+        }
+        [first, second, third] => {
+            let behind = put(buffer, start, *first);
+            let behind = put(buffer, behind, *second);
+            put(buffer, behind, *third)
+        }
+        more => put_all(buffer, start, more),
+    }
 }
 
 // Puts some bytes to a place of a buffer, and says where they end.
