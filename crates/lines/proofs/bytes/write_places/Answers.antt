@@ -1,4 +1,4 @@
-use Rattle.std.proofs.Common.{◌≡◌, ◌++◌, length, map, take, drop, encode_utf8_all, slice_index, ap, sym, ◌∙◌}
+use Rattle.std.proofs.Common.{◌++◌, map, drop, encode_utf8_all, slice_index, ap, sym, ◌∙◌}
 use Rattle.std.proofs.lemmas.List.{length-map, take_all}
 use Rattle.lines.specs.Writing.{StoppedIn}
 use Rattle.lines.proofs.WriteLemmas.{encoded-rest, passed-append, same_fault, stopped-before, stopped-behind}

@@ -1,4 +1,4 @@
-use Rattle.std.proofs.Common.{◌≡◌, ◌++◌, length, map, take, drop, ap, sym, ◌∙◌}
+use Rattle.std.proofs.Common.{◌++◌, map, drop, ap, sym, ◌∙◌}
 use Rattle.std.proofs.lemmas.List.{length-map, take_all}
 use Rattle.std.specs.List.{concat, join_with_byte}
 use Rattle.lines.specs.Writing.{StoppedIn}
