@@ -1,4 +1,4 @@
-use Rattle.std.proofs.Common.{◌≡◌, ◌-◌, length, arith}
+use Rattle.std.proofs.Common.{◌-◌, length, arith}
 use Rattle.bidi.proofs.AloneLemmas.{alone}
 use Rattle.bidi.proofs.RunLemmas.{last_match, match_at-above}
 use Rattle.bidi.proofs.levels.Sequence.resolve.Goals as goal
