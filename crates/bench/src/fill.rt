@@ -91,7 +91,7 @@ const CASES: [Case; 12] = [
 pub fn run(rt: &HostRuntime, folder: &str, characters: usize) -> Result<()> {
     let mut engine = Engine::new(tables(rt, folder)?, Base::WeakLtr, false);
     for case in &CASES {
-        let (time, laid) = lay_out(rt, &mut engine, case, characters)?;
+        let (time, laid) = lay_out(rt, &mut engine, case.words, case.width, characters)?;
         let again = refill(rt, &mut engine, &laid, case.width)?;
         let lines = laid.line_count();
         println!(rt; "{time} {again} {lines} {} {}", case.width, case.name)?;
@@ -99,39 +99,42 @@ pub fn run(rt: &HostRuntime, folder: &str, characters: usize) -> Result<()> {
     Ok(())
 }
 
-// The least time of some runs, and the paragraph.
-fn lay_out(
+/// The least time in nanoseconds in which a paragraph of so many characters of these words is laid out, and
+/// the paragraph.
+pub fn lay_out(
     rt: &HostRuntime,
     engine: &mut Engine,
-    case: &Case,
+    words: &[&str],
+    width: u16,
     characters: usize,
 ) -> Result<(u64, Laid)>
     ensures { IfOk result (λ r. IsLaidOut (rules_of engine.new) r.1) }
 {
     let mut least = u64::MAX;
     for _ in 1..RUNS {
-        let (time, _) = lay_out_once(rt, engine, case, characters)?;
+        let (time, _) = lay_out_once(rt, engine, words, width, characters)?;
         least = least.min(time);
     }
-    let (time, laid) = lay_out_once(rt, engine, case, characters)?;
+    let (time, laid) = lay_out_once(rt, engine, words, width, characters)?;
     Ok((least.min(time), laid))
 }
 
 fn lay_out_once(
     rt: &HostRuntime,
     engine: &mut Engine,
-    case: &Case,
+    words: &[&str],
+    width: u16,
     characters: usize,
 ) -> Result<(u64, Laid)>
     ensures { IfOk result (λ r. IsLaidOut (rules_of engine.new) r.1) }
 {
-    let text = text_of(rt.alloc(), case.words, characters)?;
+    let text = text_of(rt.alloc(), words, characters)?;
     let is_long = text.len() > PARAGRAPH_LIMIT;
-    if text.is_empty() || is_long || case.width == 0 || engine.first_cut(&text).is_some() {
+    if text.is_empty() || is_long || width == 0 || engine.first_cut(&text).is_some() {
         bail!("that is no paragraph");
     }
     let start = Instant::now(rt)?;
-    let Ok(laid) = engine.lay_out(rt.alloc(), text, case.width) else {
+    let Ok(laid) = engine.lay_out(rt.alloc(), text, width) else {
         bail!("out of memory");
     };
     let time = start.elapsed(rt)?.as_nanos();

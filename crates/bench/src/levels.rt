@@ -1,17 +1,26 @@
-//! How long the levels of one paragraph take, by what the paragraph is made of.
-use crate::paragraphs::{Kind, Subject, measure_all};
+//! How long the levels of one paragraph take, and its whole layout, by what the paragraph is made of.
+use crate::fill::lay_out;
+use crate::paragraphs::{Kind, Subject, measure_all, tables};
 use anyhow::Result;
+use bidi::Base;
+use lines::Engine;
 
 // As many openers as are held, and a closer for each.
 const DEEP: &str = "(((((((((((((((((((((((((((((((((((((((((((((((((((((((((((((((\
     )))))))))))))))))))))))))))))))))))))))))))))))))))))))))))))))";
 
-// Plain letters and real text, and then what some rule has most work with.
-const KINDS: [Kind; 15] = [
+// Plain letters, plain words and real text, and then what some rule has most work with.
+const KINDS: [Kind; 18] = [
     Kind {
         name: "plain letters",
         words: &[
             "the", "quick", "brown", "fox", "jumps", "over", "lazy", "dog",
+        ],
+    },
+    Kind {
+        name: "plain words",
+        words: &[
+            "the ", "quick ", "brown ", "fox ", "jumps ", "over ", "lazy ", "dog ",
         ],
     },
     Kind {
@@ -50,6 +59,14 @@ const KINDS: [Kind; 15] = [
     Kind {
         name: "LRI a PDI",
         words: &["\u{2066}a\u{2069}"],
+    },
+    Kind {
+        name: "FSI a PDI",
+        words: &["\u{2068}a\u{2069}"],
+    },
+    Kind {
+        name: "RLI and LRI in turn",
+        words: &["\u{2067}\u{2066}"],
     },
     Kind {
         name: "RLE and LRE in turn",
@@ -97,4 +114,15 @@ const KINDS: [Kind; 15] = [
 /// highest level and its name.
 pub fn run(rt: &HostRuntime, folder: &str, characters: usize) -> Result<()> {
     measure_all(rt, Subject::Levels, &KINDS, folder, characters)
+}
+
+/// Prints a line for each kind of paragraph of so many characters that is laid out at 80 columns: its least
+/// time in nanoseconds, how many lines it has, and its name.
+pub fn lay_out_each(rt: &HostRuntime, folder: &str, characters: usize) -> Result<()> {
+    let mut engine = Engine::new(tables(rt, folder)?, Base::WeakLtr, false);
+    for kind in &KINDS {
+        let (time, laid) = lay_out(rt, &mut engine, kind.words, 80, characters)?;
+        println!(rt; "{time} {} {}", laid.line_count(), kind.name)?;
+    }
+    Ok(())
 }

@@ -6,6 +6,7 @@
 //! - `bench width UCD KIND PARAGRAPHS` prints how long a width change takes, beside laying out and filling.
 //! - `bench levels UCD CHARACTERS` prints how long the levels of a paragraph take, for texts of many
 //!   kinds, with the table files of the folder UCD.
+//! - `bench layouts UCD CHARACTERS` prints how long the same paragraphs take to be laid out.
 //! - `bench marks UCD CHARACTERS` prints the same of break marks.
 //! - `bench fill UCD CHARACTERS` prints how long a paragraph takes to be laid out and filled again.
 //! - `bench store KIND PARAGRAPHS TIMES` prints how long a store of paragraphs takes, a `list` or a
@@ -61,13 +62,14 @@ fn main(rt: HostRuntime) -> Result<()> {
                 _ => sessions::change_width(&rt, folder.as_str(), kind.as_str(), paragraphs),
             }
         }
-        "levels" | "marks" | "fill" => {
+        "levels" | "layouts" | "marks" | "fill" => {
             let Some(folder) = words.next() else {
                 bail!("where are the table files?");
             };
             let characters = number(words.next());
             match subject.as_str() {
                 "levels" => levels::run(&rt, folder.as_str(), characters),
+                "layouts" => levels::lay_out_each(&rt, folder.as_str(), characters),
                 "marks" => marks::run(&rt, folder.as_str(), characters),
                 _ => fill::run(&rt, folder.as_str(), characters),
             }

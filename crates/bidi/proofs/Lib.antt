@@ -1,3 +1,4 @@
+mod AloneLemmas
 mod BracketLemmas
 mod ExplicitLemmas
 mod IsolateLemmas

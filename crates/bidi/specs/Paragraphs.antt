@@ -1,11 +1,11 @@
 -- What is found of the characters that X9 leaves before their sequences are resolved, and what is then written.
-use Rattle.std.specs.Prelude.{◌≡◌, ℕ, ◌<◌, false, None, All, List, length, map, slice_index}
+use Rattle.std.specs.Prelude.{◌≡◌, ℕ, ◌<◌, max, false, None, All, List, length, map, slice_index}
 use Rattle.ucd.specs.Tables.{bracket_of}
 use Rattle.bidi.specs.Classes.{class_at}
 use Rattle.bidi.specs.Isolates.{matches_of}
 use Rattle.bidi.specs.Levels.{levels_in, put, resolved}
 use Rattle.bidi.specs.Runs.{AreWithin, sequence_at}
-use Rattle.bidi.specs.Sequences.{eos, first_of, sos}
+use Rattle.bidi.specs.Sequences.{direction, first_of, last_of, level_before, level_behind}
 use Rattle.bidi.specs.Stayed.{HasAll}
 use Rattle.bidi.specs.declared.levels.Paragraph.{Paragraph}
 use Rattle.bidi.specs.declared.levels.Sequence.{Sequence}
@@ -30,11 +30,14 @@ write_by p done start =
 abbrev pub resolved_by : Paragraph → List ℕ
 resolved_by p = resolved (bracket_of p.tables.now) p.base p.characters.now p.stayed.now.classes.items p.stayed.now.levels.items p.stayed.now.types.items
 
--- the level of a sequence, and the directions at its ends
-pub record AreSides (p : Paragraph) (places : List ℕ) (sides : Sides) : Type 0 where
-  pub level_is : sides.level ≡ slice_index p.stayed.now.levels.items (first_of places)
-  pub sos_is : sides.sos ≡ sos p.base p.stayed.now.levels.items places
-  pub eos_is : sides.eos ≡ eos p.base p.stayed.now.classes.items p.stayed.now.levels.items places
+-- the level of a sequence from one place to another, and the directions at its ends
+pub record AreSidesBetween (p : Paragraph) (first last : ℕ) (sides : Sides) : Type 0 where
+  pub level_is : sides.level ≡ slice_index p.stayed.now.levels.items first
+  pub sos_is : sides.sos ≡ direction (max (slice_index p.stayed.now.levels.items first) (level_before p.base p.stayed.now.levels.items first))
+  pub eos_is : sides.eos ≡ direction (max (slice_index p.stayed.now.levels.items last) (level_behind p.base p.stayed.now.classes.items p.stayed.now.levels.items last))
+
+abbrev pub AreSides : Paragraph → List ℕ → Sides → Type 0
+AreSides p places sides = AreSidesBetween p (first_of places) (last_of places) sides
 
 -- a sequence of the paragraph, at a place
 pub record Takes (p : Paragraph) (start : ℕ) (sequence : Sequence) : Type 0 where

@@ -1,12 +1,14 @@
 //! The levels of a paragraph's characters before L1 (UAX #9, X1 to I2).
-ghost use Rattle.std.specs.Prelude.{◌≡◌, ◌<◌, ◌≤◌, true, false, map, replicate, length, slice_index};
+ghost use Rattle.std.specs.Prelude.{◌≡◌, ◌-◌, ◌<◌, ◌≤◌, true, false, map, replicate, length, slice_index};
 ghost use Rattle.std.specs.Prelude.{All, IfSome, OnOk};
+ghost use Rattle.std.specs.List.{range_with_len};
 ghost use Rattle.ucd.specs.Tables.{bracket_of};
 ghost use Rattle.bidi.specs.Classes.{class_at};
 ghost use Rattle.bidi.specs.Levels.{levels_by, paragraph_levels, put, put_back, resolved, sequence_levels};
 ghost use Rattle.bidi.specs.Plain.{is_plain};
-ghost use Rattle.bidi.specs.Paragraphs.{AreSides, IsReady, Takes, resolved_by, write_by};
-ghost use Rattle.bidi.specs.Runs.{AreWithin, marked};
+ghost use Rattle.bidi.specs.Paragraphs.{AreSides, AreSidesBetween, IsReady, Takes};
+ghost use Rattle.bidi.specs.Paragraphs.{resolved_by, sequence_in, write_by};
+ghost use Rattle.bidi.specs.Runs.{AreWithin, IsRunEnd, marked};
 ghost use Rattle.bidi.specs.Sequences.{stayed};
 ghost use Rattle.bidi.specs.Stayed.{HasAll};
 
@@ -89,10 +91,21 @@ fn sides_of(paragraph: &Paragraph<'_>, places: &[usize]) -> Sides
     ensures sides { AreSides paragraph.now places.now result }
     ensures bounded { result.level ≤ 125 }
 {
-    let levels = paragraph.stayed.levels.as_slice();
-    let classes = paragraph.stayed.classes.as_slice();
     let first = places[0];
     let last = places[places.len() - 1];
+    sides_between(paragraph, first, last)
+}
+
+// What a sequence is resolved by that begins and ends at these places.
+fn sides_between(paragraph: &Paragraph<'_>, first: usize, last: usize) -> Sides
+    requires paragraph { IsReady paragraph.now }
+    requires first { first < length paragraph.now.stayed.now.levels.items }
+    requires last { last < length paragraph.now.stayed.now.levels.items }
+    ensures sides { AreSidesBetween paragraph.now first last result }
+    ensures bounded { result.level ≤ 125 }
+{
+    let levels = paragraph.stayed.levels.as_slice();
+    let classes = paragraph.stayed.classes.as_slice();
     Sides {
         level: levels[first],
         sos: sos(levels, paragraph.base, first),
@@ -171,8 +184,59 @@ impl Sequence {
         copy_types(&self.explicit, &mut self.types)
     }
 
-    // Finds the levels of the sequence that begins at `start`, and writes them to their places.
+    // Finds the levels of a run that is a sequence of its own, and writes them to their places. It is
+    // resolved where it stands.
+    fn resolve_run(
+        &mut self,
+        paragraph: &Paragraph<'_>,
+        start: usize,
+        end: usize,
+        resolved: &mut [u8],
+    ) -> Result<(), AllocError>
+        requires paragraph { IsReady paragraph.now }
+        requires run { (start < end) × (end ≤ length paragraph.now.stayed.now.levels.items) }
+        requires alone { sequence_in paragraph.now start ≡ range_with_len start (end - start) }
+        requires resolved { length resolved.old ≡ length paragraph.now.stayed.now.levels.items }
+        ensures { OnOk result (resolved.new ≡ write_by paragraph.now resolved.old start) }
+    {
+        let explicit = &paragraph.stayed.types[start..end];
+        copy_types(explicit, &mut self.types)?;
+        resolve_types(
+            paragraph.tables,
+            &paragraph.characters[start..end],
+            explicit,
+            &mut self.types,
+            &mut self.pairs,
+            sides_between(paragraph, start, end - 1),
+            paragraph.has_brackets,
+            &mut resolved[start..end],
+        )?;
+        Ok(())
+    }
+
+    // Finds the levels of the sequence that begins with the run from `start` to `end`, and writes them to
+    // their places.
     fn resolve(
+        &mut self,
+        paragraph: &Paragraph<'_>,
+        start: usize,
+        end: usize,
+        resolved: &mut [u8],
+    ) -> Result<(), AllocError>
+        requires paragraph { IsReady paragraph.now }
+        requires run { IsRunEnd paragraph.now.stayed.now.levels.items start end }
+        requires resolved { length resolved.old ≡ length paragraph.now.stayed.now.levels.items }
+        ensures { OnOk result (resolved.new ≡ write_by paragraph.now resolved.old start) }
+    {
+        match next_run(&paragraph.stayed.levels, paragraph.matches, end) {
+            Some(_) => self.resolve_gathered(paragraph, start, resolved),
+            None => self.resolve_run(paragraph, start, end, resolved),
+        }
+    }
+
+    // Finds the levels of the sequence that begins at `start` in lists of its own, and writes them to their
+    // places.
+    fn resolve_gathered(
         &mut self,
         paragraph: &Paragraph<'_>,
         start: usize,
@@ -226,12 +290,13 @@ fn resolve_runs(
     let levels = paragraph.stayed.levels.as_slice();
     let mut start = 0;
     while start < levels.len() {
+        let end = run_end(levels, start);
         // A run in which an earlier one continues belongs to the sequence of that one.
         if !continued[start] {
-            sequence.resolve(paragraph, start, done)?;
+            sequence.resolve(paragraph, start, end, done)?;
         }
-        start = run_end(levels, start);
-        mark(continued, next_run(levels, paragraph.matches, start));
+        mark(continued, next_run(levels, paragraph.matches, end));
+        start = end;
     }
     Ok(())
 }

@@ -2,7 +2,7 @@
 use Rattle.std.proofs.Common.{◌≡◌, ℕ, zero, suc, ◌+◌, ◌-◌, ◌<◌, ◌≤◌, ◌==◌, false, min, List, [], ◌∷◌, ◌++◌, length, map, get_or, take, drop, replicate, Option, Some, None, Result, Ok, Err, IfOk, IfErr, IsErrAnd, encode_utf8, encode_utf8_all, if◌then◌else◌, refl, sym, ap, ◌∙◌, arith}
 use Rattle.std.specs.Io.KnownBytes.{Appends}
 use Rattle.std.specs.List.{concat, join_with_byte}
-use Rattle.std.proofs.lemmas.List.{append_assoc, append-nil, length-append, length-map, take-append-le, get_or-map, take_all, take_more, take-append-drop, take-replicate, replicate-append-replicate}
+use Rattle.std.proofs.lemmas.List.{append_assoc, append-nil, length-append, length-map, take-append-le, get_or-map, take_more, take-append-drop, take-map, take-replicate, replicate-append-replicate}
 use Rattle.std.proofs.Math.Seq.{take-add, take-append-add}
 use Rattle.std.proofs.lemmas.Bool.Decides.{nat_tests}
 use Rattle.device.specs.Device.{Device, Took, StoppedAt, greatest}
@@ -103,19 +103,10 @@ pub same_fault : {T : Type 0} (r : Result T WriteFault) (fault : WriteFault) (Q 
 same_fault (Ok x) fault Q is holds = tt
 same_fault (Err y) fault Q is holds = rw is holds
 
--- characters, one by one
-pub encoded-whole : (cs : List ℕ) → concat (map encode_utf8 cs) ≡ encode_utf8_all cs
-encoded-whole [] = refl
-encoded-whole (c ∷ cs) = ap (λ more. encode_utf8 c ++ more) (encoded-whole cs)
-
-pub encoded-at : (cs : List ℕ) (k c : ℕ) → k < length cs → c ≡ get_or cs k c → encode_utf8 c ≡ get_or (map encode_utf8 cs) k []
-encoded-at cs k c within c_is = ap encode_utf8 c_is ∙ sym (get_or-map encode_utf8 cs k c [] within)
-
-pub encoded-within : (cs : List ℕ) (k : ℕ) → k < length cs → k < length (map encode_utf8 cs)
-encoded-within cs k within = rw (length-map cs encode_utf8) within
-
-pub encoded-all : (cs : List ℕ) (k : ℕ) → length cs ≤ k → concat (take k (map encode_utf8 cs)) ≡ encode_utf8_all cs
-encoded-all cs k past = ap concat (take_all k (map encode_utf8 cs) (rw (length-map cs encode_utf8) past)) ∙ encoded-whole cs
+-- one part more in a piece, behind what stands in front of the piece
+pub part-more : (front piece part : List ℕ) {new whole : List ℕ} → new ≡ piece ++ part → front ++ piece ≡ whole → front ++ new ≡ whole ++ part
+part-more front piece part new_is piece_is =
+    ap (λ xs. front ++ xs) new_is ∙ sym (append_assoc front piece part) ∙ ap (λ xs. xs ++ part) piece_is
 
 -- characters, some at a time
 pub encoded-append : (xs ys : List ℕ) → encode_utf8_all (xs ++ ys) ≡ encode_utf8_all xs ++ encode_utf8_all ys
@@ -162,6 +153,26 @@ spaced-at (x ∷ xs) (suc k) short =
 
 pub spaced-within : (xs : List (List ℕ)) (k : ℕ) → k < length xs → k < length (spaced xs)
 spaced-within xs k within = rw (length-spaced xs) within
+
+take-spaced : (xs : List (List ℕ)) (k : ℕ) → spaced (take k xs) ≡ take k (spaced xs)
+take-spaced xs zero = refl
+take-spaced [] (suc k) = refl
+take-spaced (x ∷ xs) (suc k) = ap (λ more. x ∷ more) (sym (take-map (λ (y : List ℕ). 32 ∷ y) k xs))
+
+joined-front : (xs : List (List ℕ)) (k : ℕ) → join_with_byte 32 (take k xs) ≡ concat (take k (spaced xs))
+joined-front xs k = sym (spaced-whole (take k xs)) ∙ ap concat (take-spaced xs k)
+
+-- a row with one item more, and its rest behind the first ones
+pub joined-more : (xs : List (List ℕ)) (k : ℕ) (x : List ℕ) → k < length xs → x ≡ get_or xs k []
+    → join_with_byte 32 (take (k + 1) xs) ≡ join_with_byte 32 (take k xs) ++ ((if k == 0 then [] else 32 ∷ []) ++ x)
+joined-more xs k x within is =
+    let next = ap (λ y. (if k == 0 then [] else 32 ∷ []) ++ y) is ∙ spaced-at xs k within in
+    joined-front xs (k + 1) ∙ concat-next (spaced xs) k _ (spaced-within xs k within) next
+    ∙ ap (λ front. front ++ ((if k == 0 then [] else 32 ∷ []) ++ x)) (sym (joined-front xs k))
+
+pub joined-rest : (xs : List (List ℕ)) (k : ℕ) → join_with_byte 32 xs ≡ join_with_byte 32 (take k xs) ++ concat (drop k (spaced xs))
+joined-rest xs k =
+    sym (spaced-whole xs) ∙ concat-parts (spaced xs) k ∙ ap (λ front. front ++ concat (drop k (spaced xs))) (sym (joined-front xs k))
 
 -- spaces
 pub some_spaces : (n : ℕ) → n ≤ 64 → take n SPACES ≡ replicate n 32

@@ -40,18 +40,6 @@ fn write_part<W: Sink>(writer: &mut W, done: u64, part: &[u8]) -> Result<u64, Wr
     }
 }
 
-fn write_char<W: Sink>(writer: &mut W, done: u64, c: char) -> Result<u64, WriteFault>
-    requires { done ≤ (W.state writer.old).passed }
-    ensures ok { IfOk result (λ n.
-        PassedOn (encode_utf8 c) done (W.state writer.old) (W.state writer.new) n) }
-    ensures err { IfErr result (λ fault.
-        StoppedIn (encode_utf8 c) done (W.state writer.old) (W.state writer.new) fault.written) }
-    ensures counted { IfOk result (λ n. n ≤ (W.state writer.new).passed) }
-{
-    let mut buffer = [0; 4];
-    write_part(writer, done, c.encode_utf8(&mut buffer).as_bytes())
-}
-
 // How many characters are written at a time.
 const PIECE: usize = 64;
 
@@ -144,11 +132,36 @@ fn write_places<W: Sink>(
         (W.state writer.old) (W.state writer.new) fault.written) }
     ensures counted { IfOk result (λ n. n ≤ (W.state writer.new).passed) }
 {
+    let mut buffer = [0; 4 * PIECE];
     let mut written = done;
-    for (at, place) in places.iter().enumerate() {
-        written = write_char(writer, written, text[*place as usize])?;
+    let mut at = 0;
+    while at < places.len() {
+        let (next, len) = encode_places(text, places, at, &mut buffer);
+        written = write_part(writer, written, &buffer[..len])?;
+        at = next;
     }
     Ok(written)
+}
+
+// Puts the bytes of the characters at the places from `from` on to the front of a buffer, as many as it has
+// room for, and says which place is next, and how many bytes they are.
+fn encode_places(text: &[char], places: &[u32], from: usize, buffer: &mut [u8]) -> (usize, usize)
+    requires within { AreWithin (length text.now) places.now }
+    requires some { (from < length places.now) × (4 ≤ length buffer.old) }
+    ensures next { (from < result.0) × (result.0 ≤ length places.now) }
+    ensures len { result.1 ≤ length buffer.old }
+    ensures bytes { encode_utf8_all (take from (map (slice_index text.now) places.now))
+        ++ take result.1 buffer.new
+        ≡ encode_utf8_all (take result.0 (map (slice_index text.now) places.now)) }
+{
+    let mut next = from;
+    let mut len = 0;
+    while next < places.len() && len + 4 <= buffer.len() {
+        let place = places[next] as usize;
+        len = encode_behind(text[place], buffer, len);
+        next += 1;
+    }
+    (next, len)
 }
 
 fn write_spaces<W: Sink>(writer: &mut W, done: u64, count: usize) -> Result<u64, WriteFault>
@@ -169,29 +182,11 @@ fn write_spaces<W: Sink>(writer: &mut W, done: u64, count: usize) -> Result<u64,
     Ok(written)
 }
 
-// A number, behind a space where it isn't the first of its line.
-fn write_number<W: Sink, I: Integer>(
-    writer: &mut W,
-    done: u64,
-    is_first: bool,
-    number: I,
-) -> Result<u64, WriteFault>
-    requires { done ≤ (W.state writer.old).passed }
-    ensures ok { IfOk result (λ n. PassedOn ((if is_first then [] else 32 ∷ []) ++ I.text number) done
-        (W.state writer.old) (W.state writer.new) n) }
-    ensures err { IfErr result (λ fault.
-        StoppedIn ((if is_first then [] else 32 ∷ []) ++ I.text number) done
-        (W.state writer.old) (W.state writer.new) fault.written) }
-    ensures counted { IfOk result (λ n. n ≤ (W.state writer.new).passed) }
-{
-    let mut digits = Buffer::new();
-    let before = if is_first {
-        done
-    } else {
-        write_part(writer, done, b" ")?
-    };
-    write_part(writer, before, digits.format(number).as_bytes())
-}
+// How many bytes of a row of numbers are written at a time.
+const ROW_PIECE: usize = 512;
+
+// How many bytes a number has at most, with the space in front of it.
+const NUMBER_LEN: usize = 41;
 
 fn write_row<W: Sink, I: Integer>(
     writer: &mut W,
@@ -206,11 +201,70 @@ fn write_row<W: Sink, I: Integer>(
         (W.state writer.old) (W.state writer.new) fault.written) }
     ensures counted { IfOk result (λ n. n ≤ (W.state writer.new).passed) }
 {
+    let mut buffer = [0; ROW_PIECE];
     let mut written = done;
-    for (at, number) in numbers.iter().enumerate() {
-        written = write_number(writer, written, at == 0, *number)?;
+    let mut at = 0;
+    while at < numbers.len() {
+        let (next, len) = encode_row(numbers, at, &mut buffer);
+        written = write_part(writer, written, &buffer[..len])?;
+        at = next;
     }
     Ok(written)
+}
+
+// Puts the numbers of a row from `from` on to the front of a buffer, as many as it has room for, and says
+// which one is next, and how many bytes they are.
+fn encode_row<I: Integer>(numbers: &[I], from: usize, buffer: &mut [u8]) -> (usize, usize)
+    requires { (from < length numbers.now) × (41 ≤ length buffer.old) }
+    ensures next { (from < result.0) × (result.0 ≤ length numbers.now) }
+    ensures len { result.1 ≤ length buffer.old }
+    ensures bytes { join_with_byte 32 (take from (map I.text numbers.now)) ++ take result.1 buffer.new
+        ≡ join_with_byte 32 (take result.0 (map I.text numbers.now)) }
+{
+    let mut next = from;
+    let mut len = 0;
+    while next < numbers.len() && len + NUMBER_LEN <= buffer.len() {
+        len = encode_number(numbers[next], next == 0, buffer, len);
+        next += 1;
+    }
+    (next, len)
+}
+
+// Puts a number to a place of a buffer, behind a space where it isn't the first of its row, and says where
+// it ends.
+fn encode_number<I: Integer>(number: I, is_first: bool, buffer: &mut [u8], at: usize) -> usize
+    requires { at + 41 ≤ length buffer.old }
+    ensures within { result ≤ at + 41 }
+    ensures bytes { take result buffer.new
+        ≡ take at buffer.old ++ ((if is_first then [] else 32 ∷ []) ++ I.text number) }
+{
+    let mut digits = Buffer::new();
+    let start = if is_first { at } else { put(buffer, at, b' ') };
+    // Byte by byte, since so few are no work for a copy.
+    match digits.format(number).as_bytes() {
+        [first] => put(buffer, start, *first),
+        [first, second] => {
+            let behind = put(buffer, start, *first);
+            put(buffer, behind, *second)
+        }
+        [first, second, third] => {
+            let behind = put(buffer, start, *first);
+            let behind = put(buffer, behind, *second);
+            put(buffer, behind, *third)
+        }
+        more => put_all(buffer, start, more),
+    }
+}
+
+// Puts some bytes to a place of a buffer, and says where they end.
+fn put_all(buffer: &mut [u8], at: usize, bytes: &[u8]) -> usize
+    requires { at + length bytes.now ≤ length buffer.old }
+    ensures end { result ≡ at + length bytes.now }
+    ensures bytes { take result buffer.new ≡ take at buffer.old ++ bytes.now }
+{
+    let end = at + bytes.len();
+    buffer[at..end].copy_from_slice(bytes);
+    end
 }
 
 // The padding of a line, its characters in visual order, and its end.

@@ -64,50 +64,94 @@ fn lay_out_characters(
     }
 }
 
+// A paragraph, a width, and where its lines start.
+const STARTS: [(&str, u16, &[u32]); 13] = [
+    ("abcdefgh", 3, &[0, 3, 6]),
+    ("abc   def", 3, &[0, 6]),
+    ("ab cd ef", 5, &[0, 6]),
+    ("ab cd ef", 4, &[0, 3, 6]),
+    ("ab cd ef", 1, &[0, 1, 3, 4, 6, 7]),
+    ("   a", 1, &[0, 3]),
+    ("a \u{300}b", 1, &[0, 2]),
+    ("a\u{2028}b", 80, &[0, 2]),
+    ("\u{4E00}\u{4E00}", 1, &[0, 1]),
+    ("e\u{300}e\u{300}e", 1, &[0, 2, 4]),
+    ("a\r\n", 1, &[0]),
+    ("\n", 1, &[0]),
+    ("ab cd\u{2028}e", 1, &[0, 1, 3, 4, 6]),
+];
+
+// The same where lines end at mandatory breaks only.
+const STARTS_AT_MANDATORY_BREAKS: [(&str, u16, &[u32]); 5] = [
+    ("abcdefgh", 3, &[0]),
+    ("ab cd ef", 1, &[0]),
+    ("a\u{2028}b", 80, &[0, 2]),
+    ("a\r\n", 1, &[0]),
+    ("ab cd\u{2028}e", 1, &[0, 6]),
+];
+
+// Whether a paragraph's lines start there.
+fn starts_at(laid: &Laid, starts: &[u32]) -> bool {
+    laid.line_count() == starts.len() && laid.line_starts() == starts
+}
+
+fn starts(
+    alloc: Global,
+    engine: &mut Engine,
+    text: &str,
+    width: u16,
+    wanted: &[u32],
+) -> Result<bool, Fail> {
+    let laid = lay_out(alloc, engine, text, width)?;
+    Ok(starts_at(&laid, wanted))
+}
+
+// Whether the lines of each paragraph start where it is said.
+fn all_start(
+    alloc: Global,
+    engine: &mut Engine,
+    rows: &[(&str, u16, &[u32])],
+) -> Result<bool, Fail> {
+    let mut all_right = true;
+    for (text, width, wanted) in rows {
+        all_right &= starts(alloc, engine, text, *width, wanted)?;
+    }
+    Ok(all_right)
+}
+
 #[test]
 fn line_starts_of_rows(rt: HostRuntime) -> Result<(), Fail> {
     let alloc = rt.alloc();
-    let mut fills = engine(alloc, false)?;
-    let mut keeps = engine(alloc, true)?;
-    let rows: [(&str, u16, &[u32], &[u32]); 13] = [
-        ("abcdefgh", 3, &[0, 3, 6], &[0]),
-        ("abc   def", 3, &[0, 6], &[0]),
-        ("ab cd ef", 5, &[0, 6], &[0]),
-        ("ab cd ef", 4, &[0, 3, 6], &[0]),
-        ("ab cd ef", 1, &[0, 1, 3, 4, 6, 7], &[0]),
-        ("   a", 1, &[0, 3], &[0]),
-        ("a \u{300}b", 1, &[0, 2], &[0]),
-        ("a\u{2028}b", 80, &[0, 2], &[0, 2]),
-        ("\u{4E00}\u{4E00}", 1, &[0, 1], &[0]),
-        ("e\u{300}e\u{300}e", 1, &[0, 2, 4], &[0]),
-        ("a\r\n", 1, &[0], &[0]),
-        ("\n", 1, &[0], &[0]),
-        ("ab cd\u{2028}e", 1, &[0, 1, 3, 4, 6], &[0, 6]),
-    ];
-    for (text, width, filled, kept) in rows {
-        let laid = lay_out(alloc, &mut fills, text, width)?;
-        assert_eq!(rt; laid.line_starts(), filled, "{text:?} at width {width}");
-        assert_eq!(rt; laid.line_count(), filled.len());
-        // Where lines end at mandatory breaks only.
-        let laid = lay_out(alloc, &mut keeps, text, width)?;
-        assert_eq!(rt; laid.line_starts(), kept, "{text:?}");
-    }
+    let mut engine = engine(alloc, false)?;
+    assert!(rt; all_start(alloc, &mut engine, &STARTS)?);
     Ok(())
 }
 
-// So many letters.
-fn letters(alloc: Global, len: usize) -> Result<Vec<char>, Fail> {
-    Ok(vec![in alloc; 'a'; len]?)
+#[test]
+fn line_starts_at_mandatory_breaks(rt: HostRuntime) -> Result<(), Fail> {
+    let alloc = rt.alloc();
+    let mut engine = engine(alloc, true)?;
+    assert!(rt; all_start(alloc, &mut engine, &STARTS_AT_MANDATORY_BREAKS)?);
+    Ok(())
+}
+
+// The layout of so many letters at a width of 1.
+fn lay_out_letters(alloc: Global, engine: &mut Engine, len: usize) -> Result<Laid, Fail> {
+    let text = vec![in alloc; 'a'; len]?;
+    lay_out_characters(alloc, engine, text, 1)
+}
+
+// Whether each character of the longest paragraph has a line of its own.
+fn has_a_line_for_each(starts: &[u32]) -> bool {
+    starts.len() == PARAGRAPH_LIMIT && starts.last().copied() == Some(1_048_575)
 }
 
 #[test]
 fn longest_paragraph_at_the_least_width(rt: HostRuntime) -> Result<(), Fail> {
     let alloc = rt.alloc();
     let mut engine = engine(alloc, false)?;
-    let text = letters(alloc, PARAGRAPH_LIMIT)?;
-    let laid = lay_out_characters(alloc, &mut engine, text, 1)?;
-    assert_eq!(rt; laid.line_count(), PARAGRAPH_LIMIT);
-    assert_eq!(rt; laid.line_starts().last(), Some(&1_048_575));
+    let laid = lay_out_letters(alloc, &mut engine, PARAGRAPH_LIMIT)?;
+    assert!(rt; has_a_line_for_each(laid.line_starts()));
     Ok(())
 }
 
@@ -123,9 +167,9 @@ fn refill(alloc: Global, engine: &mut Engine, laid: &Laid, width: u16) -> Result
     }
 }
 
-// Whether the engine counts so many characters, and the paragraph's lines start there.
-fn shows(engine: &Engine, counts: (u64, u64), laid: &Laid, starts: &[u32]) -> bool {
-    (engine.analysed(), engine.filled()) == counts && laid.line_starts() == starts
+// Whether the engine counts so many characters.
+fn counts(engine: &Engine, analysed: u64, filled: u64) -> bool {
+    engine.analysed() == analysed && engine.filled() == filled
 }
 
 #[test]
@@ -133,29 +177,41 @@ fn paragraph_at_two_widths(rt: HostRuntime) -> Result<(), Fail> {
     let alloc = rt.alloc();
     let mut engine = engine(alloc, false)?;
     let mut laid = lay_out(alloc, &mut engine, "abcdefgh", 3)?;
-    assert!(rt; shows(&engine, (8, 8), &laid, &[0, 3, 6]));
+    assert!(rt; counts(&engine, 8, 8) && starts_at(&laid, &[0, 3, 6]));
     let mut fill = refill(alloc, &mut engine, &laid, 4)?;
     laid.exchange(&mut fill);
-    assert!(rt; shows(&engine, (8, 16), &laid, &[0, 4]));
+    assert!(rt; counts(&engine, 8, 16) && starts_at(&laid, &[0, 4]));
     laid.exchange(&mut fill);
-    assert!(rt; shows(&engine, (8, 16), &laid, &[0, 3, 6]));
+    assert!(rt; counts(&engine, 8, 16) && starts_at(&laid, &[0, 3, 6]));
     Ok(())
 }
 
-// Whether a paragraph's parts are these.
-fn consists(laid: &Laid, text: &[char], base: u8, levels: &[u8], marks: &[Mark]) -> bool {
-    laid.text() == text && laid.base() == base && laid.levels() == levels && laid.marks() == marks
+// Whether a paragraph has this text and base level.
+fn is_of(laid: &Laid, text: &[char], base: u8) -> bool {
+    laid.text() == text && laid.base() == base
 }
+
+// Whether its characters have these levels, and these marks behind them.
+fn has(laid: &Laid, levels: &[u8], marks: &[Mark]) -> bool {
+    laid.levels() == levels && laid.marks() == marks
+}
+
+#[test]
+fn cuts_of_an_engine(rt: HostRuntime) -> Result<(), Fail> {
+    let engine = engine(rt.alloc(), false)?;
+    assert!(rt; engine.is_cut('\n', 'a') && !engine.is_cut('a', '\n'));
+    Ok(())
+}
+
+const MARKS: [Mark; 4] = [Mark::Never, Mark::Never, Mark::May, Mark::Must];
 
 #[test]
 fn parts_of_a_paragraph(rt: HostRuntime) -> Result<(), Fail> {
     let alloc = rt.alloc();
     let mut engine = engine(alloc, false)?;
-    assert!(rt; engine.is_cut('\n', 'a') && !engine.is_cut('a', '\n'));
     let laid = lay_out(alloc, &mut engine, "\u{5D0}- a", 3)?;
-    let text = ['\u{5D0}', '-', ' ', 'a'];
-    let marks = [Mark::Never, Mark::Never, Mark::May, Mark::Must];
-    assert!(rt; consists(&laid, &text, 1, &[1, 1, 1, 2], &marks));
+    assert!(rt; is_of(&laid, &['\u{5D0}', '-', ' ', 'a'], 1));
+    assert!(rt; has(&laid, &[1, 1, 1, 2], &MARKS));
     Ok(())
 }
 

@@ -18,11 +18,11 @@ loop-start-init c =
 
 pub next_run-requires-clause-above : goal.next_run-requires-clause-above
 next_run-requires-clause-above c =
-    let run = rw c.as_slice-levels.ensures.value at c.run_end-start.ensures in
+    let run = rw c.as_slice-levels.ensures.value at c.run_end-end.ensures in
     let above = run.above in
     let within = run.within in
-    rw (last_match c.args.paragraph.now.stayed.now.classes.items c.args.paragraph.now.matches.now c.run_end-start.result (length c.args.paragraph.now.stayed.now.levels.items) c.requires.paragraph.matches c.requires.paragraph.stayed.classes (omega arith) within)
-    (match_at-above c.args.paragraph.now.stayed.now.classes.items (c.run_end-start.result - 1) (omega (arith, c.requires.paragraph.stayed.classes)))
+    rw (last_match c.args.paragraph.now.stayed.now.classes.items c.args.paragraph.now.matches.now c.run_end-end.result (length c.args.paragraph.now.stayed.now.levels.items) c.requires.paragraph.matches c.requires.paragraph.stayed.classes (omega arith) within)
+    (match_at-above c.args.paragraph.now.stayed.now.classes.items (c.run_end-end.result - 1) (omega (arith, c.requires.paragraph.stayed.classes)))
 
 -- a place to mark is in the list
 in_list : (levels : List ℕ) (m : ℕ) (next : Option ℕ) → next ≡ next_start levels m → IfSome next (λ place. place < length levels)
@@ -32,16 +32,16 @@ in_list levels m (Some place) e = (next_start-within levels m place (sym e)).1
 pub mark-requires : goal.mark-requires
 mark-requires c =
     let next = rw c.as_slice-levels.ensures.value at c.next_run.ensures in
-    rw c.loop-start.invariant.marks (in_list c.args.paragraph.now.stayed.now.levels.items (get_or c.args.paragraph.now.matches.now (c.run_end-start.result - 1) 0) c.next_run.result next)
+    rw c.loop-start.invariant.marks (in_list c.args.paragraph.now.stayed.now.levels.items (get_or c.args.paragraph.now.matches.now (c.run_end-end.result - 1) 0) c.next_run.result next)
 
 pub loop-start-preserved : goal.loop-start-preserved
 loop-start-preserved c =
     let classes = c.args.paragraph.now.stayed.now.classes.items in
     let levels = c.args.paragraph.now.stayed.now.levels.items in
     let types = c.args.paragraph.now.stayed.now.types.items in
-    let end = c.run_end-start.result in
+    let end = c.run_end-end.result in
     let flags = c.loop-start.continued in
-    let run : IsRunEnd levels c.loop-start.start end = rw c.as_slice-levels.ensures.value at c.run_end-start.ensures in
+    let run : IsRunEnd levels c.loop-start.start end = rw c.as_slice-levels.ensures.value at c.run_end-end.ensures in
     let above : c.loop-start.start < end = run.above in
     let within : end ≤ length levels = run.within in
     let sizes : length classes ≡ length levels = c.requires.paragraph.stayed.classes in
