@@ -5,12 +5,16 @@ ghost use Rattle.std.specs.Prelude.{◌<◌};
 
 use device::{FromRead, ToWrite};
 use lines::Engine;
+use session::{Kept, Session};
 use std::alloc::{AllocError, Global};
 use std::fs::File;
 use std::io::{ErrorKind, Read, Stdout};
 use std::process::ExitCode;
 use std::{env, fs, io};
-use tool::{LineFault, ProgramFault, RunFault, Settings, run_text, settings};
+use store::TreeStore;
+use tool::{
+    LineFault, ProgramFault, RunFault, Settings, open_text, run_script, run_text, settings,
+};
 use ucd::{FILE_NAMES, Tables, UcdFiles};
 
 fn main(rt: HostRuntime) -> ExitCode {
@@ -42,6 +46,9 @@ fn run(rt: &HostRuntime) -> Result<(), ProgramFault> {
     let tables = tables(rt, settings.ucd)?;
     let mut engine = Engine::new(tables, settings.base, settings.nobreak);
     let mut output = ToWrite::new(rt.stdout());
+    if let Some(script) = settings.script {
+        return obey(rt, script, &mut output, engine, &settings);
+    }
     if settings.files.is_empty() {
         return write_text(rt, rt.stdin(), &mut output, &mut engine, &settings);
     }
@@ -128,4 +135,37 @@ fn write_text<R: Read + Drop>(
         &settings.print,
     )
     .map_err(ProgramFault::Run)
+}
+
+// Runs an edit script over the one text, which is read first.
+fn obey(
+    rt: &HostRuntime,
+    script: &str,
+    output: &mut ToWrite<Stdout>,
+    engine: Engine,
+    settings: &Settings<'_>,
+) -> Result<(), ProgramFault>
+    requires { 0 < settings.now.width }
+{
+    let Some(text) = settings.files.first() else {
+        return Err(ProgramFault::Line(LineFault::ScriptFiles));
+    };
+    let bytes = match fs::read(rt, *text) {
+        Ok(bytes) => bytes,
+        Err(error) if error.kind() == ErrorKind::OutOfMemory => {
+            return Err(ProgramFault::Run(RunFault::Memory));
+        }
+        Err(_) => return Err(ProgramFault::Run(RunFault::Read)),
+    };
+    let session: Session<TreeStore<Kept>> = open_text(
+        rt.alloc(),
+        engine,
+        &bytes,
+        settings.width,
+    ).map_err(ProgramFault::Run)?;
+    let Ok(script) = File::open(rt, script) else {
+        return Err(ProgramFault::Run(RunFault::Read));
+    };
+    let mut reader = FromRead::new(script);
+    run_script(rt.alloc(), &mut reader, output, session, &settings.print).map_err(ProgramFault::Run)
 }

@@ -1,10 +1,10 @@
 -- What a session answers to a change is what a script answers.
-use Rattle.std.proofs.Common.{◌≡◌, ℕ, Bool, true, false, List, Option, Some, None, Result, Ok, Err, IfOk, IfErr, refl, sym, subst, ap, ◌∙◌, if◌then◌else◌}
+use Rattle.std.proofs.Common.{◌≡◌, ℕ, false, Option, Some, Result, Ok, Err, IfOk, IfErr, sym, subst, ap, ◌∙◌, if◌then◌else◌}
 use Rattle.std.specs.Prelude.{is_none}
 use Rattle.std.proofs.lemmas.Bool.{true≢false}
 use Rattle.device.specs.Device.{Device}
 use Rattle.lines.specs.Layouts.{Rules}
-use Rattle.lines.specs.Writing.{PassedOn, StoppedIn}
+use Rattle.lines.specs.Writing.{PassedOn}
 use Rattle.lines.specs.declared.print.Print.{Print}
 use Rattle.session.specs.Changes.{Held}
 use Rattle.session.specs.declared.edits.Damage.{Damage}

@@ -1,29 +1,24 @@
 -- How the run of a script that reads in pieces ends: as one that has read all would.
-use Rattle.std.proofs.Common.{◌≡◌, ◌⊎◌, inl, inr, ℕ, zero, suc, ◌+◌, ◌-◌, ◌<◌, ◌≤◌, ◌==◌, ◌&&◌, Bool, true, false, All, List, [], ◌∷◌, ◌++◌, length, map, take, drop, min, Option, Some, None, unwrap_or, Result, Ok, Err, OnErr, nat_lt, nat_le, refl, sym, subst, ap, ◌∙◌, arith, if◌then◌else◌}
-use Rattle.std.specs.Prelude.{take_while}
-use Rattle.std.specs.List.{concat, list_all, onto_first, prefix_len, slice_split}
-use Rattle.std.specs.Io.KnownBytes.{Consumes, IsAtEnd, Keeps}
+use Rattle.std.proofs.Common.{◌≡◌, ℕ, suc, ◌+◌, ◌-◌, ◌≤◌, ◌&&◌, Bool, true, false, List, [], ◌∷◌, ◌++◌, length, take, drop, min, Some, None, Ok, Err, refl, sym, subst, ap, ◌∙◌, arith, if◌then◌else◌}
+use Rattle.std.specs.List.{list_all, prefix_len, slice_split}
+use Rattle.std.specs.Io.KnownBytes.{IsAtEnd}
 use Rattle.std.proofs.lemmas.Bool.{and_parts}
-use Rattle.std.proofs.lemmas.Bool.Decides.{nat_tests}
-use Rattle.std.proofs.lemmas.List.{append_assoc, append-nil, length-append, take-append-le, take_all}
-use Rattle.std.proofs.lemmas.List.Folds.{list_all-append, concat-append}
-use Rattle.std.proofs.lemmas.List.Splits.{slice_split_at, slice_split_none}
+use Rattle.std.proofs.lemmas.List.{append_assoc, append-nil, length-append, take-append-le}
 use Rattle.std.proofs.Math.Seq.{take-append-add, take-append_seam, drop-append_seam}
-use Rattle.device.specs.Device.{Device, FailedLast, Fails, StoppedAt, Took, Wrote, greatest}
+use Rattle.device.specs.Device.{Device, StoppedAt, Took, Wrote, greatest}
 use Rattle.lines.specs.Layouts.{Rules}
-use Rattle.lines.specs.Writing.{PassedOn, StoppedIn}
+use Rattle.lines.specs.Writing.{StoppedIn}
 use Rattle.lines.specs.declared.print.Print.{Print}
 use Rattle.session.specs.Changes.{Held}
-use Rattle.tool.specs.Reading.{Ends, EndsIn, FailsAt, IsAt, NoEnd}
-use Rattle.tool.specs.Scripts.{is_last_line, is_line_end, line_limit, lines_among, order_of_line, script_lines}
+use Rattle.tool.specs.Reading.{Ends, FailsAt, NoEnd}
+use Rattle.tool.specs.Scripts.{is_line_end, lines_among, order_of_line, script_lines}
 use Rattle.tool.specs.ScriptRun.{after_line, after_lines, answer_line, answers, good_lines, input_fault, is_good, line_read_ahead, script_fault, with_ends, LinesReadAhead}
 use Rattle.tool.specs.TextRun.{Gave}
 use Rattle.tool.specs.declared.faults.RunFault.{RunFault}
 use Rattle.tool.specs.declared.faults.RunFault.TheVariants as f
-use Rattle.tool.specs.declared.script.Reading.{Reading}
 use Rattle.tool.specs.declared.text.Ending.{Ending}
 use Rattle.tool.specs.declared.text.Ending.TheVariants.{AtEnd, AtFailure}
-use Rattle.tool.proofs.StreamLemmas.{Consumes-append, Took-append, Wrote-append, had, had_all}
+use Rattle.tool.proofs.StreamLemmas.{Took-append}
 
 -- ---- lines
 

@@ -1,13 +1,12 @@
 -- What each step of the run of a script makes of where it stands.
-use Rattle.std.proofs.Common.{◌≡◌, ◌⊎◌, inl, inr, ℕ, suc, ◌+◌, ◌-◌, ◌<◌, ◌≤◌, ◌&&◌, Bool, true, false, List, [], ◌∷◌, ◌++◌, length, map, take, drop, min, Option, Some, None, unwrap_or, Result, Ok, Err, OnOk, OnErr, IfOk, IfErr, nat_lt, nat_le, refl, sym, subst, ap, ◌∙◌, arith, if◌then◌else◌}
-use Rattle.std.specs.List.{concat, list_all, slice_split}
-use Rattle.std.specs.Io.KnownBytes.{Consumes, IsAtEnd, Keeps}
-use Rattle.std.proofs.lemmas.Bool.{and_parts}
+use Rattle.std.proofs.Common.{◌≡◌, inl, inr, ℕ, ◌+◌, ◌<◌, ◌≤◌, ◌&&◌, Bool, true, false, List, [], ◌∷◌, ◌++◌, length, take, drop, min, Option, Some, None, unwrap_or, Result, Ok, Err, OnOk, IfErr, nat_lt, nat_le, refl, sym, subst, ap, ◌∙◌, arith, if◌then◌else◌}
+use Rattle.std.specs.List.{list_all, slice_split}
+use Rattle.std.specs.Io.KnownBytes.{Consumes, IsAtEnd}
 use Rattle.std.proofs.lemmas.Bool.Decides.{nat_tests}
 use Rattle.std.proofs.lemmas.List.{append_assoc, append-nil, drop-drop, drop_all, length-append, length-take-le}
 use Rattle.std.proofs.Math.Seq.{drop-append-add}
 use Rattle.std.proofs.lemmas.List.Elements.{All-append}
-use Rattle.std.proofs.lemmas.List.Folds.{list_all-append, concat-append}
+use Rattle.std.proofs.lemmas.List.Folds.{list_all-append}
 use Rattle.std.proofs.lemmas.List.Splits.{slice_split_at, slice_split_none}
 use Rattle.device.specs.Device.{Device, Fails, Gives, Wrote, greatest}
 use Rattle.lines.specs.Layouts.{Rules}
@@ -15,7 +14,7 @@ use Rattle.lines.specs.declared.print.Print.{Print}
 use Rattle.session.specs.Changes.{Held}
 use Rattle.tool.specs.Reading.{EndsIn, EndsLine, Ends, FailsAt, FailsIn, GoesOn, IsAt, NoEnd, ObeysLine, Steps, Takes}
 use Rattle.tool.specs.Scripts.{is_last_line, is_line_end, line_limit, lines_among, order_of_line, script_lines}
-use Rattle.tool.specs.ScriptRun.{after_line, after_lines, answer_line, answers, is_good, line_read_ahead, with_ends}
+use Rattle.tool.specs.ScriptRun.{after_line, after_lines, answer_line, answers, is_good, with_ends}
 use Rattle.tool.specs.TextRun.{Gave}
 use Rattle.tool.specs.declared.faults.RunFault.{RunFault}
 use Rattle.tool.specs.declared.faults.RunFault.TheVariants as f

@@ -233,6 +233,8 @@ module _ (rules : Rules) (width : ℕ) (print : Print) (reader_old writer_old re
         (at_memory rules width print reader_old reader_new writer_old writer (take held.waiting held.piece.items ++ []) held.text.items [] next.0)
     ends_finish piece writer_new (Err f.Read) is = absurd is
     ends_finish piece writer_new (Err f.ParagraphTooLong) is = absurd is
+    ends_finish piece writer_new (Err (f.BadLine n)) is = absurd is
+    ends_finish piece writer_new (Err f.TextTooLong) is = absurd is
 
   -- ---- bytes that were read
   module _ (reader_new : Device) (n : ℕ) (held held_read : Held) (s : Stands rules width print reader_old writer_old reader writer held) (read : IsRead n held held_read reader reader_new) where

@@ -47,7 +47,7 @@ layout_rules =
 abbrev pub print_rules : List Rule
 print_rules =
     map flag_rule (
-      codes "nopad" ∷ codes "nomirror" ∷ codes "novisual" ∷ codes "basedir" ∷ codes "ltov" ∷ codes "vtol" ∷ codes "levels" ∷ []
+    codes "nopad" ∷ codes "nomirror" ∷ codes "novisual" ∷ codes "basedir" ∷ codes "ltov" ∷ codes "vtol" ∷ codes "levels" ∷ []
     )
 
 -- the command line: the words behind the program's name, with these options, and texts

@@ -1,5 +1,5 @@
 -- Where the run of a script stands between two lines. Only the code speaks of these.
-use Rattle.std.specs.Prelude.{◌≡◌, ◌⊎◌, ℕ, ◌+◌, ◌<◌, ◌≤◌, false, true, All, Bool, List, [], ◌∷◌, ◌++◌, length, take, Option, Some, None, Result, Ok, Err, OnErr}
+use Rattle.std.specs.Prelude.{◌≡◌, ◌⊎◌, ℕ, ◌+◌, ◌<◌, ◌≤◌, false, true, All, Bool, List, [], ◌∷◌, ◌++◌, length, Some, None, Result, Ok, Err, OnErr}
 use Rattle.std.specs.List.{list_all, slice_split}
 use Rattle.std.specs.Io.KnownBytes.{Consumes}
 use Rattle.device.specs.Device.{Device, Wrote, greatest}
@@ -95,7 +95,7 @@ Takes rules print piece n held_old held_new old new writer_old writer_new =
 abbrev pub FailsIn : Rules → Print → List ℕ → Held → Reading → Device → Device → RunFault → Type 0
 FailsIn rules print piece held reading old new fault =
     ((front : List ℕ) × (behind : List ℕ) × EndsIn piece front behind
-        × FailsAt rules print held (reading.line.items ++ front) reading.lines reading.written old new fault)
+    × FailsAt rules print held (reading.line.items ++ front) reading.lines reading.written old new fault)
     ⊎ ((fault ≡ f.BadLine (reading.lines + 1)) × (new ≡ old) × NoEnd piece × (line_limit < length (reading.line.items ++ piece)))
     ⊎ ((fault ≡ f.Memory) × (new ≡ old))
 

@@ -1,5 +1,5 @@
 -- What an edit script does and answers, and how its run ends.
-use Rattle.std.specs.Prelude.{◌≡◌, ℕ, ◌+◌, ◌-◌, nat_lt, Bool, List, [], ◌∷◌, ◌++◌, ◌≤◌, length, map, take, drop, take_while, codes, slice_range, Option, Some, None, is_some, is_none, Result, if◌then◌else◌}
+use Rattle.std.specs.Prelude.{ℕ, ◌+◌, ◌-◌, nat_lt, Bool, List, [], ◌∷◌, ◌++◌, ◌≤◌, length, map, take, drop, take_while, codes, slice_range, Option, Some, None, is_some, is_none, Result, if◌then◌else◌}
 use Rattle.std.specs.Fmt.{decimal}
 use Rattle.std.specs.List.{concat, list_all}
 use Rattle.bidi.specs.Cuts.{paragraphs}

@@ -26,12 +26,7 @@ pub fn push_answer(
     }
 }
 
-fn push_damage(
-    answer: &mut Vec<u8>,
-    first: usize,
-    old: usize,
-    new: usize,
-) -> Result<(), AllocError>
+fn push_damage(answer: &mut Vec<u8>, first: usize, old: usize, new: usize) -> Result<(), AllocError>
     ensures { OnOk result (answer.new.items ≡ answer.old.items ++ damage_text first old new) }
 {
     answer.extend_from_slice(b"@ ")?;

@@ -24,8 +24,11 @@ pub enum Command {
 }
 
 const SHOW: [char; 4] = ['s', 'h', 'o', 'w'];
+
 const INSERT: [char; 7] = ['i', 'n', 's', 'e', 'r', 't', ' '];
+
 const DELETE: [char; 7] = ['d', 'e', 'l', 'e', 't', 'e', ' '];
+
 const WIDTH: [char; 6] = ['w', 'i', 'd', 't', 'h', ' '];
 
 /// What the characters of a line ask for, if it is a line of a script.

@@ -204,8 +204,13 @@ fn check_room(rt: &impl Abort, alloc: Global, room: usize) -> Result<(), Fail> {
         size: 65_536,
         fails: false,
     };
-    let (taken, result) =
-        answered::<TreeStore<Kept>>(alloc, text.as_bytes(), pieces, &LEVELS, room)?;
+    let (taken, result) = answered::<TreeStore<Kept>>(
+        alloc,
+        text.as_bytes(),
+        pieces,
+        &LEVELS,
+        room,
+    )?;
     let front = answers.as_bytes().get(..room).unwrap_or_default();
     assert_eq!(rt; taken.as_slice(), front, "up to {room}");
     assert_eq!(rt; result, Err(RunFault::Write(room as u64)), "up to {room}");
@@ -228,8 +233,13 @@ fn check_cut(rt: &impl Abort, alloc: Global, len: usize) -> Result<(), Fail> {
         size: 65_536,
         fails: true,
     };
-    let (taken, result) =
-        answered::<TreeStore<Kept>>(alloc, text.as_bytes(), pieces, &LEVELS, 1000)?;
+    let (taken, result) = answered::<TreeStore<Kept>>(
+        alloc,
+        text.as_bytes(),
+        pieces,
+        &LEVELS,
+        1000,
+    )?;
     let end = if len < 11 {
         0
     } else if len < 16 {

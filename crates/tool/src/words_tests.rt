@@ -136,6 +136,14 @@ fn messages_of_runs(rt: HostRuntime) -> Result<(), Fail> {
             "fribidi: out of memory",
         ),
         (
+            ProgramFault::Run(RunFault::BadLine(2)),
+            "fribidi: bad script line 2",
+        ),
+        (
+            ProgramFault::Run(RunFault::TextTooLong),
+            "fribidi: text too long",
+        ),
+        (
             ProgramFault::Line(LineFault::NoMemory),
             "fribidi: out of memory",
         ),
@@ -157,7 +165,10 @@ fn command_lines(rt: HostRuntime) -> Result<(), Fail> {
     assert_eq!(rt; found.width, 80);
     assert_eq!(rt; found.base, Base::WeakLtr);
     assert_eq!(rt; found.print, LINES);
-    assert!(rt; !found.nobreak && found.files.is_empty());
+    assert!(rt; !found.nobreak && found.files.is_empty() && found.script.is_none());
+    let found = settings(rt.alloc(), &["--ucd", "D", "--script", "S", "a"])?;
+    assert_eq!(rt; found.script, Some("S"));
+    assert_eq!(rt; found.files.as_slice(), ["a"].as_slice());
     Ok(())
 }
 
@@ -291,7 +302,7 @@ fn check_refused(rt: &impl Abort, alloc: Global, words: &str, status: u8) -> Res
     Ok(())
 }
 
-const REFUSED: [&str; 11] = [
+const REFUSED: [&str; 13] = [
     "--novisual",
     "--ucd",
     "--ucd D --clean",
@@ -303,6 +314,8 @@ const REFUSED: [&str; 11] = [
     "--ucd D --width -1",
     "--ucd D --width",
     "--ucd D --width 3 --width 3",
+    "--ucd D --script S",
+    "--ucd D --script S a b",
 ];
 
 fn check_all_refused(rt: &impl Abort, alloc: Global, rows: &[&str]) -> Result<(), Fail> {
@@ -324,5 +337,7 @@ fn command_lines_that_are_refused(rt: HostRuntime) -> Result<(), Fail> {
         &directions,
         "fribidi: more than one base direction",
         2,
-    )
+    )?;
+    let script = ProgramFault::Line(LineFault::ScriptFiles);
+    check_fault(&rt, alloc, &script, "fribidi: --script takes one file", 2)
 }

@@ -1,4 +1,4 @@
-use Rattle.std.proofs.Common.{ℕ, ◌^◌, ◌≤◌, length, take, arith, lit<}
+use Rattle.std.proofs.Common.{◌^◌, ◌≤◌, length, take, arith, lit<}
 use Rattle.std.proofs.Math.Nat.{pow-le-pow_right}
 use Rattle.std.proofs.lemmas.List.{length-take-le}
 use Rattle.tool.proofs.commands.braced.Goals as goal

@@ -1,4 +1,4 @@
-use Rattle.std.proofs.Common.{◌≡◌, ◌+◌, ℕ, length, drop, take, get_or, true, false, sym, ap, ◌∙◌, arith, rules, refl, [], ◌∷◌}
+use Rattle.std.proofs.Common.{◌≡◌, ℕ, take, get_or, true, false, sym, ap, ◌∙◌, arith, rules, refl, [], ◌∷◌}
 use Rattle.std.specs.Char.{is_digit}
 use Rattle.std.proofs.lemmas.List.{take_more}
 use Rattle.std.proofs.lemmas.List.Folds.{list_all-append}

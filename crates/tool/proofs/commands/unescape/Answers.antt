@@ -1,4 +1,4 @@
-use Rattle.std.proofs.Common.{◌≡◌, ◌+◌, ◌<◌, ◌≤◌, ◌++◌, ◌-◌, ℕ, List, Option, Some, None, [], ◌∷◌, take, drop, length, get_or, option_map, string_bytes, sym, ap, ◌∙◌, arith, refl, rules}
+use Rattle.std.proofs.Common.{◌≡◌, ◌+◌, ◌++◌, ℕ, List, Option, Some, None, [], ◌∷◌, drop, get_or, option_map, string_bytes, sym, ap, ◌∙◌, arith, refl, rules}
 use Rattle.std.specs.Char.{IsScalar}
 use Rattle.std.specs.Str.{chars}
 use Rattle.std.proofs.lemmas.List.{take_rest}

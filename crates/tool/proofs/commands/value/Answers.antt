@@ -1,6 +1,5 @@
-use Rattle.std.proofs.Common.{◌≡◌, ◌+◌, ◌*◌, ◌<◌, ◌≤◌, ◌^◌, suc, arith}
-use Rattle.std.specs.Char.{digit_value}
-use Rattle.tool.proofs.NumberLemmas.{digits_fit, more_digits, product_fits}
+use Rattle.std.proofs.Common.{arith}
+use Rattle.tool.proofs.NumberLemmas.{product_fits}
 use Rattle.tool.proofs.commands.value.Goals as goal
 
 pub overflow_mul-number : goal.overflow_mul-number

@@ -1,6 +1,5 @@
-use Rattle.std.proofs.Common.{◌≡◌, ◌<◌, ◌≤◌, ◌+◌, ◌==◌, length, vec_len, [], false, sym, ◌∙◌, arith, rules}
+use Rattle.std.proofs.Common.{◌≡◌, ◌<◌, ◌==◌, length, vec_len, [], false, sym, ◌∙◌, arith, rules}
 use Rattle.std.proofs.lemmas.Bool.Decides.{nat_tests}
-use Rattle.device.specs.Device.{greatest}
 use Rattle.lines.specs.Engine.{rules_of}
 use Rattle.session.specs.Sessions.{held_at}
 use Rattle.tool.proofs.ScriptStepLemmas.{ends_empty, ends_finish, lines_fit}

@@ -1,5 +1,4 @@
-use Rattle.std.proofs.Common.{◌≡◌, ap, subst, sym, false, ◌∙◌}
-use Rattle.std.specs.Str.{chars}
+use Rattle.std.proofs.Common.{◌≡◌, sym, false, ◌∙◌}
 use Rattle.lines.specs.Engine.{rules_of}
 use Rattle.session.specs.Sessions.{held_at}
 use Rattle.tool.specs.Commands.{order_of}

@@ -1,4 +1,4 @@
-use Rattle.std.proofs.Common.{◌∙◌, Bool, true, false, Ok, Err, ap, refl, rules}
+use Rattle.std.proofs.Common.{◌∙◌, Bool, false, Ok, Err, ap, refl, rules}
 use Rattle.lines.specs.Engine.{rules_of}
 use Rattle.session.specs.Sessions.{held_at}
 use Rattle.tool.proofs.ScriptStepLemmas.{at_start, ends_at_once, script_stepped}

@@ -1,4 +1,4 @@
-use Rattle.std.proofs.Common.{◌≤◌, ◌≡◌, length, rules}
+use Rattle.std.proofs.Common.{◌≤◌, length, rules}
 use Rattle.lines.specs.Engine.{rules_of}
 use Rattle.session.specs.Sessions.{held_at}
 use Rattle.tool.proofs.ScriptStepLemmas.{at_none, at_read, ends_read}
@@ -34,7 +34,7 @@ feed-requires g c =
       stands.2,
       g.R.Source.state c.read.new.self,
       at_read (rules_of c.args.session.now.engine) c.args.print.now stands.0 stands.1 (g.R.Source.state c.args.reader.now) stands.2 (g.W.Sink.state c.args.writer.now) (held_at c.args.session.now) c.args.reading.now
-      (g.R.Source.state c.read.new.self) c.in-Ok.len c.read.new.buffer stands.3 gives within small,
+          (g.R.Source.state c.read.new.self) c.in-Ok.len c.read.new.buffer stands.3 gives within small,
       gives.passes.bounded,
     )
 
