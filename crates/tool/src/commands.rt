@@ -5,7 +5,8 @@ ghost use Rattle.std.specs.List.{prefix_len};
 ghost use Rattle.std.specs.Char.{is_digit};
 ghost use Rattle.std.specs.Str.{chars};
 ghost use Rattle.tool.specs.Commands.{order_of};
-ghost use Rattle.tool.specs.Scripts.{Filling, are_digits, braced, deletion_in, escaped, insertion_in, number_by};
+ghost use Rattle.tool.specs.Scripts.{Filling, are_digits, braced, deletion_in, escaped};
+ghost use Rattle.tool.specs.Scripts.{insertion_in, number_by};
 ghost use Rattle.tool.specs.Scripts.{number_in, order_in, parted, stripped, unescaped, written};
 
 use std::alloc::{AllocError, Global};

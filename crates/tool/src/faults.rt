@@ -1,7 +1,8 @@
 //! Why a run ends before its input does.
 use thiserror::Error;
 
-/// Why the run of a text or of a script ended. The bytes that were written before are told by the run's contract.
+/// Why the run of a text or of a script ended. The bytes that were written before are told by the run's
+/// contract.
 #[derive(Clone, Copy, Debug, PartialEq, Eq, Error)]
 pub enum RunFault {
     /// The source failed.
