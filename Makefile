@@ -2,8 +2,9 @@
 # make ucd    the seven table files of Unicode 15.0, from Debian's package unicode-data, into ucd/
 # make demo   both, and the command on the sample text
 # make test   the gate: every proof from nothing, the must-fail edits, the tests and the stored run
-# make bench  the time of the command beside that of Debian's fribidi and of ICU, edits a second of a session, and the time
-#             of levels, of break marks and of filling by what a text is made of, of stores, and of a long text
+# make bench  the time of the command beside that of Debian's fribidi and of ICU, edits a second of a session and lines a
+#             second of a script, and the time of levels, of break marks and of filling by what a text is made of, of stores,
+#             and of a long text
 
 UNICODE = /usr/share/unicode
 
@@ -11,11 +12,21 @@ UNICODE = /usr/share/unicode
 
 all: program
 
-# rt proves and builds the crates where they have changed, and runs the program, which stays in out/.
+# rt proves and builds the crates where they have changed, those that don't stand on one another side by side, and runs
+# the program, which stays in out/.
 program:
+	$(MAKE) --no-print-directory --jobs=3 lib-tool
 	cd crates/fribidi && rt run -- --help > /dev/null
 	mkdir -p bin
 	cp crates/fribidi/out/fribidi bin/fribidi
+
+lib-bidi lib-breaks: lib-ucd
+lib-lines: lib-device lib-bidi lib-breaks
+lib-session: lib-lines lib-store
+lib-tool: lib-session
+
+lib-%:
+	cd crates/$* && rt lib > /dev/null
 
 ucd:
 	@[ -f $(UNICODE)/extracted/DerivedBidiClass.txt ] || { apt-get update -q && apt-get install -qy unicode-data; }
@@ -45,3 +56,4 @@ bench: program ucd
 	bench/fill
 	bench/store
 	bench/stream
+	bench/script
