@@ -6,9 +6,32 @@ use device::{FromRead, ToWrite};
 use lines::{Engine, Print};
 use session::{Kept, Session};
 use std::alloc::Global;
+use std::io;
+use std::io::Read;
 use std::process::Abort;
 use std::test::Fail;
 use store::{ParagraphStore, TreeStore, VecStore};
+
+const SHOW: [u8; 5] = *b"show\n";
+
+// Gives `show` line after line, and never ends.
+#[derive(Drop)]
+struct Shows<'a> {
+    given: &'a mut usize,
+}
+
+impl Read for Shows<'_> {
+    fn read(&mut self, buf: &mut [u8]) -> io::Result<usize> {
+        let mut place = *self.given % 5;
+        for byte in buf.iter_mut() {
+            let at = place % 5;
+            *byte = SHOW[at];
+            place = at + 1;
+        }
+        *self.given = self.given.saturating_add(buf.len());
+        Ok(buf.len())
+    }
+}
 
 // The levels too.
 const LEVELS: Print = Print {
@@ -311,4 +334,29 @@ fn texts_that_no_script_begins_with(rt: HostRuntime) -> Result<(), Fail> {
     check_start(&rt, alloc, &long, RunFault::ParagraphTooLong)?;
     let whole = repeated(alloc, b"", b"a", 16_777_217, b"")?;
     check_start(&rt, alloc, &whole, RunFault::TextTooLong)
+}
+
+// How much of an endless script is read where nothing can be written, and how its run ends.
+fn read_in_vain(alloc: Global) -> Result<(usize, Result<(), RunFault>), Fail> {
+    let engine = Engine::new(tables(alloc)?, Base::WeakLtr, false);
+    let session: Session<TreeStore<Kept>> = open_text(alloc, engine, b"a", 80)?;
+    let mut given = 0;
+    let mut taken = Vec::new(alloc);
+    let result = {
+        let mut reader = FromRead::new(Shows { given: &mut given });
+        let mut writer = ToWrite::new(Short {
+            taken: &mut taken,
+            room: 0,
+        });
+        run_script(alloc, &mut reader, &mut writer, session, &LINES)
+    };
+    Ok((given, result))
+}
+
+#[test]
+fn reading_stops_with_the_answers(rt: HostRuntime) -> Result<(), Fail> {
+    let (given, result) = read_in_vain(rt.alloc())?;
+    assert_eq!(rt; result, Err(RunFault::Write(0)));
+    assert!(rt; given <= 1_114_113, "{given} bytes were read");
+    Ok(())
 }
