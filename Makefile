@@ -1,6 +1,6 @@
 # make        the proved program, as bin/fribidi
 # make ucd    the seven table files of Unicode 15.0, from Debian's package unicode-data, into ucd/
-# make demo   both, and the command on the sample text
+# make demo   both, and the command on the sample text, and on an edit script over it
 # make test   the gate: every proof from nothing, the must-fail edits, the tests and the stored run
 # make bench  the time of the command beside that of Debian's fribidi and of ICU, edits a second of a session and lines a
 #             second of a script, and the time of levels, of break marks and of filling by what a text is made of, of stores,
@@ -42,6 +42,10 @@ demo: program ucd
 	bin/fribidi --ucd ucd --width 44 --basedir demo/sample.txt
 	@echo
 	bin/fribidi --ucd ucd --width 22 demo/sample.txt
+	@echo
+	@cat demo/edits.txt
+	@echo
+	bin/fribidi --ucd ucd --width 44 --script demo/edits.txt demo/sample.txt
 
 test:
 	rt ci

@@ -196,21 +196,37 @@ fn answers_over_a_list(rt: HostRuntime) -> Result<(), Fail> {
     check_rows::<VecStore<Kept>>(&rt, rt.alloc())
 }
 
-fn check_bad_row(rt: &impl Abort, alloc: Global, row: &BadRow<'_>) -> Result<(), Fail> {
+fn check_bad_row<S: ParagraphStore<Kept> + Drop>(
+    rt: &impl Abort,
+    alloc: Global,
+    row: &BadRow<'_>,
+) -> Result<(), Fail> {
     let (text, script, answers, line) = *row;
     let fault = Err(RunFault::BadLine(line));
     for size in [1, 2, 3, 65_536] {
-        check::<TreeStore<Kept>>(rt, alloc, text, script, size, answers, fault)?;
+        check::<S>(rt, alloc, text, script, size, answers, fault)?;
+    }
+    Ok(())
+}
+
+fn check_bad_rows<S: ParagraphStore<Kept> + Drop>(
+    rt: &impl Abort,
+    alloc: Global,
+) -> Result<(), Fail> {
+    for row in &BAD_ROWS {
+        check_bad_row::<S>(rt, alloc, row)?;
     }
     Ok(())
 }
 
 #[test]
-fn bad_lines(rt: HostRuntime) -> Result<(), Fail> {
-    for row in &BAD_ROWS {
-        check_bad_row(&rt, rt.alloc(), row)?;
-    }
-    Ok(())
+fn bad_lines_over_a_tree(rt: HostRuntime) -> Result<(), Fail> {
+    check_bad_rows::<TreeStore<Kept>>(&rt, rt.alloc())
+}
+
+#[test]
+fn bad_lines_over_a_list(rt: HostRuntime) -> Result<(), Fail> {
+    check_bad_rows::<VecStore<Kept>>(&rt, rt.alloc())
 }
 
 const JOINED: Row<'_> = (
