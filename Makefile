@@ -1,10 +1,11 @@
 # make        the proved program, as bin/fribidi
 # make ucd    the seven table files of Unicode 15.0, from Debian's package unicode-data, into ucd/
 # make demo   both, and the command on the sample text, and on an edit script over it
-# make test   the gate: every proof from nothing, the must-fail edits, the tests and the stored run
+# make test   the gate: every proof from nothing, the must-fail edits, the tests and the stored run; then each allocation
+#             refused in turn, and each call of a device failing
 # make bench  the time of the command beside that of Debian's fribidi and of ICU, edits a second of a session and lines a
 #             second of a script, and the time of levels, of break marks and of filling by what a text is made of, of stores,
-#             and of a long text
+#             of a long text, and of hostile ones
 
 UNICODE = /usr/share/unicode
 
@@ -48,7 +49,7 @@ demo: program ucd
 	bin/fribidi --ucd ucd --width 44 --script demo/edits.txt demo/sample.txt
 
 test:
-	rt ci
+	@log=$$(mktemp) && bash -o pipefail -c "rt ci | tee $$log" && faults/run $$log; status=$$?; rm -f $$log; exit $$status
 
 bench: program ucd
 	cd crates/bench && rt run -- edits tree 1 1 > /dev/null
@@ -61,3 +62,4 @@ bench: program ucd
 	bench/store
 	bench/stream
 	bench/script
+	bench/hostile

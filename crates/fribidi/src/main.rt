@@ -4,7 +4,7 @@
 ghost use Rattle.std.specs.Prelude.{◌<◌};
 
 use device::{FromRead, ToWrite};
-use lines::Engine;
+use lines::{Engine, Print};
 use session::{Kept, Session};
 use std::alloc::{AllocError, Global};
 use std::fs::File;
@@ -18,14 +18,16 @@ use tool::{
 use ucd::{FILE_NAMES, Tables, UcdFiles};
 
 fn main(rt: HostRuntime) -> ExitCode {
-    match run(&rt) {
-        Ok(()) => ExitCode::SUCCESS,
-        Err(fault) => {
-            // Where even the message can't be written, the status is all that is left to tell.
-            let _ = report(&rt, &fault);
-            ExitCode::from(fault.status())
-        }
+    let Err(fault) = run(&rt) else {
+        return ExitCode::SUCCESS;
+    };
+    let reported = report(&rt, &fault);
+    // Help that can't be written is a failure. Of another message the status is all that is left to tell.
+    if reported.is_err() && fault.status() == 0 {
+        let _ = eprintln!(&rt; "fribidi: cannot write help");
+        return ExitCode::FAILURE;
     }
+    ExitCode::from(fault.status())
 }
 
 // Help goes to standard output, and each other message to standard error.
@@ -147,25 +149,36 @@ fn obey(
 ) -> Result<(), ProgramFault>
     requires { 0 < settings.now.width }
 {
-    let Some(text) = settings.files.first() else {
-        return Err(ProgramFault::Line(LineFault::ScriptFiles));
-    };
-    let bytes = match fs::read(rt, *text) {
-        Ok(bytes) => bytes,
-        Err(error) if error.kind() == ErrorKind::OutOfMemory => {
-            return Err(ProgramFault::Run(RunFault::Memory));
-        }
-        Err(_) => return Err(ProgramFault::Run(RunFault::Read)),
-    };
-    let session: Session<TreeStore<Kept>> = open_text(
-        rt.alloc(),
-        engine,
-        &bytes,
-        settings.width,
-    ).map_err(ProgramFault::Run)?;
+    let text = script_text(rt, settings.files.first().copied())?;
+    let session = open_text(rt.alloc(), engine, &text, settings.width);
+    let session = session.map_err(ProgramFault::Run)?;
     let Ok(script) = File::open(rt, script) else {
         return Err(ProgramFault::Run(RunFault::Read));
     };
+    obey_lines(rt.alloc(), script, output, session, &settings.print)
+}
+
+// The bytes of the text that a script begins with.
+fn script_text(rt: &HostRuntime, path: Option<&str>) -> Result<Vec<u8>, ProgramFault> {
+    let Some(path) = path else {
+        return Err(ProgramFault::Line(LineFault::ScriptFiles));
+    };
+    match fs::read(rt, path) {
+        Ok(bytes) => Ok(bytes),
+        Err(error) if error.kind() == ErrorKind::OutOfMemory => {
+            Err(ProgramFault::Run(RunFault::Memory))
+        }
+        Err(_) => Err(ProgramFault::Run(RunFault::Read)),
+    }
+}
+
+fn obey_lines(
+    alloc: Global,
+    script: File,
+    output: &mut ToWrite<Stdout>,
+    session: Session<TreeStore<Kept>>,
+    print: &Print,
+) -> Result<(), ProgramFault> {
     let mut reader = FromRead::new(script);
-    run_script(rt.alloc(), &mut reader, output, session, &settings.print).map_err(ProgramFault::Run)
+    run_script(alloc, &mut reader, output, session, print).map_err(ProgramFault::Run)
 }

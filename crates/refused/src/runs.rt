@@ -1,0 +1,81 @@
+//! The runs of the command: what is written before memory was wanting is the output of whole paragraphs, or
+//! of whole lines of a script.
+use crate::Wrong;
+use crate::page::{Page, Writer};
+use crate::sessions::{ALL, open};
+use crate::tables::engine;
+use device::{FromRead, ToWrite};
+use lines::{Engine, Print};
+use session::{Kept, Session};
+use std::alloc::Global;
+use store::ParagraphStore;
+use tool::{RunFault, run_script, run_text};
+
+const LINES: Print = Print {
+    basedir: false,
+    ltov: false,
+    vtol: false,
+    levels: false,
+    ..ALL
+};
+
+/// Writes the lines of a text of two paragraphs.
+pub fn try_text(alloc: Global) -> Result<(), Wrong> {
+    let mut engine = engine(alloc)?;
+    let mut page = Page::new();
+    if write_text(alloc, &mut engine, &mut page) == Err(RunFault::Memory) {
+        if !page.is_one_of(&[b"", b"a\n"]) {
+            return Err("written in part");
+        }
+        page = Page::new();
+        if write_text(alloc, &mut engine, &mut page).is_err() {
+            return Err("refused twice");
+        }
+    }
+    if !page.is_one_of(&[b"a\nb\n"]) {
+        return Err("another text");
+    }
+    Ok(())
+}
+
+fn write_text(alloc: Global, engine: &mut Engine, page: &mut Page) -> Result<(), RunFault> {
+    let mut reader = FromRead::new(b"a\nb".as_slice());
+    let mut writer = ToWrite::new(Writer { page });
+    run_text(alloc, &mut reader, &mut writer, engine, 80, &LINES)
+}
+
+const SCRIPT: &[u8] = b"insert 4 x\\ny\ndelete 2 4\nwidth 1\nshow\n";
+
+// What is written for it.
+const ANSWERS: &[u8] = b"@ 1 1 2\n@ 0 3 1\n@ 0 2 6\na\nb\ny\nd\ne\nf\n";
+
+// What is written before each of its lines that may want memory.
+const UNFINISHED: [&[u8]; 3] = [b"", b"@ 1 1 2\n", b"@ 1 1 2\n@ 0 3 1\n"];
+
+/// Obeys a script.
+pub fn try_script<S: ParagraphStore<Kept> + Drop>(alloc: Global) -> Result<(), Wrong> {
+    let mut page = Page::new();
+    if obey::<S>(alloc, &mut page)? == Err(RunFault::Memory) {
+        if !page.is_one_of(&UNFINISHED) {
+            return Err("answered in part");
+        }
+        page = Page::new();
+        if obey::<S>(alloc, &mut page)?.is_err() {
+            return Err("refused twice");
+        }
+    }
+    if !page.is_one_of(&[ANSWERS]) {
+        return Err("other answers");
+    }
+    Ok(())
+}
+
+fn obey<S: ParagraphStore<Kept> + Drop>(
+    alloc: Global,
+    page: &mut Page,
+) -> Result<Result<(), RunFault>, Wrong> {
+    let session: Session<S> = open(alloc)?;
+    let mut reader = FromRead::new(SCRIPT);
+    let mut writer = ToWrite::new(Writer { page });
+    Ok(run_script(alloc, &mut reader, &mut writer, session, &LINES))
+}
