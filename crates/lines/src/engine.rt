@@ -196,8 +196,8 @@ impl Engine {
             (W.state writer.old) (W.state writer.new)) }
         ensures same { self.new ≡ self.old }
     {
-        let mut work = self.take_work(alloc);
-        let result = work.write_paragraph(
+        let work = self.work.get_or_insert_with(|| Work::new(alloc));
+        work.write_paragraph(
             alloc,
             &self.tables,
             self.base,
@@ -206,9 +206,7 @@ impl Engine {
             width,
             print,
             writer,
-        );
-        self.keep(work);
-        result
+        )
     }
 
     // Writes the direction of a paragraph, if it is asked for.
@@ -247,19 +245,16 @@ impl Engine {
         ensures within { IfOk result (λ parts. AreWithin (length text.now) parts.lines) }
         ensures same { self.new ≡ self.old }
     {
-        let mut work = self.take_work(alloc);
-        let kept = Kept::new(alloc);
-        let parts = work.parts(
+        let work = self.work.get_or_insert_with(|| Work::new(alloc));
+        work.parts(
             alloc,
             &self.tables,
             self.base,
             self.nobreak,
             text,
             width,
-            kept,
-        );
-        self.keep(work);
-        parts
+            Kept::new(alloc),
+        )
     }
 
     // The lines of a paragraph, of which all else is known.
@@ -282,8 +277,8 @@ impl Engine {
         ensures within { IfOk result (AreWithin (length text.now)) }
         ensures same { self.new ≡ self.old }
     {
-        let mut work = self.take_work(alloc);
-        let fill = work.fill(
+        let work = self.work.get_or_insert_with(|| Work::new(alloc));
+        work.fill(
             alloc,
             &self.tables,
             self.base,
@@ -293,25 +288,6 @@ impl Engine {
             levels,
             marks,
             width,
-        );
-        self.keep(work);
-        fill
-    }
-
-    // Keeps the lists for the next paragraph.
-    fn keep(&mut self, work: Work)
-        ensures { self.new ≡ self.old }
-    {
-        self.work = Some(work);
-    }
-
-    // The kept lists, or new ones.
-    fn take_work(&mut self, alloc: Global) -> Work
-        ensures { self.new ≡ self.old }
-    {
-        match self.work.take() {
-            Some(work) => work,
-            None => Work::new(alloc),
-        }
+        )
     }
 }

@@ -4,10 +4,10 @@ use Rattle.lines.specs.Engine.{rules_of}
 use Rattle.lines.specs.Layouts.{Rules, State, lines_of}
 use Rattle.lines.proofs.engine.Engine.fill.Goals as goal
 
-pub fill-fill-requires-clause-levels : goal.fill-fill-requires-clause-levels
-fill-fill-requires-clause-levels c =
-    c.requires.levels ∙ sym (ap (λ (s : State). levels_of (rules_of s).tables c.args.text.now (rules_of s).option) (c.self.view_is ∙ c.take_work-work.ensures))
+pub fill-requires-clause-levels : goal.fill-requires-clause-levels
+fill-requires-clause-levels c =
+    c.requires.levels ∙ sym (ap (λ (s : State). levels_of (rules_of s).tables c.args.text.now (rules_of s).option) c.self.view_is)
 
 pub returns-clause-lines : goal.returns-clause-lines
 returns-clause-lines c =
-    subst (λ (rules : Rules). IfOk c.fill-fill.result (λ lines. lines ≡ lines_of rules c.args.width c.args.text.now)) (ap rules_of (c.self.view_is ∙ c.take_work-work.ensures)) c.fill-fill.ensures.lines
+    subst (λ (rules : Rules). IfOk c.fill.result (λ lines. lines ≡ lines_of rules c.args.width c.args.text.now)) (ap rules_of c.self.view_is) c.fill.ensures.lines

@@ -1,4 +1,4 @@
-use Rattle.std.proofs.Common.{◌∙◌, IfErr, OnOk, ap, subst}
+use Rattle.std.proofs.Common.{IfErr, OnOk, ap, subst}
 use Rattle.device.specs.Device.{Wrote}
 use Rattle.lines.specs.Engine.{rules_of}
 use Rattle.lines.specs.Layouts.{Rules}
@@ -8,12 +8,12 @@ use Rattle.lines.proofs.engine.Engine.write_lines.Goals as goal
 
 pub returns-clause-ok : goal.returns-clause-ok
 returns-clause-ok g c =
-    subst (λ (rules : Rules). OnOk c.write_paragraph-result.result (Wrote (paragraph_bytes rules c.args.width c.args.print.now c.args.text.now)
-    (g.W.Sink.state c.args.writer.now) (g.W.Sink.state c.write_paragraph-result.new.writer)))
-    (ap rules_of (c.self.view_is ∙ c.take_work-work.ensures)) c.write_paragraph-result.ensures.ok
+    subst (λ (rules : Rules). OnOk c.write_paragraph.result (Wrote (paragraph_bytes rules c.args.width c.args.print.now c.args.text.now)
+    (g.W.Sink.state c.args.writer.now) (g.W.Sink.state c.write_paragraph.new.writer)))
+    (ap rules_of c.self.view_is) c.write_paragraph.ensures.ok
 
 pub returns-clause-err : goal.returns-clause-err
 returns-clause-err g c =
-    subst (λ (rules : Rules). IfErr c.write_paragraph-result.result (λ fault. FailedAs fault (paragraph_bytes rules c.args.width c.args.print.now c.args.text.now)
-    (g.W.Sink.state c.args.writer.now) (g.W.Sink.state c.write_paragraph-result.new.writer)))
-    (ap rules_of (c.self.view_is ∙ c.take_work-work.ensures)) c.write_paragraph-result.ensures.err
+    subst (λ (rules : Rules). IfErr c.write_paragraph.result (λ fault. FailedAs fault (paragraph_bytes rules c.args.width c.args.print.now c.args.text.now)
+    (g.W.Sink.state c.args.writer.now) (g.W.Sink.state c.write_paragraph.new.writer)))
+    (ap rules_of c.self.view_is) c.write_paragraph.ensures.err
