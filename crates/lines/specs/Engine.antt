@@ -1,7 +1,9 @@
 -- What calls of an engine do to what it shows.
-use Rattle.std.specs.Prelude.{◌≡◌, ℕ, ◌+◌, ◌-◌, ◌^◌, ◌≤◌, min}
+use Rattle.std.specs.Prelude.{◌≡◌, ℕ, ◌+◌, ◌-◌, ◌^◌, ◌≤◌, min, if◌then◌else◌}
 use Rattle.lines.specs.Layouts.{Rules}
+use Rattle.lines.specs.Printing.{skips_lines}
 use Rattle.lines.specs.declared.engine.Engine.{Engine}
+use Rattle.lines.specs.declared.print.Print.{Print}
 
 abbrev pub rules_of : Engine → Rules
 rules_of engine = engine.rules
@@ -42,3 +44,8 @@ pub record Fills (n : ℕ) (old new : Engine) : Type 0 where
 pub record FillsAtMost (n : ℕ) (old new : Engine) : Type 0 where
   pub analysed : analysed_of new ≡ analysed_of old
   pub filled : RisesBy n (filled_of old) (filled_of new)
+
+-- n characters were printed: all of them were analysed, and filled too, unless no line is printed
+pub record Prints (n : ℕ) (print : Print) (old new : Engine) : Type 0 where
+  pub analysed : analysed_of new ≡ counted (analysed_of old) n
+  pub filled : filled_of new ≡ (if skips_lines print then filled_of old else counted (filled_of old) n)

@@ -1,12 +1,13 @@
 //! What lays paragraphs out: the tables and options, and how much was analysed and filled.
-ghost use Rattle.std.specs.Prelude.{◌≡◌, ◌<◌, ◌≤◌, [], length, map, IfOk, IfErr, OnOk, if◌then◌else◌};
+ghost use Rattle.std.specs.Prelude.{◌≡◌, ◌<◌, ◌≤◌, [], false, length, map, IfOk, IfErr, IsErrOf, OnOk};
+ghost use Rattle.std.specs.Prelude.{if◌then◌else◌};
 ghost use Rattle.device.specs.Device.{Wrote};
 ghost use Rattle.bidi.specs.Levels.{levels_of};
 ghost use Rattle.breaks.specs.Marks.{marks_of};
 ghost use Rattle.lines.specs.Bytes.{direction_line};
 ghost use Rattle.lines.specs.Layouts.{AreWithin, base_of, lines_of};
 ghost use Rattle.lines.specs.Pages.{paragraph_bytes};
-ghost use Rattle.lines.specs.Printing.{FailedAs};
+ghost use Rattle.lines.specs.Printing.{FailedAs, skips_lines};
 
 use crate::bytes::write_base;
 use crate::laid::Laid;
@@ -54,7 +55,7 @@ impl Engine {
     ghost use Rattle.lines.specs.Layouts.{base_of, cut_by, layout_of, lines_of};
     ghost use Rattle.lines.specs.Layouts.{AreLinesOf, AreWithin, IsLaidOut, IsParagraph};
     ghost use Rattle.lines.specs.Engine.{rules_of, analysed_of, filled_of, SameRules};
-    ghost use Rattle.lines.specs.Engine.{Fills, FillsAtMost, LaysOut, LaysOutAtMost};
+    ghost use Rattle.lines.specs.Engine.{Fills, FillsAtMost, LaysOut, LaysOutAtMost, Prints};
 
     /// An engine that has not worked yet. With `nobreak`, lines end at mandatory breaks only.
     pub fn new(tables: Tables, base: Base, nobreak: bool) -> Engine
@@ -150,7 +151,7 @@ impl Engine {
     }
 
     /// Writes the lines of one paragraph at a width in columns, which is not 0, and keeps nothing of them.
-    /// Where there is no memory, nothing is written.
+    /// Where there is no memory, nothing is written; it takes none where no line is printed.
     pub fn write_paragraph<W: Sink>(
         &mut self,
         alloc: Global,
@@ -166,6 +167,8 @@ impl Engine {
         ensures err { IfErr result (λ fault.
             FailedAs fault (paragraph_bytes (rules_of self.old) width print.now text.now)
             (W.state writer.old) (W.state writer.new)) }
+        ensures memory { IsErrOf result PrintFault.Memory → skips_lines print.now ≡ false }
+        ensures counts { OnOk result (Prints (length text.now) print.now self.old self.new) }
         ensures at_most { LaysOutAtMost (length text.now) self.old self.new }
         ensures rules { SameRules self.old self.new }
     {
@@ -222,6 +225,7 @@ impl Engine {
         ensures err { IfErr result (λ fault. FailedAs fault
             (if print.now.basedir then direction_line (base_of (rules_of self.now) text.now) else [])
             (W.state writer.old) (W.state writer.new)) }
+        ensures memory { ¬ (IsErrOf result PrintFault.Memory) }
     {
         let base = base_level(&self.tables, text, self.base);
         match write_base(writer, 0, print.basedir, base) {
