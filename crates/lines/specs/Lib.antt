@@ -6,6 +6,7 @@ pub mod Engine
 pub mod Filling
 pub mod Kept
 pub mod Layouts
+pub mod Lists
 pub mod Mirroring
 pub mod Order
 pub mod Pages

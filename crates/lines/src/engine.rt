@@ -6,13 +6,14 @@ ghost use Rattle.bidi.specs.Levels.{levels_of};
 ghost use Rattle.breaks.specs.Marks.{marks_of};
 ghost use Rattle.lines.specs.Bytes.{direction_line};
 ghost use Rattle.lines.specs.Layouts.{AreWithin, base_of, lines_of};
-ghost use Rattle.lines.specs.Pages.{paragraph_bytes};
+ghost use Rattle.lines.specs.Lists.{held_lines, AreSound};
+ghost use Rattle.lines.specs.Pages.{lines_bytes, paragraph_bytes};
 ghost use Rattle.lines.specs.Printing.{FailedAs, skips_lines};
 
 use crate::bytes::write_base;
 use crate::laid::Laid;
 use crate::print::{Print, PrintFault};
-use crate::visual::Fill;
+use crate::visual::{Fill, Lists};
 use crate::work::{Kept, Parts, Work};
 use bidi::{Base, base_level, first_cut, is_cut};
 use breaks::{Mark, marks_are_as_many};
@@ -34,6 +35,8 @@ pub struct Engine {
     filled: u64,
     // Made for the first paragraph, and kept for the next ones.
     work: Option<Work>,
+    // What the last paragraph that was written consisted of.
+    kept: Option<Kept>,
 }
 
 impl Model for Engine {
@@ -70,6 +73,7 @@ impl Engine {
             analysed: 0,
             filled: 0,
             work: None,
+            kept: None,
         }
     }
 
@@ -200,16 +204,12 @@ impl Engine {
         ensures same { self.new ≡ self.old }
     {
         let work = self.work.get_or_insert_with(|| Work::new(alloc));
-        work.write_paragraph(
-            alloc,
-            &self.tables,
-            self.base,
-            self.nobreak,
-            text,
-            width,
-            print,
-            writer,
-        )
+        let kept = self.kept.get_or_insert_with(|| Kept::new(alloc));
+        let (base, nobreak) = (self.base, self.nobreak);
+        let Ok(base) = work.lay_out(alloc, &self.tables, base, nobreak, text, width, kept) else {
+            return Err(PrintFault::Memory);
+        };
+        write_lists(alloc, &mut kept.lines, text, base, writer, width, print)
     }
 
     // Writes the direction of a paragraph, if it is asked for.
@@ -250,15 +250,15 @@ impl Engine {
         ensures same { self.new ≡ self.old }
     {
         let work = self.work.get_or_insert_with(|| Work::new(alloc));
-        work.parts(
-            alloc,
-            &self.tables,
-            self.base,
-            self.nobreak,
-            text,
-            width,
-            Kept::new(alloc),
-        )
+        let mut kept = Kept::new(alloc);
+        let (base, nobreak) = (self.base, self.nobreak);
+        let base = work.lay_out(alloc, &self.tables, base, nobreak, text, width, &mut kept)?;
+        Ok(Parts {
+            base,
+            levels: kept.levels,
+            marks: kept.marks,
+            lines: Fill::of(kept.lines),
+        })
     }
 
     // The lines of a paragraph, of which all else is known.
@@ -293,5 +293,32 @@ impl Engine {
             marks,
             width,
         )
+    }
+}
+
+// Writes the lines that some lists hold.
+fn write_lists<W: Sink>(
+    alloc: Global,
+    lists: &mut Lists,
+    text: &[char],
+    base: u8,
+    writer: &mut W,
+    width: u16,
+    print: &Print,
+) -> Result<(), PrintFault>
+    requires sound { AreSound lists.old }
+    requires within { AreWithin (length text.now) (held_lines lists.old) }
+    ensures ok { OnOk result (Wrote (lines_bytes width print.now base text.now (held_lines lists.old))
+        (W.state writer.old) (W.state writer.new)) }
+    ensures err { IfErr result (λ fault.
+        FailedAs fault (lines_bytes width print.now base text.now (held_lines lists.old))
+        (W.state writer.old) (W.state writer.new)) }
+{
+    let fill = Fill::of(std::mem::replace(lists, Lists::new(alloc)));
+    let written = fill.write_behind(text, base, writer, 0, width, print);
+    *lists = fill.into_lists();
+    match written {
+        Ok(_) => Ok(()),
+        Err(fault) => Err(PrintFault::Write(fault)),
     }
 }

@@ -1,5 +1,5 @@
 //! The lines of a paragraph as they are shown, and one of them, which borrows from its paragraph.
-ghost use Rattle.std.specs.Prelude.{◌≡◌, ◌<◌, ◌≤◌, ℕ, true, length, map, slice_index, IfOk};
+ghost use Rattle.std.specs.Prelude.{◌≡◌, ◌<◌, ◌≤◌, ℕ, true, length, map, slice_index, OnOk};
 ghost use Rattle.std.specs.List.{range_with_len};
 ghost use Rattle.ucd.specs.Properties.{properties_of};
 ghost use Rattle.bidi.specs.Classes.{class_in};
@@ -8,6 +8,7 @@ ghost use Rattle.bidi.specs.Runs.{AreWithin};
 ghost use Rattle.lines.specs.Filling.{columns, shown};
 ghost use Rattle.lines.specs.Kept.{AreStarts};
 ghost use Rattle.lines.specs.Layouts;
+ghost use Rattle.lines.specs.Lists.{held_lines, AreSound};
 ghost use Rattle.lines.specs.Mirroring.{visual_chars};
 ghost use Rattle.lines.specs.Order.{ltov_of, vtol_of};
 ghost use Rattle.lines.specs.Showing.{end_of, AreShown, IsShown};
@@ -58,6 +59,23 @@ impl Model for Fill {
 }
 
 impl Fill {
+    ghost use Rattle.lines.specs.Lists.{held_lines, AreSound};
+
+    /// The lines that some lists hold.
+    pub(crate) fn of(lists: Lists) -> Fill
+        requires { AreSound lists }
+        ensures { result ≡ held_lines lists }
+    {
+        Fill {
+            starts: lists.starts,
+            shown: lists.shown,
+            levels: lists.levels,
+            ltov: lists.ltov,
+            vtol: lists.vtol,
+            chars: lists.chars,
+        }
+    }
+
     /// The lists alone, of lines that are done with.
     pub(crate) fn into_lists(self) -> Lists {
         Lists {
@@ -105,75 +123,65 @@ pub(crate) fn show_lines(
     base: u8,
     levels: &[u8],
     places: &[Place],
-    lists: Lists,
-) -> Result<Fill, AllocError>
+    lists: &mut Lists,
+) -> Result<(), AllocError>
     requires properties { properties.now ≡ map (properties_of tables.now) text.now }
     requires text { (length text.now ≡ length places.now) × (length text.now ≤ 1048576) }
     requires levels { length levels.now ≡ length text.now }
-    requires starts { AreStarts (length text.now) lists.starts.items }
-    ensures lines { IfOk result (λ fill.
-        fill ≡ lines_from tables.now base text.now levels.now places.now lists.starts.items) }
-    ensures within { IfOk result (Layouts.AreWithin (length text.now)) }
+    requires starts { AreStarts (length text.now) lists.old.starts.items }
+    ensures sound { OnOk result (AreSound lists.new) }
+    ensures lines { OnOk result (held_lines lists.new
+        ≡ lines_from tables.now base text.now levels.now places.now lists.old.starts.items) }
+    ensures within { OnOk result (Layouts.AreWithin (length text.now) (held_lines lists.new)) }
 {
-    let starts = lists.starts;
-    let mut levels = copied(lists.levels, levels)?;
-    let mut ltov = numbers(lists.ltov, text.len())?;
-    let mut vtol = numbers(lists.vtol, text.len())?;
-    let mut chars = characters(lists.chars, text.len())?;
-    let shown = show_each(
-        lists.shown,
+    copy(levels, &mut lists.levels)?;
+    make_numbers(&mut lists.ltov, text.len())?;
+    make_numbers(&mut lists.vtol, text.len())?;
+    make_characters(&mut lists.chars, text.len())?;
+    show_each(
+        &mut lists.shown,
         tables,
         text,
         properties,
         base,
         places,
-        &starts,
-        &mut levels,
-        &mut ltov,
-        &mut vtol,
-        &mut chars,
+        &lists.starts,
+        &mut lists.levels,
+        &mut lists.ltov,
+        &mut lists.vtol,
+        &mut lists.chars,
     )?;
-    Ok(Fill {
-        starts,
-        shown,
-        levels,
-        ltov,
-        vtol,
-        chars,
-    })
+    Ok(())
 }
 
 // The levels before L1, to be changed, in place of what a list has.
-fn copied(mut list: Vec<u8>, levels: &[u8]) -> Result<Vec<u8>, AllocError>
-    ensures { IfOk result (λ copy. copy.items ≡ levels.now) }
+fn copy(levels: &[u8], list: &mut Vec<u8>) -> Result<(), AllocError>
+    ensures { OnOk result (list.new.items ≡ levels.now) }
 {
     list.clear();
-    make_room(&mut list, levels.len())?;
-    list.extend_from_slice(levels)?;
-    Ok(list)
+    make_room(list, levels.len())?;
+    list.extend_from_slice(levels)
 }
 
-// A list with a number for each character. What it has stays, since all that is read is written before.
-fn numbers(mut list: Vec<u32>, len: usize) -> Result<Vec<u32>, AllocError>
-    ensures { IfOk result (λ items. length items.items ≡ len) }
+// Gives a list a number for each character. What it has stays, since all that is read is written before.
+fn make_numbers(list: &mut Vec<u32>, len: usize) -> Result<(), AllocError>
+    ensures { OnOk result (length list.new.items ≡ len) }
 {
-    make_room(&mut list, len)?;
-    list.resize(len, 0)?;
-    Ok(list)
+    make_room(list, len)?;
+    list.resize(len, 0)
 }
 
-// A list of so many characters, of which the same holds.
-fn characters(mut list: Vec<char>, len: usize) -> Result<Vec<char>, AllocError>
-    ensures { IfOk result (λ items. length items.items ≡ len) }
+// Gives a list so many characters, of which the same holds.
+fn make_characters(list: &mut Vec<char>, len: usize) -> Result<(), AllocError>
+    ensures { OnOk result (length list.new.items ≡ len) }
 {
-    make_room(&mut list, len)?;
-    list.resize(len, '\0')?;
-    Ok(list)
+    make_room(list, len)?;
+    list.resize(len, '\0')
 }
 
 // Writes what belongs to each line to its place, over the levels before L1.
 fn show_each(
-    list: Vec<Shown>,
+    shown: &mut Vec<Shown>,
     tables: &Tables,
     text: &[char],
     properties: &[Properties],
@@ -184,7 +192,7 @@ fn show_each(
     ltov: &mut [u32],
     vtol: &mut [u32],
     chars: &mut [char],
-) -> Result<Vec<Shown>, AllocError>
+) -> Result<(), AllocError>
     requires properties { properties.now ≡ map (properties_of tables.now) text.now }
     requires text { (length text.now ≡ length places.now) × (length text.now ≤ 1048576) }
     requires starts { AreStarts (length text.now) starts.now }
@@ -192,13 +200,12 @@ fn show_each(
     requires ltov { length ltov.old ≡ length text.now }
     requires vtol { length vtol.old ≡ length text.now }
     requires chars { length chars.old ≡ length text.now }
-    ensures lines { IfOk result (λ shown. AreShown tables.now base text.now levels.old places.now starts.now
-        (length starts.now) shown.items levels.new ltov.new vtol.new chars.new) }
-    ensures len { IfOk result (λ shown. length shown.items ≡ length starts.now) }
+    ensures lines { OnOk result (AreShown tables.now base text.now levels.old places.now starts.now
+        (length starts.now) shown.new.items levels.new ltov.new vtol.new chars.new) }
+    ensures len { OnOk result (length shown.new.items ≡ length starts.now) }
 {
-    let mut shown = list;
     shown.clear();
-    make_room(&mut shown, starts.len())?;
+    make_room(shown, starts.len())?;
     let mut k = 0;
     while k < starts.len() {
         let start = starts[k] as usize;
@@ -216,7 +223,7 @@ fn show_each(
         ))?;
         k += 1;
     }
-    Ok(shown)
+    Ok(())
 }
 
 // Where a line ends: where the next one starts, the last one with the paragraph.

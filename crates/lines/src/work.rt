@@ -1,6 +1,5 @@
 //! The layout of one paragraph, in lists that are used again for the next.
-ghost use Rattle.std.specs.Prelude.{◌≡◌, ◌≤◌, length, map, IfOk, IfErr, OnOk};
-ghost use Rattle.device.specs.Device.{Wrote};
+ghost use Rattle.std.specs.Prelude.{◌≡◌, ◌≤◌, length, map, IfOk, OnOk};
 ghost use Rattle.ucd.specs.Properties.{properties_of};
 ghost use Rattle.bidi.specs.Levels.{levels_of};
 ghost use Rattle.breaks.specs.Marks.{marks_of};
@@ -8,21 +7,29 @@ ghost use Rattle.lines.specs.Bare.{with_ends};
 ghost use Rattle.lines.specs.Clusters.{cluster_ends};
 ghost use Rattle.lines.specs.Filling.{line_starts_of};
 ghost use Rattle.lines.specs.Layouts.{AreWithin, base_of, lines_of};
+ghost use Rattle.lines.specs.Lists.{held_lines, AreSound};
 ghost use Rattle.lines.specs.Places.{places_of};
 ghost use Rattle.lines.specs.Visual.{lines_from};
 
 use crate::filling::line_starts;
 use crate::places::{Place, take_places};
-use crate::print::{Print, PrintFault};
 use crate::room::make_room;
 use crate::visual::{Fill, Lists, show_lines};
 use bidi::{Base, Resolver};
 use breaks::{Mark, marks_into};
-use device::Sink;
 use std::alloc::{AllocError, Global};
 use ucd::{Properties, Tables};
 
-/// What a paragraph's layout consists of beside its text.
+/// What a paragraph's layout consists of beside its text and its base level, in lists that may have held
+/// anything before.
+#[derive(Debug, Drop)]
+pub(crate) struct Kept {
+    pub(crate) levels: Vec<u8>,
+    pub(crate) marks: Vec<Mark>,
+    pub(crate) lines: Lists,
+}
+
+/// The same, where the lists hold it.
 #[derive(Debug, Drop)]
 pub(crate) struct Parts {
     pub(crate) base: u8,
@@ -31,54 +38,8 @@ pub(crate) struct Parts {
     pub(crate) lines: Fill,
 }
 
-impl Parts {
-    ghost use Rattle.lines.specs.Pages.{lines_bytes};
-    ghost use Rattle.lines.specs.Printing.{FailedAs};
-
-    // Writes the lines.
-    fn write<W: Sink>(
-        &self,
-        text: &[char],
-        writer: &mut W,
-        width: u16,
-        print: &Print,
-    ) -> Result<(), PrintFault>
-        requires { AreWithin (length text.now) self.now.lines }
-        ensures ok { OnOk result (Wrote (lines_bytes width print.now self.now.base text.now self.now.lines)
-            (W.state writer.old) (W.state writer.new)) }
-        ensures err { IfErr result (λ fault.
-            FailedAs fault (lines_bytes width print.now self.now.base text.now self.now.lines)
-            (W.state writer.old) (W.state writer.new)) }
-    {
-        match self
-            .lines
-            .write_behind(text, self.base, writer, 0, width, print)
-        {
-            Ok(_) => Ok(()),
-            Err(fault) => Err(PrintFault::Write(fault)),
-        }
-    }
-
-    // The lists alone, of a paragraph that is done with.
-    fn into_kept(self) -> Kept {
-        Kept {
-            levels: self.levels,
-            marks: self.marks,
-            lines: self.lines.into_lists(),
-        }
-    }
-}
-
-/// Lists that a layout is put into, whatever they hold.
-#[derive(Debug, Drop)]
-pub(crate) struct Kept {
-    levels: Vec<u8>,
-    marks: Vec<Mark>,
-    lines: Lists,
-}
-
 impl Kept {
-    /// Empty ones, which take no memory.
+    /// Empty lists, which take no memory.
     pub(crate) fn new(alloc: Global) -> Kept {
         Kept {
             levels: Vec::new(alloc),
@@ -95,8 +56,6 @@ pub(crate) struct Work {
     properties: Vec<Properties>,
     places: Vec<Place>,
     resolver: Resolver,
-    // Of the last paragraph that was written.
-    kept: Kept,
 }
 
 impl Work {
@@ -104,8 +63,7 @@ impl Work {
     ghost use Rattle.bidi.specs.Levels.{levels_of};
     ghost use Rattle.breaks.specs.Marks.{marks_of};
     ghost use Rattle.lines.specs.Layouts.{AreWithin, base_of, layout_of, lines_of};
-    ghost use Rattle.lines.specs.Pages.{paragraph_bytes};
-    ghost use Rattle.lines.specs.Printing.{FailedAs};
+    ghost use Rattle.lines.specs.Lists.{held_lines, AreSound};
 
     /// Empty lists, which take no memory.
     pub(crate) fn new(alloc: Global) -> Work {
@@ -113,12 +71,11 @@ impl Work {
             properties: Vec::new(alloc),
             places: Vec::new(alloc),
             resolver: Resolver::new(alloc),
-            kept: Kept::new(alloc),
         }
     }
 
-    /// Writes a paragraph's lines.
-    pub(crate) fn write_paragraph<W: Sink>(
+    /// The base level of a paragraph, and what else its layout consists of, put into some lists.
+    pub(crate) fn lay_out(
         &mut self,
         alloc: Global,
         tables: &Tables,
@@ -126,73 +83,45 @@ impl Work {
         nobreak: bool,
         text: &[char],
         width: u16,
-        print: &Print,
-        writer: &mut W,
-    ) -> Result<(), PrintFault>
+        kept: &mut Kept,
+    ) -> Result<u8, AllocError>
         requires { length text.now ≤ 1048576 }
-        ensures ok { OnOk result (Wrote (paragraph_bytes
-            (record { tables = tables.now; option = option; nobreak = nobreak }) width print.now text.now)
-            (W.state writer.old) (W.state writer.new)) }
-        ensures err { IfErr result (λ fault. FailedAs fault (paragraph_bytes
-            (record { tables = tables.now; option = option; nobreak = nobreak }) width print.now text.now)
-            (W.state writer.old) (W.state writer.new)) }
-    {
-        let kept = std::mem::replace(&mut self.kept, Kept::new(alloc));
-        let Ok(parts) = self.parts(alloc, tables, option, nobreak, text, width, kept) else {
-            return Err(PrintFault::Memory);
-        };
-        let result = parts.write(text, writer, width, print);
-        self.kept = parts.into_kept();
-        result
-    }
-
-    /// What a paragraph's layout consists of beside its text, put into some lists.
-    pub(crate) fn parts(
-        &mut self,
-        alloc: Global,
-        tables: &Tables,
-        option: Base,
-        nobreak: bool,
-        text: &[char],
-        width: u16,
-        kept: Kept,
-    ) -> Result<Parts, AllocError>
-        requires { length text.now ≤ 1048576 }
-        ensures base { IfOk result (λ parts. parts.base ≡ (layout_of
+        ensures base { IfOk result (λ base. base ≡ (layout_of
             (record { tables = tables.now; option = option; nobreak = nobreak }) width text.now).base) }
-        ensures levels { IfOk result (λ parts. parts.levels.items ≡ (layout_of
+        ensures levels { OnOk result (kept.new.levels.items ≡ (layout_of
             (record { tables = tables.now; option = option; nobreak = nobreak }) width text.now).levels) }
-        ensures marks { IfOk result (λ parts. parts.marks.items ≡ (layout_of
+        ensures marks { OnOk result (kept.new.marks.items ≡ (layout_of
             (record { tables = tables.now; option = option; nobreak = nobreak }) width text.now).marks) }
-        ensures lines { IfOk result (λ parts. parts.lines ≡ (layout_of
+        ensures lines { OnOk result (held_lines kept.new.lines ≡ (layout_of
             (record { tables = tables.now; option = option; nobreak = nobreak }) width text.now).lines) }
-        ensures len { IfOk result (λ parts. length parts.levels.items ≡ length text.now) }
-        ensures within { IfOk result (λ parts. AreWithin (length text.now) parts.lines) }
+        ensures len { OnOk result (length kept.new.levels.items ≡ length text.now) }
+        ensures sound { OnOk result (AreSound kept.new.lines) }
+        ensures within { OnOk result (AreWithin (length text.now) (held_lines kept.new.lines)) }
     {
         take_properties(tables, text, &mut self.properties)?;
         let properties = self.properties.as_slice();
-        let Kept {
-            mut levels,
-            mut marks,
-            lines: lists,
-        } = kept;
-        make_room(&mut levels, text.len())?;
+        make_room(&mut kept.levels, text.len())?;
         let base = self
             .resolver
-            .resolve(tables, text, properties, option, &mut levels)?;
-        make_room(&mut marks, text.len())?;
-        marks_into(tables, text, properties, &mut marks)?;
+            .resolve(tables, text, properties, option, &mut kept.levels)?;
+        make_room(&mut kept.marks, text.len())?;
+        marks_into(tables, text, properties, &mut kept.marks)?;
         let places = &mut self.places;
-        let lines = lines(
-            alloc, tables, option, nobreak, text, properties, places, base, &levels, &marks, width,
-            lists,
-        )?;
-        Ok(Parts {
+        put_lines(
+            alloc,
+            tables,
+            option,
+            nobreak,
+            text,
+            properties,
+            places,
             base,
-            levels,
-            marks,
-            lines,
-        })
+            &kept.levels,
+            &kept.marks,
+            width,
+            &mut kept.lines,
+        )?;
+        Ok(base)
     }
 
     /// The lines of a paragraph that is laid out.
@@ -221,11 +150,12 @@ impl Work {
         take_properties(tables, text, &mut self.properties)?;
         let properties = self.properties.as_slice();
         let places = &mut self.places;
-        let lists = Lists::new(alloc);
-        lines(
+        let mut lists = Lists::new(alloc);
+        put_lines(
             alloc, tables, option, nobreak, text, properties, places, base, levels, marks, width,
-            lists,
-        )
+            &mut lists,
+        )?;
+        Ok(Fill::of(lists))
     }
 }
 
@@ -245,8 +175,8 @@ fn take_properties(
     Ok(())
 }
 
-// The lines of a paragraph, of which all else is known.
-fn lines(
+// Puts the lines of a paragraph, of which all else is known, into some lists.
+fn put_lines(
     alloc: Global,
     tables: &Tables,
     option: Base,
@@ -258,8 +188,8 @@ fn lines(
     levels: &[u8],
     marks: &[Mark],
     width: u16,
-    lists: Lists,
-) -> Result<Fill, AllocError>
+    lists: &mut Lists,
+) -> Result<(), AllocError>
     requires properties { properties.now ≡ map (properties_of tables.now) text.now }
     requires base { base
         ≡ base_of (record { tables = tables.now; option = option; nobreak = nobreak }) text.now }
@@ -267,18 +197,19 @@ fn lines(
     requires len { length levels.now ≡ length text.now }
     requires marks { marks.now ≡ marks_of tables.now text.now }
     requires within { length text.now ≤ 1048576 }
-    ensures lines { IfOk result (λ lines. lines
+    ensures lines { OnOk result (held_lines lists.new
         ≡ lines_of (record { tables = tables.now; option = option; nobreak = nobreak }) width text.now) }
-    ensures within { IfOk result (AreWithin (length text.now)) }
+    ensures sound { OnOk result (AreSound lists.new) }
+    ensures within { OnOk result (AreWithin (length text.now) (held_lines lists.new)) }
 {
     take_places(tables, text, properties, marks, places)?;
-    lines_of_places(
+    put_lines_of_places(
         alloc, tables, nobreak, text, properties, places, base, levels, width, lists,
     )
 }
 
-// The lines of a paragraph by its places, of which it isn't known where clusters end.
-fn lines_of_places(
+// Puts them there by their places, of which it isn't known where clusters end.
+fn put_lines_of_places(
     alloc: Global,
     tables: &Tables,
     nobreak: bool,
@@ -288,15 +219,16 @@ fn lines_of_places(
     base: u8,
     levels: &[u8],
     width: u16,
-    mut lists: Lists,
-) -> Result<Fill, AllocError>
+    lists: &mut Lists,
+) -> Result<(), AllocError>
     requires properties { properties.now ≡ map (properties_of tables.now) text.now }
     requires places { with_ends places.old (cluster_ends text.now) ≡ places_of tables.now text.now }
     requires len { (length places.old ≡ length text.now) × (length levels.now ≡ length text.now) }
     requires within { length text.now ≤ 1048576 }
-    ensures lines { IfOk result (λ lines. lines ≡ lines_from tables.now base text.now levels.now
+    ensures lines { OnOk result (held_lines lists.new ≡ lines_from tables.now base text.now levels.now
         (places_of tables.now text.now) (line_starts_of nobreak width (places_of tables.now text.now))) }
-    ensures within { IfOk result (AreWithin (length text.now)) }
+    ensures sound { OnOk result (AreSound lists.new) }
+    ensures within { OnOk result (AreWithin (length text.now) (held_lines lists.new)) }
 {
     line_starts(alloc, text, places, width, nobreak, &mut lists.starts)?;
     show_lines(tables, text, properties, base, levels, places, lists)

@@ -1,12 +1,13 @@
-use Rattle.std.proofs.Common.{◌≡◌, IfOk, List, map, ap, subst, sym, ◌∙◌}
+use Rattle.std.proofs.Common.{◌≡◌, OnOk, List, map, ap, subst, sym, ◌∙◌}
 use Rattle.lines.specs.Bare.{bare, AreAlike}
 use Rattle.lines.specs.Clusters.{cluster_ends}
 use Rattle.lines.specs.Filling.{line_starts_of}
+use Rattle.lines.specs.Lists.{held_lines}
 use Rattle.lines.specs.Places.{places_of}
 use Rattle.lines.specs.Visual.{Line, lines_from}
 use Rattle.lines.proofs.BareLemmas.{same_lines, with_alike}
 use Rattle.lines.proofs.ClusterLemmas.{length-cluster_ends}
-use Rattle.lines.proofs.work.lines_of_places.Goals as goal
+use Rattle.lines.proofs.work.put_lines_of_places.Goals as goal
 
 -- what the places lack is found where it is asked for
 pub returns-clause-lines : goal.returns-clause-lines
@@ -23,4 +24,4 @@ returns-clause-lines c =
     c.in_ok-line_starts.ensures.lines ∙ ap (line_starts_of c.args.nobreak c.args.width) c.requires.places in
     let lines : lines_from tables c.args.base text c.args.levels.now new starts ≡ lines_from tables c.args.base text c.args.levels.now whole (line_starts_of c.args.nobreak c.args.width whole) =
     same_lines tables c.args.base text c.args.levels.now new whole starts alike ∙ ap (lines_from tables c.args.base text c.args.levels.now whole) starts_are in
-    subst (λ (ls : List Line). IfOk c.show_lines.result (λ lines. lines ≡ ls)) lines c.show_lines.ensures.lines
+    subst (λ (ls : List Line). OnOk c.show_lines.result (held_lines c.show_lines.new.lists ≡ ls)) lines c.show_lines.ensures.lines
