@@ -1,5 +1,5 @@
 //! Worked rows: edit scripts over texts, and what they answer.
-use crate::tests::{LINES, Pieces, Short, repeated, tables};
+use crate::tests::{LINES, Pieces, STOPS, Short, Stopping, repeated, tables};
 use crate::{RunFault, open_text, run_script};
 use bidi::Base;
 use device::{FromRead, ToWrite};
@@ -7,7 +7,7 @@ use lines::{Engine, Print};
 use session::{Kept, Session};
 use std::alloc::Global;
 use std::io;
-use std::io::Read;
+use std::io::{ErrorKind, Read};
 use std::process::Abort;
 use std::test::Fail;
 use store::{ParagraphStore, TreeStore, VecStore};
@@ -47,18 +47,21 @@ const LEVELS: Print = Print {
 // What was answered to a script, and how its run ended.
 type Answered = (Vec<u8>, Result<(), RunFault>);
 
-fn run_over<S: ParagraphStore<Kept> + Drop>(
+// The writer stops once behind so many bytes.
+fn run_over<S: ParagraphStore<Kept> + Drop, R: Read + Drop>(
     alloc: Global,
     session: Session<S>,
-    script: Pieces<'_>,
+    script: R,
     print: &Print,
     room: usize,
+    stop: Option<ErrorKind>,
 ) -> Answered {
     let mut taken = Vec::new(alloc);
     let mut reader = FromRead::new(script);
     let mut writer = ToWrite::new(Short {
         taken: &mut taken,
         room,
+        stop,
     });
     let result = run_script(alloc, &mut reader, &mut writer, session, print);
     drop(writer);
@@ -66,16 +69,27 @@ fn run_over<S: ParagraphStore<Kept> + Drop>(
 }
 
 // The same over a text at width 80.
-fn answered<S: ParagraphStore<Kept> + Drop>(
+fn answered<S: ParagraphStore<Kept> + Drop, R: Read + Drop>(
     alloc: Global,
-    text: &[u8],
-    script: Pieces<'_>,
+    text: &str,
+    script: R,
     print: &Print,
     room: usize,
+    stop: Option<ErrorKind>,
 ) -> Result<Answered, Fail> {
     let engine = Engine::new(tables(alloc)?, Base::WeakLtr, false);
-    let session: Session<S> = open_text(alloc, engine, text, 80)?;
-    Ok(run_over(alloc, session, script, print, room))
+    let session: Session<S> = open_text(alloc, engine, text.as_bytes(), 80)?;
+    Ok(run_over(alloc, session, script, print, room, stop))
+}
+
+// Over a tree, with room for all answers.
+fn answered_whole<R: Read + Drop>(
+    alloc: Global,
+    text: &str,
+    script: R,
+    print: &Print,
+) -> Result<Answered, Fail> {
+    answered::<TreeStore<Kept>, R>(alloc, text, script, print, 1000, None)
 }
 
 // A text, a script, and its answers.
@@ -159,9 +173,8 @@ fn check<S: ParagraphStore<Kept> + Drop>(
     let pieces = Pieces {
         bytes: script,
         size,
-        fails: false,
     };
-    let (taken, result) = answered::<S>(alloc, text.as_bytes(), pieces, &LINES, 1000)?;
+    let (taken, result) = answered::<S, Pieces<'_>>(alloc, text, pieces, &LINES, 1000, None)?;
     assert_eq!(rt; taken.as_slice(), answers.as_bytes(), "{text:?} by {size}");
     assert_eq!(rt; result, expected, "{text:?} by {size}");
     Ok(())
@@ -235,67 +248,168 @@ const JOINED: Row<'_> = (
     "@ 0 2 1\nab\u{5d1}\u{5d0}\n0 0 1 1\n",
 );
 
-// A writer that fails behind so many bytes.
-fn check_room(rt: &impl Abort, alloc: Global, room: usize) -> Result<(), Fail> {
-    let (text, script, answers) = JOINED;
-    let pieces = Pieces {
-        bytes: script.as_bytes(),
-        size: 65_536,
-        fails: false,
-    };
-    let (taken, result) = answered::<TreeStore<Kept>>(
+// A text, a script, and its answers up to the first line that is none.
+type Case<'a> = (&'a str, &'a [u8], &'a str);
+
+// A writer that stops behind so many bytes.
+fn check_room(
+    rt: &impl Abort,
+    alloc: Global,
+    case: &Case<'_>,
+    print: &Print,
+    room: usize,
+    stop: Option<ErrorKind>,
+) -> Result<(), Fail> {
+    let (text, bytes, answers) = *case;
+    let size = 65_536;
+    let (taken, result) = answered::<TreeStore<Kept>, Pieces<'_>>(
         alloc,
-        text.as_bytes(),
-        pieces,
-        &LEVELS,
+        text,
+        Pieces { bytes, size },
+        print,
         room,
+        stop,
     )?;
     let front = answers.as_bytes().get(..room).unwrap_or_default();
-    assert_eq!(rt; taken.as_slice(), front, "up to {room}");
-    assert_eq!(rt; result, Err(RunFault::Write(room as u64)), "up to {room}");
+    assert_eq!(rt; taken.as_slice(), front, "{text:?} up to {room}");
+    let fault = RunFault::Write(room as u64);
+    assert_eq!(rt; result, Err(fault), "{text:?} up to {room}");
+    Ok(())
+}
+
+// The lines that are ended.
+fn ended_lines(script: &[u8]) -> &[u8] {
+    match script.iter().rposition(|&b| b == b'\n') {
+        Some(end) => script.get(..=end).unwrap_or_default(),
+        None => b"",
+    }
+}
+
+// A reader that stops behind so many bytes: the script ends there, but where the reader fails a line that
+// isn't ended is none.
+fn check_stop(
+    rt: &impl Abort,
+    alloc: Global,
+    case: &Case<'_>,
+    print: &Print,
+    at: usize,
+    stop: Option<ErrorKind>,
+) -> Result<(), Fail> {
+    let (text, script, _) = *case;
+    let (front, behind) = script.split_at(at.min(script.len()));
+    let lines = if stop.is_some() {
+        ended_lines(front)
+    } else {
+        front
+    };
+    let size = 65_536;
+    let (answers, end) = answered_whole(alloc, text, Pieces { bytes: lines, size }, print)?;
+    let mut calls = 0;
+    let reader = Stopping {
+        bytes: front,
+        size,
+        stop,
+        behind,
+        calls: &mut calls,
+    };
+    let (taken, result) = answered_whole(alloc, text, reader, print)?;
+    let fault = if stop.is_some() && end.is_ok() {
+        Err(RunFault::Read)
+    } else {
+        end
+    };
+    assert!(rt; taken == answers && calls < 2, "{text:?} behind {at}");
+    assert_eq!(rt; result, fault, "{text:?} behind {at}");
+    Ok(())
+}
+
+fn check_stops(
+    rt: &impl Abort,
+    alloc: Global,
+    case: &Case<'_>,
+    print: &Print,
+    stop: Option<ErrorKind>,
+) -> Result<(), Fail> {
+    for room in 0..case.2.len() {
+        check_room(rt, alloc, case, print, room, stop)?;
+    }
+    for at in 0..=case.1.len() {
+        check_stop(rt, alloc, case, print, at, stop)?;
+    }
+    Ok(())
+}
+
+fn check_devices(
+    rt: &impl Abort,
+    alloc: Global,
+    case: &Case<'_>,
+    print: &Print,
+) -> Result<(), Fail> {
+    for stop in STOPS {
+        check_stops(rt, alloc, case, print, stop)?;
+    }
     Ok(())
 }
 
 #[test]
-fn a_writer_that_fails(rt: HostRuntime) -> Result<(), Fail> {
-    for room in 0..JOINED.2.len() {
-        check_room(&rt, rt.alloc(), room)?;
+fn devices_that_stop(rt: HostRuntime) -> Result<(), Fail> {
+    for (text, script, answers) in &ROWS {
+        check_devices(
+            &rt,
+            rt.alloc(),
+            &(*text, script.as_bytes(), *answers),
+            &LINES,
+        )?;
+    }
+    let (text, script, answers) = JOINED;
+    check_devices(
+        &rt,
+        rt.alloc(),
+        &(text, script.as_bytes(), answers),
+        &LEVELS,
+    )
+}
+
+#[test]
+fn devices_that_stop_at_bad_lines(rt: HostRuntime) -> Result<(), Fail> {
+    for (text, script, answers, _) in &BAD_ROWS {
+        check_devices(&rt, rt.alloc(), &(*text, *script, *answers), &LINES)?;
     }
     Ok(())
 }
 
 // A reader that fails behind so many bytes: a line that isn't ended is none.
-fn check_cut(rt: &impl Abort, alloc: Global, len: usize) -> Result<(), Fail> {
+fn check_cut(rt: &impl Abort, alloc: Global, at: usize, kind: ErrorKind) -> Result<(), Fail> {
     let (text, script, answers) = JOINED;
-    let pieces = Pieces {
-        bytes: script.as_bytes().get(..len).unwrap_or_default(),
+    let (bytes, behind) = script.as_bytes().split_at(at.min(script.len()));
+    let mut calls = 0;
+    let reader = Stopping {
+        bytes,
         size: 65_536,
-        fails: true,
+        stop: Some(kind),
+        behind,
+        calls: &mut calls,
     };
-    let (taken, result) = answered::<TreeStore<Kept>>(
-        alloc,
-        text.as_bytes(),
-        pieces,
-        &LEVELS,
-        1000,
-    )?;
-    let end = if len < 11 {
+    let (taken, result) = answered_whole(alloc, text, reader, &LEVELS)?;
+    let end = if at < 11 {
         0
-    } else if len < 16 {
+    } else if at < 16 {
         8
     } else {
         answers.len()
     };
     let front = answers.as_bytes().get(..end).unwrap_or_default();
-    assert_eq!(rt; taken.as_slice(), front, "behind {len}");
-    assert_eq!(rt; result, Err(RunFault::Read), "behind {len}");
+    assert_eq!(rt; taken.as_slice(), front, "behind {at}");
+    assert_eq!(rt; result, Err(RunFault::Read), "behind {at}");
+    assert_eq!(rt; calls, 1, "behind {at}");
     Ok(())
 }
 
 #[test]
 fn a_reader_that_fails(rt: HostRuntime) -> Result<(), Fail> {
-    for len in 0..=JOINED.1.len() {
-        check_cut(&rt, rt.alloc(), len)?;
+    for at in 0..=JOINED.1.len() {
+        check_cut(&rt, rt.alloc(), at, ErrorKind::Other)?;
+        check_cut(&rt, rt.alloc(), at, ErrorKind::Interrupted)?;
     }
     Ok(())
 }
@@ -312,9 +426,8 @@ fn check_long(
     let pieces = Pieces {
         bytes: &script,
         size: 65_536,
-        fails: false,
     };
-    let (taken, result) = answered::<TreeStore<Kept>>(alloc, b"", pieces, &LINES, 1000)?;
+    let (taken, result) = answered_whole(alloc, "", pieces, &LINES)?;
     assert_eq!(rt; taken.as_slice(), answers);
     assert_eq!(rt; result, expected);
     Ok(())
@@ -363,6 +476,7 @@ fn read_in_vain(alloc: Global) -> Result<(usize, Result<(), RunFault>), Fail> {
         let mut writer = ToWrite::new(Short {
             taken: &mut taken,
             room: 0,
+            stop: None,
         });
         run_script(alloc, &mut reader, &mut writer, session, &LINES)
     };

@@ -1,8 +1,7 @@
 //! Worked rows: texts and what is written for them.
-ghost use Rattle.std.specs.Prelude.{◌<◌};
+ghost use Rattle.std.specs.Prelude.{◌≡◌, IfOk};
 
 use crate::{RunFault, run_text, settings};
-use bidi::Base;
 use device::{FromRead, ToWrite};
 use lines::{Engine, Print};
 use std::alloc::{AllocError, Global};
@@ -23,18 +22,58 @@ pub const FILES: UcdFiles<'_> = UcdFiles {
     emoji_data: excerpt::EMOJI_DATA,
 };
 
-// Gives so many bytes a call, and fails behind the last of them if it is to.
+// Gives so many bytes a call.
 #[derive(Drop)]
 pub struct Pieces<'a> {
     pub bytes: &'a [u8],
     pub size: usize,
-    pub fails: bool,
 }
 
 impl Read for Pieces<'_> {
     fn read(&mut self, buf: &mut [u8]) -> io::Result<usize> {
-        if self.bytes.is_empty() && self.fails {
-            return Err(io::Error::from(ErrorKind::Other));
+        let len = self.size.min(self.bytes.len()).min(buf.len());
+        let (front, rest) = self.bytes.split_at(len);
+        buf[..len].copy_from_slice(front);
+        self.bytes = rest;
+        Ok(len)
+    }
+}
+
+// How a device stops: it fails so, or no byte passes.
+pub const STOPS: [Option<ErrorKind>; 3] = [
+    Some(ErrorKind::Other),
+    Some(ErrorKind::Interrupted),
+    None,
+];
+
+fn stopped(stop: Option<ErrorKind>) -> io::Result<usize>
+    ensures { IfOk result (λ n. n ≡ 0) }
+{
+    match stop {
+        Some(kind) => Err(io::Error::from(kind)),
+        None => Ok(0),
+    }
+}
+
+// Gives so many bytes a call, stops once behind the last of them, and would then give others.
+#[derive(Drop)]
+pub struct Stopping<'a> {
+    pub bytes: &'a [u8],
+    pub size: usize,
+    pub stop: Option<ErrorKind>,
+    pub behind: &'a [u8],
+    // How many calls came from the stop on.
+    pub calls: &'a mut usize,
+}
+
+impl Read for Stopping<'_> {
+    fn read(&mut self, buf: &mut [u8]) -> io::Result<usize> {
+        if *self.calls > 0 || self.bytes.is_empty() {
+            *self.calls = self.calls.saturating_add(1);
+        }
+        if *self.calls == 1 {
+            self.bytes = self.behind;
+            return stopped(self.stop);
         }
         let len = self.size.min(self.bytes.len()).min(buf.len());
         let (front, rest) = self.bytes.split_at(len);
@@ -44,50 +83,21 @@ impl Read for Pieces<'_> {
     }
 }
 
-// Gives some bytes, fails once, and would give more.
-#[derive(Drop)]
-struct FailsOnce<'a> {
-    before: &'a [u8],
-    behind: &'a [u8],
-    has_failed: bool,
-}
-
-impl Read for FailsOnce<'_> {
-    fn read(&mut self, buf: &mut [u8]) -> io::Result<usize> {
-        if self.before.is_empty() && !self.has_failed {
-            self.has_failed = true;
-            return Err(io::Error::from(ErrorKind::Interrupted));
-        }
-        let bytes = if self.has_failed {
-            self.behind
-        } else {
-            self.before
-        };
-        let len = bytes.len().min(buf.len());
-        let (front, rest) = bytes.split_at(len);
-        buf[..len].copy_from_slice(front);
-        if self.has_failed {
-            self.behind = rest;
-        } else {
-            self.before = rest;
-        }
-        Ok(len)
-    }
-}
-
-// Takes so many bytes in all, and then fails.
+// Takes so many bytes in all, stops once, and would then take all others.
 #[derive(Drop)]
 pub struct Short<'a> {
     pub taken: &'a mut Vec<u8>,
     pub room: usize,
+    pub stop: Option<ErrorKind>,
 }
 
 impl Write for Short<'_> {
     fn write(&mut self, buf: &[u8]) -> io::Result<usize> {
-        let len = self.room.min(buf.len());
-        if len == 0 {
-            return Err(io::Error::from(ErrorKind::Other));
+        if self.room == 0 {
+            self.room = usize::MAX;
+            return stopped(self.stop);
         }
+        let len = self.room.min(buf.len());
         self.taken.extend_from_slice(&buf[..len])?;
         self.room -= len;
         Ok(len)
@@ -130,53 +140,56 @@ pub fn tables(alloc: Global) -> Result<Tables, Fail> {
     Ok(Tables::read(alloc, &FILES)?)
 }
 
-fn engine(alloc: Global, base: Base, nobreak: bool) -> Result<Engine, Fail> {
-    Ok(Engine::new(tables(alloc)?, base, nobreak))
+// What a command line asks for, and an engine that does it.
+#[derive(Drop)]
+struct Asked {
+    engine: Engine,
+    width: u16,
+    print: Print,
+}
+
+// The words of the command line have spaces between.
+fn ask(alloc: Global, options: &str) -> Result<Asked, Fail> {
+    let words: Vec<&str> = options.split_whitespace().collect(alloc)?;
+    let settings = settings(alloc, &words)?;
+    Ok(Asked {
+        engine: Engine::new(tables(alloc)?, settings.base, settings.nobreak),
+        width: settings.width,
+        print: settings.print,
+    })
 }
 
 // What is written for a text, and how its run ends.
 type Written = (Vec<u8>, Result<(), RunFault>);
 
+// The same, where the writer stops once behind so many bytes.
 fn lines_of<R: Read + Drop>(
     alloc: Global,
-    engine: &mut Engine,
-    width: u16,
-    print: &Print,
+    asked: &mut Asked,
     text: R,
     room: usize,
-) -> Written
-    requires { 0 < width }
-{
+    stop: Option<ErrorKind>,
+) -> Result<Written, Fail> {
+    if asked.width == 0 {
+        return Err(Fail::new("no width"));
+    }
     let mut taken = Vec::new(alloc);
     let mut reader = FromRead::new(text);
     let mut writer = ToWrite::new(Short {
         taken: &mut taken,
         room,
+        stop,
     });
-    let result = run_text(alloc, &mut reader, &mut writer, engine, width, print);
+    let result = run_text(
+        alloc,
+        &mut reader,
+        &mut writer,
+        &mut asked.engine,
+        asked.width,
+        &asked.print,
+    );
     drop(writer);
-    (taken, result)
-}
-
-// What the command writes by the words of its command line, which have spaces between, from a
-// reader that gives so many bytes at a time to a writer with so much room.
-fn written(
-    alloc: Global,
-    options: &str,
-    bytes: &[u8],
-    size: usize,
-    room: usize,
-) -> Result<Written, Fail> {
-    let words: Vec<&str> = options.split_whitespace().collect(alloc)?;
-    let settings = settings(alloc, &words)?;
-    let mut engine = engine(alloc, settings.base, settings.nobreak)?;
-    let fails = false;
-    let pieces = Pieces { bytes, size, fails };
-    let (width, print) = (settings.width, settings.print);
-    if width == 0 {
-        return Err(Fail::new("no width"));
-    }
-    Ok(lines_of(alloc, &mut engine, width, &print, pieces, room))
+    Ok((taken, result))
 }
 
 // Options, a text, and its lines.
@@ -277,43 +290,133 @@ const ROWS: [Row<'_>; 32] = [
     ("--ucd D", "\u{1f30d}a\u{1f30d}", "\u{1f30d}a\u{1f30d}\n"),
 ];
 
+// Options, bytes, what is written for them, and how the run ends.
+type Case<'a> = (&'a str, &'a [u8], &'a [u8], Result<(), RunFault>);
+
+// Room for all that is written.
+const ROOM: usize = 2_000_000;
+
 // A reader that gives so many bytes at a time.
-fn check_size(rt: &impl Abort, alloc: Global, row: &Row<'_>, size: usize) -> Result<(), Fail> {
-    let (options, text, lines) = *row;
-    let (taken, result) = written(alloc, options, text.as_bytes(), size, 1000)?;
-    assert_eq!(rt;
-        taken.as_slice(),
-        lines.as_bytes(),
-        "{options} {text:?} by {size}"
+fn check_size(
+    rt: &impl Abort,
+    alloc: Global,
+    asked: &mut Asked,
+    case: &Case<'_>,
+    size: usize,
+) -> Result<(), Fail> {
+    let (options, bytes, lines, end) = *case;
+    let (taken, result) = lines_of(alloc, asked, Pieces { bytes, size }, ROOM, None)?;
+    let len = bytes.len();
+    assert!(rt;
+        taken.as_slice() == lines,
+        "{options}, {len} bytes by {size}"
     );
-    assert_eq!(rt; result, Ok(()), "{options} {text:?} by {size}");
+    assert_eq!(rt; result, end, "{options}, {len} bytes by {size}");
     Ok(())
 }
 
-// A writer that fails behind so many bytes.
-fn check_room(rt: &impl Abort, alloc: Global, row: &Row<'_>, room: usize) -> Result<(), Fail> {
-    let (options, text, lines) = *row;
-    let (taken, result) = written(alloc, options, text.as_bytes(), 65_536, room)?;
-    let front = lines.as_bytes().get(..room).unwrap_or_default();
-    assert_eq!(rt; taken.as_slice(), front, "{options} {text:?} up to {room}");
+// A writer that stops behind so many bytes.
+fn check_room(
+    rt: &impl Abort,
+    alloc: Global,
+    asked: &mut Asked,
+    case: &Case<'_>,
+    room: usize,
+    stop: Option<ErrorKind>,
+) -> Result<(), Fail> {
+    let (options, bytes, lines, _) = *case;
+    let size = 65_536;
+    let (taken, result) = lines_of(alloc, asked, Pieces { bytes, size }, room, stop)?;
+    let front = lines.get(..room).unwrap_or_default();
+    assert_eq!(rt; taken.as_slice(), front, "{options} {bytes:?} up to {room}");
     let fault = RunFault::Write(room as u64);
-    assert_eq!(rt; result, Err(fault), "{options} {text:?} up to {room}");
+    assert_eq!(rt; result, Err(fault), "{options} {bytes:?} up to {room}");
     Ok(())
 }
 
-fn check_row(rt: &impl Abort, alloc: Global, row: &Row<'_>) -> Result<(), Fail> {
+// A reader that fails behind so many bytes. Where these are no text it may be asked for no more.
+fn check_failure(
+    rt: &impl Abort,
+    alloc: Global,
+    asked: &mut Asked,
+    case: &Case<'_>,
+    at: usize,
+    kind: ErrorKind,
+) -> Result<(), Fail> {
+    let (options, bytes, lines, end) = *case;
+    let (front, behind) = bytes.split_at(at.min(bytes.len()));
+    let mut calls = 0;
+    let reader = Stopping {
+        bytes: front,
+        size: 65_536,
+        stop: Some(kind),
+        behind,
+        calls: &mut calls,
+    };
+    let (taken, result) = lines_of(alloc, asked, reader, ROOM, None)?;
+    let fault = if calls == 0 && end.is_err() {
+        end
+    } else {
+        Err(RunFault::Read)
+    };
+    assert_eq!(rt; result, fault, "{options} {bytes:?} behind {at}");
+    assert!(rt;
+        lines.starts_with(&taken) && calls < 2,
+        "{options} {bytes:?} behind {at}"
+    );
+    Ok(())
+}
+
+// A reader that gives none behind so many bytes, where the text ends then.
+fn check_end(
+    rt: &impl Abort,
+    alloc: Global,
+    asked: &mut Asked,
+    case: &Case<'_>,
+    at: usize,
+) -> Result<(), Fail> {
+    let (options, bytes, _, _) = *case;
+    let (front, behind) = bytes.split_at(at.min(bytes.len()));
+    let (bytes, size) = (front, 65_536);
+    let mut calls = 0;
+    let reader = Stopping {
+        bytes,
+        size,
+        stop: None,
+        behind,
+        calls: &mut calls,
+    };
+    let (taken, result) = lines_of(alloc, asked, reader, ROOM, None)?;
+    let (lines, end) = lines_of(alloc, asked, Pieces { bytes, size }, ROOM, None)?;
+    assert!(rt;
+        taken == lines && result == end && calls < 2,
+        "{options} {bytes:?}"
+    );
+    Ok(())
+}
+
+fn check_devices(rt: &impl Abort, alloc: Global, case: &Case<'_>) -> Result<(), Fail> {
+    let mut asked = ask(alloc, case.0)?;
     for size in [1, 2, 3, 65_536] {
-        check_size(rt, alloc, row, size)?;
+        check_size(rt, alloc, &mut asked, case, size)?;
     }
-    for room in 0..row.2.len() {
-        check_room(rt, alloc, row, room)?;
+    for stop in STOPS {
+        for room in 0..case.2.len() {
+            check_room(rt, alloc, &mut asked, case, room, stop)?;
+        }
+    }
+    for at in 0..=case.1.len() {
+        check_failure(rt, alloc, &mut asked, case, at, ErrorKind::Other)?;
+        check_failure(rt, alloc, &mut asked, case, at, ErrorKind::Interrupted)?;
+        check_end(rt, alloc, &mut asked, case, at)?;
     }
     Ok(())
 }
 
 fn check_rows(rt: &impl Abort, alloc: Global, rows: &[Row<'_>]) -> Result<(), Fail> {
-    for row in rows {
-        check_row(rt, alloc, row)?;
+    for (options, text, lines) in rows {
+        let case = (*options, text.as_bytes(), lines.as_bytes(), Ok(()));
+        check_devices(rt, alloc, &case)?;
     }
     Ok(())
 }
@@ -339,28 +442,20 @@ pub fn repeated(
     Ok(bytes)
 }
 
-// Options, bytes, what is written for them, and how the run ends.
-type Case<'a> = (&'a str, &'a [u8], &'a [u8], Result<(), RunFault>);
-
 fn check_case(rt: &impl Abort, alloc: Global, case: &Case<'_>, size: usize) -> Result<(), Fail> {
-    let (options, bytes, lines, end) = *case;
-    let (taken, result) = written(alloc, options, bytes, size, 2_000_000)?;
-    assert!(rt; taken.as_slice() == lines, "{options} by {size}");
-    assert_eq!(rt; result, end, "{options} by {size}");
-    Ok(())
+    let mut asked = ask(alloc, case.0)?;
+    check_size(rt, alloc, &mut asked, case, size)
 }
 
 fn check_cases(rt: &impl Abort, alloc: Global, cases: &[Case<'_>]) -> Result<(), Fail> {
     for case in cases {
-        for size in [1, 2, 3, 65_536] {
-            check_case(rt, alloc, case, size)?;
-        }
+        check_devices(rt, alloc, case)?;
     }
     Ok(())
 }
 
 // Only a paragraph of which the character behind its cut was read is complete.
-const BAD_CASES: [Case<'_>; 5] = [
+const BAD_CASES: [Case<'_>; 6] = [
     ("--ucd D", b"a\nb\xff", b"a\n", Err(RunFault::NotUtf8(3))),
     ("--ucd D", b"a\n\xff", b"", Err(RunFault::NotUtf8(2))),
     (
@@ -370,6 +465,7 @@ const BAD_CASES: [Case<'_>; 5] = [
         Err(RunFault::NotUtf8(3)),
     ),
     ("--ucd D", b"\xff", b"", Err(RunFault::NotUtf8(0))),
+    ("--ucd D", b"\xed\xa0\x80", b"", Err(RunFault::NotUtf8(0))),
     (
         "--ucd D --nopad",
         b"\xd7\x90\n\na\xed\xa0\x80",
@@ -396,14 +492,42 @@ fn check_embeddings(
     check_case(rt, alloc, &(options, &text, &lines, Ok(())), 65_536)
 }
 
-// Embeddings down to the greatest depth, and one more, which opens nothing.
+// Embeddings down to the greatest depth, and more, which open nothing.
 #[test]
 fn levels_of_deep_embeddings(rt: HostRuntime) -> Result<(), Fail> {
     let alloc = rt.alloc();
     let inside = "a\u{202c}b\u{202c}c";
     check_embeddings(&rt, alloc, 64, inside, b"126 126 126 126 124\n")?;
     let inside = "a\u{202c}b\u{202c}c\u{202c}d";
-    check_embeddings(&rt, alloc, 65, inside, b"126 126 126 126 126 126 124\n")
+    check_embeddings(&rt, alloc, 65, inside, b"126 126 126 126 126 126 124\n")?;
+    // A PDF inside an isolate that opens nothing closes nothing.
+    let inside = "\u{2067}\u{202c}\u{2069}a\u{202c}b";
+    check_embeddings(&rt, alloc, 63, inside, b"125 125 125 126 126 124\n")?;
+    // Behind one that opens nothing none opens anything, though its level would be in bounds.
+    let inside = "\u{202a}\u{202a}\u{202b}a";
+    check_embeddings(&rt, alloc, 62, inside, b"0 0 0 124\n")
+}
+
+// The base level and the odd levels in front of the greatest.
+fn levels_down(alloc: Global) -> Result<String, AllocError> {
+    let mut levels = String::new(alloc);
+    levels.push_str("0 ")?;
+    for half in 0..62u32 {
+        let level = format!(in alloc; "{} ", 2 * half + 1)?;
+        levels.push_str(level.as_str())?;
+    }
+    Ok(levels)
+}
+
+// Isolates down to the greatest depth, and more, which open nothing.
+#[test]
+fn levels_of_deep_isolates(rt: HostRuntime) -> Result<(), Fail> {
+    let alloc = rt.alloc();
+    let text = repeated(alloc, b"", "\u{2067}".as_bytes(), 200, b"a")?;
+    let front = levels_down(alloc)?;
+    let lines = repeated(alloc, front.as_bytes(), b"125 ", 137, b"126\n")?;
+    let options = "--ucd D --nobreak --novisual --levels";
+    check_case(&rt, alloc, &(options, &text, &lines, Ok(())), 65_536)
 }
 
 // Brackets inside one another between `x` and `a`, and the line with its levels.
@@ -440,28 +564,34 @@ fn brackets_that_are_not_paired(rt: HostRuntime) -> Result<(), Fail> {
     check_brackets(&rt, alloc, 64, &line, b" 1")
 }
 
-// A read that fails behind so many bytes of a text.
+// A read that fails behind so many bytes of a text, and would go on.
 fn check_failing_read(
     rt: &impl Abort,
     alloc: Global,
-    engine: &mut Engine,
+    asked: &mut Asked,
+    size: usize,
     at: usize,
     lines: &[u8],
-) {
+) -> Result<(), Fail> {
     let text = b"a\nb\xe4\xb8\x80\n\n\xff".as_slice();
-    let pieces = Pieces {
-        bytes: &text[..at.min(text.len())],
-        size: 2,
-        fails: true,
+    let (bytes, behind) = text.split_at(at.min(text.len()));
+    let mut calls = 0;
+    let reader = Stopping {
+        bytes,
+        size,
+        stop: Some(ErrorKind::Other),
+        behind,
+        calls: &mut calls,
     };
-    let (taken, result) = lines_of(alloc, engine, 80, &LINES, pieces, 1000);
-    assert_eq!(rt; taken.as_slice(), lines, "behind {at}");
+    let (taken, result) = lines_of(alloc, asked, reader, ROOM, None)?;
+    assert_eq!(rt; taken.as_slice(), lines, "behind {at} by {size}");
     let end = if at == 9 {
         RunFault::NotUtf8(8)
     } else {
         RunFault::Read
     };
-    assert_eq!(rt; result, Err(end), "behind {at}");
+    assert_eq!(rt; result, Err(end), "behind {at} by {size}");
+    Ok(())
 }
 
 // What is written where a read fails behind each beginning of a text.
@@ -481,26 +611,12 @@ const BEFORE_FAILURES: [&[u8]; 10] = [
 #[test]
 fn reads_that_fail(rt: HostRuntime) -> Result<(), Fail> {
     let alloc = rt.alloc();
-    let mut engine = engine(alloc, Base::WeakLtr, false)?;
-    for (at, lines) in BEFORE_FAILURES.iter().enumerate() {
-        check_failing_read(&rt, alloc, &mut engine, at, lines);
+    let mut asked = ask(alloc, "--ucd D")?;
+    for size in [1, 2, 3, 65_536] {
+        for (at, lines) in BEFORE_FAILURES.iter().enumerate() {
+            check_failing_read(&rt, alloc, &mut asked, size, at, lines)?;
+        }
     }
-    Ok(())
-}
-
-// A read that fails once, and would go on.
-#[test]
-fn read_that_fails_once(rt: HostRuntime) -> Result<(), Fail> {
-    let alloc = rt.alloc();
-    let mut engine = engine(alloc, Base::WeakLtr, false)?;
-    let once = FailsOnce {
-        before: b"a\nb",
-        behind: b"\ncd",
-        has_failed: false,
-    };
-    let (taken, result) = lines_of(alloc, &mut engine, 80, &LINES, once, 1000);
-    assert_eq!(rt; taken.as_slice(), b"a\n".as_slice());
-    assert_eq!(rt; result, Err(RunFault::Read));
     Ok(())
 }
 
@@ -531,7 +647,10 @@ fn letters_up_to_a_late_cut(rt: HostRuntime) -> Result<(), Fail> {
     let alloc = rt.alloc();
     let text = repeated(alloc, b"", b"a", 1_048_576, b"\n")?;
     let end = Err(RunFault::ParagraphTooLong);
-    check_cases(&rt, alloc, &[("--ucd D --nobreak", &text, b"", end)])
+    for size in [1, 2, 3, 65_536] {
+        check_case(&rt, alloc, &("--ucd D --nobreak", &text, b"", end), size)?;
+    }
+    Ok(())
 }
 
 #[test]
@@ -539,8 +658,8 @@ fn reading_stops_where_writing_does(rt: HostRuntime) -> Result<(), Fail> {
     let alloc = rt.alloc();
     let mut given = 0;
     let endless = Endless { given: &mut given };
-    let mut engine = engine(alloc, Base::WeakLtr, false)?;
-    let (taken, result) = lines_of(alloc, &mut engine, 80, &LINES, endless, 1000);
+    let mut asked = ask(alloc, "--ucd D")?;
+    let (taken, result) = lines_of(alloc, &mut asked, endless, 1000, None)?;
     assert_eq!(rt; result, Err(RunFault::Write(1000)));
     assert_eq!(rt; taken.len(), 1000);
     assert!(rt; given <= 1000 + 4_259_844);

@@ -6,18 +6,25 @@ use lines::Print;
 use std::alloc::Global;
 use std::process::Abort;
 use std::test::Fail;
-use ucd::{BidiClass, Cause, TableFault, Tables, UcdFiles};
+use ucd::{BidiClass, Cause, FILE_NAMES, TableFault, Tables, UcdFiles};
 
-// The table files of the tests with another file of classes.
-fn files_with(bidi_class: &[u8]) -> UcdFiles<'_> {
-    UcdFiles {
-        bidi_class,
-        ..FILES
+// The table files of the tests with another one of this number.
+fn files_with(file: usize, lines: &[u8]) -> UcdFiles<'_> {
+    let mut files = FILES;
+    match file {
+        1 => files.bidi_class = lines,
+        2 => files.bidi_brackets = lines,
+        3 => files.bidi_mirroring = lines,
+        4 => files.line_break = lines,
+        5 => files.general_category = lines,
+        6 => files.east_asian_width = lines,
+        _ => files.emoji_data = lines,
     }
+    files
 }
 
 fn tables_with(alloc: Global, bidi_class: &[u8]) -> Result<Tables, Fail> {
-    Ok(Tables::read(alloc, &files_with(bidi_class))?)
+    Ok(Tables::read(alloc, &files_with(1, bidi_class))?)
 }
 
 const CLASSES: &[u8] = b"D800..E000;R\nD800;L\n0041;AL\r";
@@ -58,9 +65,12 @@ fn check_fault(
     Ok(())
 }
 
-// What the program says of a table file, and its status; no words mean that the file is good.
-fn check_table(rt: &impl Abort, alloc: Global, file: &[u8], message: &str) -> Result<(), Fail> {
-    match Tables::read(alloc, &files_with(file)) {
+// The number of a table file, its lines, and what the program says of it; no words mean that it is good.
+type TableRow<'a> = (usize, &'a [u8], &'a str);
+
+fn check_table(rt: &impl Abort, alloc: Global, row: &TableRow<'_>) -> Result<(), Fail> {
+    let (file, lines, message) = *row;
+    match Tables::read(alloc, &files_with(file, lines)) {
         Ok(_) => {
             assert_eq!(rt; "", message);
             Ok(())
@@ -69,35 +79,64 @@ fn check_table(rt: &impl Abort, alloc: Global, file: &[u8], message: &str) -> Re
     }
 }
 
-const TABLE_ROWS: [(&[u8], &str); 14] = [
-    (b"0041..0030;L", "fribidi: DerivedBidiClass.txt:1: cause 3"),
+const TABLE_ROWS: [TableRow<'_>; 20] = [
     (
+        1,
+        b"0041..0030;L",
+        "fribidi: DerivedBidiClass.txt:1: cause 3",
+    ),
+    (
+        1,
         b"0041;L\n0041;R",
         "fribidi: DerivedBidiClass.txt:2: cause 6",
     ),
-    (b"0041;Q", "fribidi: DerivedBidiClass.txt:1: cause 5"),
-    (b"41;L", "fribidi: DerivedBidiClass.txt:1: cause 2"),
-    (b"110000;L", "fribidi: DerivedBidiClass.txt:1: cause 2"),
-    (b"41;L;x", "fribidi: DerivedBidiClass.txt:1: cause 4"),
-    (b"0041..0030;Q", "fribidi: DerivedBidiClass.txt:1: cause 3"),
-    (b"\x80#", "fribidi: DerivedBidiClass.txt:1: cause 1"),
+    (1, b"0041;Q", "fribidi: DerivedBidiClass.txt:1: cause 5"),
+    (1, b"41;L", "fribidi: DerivedBidiClass.txt:1: cause 2"),
+    (1, b"110000;L", "fribidi: DerivedBidiClass.txt:1: cause 2"),
+    (1, b"41;L;x", "fribidi: DerivedBidiClass.txt:1: cause 4"),
     (
+        1,
+        b"0041..0030;Q",
+        "fribidi: DerivedBidiClass.txt:1: cause 3",
+    ),
+    (1, b"\x80#", "fribidi: DerivedBidiClass.txt:1: cause 1"),
+    (
+        1,
         b"0041..005A;L\n0050;R",
         "fribidi: DerivedBidiClass.txt:2: cause 6",
     ),
-    (b"#\x80", ""),
-    (b"D800..E000;R\nD800;L", ""),
-    (b"0041;R\r", ""),
-    (b" \t0041 ; R\t# x\n\n", ""),
+    (1, b"#\x80", ""),
+    (1, b"D800..E000;R\nD800;L", ""),
+    (1, b"0041;R\r", ""),
+    (1, b" \t0041 ; R\t# x\n\n", ""),
     (
+        1,
         b"D800..E000;R\nE000;L",
         "fribidi: DerivedBidiClass.txt:2: cause 6",
     ),
+    (
+        2,
+        b"0028..0029; 0029; o",
+        "fribidi: BidiBrackets.txt:1: cause 2",
+    ),
+    (3, b"0028; D800", "fribidi: BidiMirroring.txt:1: cause 5"),
+    (4, b"0041;A1", "fribidi: LineBreak.txt:1: cause 5"),
+    (
+        5,
+        b"0041;Lu\n0041;Lu",
+        "fribidi: DerivedGeneralCategory.txt:2: cause 6",
+    ),
+    (6, b"0041;Na;x", "fribidi: EastAsianWidth.txt:1: cause 4"),
+    (
+        7,
+        b"# x\n\n0042..0041;Emoji",
+        "fribidi: emoji-data.txt:3: cause 3",
+    ),
 ];
 
-fn check_tables(rt: &impl Abort, alloc: Global, rows: &[(&[u8], &str)]) -> Result<(), Fail> {
-    for (file, message) in rows {
-        check_table(rt, alloc, file, message)?;
+fn check_tables(rt: &impl Abort, alloc: Global, rows: &[TableRow<'_>]) -> Result<(), Fail> {
+    for row in rows {
+        check_table(rt, alloc, row)?;
     }
     Ok(())
 }
@@ -147,13 +186,28 @@ fn messages_of_runs(rt: HostRuntime) -> Result<(), Fail> {
             ProgramFault::Line(LineFault::NoMemory),
             "fribidi: out of memory",
         ),
-        (
-            ProgramFault::TableFile("LineBreak.txt"),
-            "fribidi: cannot read LineBreak.txt",
-        ),
     ];
     for (fault, message) in rows {
         check_fault(&rt, alloc, &fault, message, 1)?;
+    }
+    Ok(())
+}
+
+const UNREAD: [&str; 7] = [
+    "fribidi: cannot read DerivedBidiClass.txt",
+    "fribidi: cannot read BidiBrackets.txt",
+    "fribidi: cannot read BidiMirroring.txt",
+    "fribidi: cannot read LineBreak.txt",
+    "fribidi: cannot read DerivedGeneralCategory.txt",
+    "fribidi: cannot read EastAsianWidth.txt",
+    "fribidi: cannot read emoji-data.txt",
+];
+
+#[test]
+fn messages_of_unread_files(rt: HostRuntime) -> Result<(), Fail> {
+    for (name, message) in FILE_NAMES.iter().zip(UNREAD) {
+        let fault = ProgramFault::TableFile(*name);
+        check_fault(&rt, rt.alloc(), &fault, message, 1)?;
     }
     Ok(())
 }

@@ -25,25 +25,46 @@ fn changes_that_are_refused(rt: HostRuntime) -> Result<(), Fail> {
     pair.check_same(&rt, "ab\ncd")
 }
 
-#[test]
-fn sessions_that_are_refused(rt: HostRuntime) -> Result<(), Fail> {
-    let alloc = rt.alloc();
-    let opened: Result<Session<VecStore<Kept>>, (Engine, EditFault)> = Session::open(
-        alloc,
-        engine(alloc)?,
-        "a",
-        0,
-    );
-    assert!(rt; matches!(opened, Err((_, EditFault::WidthOutOfRange))));
-    Ok(())
-}
-
 fn letters(alloc: Global, count: usize) -> Result<Vec<u8>, AllocError> {
     vec![in alloc; b'a'; count]
 }
 
 fn str_of(bytes: &[u8]) -> &str {
     std::str::from_utf8(bytes).unwrap_or("")
+}
+
+// A text of so many letters, on which no session is opened.
+fn check_open(
+    rt: &impl Abort,
+    alloc: Global,
+    count: usize,
+    width: u16,
+    fault: EditFault,
+) -> Result<(), Fail> {
+    let Ok(text) = letters(alloc, count) else {
+        return Ok(());
+    };
+    let opened: Result<Session<VecStore<Kept>>, (Engine, EditFault)> = Session::open(
+        alloc,
+        engine(alloc)?,
+        str_of(&text),
+        width,
+    );
+    let found = match opened {
+        Ok(_) => None,
+        Err((_, found)) => Some(found),
+    };
+    assert_eq!(rt; found, Some(fault), "{count} letters");
+    Ok(())
+}
+
+#[test]
+fn sessions_that_are_refused(rt: HostRuntime) -> Result<(), Fail> {
+    let alloc = rt.alloc();
+    check_open(&rt, alloc, 16_777_217, 0, EditFault::WidthOutOfRange)?;
+    check_open(&rt, alloc, 16_777_217, 80, EditFault::TextTooLong)?;
+    check_open(&rt, alloc, 16_777_216, 80, EditFault::ParagraphTooLong)?;
+    check_open(&rt, alloc, 1_048_577, 80, EditFault::ParagraphTooLong)
 }
 
 // A paragraph of the greatest length in front of a separator takes no more.
