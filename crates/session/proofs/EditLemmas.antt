@@ -46,7 +46,7 @@ take_both : {A : Type 0} (xs : List A) (from to : ℕ) → from ≤ to → take 
 take_both xs from to order = let n : to ≡ from + (to - from) = omega arith in ap (λ m. take m xs) n ∙ take-both from (to - from) xs
 
 -- layouts and the text that they make
-pars-layouts : (rules : Rules) (width : ℕ) (pars : List (List ℕ)) → pars_of (map (layout_of rules width) pars) ≡ pars
+pub pars-layouts : (rules : Rules) (width : ℕ) (pars : List (List ℕ)) → pars_of (map (layout_of rules width) pars) ≡ pars
 pars-layouts rules width [] = refl
 pars-layouts rules width (p ∷ pars) = ap (λ ps. p ∷ ps) (pars-layouts rules width pars)
 

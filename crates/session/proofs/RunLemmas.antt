@@ -1,14 +1,18 @@
 -- Changes one after another: what text and width are after each.
-use Rattle.std.proofs.Common.{◌≡◌, ℕ, ◌+◌, ◌<◌, Bool, true, false, List, [], ◌∷◌, ◌++◌, length, take, get_or, Option, None, Result, Ok, Err, is_none, if◌then◌else◌, refl, sym, ap, ap₂, ◌∙◌}
+use Rattle.std.proofs.Common.{◌≡◌, ℕ, zero, suc, ◌+◌, ◌<◌, ◌≤◌, Bool, true, false, List, [], ◌∷◌, ◌++◌, length, take, drop, get_or, Option, None, Result, Ok, Err, is_none, if◌then◌else◌, refl, sym, ap, ap₂, subst, ◌∙◌, append_assoc, take-append-drop, arith}
 use Rattle.std.specs.Result.{IfOk, IfErr, result_eq}
 use Rattle.std.proofs.lemmas.Bool.{cond-true, cond-false, both_ways}
 use Rattle.std.proofs.lemmas.List.{take_more}
-use Rattle.lines.specs.Engine.{SameRules}
+use Rattle.bidi.specs.Cuts.{paragraphs}
+use Rattle.lines.specs.Engine.{SameRules, LaysOutAtMost, FillsAtMost, RisesBy, analysed_of, filled_of, rules_of}
 use Rattle.lines.specs.Layouts.{cut_by}
 use Rattle.lines.specs.declared.engine.Engine.{Engine}
+use Rattle.session.specs.Runs.{StopsAt, WorksAtMost, analysed_by, edit_refusal, filled_by, work_of, work_of_all}
+use Rattle.session.specs.Touched.{fresh}
+use Rattle.session.proofs.EditLemmas.{pars-layouts}
 use Rattle.session.specs.Changes.{Change, Held, changed, refusal, width_refusal, after_change, after_width, after_one, after_all}
-use Rattle.session.specs.Kept.{text_of}
-use Rattle.session.specs.Sessions.{State, IsWholeLayout, IsAnswerFor, Edits, EditsNot, Refills, RefillsNot, Stays, cuts_at, held_at, text_at}
+use Rattle.session.specs.Kept.{pars_of, text_of}
+use Rattle.session.specs.Sessions.{State, IsWholeLayout, IsAnswerFor, IsCountedFor, Edits, EditsNot, Refills, RefillsNot, Stays, cuts_at, held_at, text_at}
 use Rattle.session.specs.declared.edits.Damage.{Damage}
 use Rattle.session.specs.declared.edits.Edit.{Edit}
 use Rattle.session.specs.declared.edits.EditFault.{EditFault}
@@ -64,27 +68,157 @@ refilled_to width old new (Err fault) m r other = record {
 }
 
 -- one for which there was no memory
-pub stays : (reason : Option EditFault) (bound : Engine → Engine → Type 0) (old new : State) (result : Result Damage EditFault) → IfErr result (Stays reason bound old new) → result ≡ Err NoMemory → HasMoved (held_at old) old new
-stays reason bound old new (Ok damage) r e = absurd (cc e)
-stays reason bound old new (Err fault) r e = record {
+pub record HasStayed (reason : Option EditFault) (old new : State) : Type 0 where
+  pub moved : HasMoved (held_at old) old new
+  pub accepted : reason ≡ None
+
+has_stayed : (reason : Option EditFault) (bound : Engine → Engine → Type 0) (old new : State) (fault : EditFault) → Stays reason bound old new fault → HasMoved (held_at old) old new
+has_stayed reason bound old new fault r = record {
   held = held-by new (text_at old) old.width (ap text_of r.kept) r.at_width;
   laid_out = r.laid_out;
   rules = r.rules;
 }
+
+pub stays : (reason : Option EditFault) (bound : Engine → Engine → Type 0) (old new : State) (result : Result Damage EditFault) → IfErr result (Stays reason bound old new) → result ≡ Err NoMemory → HasStayed reason old new
+stays reason bound old new (Ok damage) r e = absurd (cc e)
+stays reason bound old new (Err OutOfRange) r e = absurd (cc e)
+stays reason bound old new (Err WidthOutOfRange) r e = absurd (cc e)
+stays reason bound old new (Err TextTooLong) r e = absurd (cc e)
+stays reason bound old new (Err ParagraphTooLong) r e = absurd (cc e)
+stays reason bound old new (Err NoMemory) r e = record { moved = has_stayed reason bound old new NoMemory r; accepted = r.answer }
+
+-- how much one change worked: nothing where it was refused
+pub record Works (reason : Option EditFault) (n m : ℕ) (old new : Engine) : Type 0 where
+  pub analysed : RisesBy (if is_none reason then n else 0) (analysed_of old) (analysed_of new)
+  pub filled : RisesBy (if is_none reason then m else 0) (filled_of old) (filled_of new)
+
+RisesBy-same : (n old new : ℕ) → new ≡ old → RisesBy n old new
+RisesBy-same n old new e = record { least = omega (arith, e); most = omega (arith, e) }
+
+RisesBy-accepted : (reason : Option EditFault) (n old new : ℕ) → reason ≡ None → RisesBy n old new → RisesBy (if is_none reason then n else 0) old new
+RisesBy-accepted reason n old new e r = subst (λ k. RisesBy k old new) (sym (cond-true (is_none reason) n 0 (ap is_none e))) r
+
+works-none : (reason : Option EditFault) (n m : ℕ) (old new : Engine) → new ≡ old → Works reason n m old new
+works-none reason n m old new e = record {
+  analysed = RisesBy-same _ (analysed_of old) (analysed_of new) (ap analysed_of e);
+  filled = RisesBy-same _ (filled_of old) (filled_of new) (ap filled_of e);
+}
+
+works-laid_out : (reason : Option EditFault) (n : ℕ) (old new : Engine) → reason ≡ None → LaysOutAtMost n old new → Works reason n n old new
+works-laid_out reason n old new e counts = record {
+  analysed = RisesBy-accepted reason n (analysed_of old) (analysed_of new) e counts.analysed;
+  filled = RisesBy-accepted reason n (filled_of old) (filled_of new) e counts.filled;
+}
+
+works-filled : (reason : Option EditFault) (n : ℕ) (old new : Engine) → reason ≡ None → FillsAtMost n old new → Works reason 0 n old new
+works-filled reason n old new e counts = record {
+  analysed = RisesBy-same _ (analysed_of old) (analysed_of new) counts.analysed;
+  filled = RisesBy-accepted reason n (filled_of old) (filled_of new) e counts.filled;
+}
+
+works-counted : (reason : Option EditFault) (n m : ℕ) (bound : Engine → Engine → Type 0) (old new : Engine) (fault : EditFault)
+    → IsAnswerFor reason fault → IsCountedFor fault bound old new → (reason ≡ None → bound old new → Works reason n m old new) → Works reason n m old new
+works-counted reason n m bound old new OutOfRange a counts by = works-none reason n m old new counts
+works-counted reason n m bound old new WidthOutOfRange a counts by = works-none reason n m old new counts
+works-counted reason n m bound old new TextTooLong a counts by = works-none reason n m old new counts
+works-counted reason n m bound old new ParagraphTooLong a counts by = works-none reason n m old new counts
+works-counted reason n m bound old new NoMemory a counts by = by a counts
+
+pars-kept : (state : State) → IsWholeLayout state → pars_of state.kept ≡ paragraphs (cuts_at state) (text_at state)
+pars-kept state whole = ap pars_of whole.kept ∙ pars-layouts (rules_of state.engine) state.width (paragraphs (cuts_at state) (text_at state))
+
+pub edit_works : (change : Change) (old new : State) (result : Result Damage EditFault) → IsWholeLayout old → IfOk result (Edits change old new) → IfErr result (EditsNot change old new)
+    → Works (refusal (cuts_at old) (text_at old) change) (fresh (paragraphs (cuts_at old) (text_at old)) change) (fresh (paragraphs (cuts_at old) (text_at old)) change) old.engine new.engine
+edit_works change old new (Ok damage) whole m r =
+    let n = fresh (paragraphs (cuts_at old) (text_at old)) change in
+    works-laid_out (refusal (cuts_at old) (text_at old) change) n old.engine new.engine m.accepted
+    (subst (λ ps. LaysOutAtMost (fresh ps change) old.engine new.engine) (pars-kept old whole) m.counts)
+edit_works change old new (Err fault) whole m r =
+    let n = fresh (paragraphs (cuts_at old) (text_at old)) change in
+    let reason = refusal (cuts_at old) (text_at old) change in
+    works-counted reason n n (LaysOutAtMost n) old.engine new.engine fault r.answer
+    (subst (λ ps. IsCountedFor fault (LaysOutAtMost (fresh ps change)) old.engine new.engine) (pars-kept old whole) r.counts)
+    (λ e counts. works-laid_out reason n old.engine new.engine e counts)
+
+pub width_works : (width : ℕ) (old new : State) (result : Result Damage EditFault) → IfOk result (Refills width old new) → IfErr result (RefillsNot width old new)
+    → Works (width_refusal width) 0 (length (text_at old)) old.engine new.engine
+width_works width old new (Ok damage) m r = works-filled (width_refusal width) (length (text_at old)) old.engine new.engine m.accepted m.counts
+width_works width old new (Err fault) m r =
+    let n = length (text_at old) in
+    works-counted (width_refusal width) 0 n (FillsAtMost n) old.engine new.engine fault r.answer r.counts
+    (λ e counts. works-filled (width_refusal width) n old.engine new.engine e counts)
 
 -- where the changes have come from the start, after n of them
 pub record HasRun (start : State) (edits : List Edit) (n : ℕ) (now : State) : Type 0 where
   pub held : held_at now ≡ after_all (cuts_at start) (held_at start) (take n edits)
   pub laid_out : IsWholeLayout now
   pub rules : SameRules start.engine now.engine
+  pub works : WorksAtMost (cuts_at start) (held_at start) (take n edits) start.engine now.engine
 
 after_all-push : (is_cut : ℕ → ℕ → Bool) (held : Held) (edits : List Edit) (edit : Edit) → after_all is_cut held (edits ++ edit ∷ []) ≡ after_one is_cut (after_all is_cut held edits) edit
 after_all-push is_cut held [] edit = refl
 after_all-push is_cut held (first ∷ edits) edit = after_all-push is_cut (after_one is_cut held first) edits edit
 
+-- what a change does is the same where cuts and text are told by the start
+work_of-push : (is_cut : ℕ → ℕ → Bool) (work : Held → Edit → ℕ) (held : Held) (edits : List Edit) (edit : Edit)
+    → work_of_all is_cut work held (edits ++ edit ∷ []) ≡ work_of_all is_cut work held edits + work_of is_cut work (after_all is_cut held edits) edit
+work_of-push is_cut work held [] edit = omega arith
+work_of-push is_cut work held (first ∷ edits) edit = omega (arith, work_of-push is_cut work (after_one is_cut held first) edits edit)
+
+work_of-take : (is_cut : ℕ → ℕ → Bool) (work : Held → Edit → ℕ) (held : Held) (edits : List Edit) (n : ℕ) → work_of_all is_cut work held (take n edits) ≤ work_of_all is_cut work held edits
+work_of-take is_cut work held [] zero = omega arith
+work_of-take is_cut work held [] (suc n) = omega arith
+work_of-take is_cut work held (first ∷ edits) zero = omega arith
+work_of-take is_cut work held (first ∷ edits) (suc n) = omega (arith, work_of-take is_cut work (after_one is_cut held first) edits n)
+
+RisesBy-more : (n m k a b c : ℕ) → RisesBy n a b → RisesBy m b c → k ≡ n + m → RisesBy k a c
+RisesBy-more n m k a b c r s e = record { least = omega (arith, r.least, s.least); most = omega (arith, r.most, s.most, e) }
+
+RisesBy-within : (n m a b : ℕ) → n ≤ m → RisesBy n a b → RisesBy m a b
+RisesBy-within n m a b le r = record { least = r.least; most = omega (arith, r.most, le) }
+
+pub whole_works : (start : State) (edits : List Edit) (n : ℕ) (old new : Engine) → WorksAtMost (cuts_at start) (held_at start) (take n edits) old new → WorksAtMost (cuts_at start) (held_at start) edits old new
+whole_works start edits n old new w = record {
+  analysed = RisesBy-within _ _ _ _ (work_of-take (cuts_at start) (analysed_by (cuts_at start)) (held_at start) edits n) w.analysed;
+  filled = RisesBy-within _ _ _ _ (work_of-take (cuts_at start) (filled_by (cuts_at start)) (held_at start) edits n) w.filled;
+}
+
+pub next_works : (start old new : State) (edits : List Edit) (n : ℕ) (d edit : Edit) → n < length edits → get_or edits n d ≡ edit → HasRun start edits n old
+    → Works (edit_refusal (cuts_at old) (held_at old) edit) (analysed_by (cuts_at old) (held_at old) edit) (filled_by (cuts_at old) (held_at old) edit) old.engine new.engine
+    → WorksAtMost (cuts_at start) (held_at start) (take (n + 1) edits) start.engine new.engine
+next_works start old new edits n d edit within read run works =
+    let front = take n edits in
+    let more : take (n + 1) edits ≡ front ++ edit ∷ [] = take_more edits n d within ∙ ap (λ e. front ++ e ∷ []) read in
+    let sum_is = λ (work : (ℕ → ℕ → Bool) → Held → Edit → ℕ).
+    ap (work_of_all (cuts_at start) (work (cuts_at start)) (held_at start)) more
+    ∙ work_of-push (cuts_at start) (work (cuts_at start)) (held_at start) front edit
+    ∙ ap (λ held. work_of_all (cuts_at start) (work (cuts_at start)) (held_at start) front + work_of (cuts_at start) (work (cuts_at start)) held edit) (sym run.held)
+    ∙ ap (λ r. work_of_all (cuts_at start) (work (cuts_at start)) (held_at start) front + work_of (cut_by r) (work (cut_by r)) (held_at old) edit) (sym run.rules) in
+    record {
+      analysed = RisesBy-more _ _ _ _ _ _ run.works.analysed works.analysed (sum_is analysed_by);
+      filled = RisesBy-more _ _ _ _ _ _ run.works.filled works.filled (sum_is filled_by);
+    }
+
+-- the change at which a run ended
+pub HasRun-stops : (start old new : State) (edits : List Edit) (n : ℕ) (d edit : Edit) → n < length edits → get_or edits n d ≡ edit → HasRun start edits n old
+    → HasStayed (edit_refusal (cuts_at old) (held_at old) edit) old new → StopsAt (cuts_at start) (held_at start) edits (held_at new)
+HasRun-stops start old new edits n d edit within read run stayed =
+    let front = take n edits in
+    let more : take (n + 1) edits ≡ front ++ edit ∷ [] = take_more edits n d within ∙ ap (λ e. front ++ e ∷ []) read in
+    record {
+      front = front;
+      edit = edit;
+      behind = drop (n + 1) edits;
+      place = sym (take-append-drop (n + 1) edits) ∙ ap (λ xs. xs ++ drop (n + 1) edits) more ∙ append_assoc front (edit ∷ []) (drop (n + 1) edits);
+      held = stayed.moved.held ∙ run.held;
+      accepted = ap (λ held. edit_refusal (cuts_at start) held edit) stayed.moved.held ∙ ap (λ r. edit_refusal (cut_by r) (held_at old) edit) (sym run.rules) ∙ stayed.accepted;
+    }
+
 pub HasRun-next : (start old new : State) (edits : List Edit) (n : ℕ) (d edit : Edit) → n < length edits → get_or edits n d ≡ edit → HasRun start edits n old
-    → HasMoved (after_one (cuts_at old) (held_at old) edit) old new → HasRun start edits (n + 1) new
-HasRun-next start old new edits n d edit within read run step =
+    → HasMoved (after_one (cuts_at old) (held_at old) edit) old new
+    → Works (edit_refusal (cuts_at old) (held_at old) edit) (analysed_by (cuts_at old) (held_at old) edit) (filled_by (cuts_at old) (held_at old) edit) old.engine new.engine
+    → HasRun start edits (n + 1) new
+HasRun-next start old new edits n d edit within read run step works =
     let front = take n edits in
     let more : take (n + 1) edits ≡ front ++ edit ∷ [] = take_more edits n d within ∙ ap (λ e. front ++ e ∷ []) read in
     record {
@@ -95,14 +229,16 @@ HasRun-next start old new edits n d edit within read run step =
           ∙ ap (after_all (cuts_at start) (held_at start)) (sym more);
       laid_out = step.laid_out;
       rules = step.rules ∙ run.rules;
+      works = next_works start old new edits n d edit within read run works;
     }
 
-pub HasRun-stays : (start old new : State) (edits : List Edit) (n : ℕ) → HasRun start edits n old → HasMoved (held_at old) old new → HasRun start edits n new
-HasRun-stays start old new edits n run step = record {
-  held = step.held ∙ run.held;
-  laid_out = step.laid_out;
-  rules = step.rules ∙ run.rules;
-}
+-- what is held there is what was held before it
+pub HasRun-held : (start old new : State) (edits : List Edit) (n : ℕ) (reason : Option EditFault) → HasRun start edits n old → HasStayed reason old new
+    → held_at new ≡ after_all (cuts_at start) (held_at start) (take n edits)
+HasRun-held start old new edits n reason run stayed = stayed.moved.held ∙ run.held
+
+pub HasRun-rules : (start old new : State) (edits : List Edit) (n : ℕ) (reason : Option EditFault) → HasRun start edits n old → HasStayed reason old new → SameRules start.engine new.engine
+HasRun-rules start old new edits n reason run stayed = stayed.moved.rules ∙ run.rules
 
 -- what the test for want of memory tells
 module _ (same_damage : Damage → Damage → Bool) (same_fault : EditFault → EditFault → Bool) where

@@ -8,6 +8,7 @@ ghost use Rattle.lines.specs.Engine.{analysed_of, filled_of, SameRules};
 ghost use Rattle.lines.specs.Writing.{PassedOn, StoppedIn};
 ghost use Rattle.session.specs.Changes.{after_all, changing, deletion, insertion};
 ghost use Rattle.session.specs.Kept.{lines_in};
+ghost use Rattle.session.specs.Runs.{StopsAt, WorksAtMost};
 ghost use Rattle.session.specs.Sessions.{cuts_at, held_at, page_at, text_at, IsWholeLayout};
 ghost use Rattle.session.specs.Sessions.{Edits, EditsNot, Opens, OpensNot, Refills, RefillsNot};
 
@@ -223,13 +224,17 @@ impl<S: ParagraphStore<Kept>> Session<S> {
         write_store(&self.store, writer, done, self.width, print)
     }
 
-    /// Makes changes one after another. Those that are refused change nothing. It ends at the first for
-    /// which there is no memory.
+    /// Makes changes one after another. Those that are refused change nothing. It ends at the first that is
+    /// not refused and for which there is no memory. The counts rise by at most what each may raise them.
     pub fn run(&mut self, edits: &[Edit<'_>]) -> Result<(), AllocError>
         ensures ok { OnOk result (held_at self.new
             ≡ after_all (cuts_at self.old) (held_at self.old) edits.now) }
         ensures err { OnErr result ((k : ℕ) × (held_at self.new
             ≡ after_all (cuts_at self.old) (held_at self.old) (take k edits.now))) }
+        ensures stops { OnErr result
+            (StopsAt (cuts_at self.old) (held_at self.old) edits.now (held_at self.new)) }
+        ensures counts { WorksAtMost (cuts_at self.old) (held_at self.old) edits.now
+            self.old.engine self.new.engine }
         ensures laid_out { IsWholeLayout self.new }
         ensures rules { SameRules self.old.engine self.new.engine }
     {

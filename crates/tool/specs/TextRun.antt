@@ -1,5 +1,5 @@
 -- What is written for a text, and how its run ends.
-use Rattle.std.specs.Prelude.{◌≡◌, ℕ, ◌+◌, ◌-◌, ◌==◌, nat_le, Bool, List, ◌++◌, ◌≤◌, length, take, drop, take_while, encode_utf8_all, Option, Some, None, IfSome, ⊤, is_some, is_none, Result, Ok, Err, if◌then◌else◌}
+use Rattle.std.specs.Prelude.{◌≡◌, ◌≢◌, ℕ, ◌+◌, ◌-◌, ◌==◌, nat_le, Bool, List, ◌++◌, ◌≤◌, length, take, drop, take_while, encode_utf8_all, Option, Some, None, IfSome, ⊤, is_some, is_none, Result, Ok, Err, if◌then◌else◌}
 use Rattle.std.specs.List.{concat, list_all}
 use Rattle.std.specs.Str.{chars}
 use Rattle.std.specs.Str.Lossy.{utf8_valid_len, utf8_error_len}
@@ -77,6 +77,10 @@ IsTextRun rules width print reader_old reader_new writer_old writer_new result =
     × (let pars = front_paragraphs rules bytes in
     let wrong = input_fault ending bytes in
     EndsWith (page rules width print) (written_of pars (is_none wrong)) (ending_of pars wrong) writer_old writer_new (fault_of result))
+
+-- a failed read is answered as one: where it isn't the answer, no call of the source failed
+abbrev pub TellsReads : {A : Type 0} → Result A RunFault → Device → Device → Type 0
+TellsReads result old new = result ≢ Err fault.Read → new.failures ≡ old.failures
 
 -- how many bytes a run reads behind the paragraphs that it has written, at most: 1,048,577 characters, and one piece of 65,536 bytes
 abbrev pub read_ahead : ℕ

@@ -14,6 +14,7 @@ ghost use Rattle.tool.specs.Commands.{order_of};
 ghost use Rattle.tool.specs.Reading.{CanFeed, Changed, Ends, EndsIn, FailsAt, FailsIn, Feeds, IsAt};
 ghost use Rattle.tool.specs.Reading.{NoEnd, Obeys, ObeysLine, Steps, Stops, Takes, change_text, lacks_memory};
 ghost use Rattle.tool.specs.ScriptRun.{answer_to, IsScriptRun, LinesReadAhead};
+ghost use Rattle.tool.specs.TextRun.{TellsReads};
 ghost use Rattle.tool.specs.Scripts.{Order, Deletion, Filling, Insertion, Showing};
 ghost use Rattle.tool.specs.Scripts.{order_of_line};
 
@@ -352,6 +353,7 @@ fn step<R: Source, W: Sink, S: ParagraphStore<Kept>>(
         writer_start (W.state writer.old) (held_at session.old) reading.old []
         → Steps (rules_of session.old.engine) print.now start reader_start writer_start
         (R.state reader.new) (W.state writer.new) (held_at session.new) reading.new result }
+    ensures reads { TellsReads result (R.state reader.old) (R.state reader.new) }
     ensures rises { result ≡ Ok true → (R.state reader.old).passed < (R.state reader.new).passed }
     ensures counted { result ≡ Ok true → (R.state reader.new).passed ≤ 2 ^ 64 - 1 }
     ensures room { length piece.new ≡ length piece.old }
@@ -385,6 +387,7 @@ pub fn run_script<R: Source, W: Sink, S: ParagraphStore<Kept> + Drop>(
 ) -> Result<(), RunFault>
     ensures run { IsScriptRun (rules_of session.engine) print.now (held_at session)
         (R.state reader.old) (R.state reader.new) (W.state writer.old) (W.state writer.new) result }
+    ensures reads { TellsReads result (R.state reader.old) (R.state reader.new) }
     ensures ahead { OnErr result (LinesReadAhead (rules_of session.engine) print.now
         (held_at session) (R.state reader.old) (R.state reader.new)
         (W.state writer.old) (W.state writer.new)) }

@@ -10,7 +10,7 @@ ghost use Rattle.lines.specs.Engine.{rules_of, SameRules};
 ghost use Rattle.lines.specs.Layouts.{cut_by};
 ghost use Rattle.tool.specs.Streaming.{Finishes, Gathers, GathersLast, IsRead, IsReadTo};
 ghost use Rattle.tool.specs.Streaming.{Stands, Steps, StopsWriting, Writes};
-ghost use Rattle.tool.specs.TextRun.{IsTextRun, ReadsAhead};
+ghost use Rattle.tool.specs.TextRun.{IsTextRun, ReadsAhead, TellsReads};
 
 use crate::faults::RunFault;
 use crate::page::{Page, push_paragraph};
@@ -264,6 +264,7 @@ fn step<R: Source, W: Sink>(
         (R.state reader.old) (W.state writer.old) held.old
         → Steps (rules_of engine.old) width print.now reader_start writer_start
         (R.state reader.new) (W.state writer.new) held.new result }
+    ensures reads { TellsReads result (R.state reader.old) (R.state reader.new) }
     ensures rises { result ≡ Ok true → (R.state reader.old).passed < (R.state reader.new).passed }
     ensures counted { result ≡ Ok true → (R.state reader.new).passed ≤ 2 ^ 64 - 1 }
     ensures rules { SameRules engine.old engine.new }
@@ -303,6 +304,7 @@ pub fn run_text<R: Source, W: Sink>(
     requires { 0 < width }
     ensures run { IsTextRun (rules_of engine.old) width print.now
         (R.state reader.old) (R.state reader.new) (W.state writer.old) (W.state writer.new) result }
+    ensures reads { TellsReads result (R.state reader.old) (R.state reader.new) }
     ensures ahead { OnErr result (ReadsAhead (rules_of engine.old) width print.now
         (R.state reader.old) (R.state reader.new) (W.state writer.old) (W.state writer.new)) }
     ensures rules { SameRules engine.old engine.new }

@@ -38,3 +38,12 @@ returns-in-Err-clause-ahead g c =
     (g.R.Source.state c.loop-reading.reader) (g.W.Sink.state c.loop-reading.writer) (g.R.Source.state c.step.new.reader) (g.W.Sink.state c.step.new.writer)
     (held_at c.loop-reading.session) (held_at c.step.new.session) c.loop-reading.reading c.step.new.reading c.loop-reading.invariant.kept c.loop-reading.invariant.stands c.step.result
     (c.step.ensures.steps (held_at c.args.session) (g.R.Source.state c.args.reader.now) (g.W.Sink.state c.args.writer.now)) (Err c.in-Err.fault) c.in-Err.is).ahead
+
+-- a step that ends otherwise than by a failed read adds no failure, and those before it added none
+pub returns-in-Ok-false-clause-reads : goal.returns-in-Ok-false-clause-reads
+returns-in-Ok-false-clause-reads g c = λ other.
+    c.step.ensures.reads (λ e. cc (e, c.in-Ok-false.is)) ∙ c.loop-reading.invariant.stands.failures
+
+pub returns-in-Err-clause-reads : goal.returns-in-Err-clause-reads
+returns-in-Err-clause-reads g c = λ other.
+    c.step.ensures.reads (λ e. other (cc (e, c.in-Err.is))) ∙ c.loop-reading.invariant.stands.failures

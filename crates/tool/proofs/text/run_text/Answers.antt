@@ -1,4 +1,4 @@
-use Rattle.std.proofs.Common.{◌∙◌, Bool, true, false, Ok, Err, ap, refl}
+use Rattle.std.proofs.Common.{◌≡◌, ◌∙◌, Bool, true, false, Ok, Err, ap, refl, sym}
 use Rattle.lines.specs.Engine.{rules_of}
 use Rattle.tool.proofs.StepLemmas.{ends_at_once, stands_at_start, stepped_as}
 use Rattle.tool.proofs.text.run_text.Goals as goal
@@ -42,3 +42,12 @@ pub returns-in-Err-clause-ahead : goal.returns-in-Err-clause-ahead
 returns-in-Err-clause-ahead g c =
     (stepped_as (rules_of c.args.engine.now) (rules_of c.loop-held.engine) c.args.width c.args.print.now _ _ _ _ _ _ c.loop-held.held c.step.new.held c.loop-held.invariant.kept c.loop-held.invariant.stands c.step.result
     (c.step.ensures.steps (g.R.Source.state c.args.reader.now) (g.W.Sink.state c.args.writer.now)) (Err c.in-Err.fault) c.in-Err.is).ahead
+
+-- a step that ends otherwise than by a failed read adds no failure, and those before it added none
+pub returns-in-Ok-false-clause-reads : goal.returns-in-Ok-false-clause-reads
+returns-in-Ok-false-clause-reads g c = λ other.
+    c.step.ensures.reads (λ e. cc (e, c.in-Ok-false.is)) ∙ c.loop-held.invariant.stands.is_at.failures
+
+pub returns-in-Err-clause-reads : goal.returns-in-Err-clause-reads
+returns-in-Err-clause-reads g c = λ other.
+    c.step.ensures.reads (λ e. other (cc (e, c.in-Err.is))) ∙ c.loop-held.invariant.stands.is_at.failures

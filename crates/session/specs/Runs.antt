@@ -1,0 +1,51 @@
+-- Where a list of changes ends for want of memory, and how much it works.
+use Rattle.std.specs.Prelude.{◌≡◌, ℕ, ◌+◌, Bool, List, [], ◌∷◌, ◌++◌, length, Option, None, is_none, if◌then◌else◌}
+use Rattle.std.specs.Str.{chars}
+use Rattle.bidi.specs.Cuts.{paragraphs}
+use Rattle.lines.specs.Engine.{analysed_of, filled_of, RisesBy}
+use Rattle.lines.specs.declared.engine.Engine.{Engine}
+use Rattle.session.specs.Changes.{Held, after_all, after_one, deletion, insertion, refusal, width_refusal}
+use Rattle.session.specs.Touched.{fresh}
+use Rattle.session.specs.declared.edits.Edit.{Edit}
+use Rattle.session.specs.declared.edits.Edit.TheVariants.{Insert, Delete, SetWidth}
+use Rattle.session.specs.declared.edits.EditFault.{EditFault}
+
+module _ (is_cut : ℕ → ℕ → Bool) where
+  -- why a change is refused
+  abbrev pub edit_refusal : Held → Edit → Option EditFault
+  edit_refusal held (Insert pos text) = refusal is_cut held.text (insertion pos (chars text.now))
+  edit_refusal held (Delete pos count) = refusal is_cut held.text (deletion pos count)
+  edit_refusal held (SetWidth width) = width_refusal width
+
+  -- all changes in front of one were made or refused, and there is no reason to refuse that one
+  pub record StopsAt (start : Held) (edits : List Edit) (now : Held) : Type 0 where
+    pub front : List Edit
+    pub edit : Edit
+    pub behind : List Edit
+    pub place : edits ≡ front ++ edit ∷ behind
+    pub held : now ≡ after_all is_cut start front
+    pub accepted : edit_refusal now edit ≡ None
+
+  -- how many characters a change that isn't refused analyses at most, and how many it fills
+  abbrev pub analysed_by : Held → Edit → ℕ
+  analysed_by held (Insert pos text) = fresh (paragraphs is_cut held.text) (insertion pos (chars text.now))
+  analysed_by held (Delete pos count) = fresh (paragraphs is_cut held.text) (deletion pos count)
+  analysed_by held (SetWidth width) = 0
+
+  abbrev pub filled_by : Held → Edit → ℕ
+  filled_by held (Insert pos text) = fresh (paragraphs is_cut held.text) (insertion pos (chars text.now))
+  filled_by held (Delete pos count) = fresh (paragraphs is_cut held.text) (deletion pos count)
+  filled_by held (SetWidth width) = length held.text
+
+  -- one that is refused does no work
+  abbrev pub work_of : (Held → Edit → ℕ) → Held → Edit → ℕ
+  work_of work held edit = if is_none (edit_refusal held edit) then work held edit else 0
+
+  -- and all of a list, one after another
+  abbrev pub work_of_all : (Held → Edit → ℕ) → Held → List Edit → ℕ
+  work_of_all work held [] = 0
+  work_of_all work held (edit ∷ edits) = work_of work held edit + work_of_all work (after_one is_cut held edit) edits
+
+  pub record WorksAtMost (start : Held) (edits : List Edit) (old new : Engine) : Type 0 where
+    pub analysed : RisesBy (work_of_all analysed_by start edits) (analysed_of old) (analysed_of new)
+    pub filled : RisesBy (work_of_all filled_by start edits) (filled_of old) (filled_of new)
