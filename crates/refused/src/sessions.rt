@@ -35,11 +35,15 @@ pub fn open<S: ParagraphStore<Kept> + Drop>(alloc: Global) -> Result<Session<S>,
     }
 }
 
-/// Makes each change, and compares what a refused one leaves with what was there.
+/// Makes each change, and compares what a refused one leaves with what was there. The calls that show it take
+/// no memory, so they are made where nothing was refused as well.
 pub fn try_calls<S: ParagraphStore<Kept> + Drop>(alloc: Global) -> Result<(), Wrong> {
     let untouched: Session<S> = open(alloc)?;
     for (edit, lines, most) in CHANGES {
         let mut session: Session<S> = open(alloc)?;
+        if !is_same(&session, &untouched) {
+            return Err("two sessions on one text differ");
+        }
         let before = (session.analysed(), session.filled());
         let damage = match make(&mut session, edit) {
             Err(EditFault::NoMemory) => {
