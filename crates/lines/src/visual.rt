@@ -267,6 +267,7 @@ fn show_line(
     show_part(
         tables,
         &line[..n],
+        &properties[..n],
         &levels[..n],
         is_flat,
         &mut ltov[..n],
@@ -319,12 +320,14 @@ fn show_plain(part: &[char], ltov: &mut [u32], vtol: &mut [u32], chars: &mut [ch
 fn show_part(
     tables: &Tables,
     part: &[char],
+    properties: &[Properties],
     levels: &[u8],
     is_flat: bool,
     ltov: &mut [u32],
     vtol: &mut [u32],
     chars: &mut [char],
 )
+    requires properties { properties.now ≡ map (properties_of tables.now) part.now }
     requires levels { (length levels.now ≡ length part.now) × (length part.now ≤ 1048576) }
     requires flat { is_flat ≡ true → (k : ℕ) → slice_index levels.now k ≡ 0 }
     requires ltov { length ltov.old ≡ length part.now }
@@ -339,7 +342,7 @@ fn show_part(
         show_plain(part, ltov, vtol, chars);
     } else {
         order(levels, vtol, ltov);
-        visual_chars(tables, part, levels, vtol, chars);
+        visual_chars(tables, part, properties, levels, vtol, chars);
     }
 }
 

@@ -1,5 +1,6 @@
 use Rattle.std.proofs.Common.{◌≡◌, length, map, take, ap, subst, sym, ◌∙◌, arith}
-use Rattle.std.proofs.lemmas.List.{length-take-le}
+use Rattle.std.proofs.lemmas.List.{length-take-le, take-map}
+use Rattle.ucd.specs.Properties.{properties_of}
 use Rattle.ucd.specs.Tables.{class_of}
 use Rattle.bidi.specs.Classes.{class_in}
 use Rattle.bidi.specs.Runs.{AreWithin}
@@ -9,6 +10,9 @@ use Rattle.lines.proofs.visual.show_line.Goals as goal
 
 pub show_part-requires-clause-flat : goal.show_part-requires-clause-flat
 show_part-requires-clause-flat c is = zero_take c.reset_line-is_flat.new.levels c.shown_of-shown.result.len (c.reset_line-is_flat.ensures.flat is)
+
+pub show_part-requires-clause-properties : goal.show_part-requires-clause-properties
+show_part-requires-clause-properties c = ap (take c.shown_of-shown.result.len) c.requires.properties ∙ take-map (properties_of c.args.tables.now) c.shown_of-shown.result.len c.args.line.now
 
 pub returns : goal.returns
 returns c =
