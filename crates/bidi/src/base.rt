@@ -7,7 +7,7 @@ ghost use Rattle.bidi.specs.Classes.{class_in, is_initiator, is_pdi, is_strong};
 use ucd::{BidiClass, Properties, Tables};
 
 /// How the base level of a paragraph is found.
-#[derive(Clone, Copy, Debug, PartialEq, Eq)]
+#[derive(Clone, Copy, Debug, Default, PartialEq, Eq)]
 pub enum Base {
     /// Level 1, whatever the text.
     Rtl,
@@ -16,6 +16,7 @@ pub enum Base {
     /// By the first strong character, and level 1 where there is none.
     WeakRtl,
     /// By the first strong character, and level 0 where there is none.
+    #[default]
     WeakLtr,
 }
 

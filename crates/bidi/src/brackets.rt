@@ -86,10 +86,7 @@ fn fill(closers: &mut Vec<usize>, len: usize) -> Result<(), AllocError>
     ensures { OnOk result (closers.new.items ≡ closers_of [] len) }
 {
     closers.clear();
-    for _ in 0..len {
-        closers.push(len)?;
-    }
-    Ok(())
+    closers.resize(len, len)
 }
 
 /// What the pairs of a sequence are found in: its types before N0, and at each place that of its

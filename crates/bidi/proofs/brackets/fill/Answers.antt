@@ -1,7 +1,11 @@
-use Rattle.std.proofs.Common.{◌∙◌, ◌++◌, ◌∷◌, [], sym, ap, arith}
-use Rattle.std.proofs.lemmas.List.FromFn.{map-range_with_len_more}
+use Rattle.std.proofs.Common.{rules, ◌≡◌, replicate, map}
+use Rattle.std.specs.List.{range_with_len}
+use Rattle.std.proofs.lemmas.List.FromFn.{length-range_with_len}
+use Rattle.std.proofs.lemmas.Simd.{splat_is_map}
 use Rattle.bidi.proofs.brackets.fill.Goals as goal
 
-pub loop-preserved : goal.loop-preserved
-loop-preserved c =
-    c.in_ok-push.ensures.items ∙ ap (λ l. l ++ c.args.len ∷ []) c.loop.invariant ∙ sym (map-range_with_len_more (λ i. c.args.len) 0 c.loop.counter c.loop.counter (omega arith))
+pub returns : goal.returns
+returns c =
+    let none : replicate c.args.len c.args.len ≡ map (λ i. c.args.len) (range_with_len 0 c.args.len) =
+    splat_is_map (range_with_len 0 c.args.len) c.args.len c.args.len (length-range_with_len 0 c.args.len) in
+    search rules
