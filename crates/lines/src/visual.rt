@@ -15,6 +15,7 @@ ghost use Rattle.lines.specs.Showing.{end_of, AreShown, IsShown};
 ghost use Rattle.lines.specs.Visual.{lines_from};
 
 use crate::mirror::visual_chars;
+use crate::options::Options;
 use crate::order::{identity, order};
 use crate::places::Place;
 use crate::room::make_room;
@@ -120,6 +121,7 @@ pub(crate) fn show_lines(
     tables: &Tables,
     text: &[char],
     properties: &[Properties],
+    options: Options,
     base: u8,
     levels: &[u8],
     places: &[Place],
@@ -131,7 +133,7 @@ pub(crate) fn show_lines(
     requires starts { AreStarts (length text.now) lists.old.starts.items }
     ensures sound { OnOk result (AreSound lists.new) }
     ensures lines { OnOk result (held_lines lists.new
-        ≡ lines_from tables.now base text.now levels.now places.now lists.old.starts.items) }
+        ≡ lines_from tables.now options base text.now levels.now places.now lists.old.starts.items) }
     ensures within { OnOk result (Layouts.AreWithin (length text.now) (held_lines lists.new)) }
 {
     copy(levels, &mut lists.levels)?;
@@ -143,6 +145,7 @@ pub(crate) fn show_lines(
         tables,
         text,
         properties,
+        options,
         base,
         places,
         &lists.starts,
@@ -185,6 +188,7 @@ fn show_each(
     tables: &Tables,
     text: &[char],
     properties: &[Properties],
+    options: Options,
     base: u8,
     places: &[Place],
     starts: &[u32],
@@ -200,8 +204,8 @@ fn show_each(
     requires ltov { length ltov.old ≡ length text.now }
     requires vtol { length vtol.old ≡ length text.now }
     requires chars { length chars.old ≡ length text.now }
-    ensures lines { OnOk result (AreShown tables.now base text.now levels.old places.now starts.now
-        (length starts.now) shown.new.items levels.new ltov.new vtol.new chars.new) }
+    ensures lines { OnOk result (AreShown tables.now options base text.now levels.old places.now
+        starts.now (length starts.now) shown.new.items levels.new ltov.new vtol.new chars.new) }
     ensures len { OnOk result (length shown.new.items ≡ length starts.now) }
 {
     shown.clear();
@@ -214,6 +218,7 @@ fn show_each(
             tables,
             &text[start..end],
             &properties[start..end],
+            options,
             base,
             &places[start..end],
             &mut levels[start..end],
@@ -245,6 +250,7 @@ fn show_line(
     tables: &Tables,
     line: &[char],
     properties: &[Properties],
+    options: Options,
     base: u8,
     places: &[Place],
     levels: &mut [u8],
@@ -258,7 +264,7 @@ fn show_line(
     requires ltov { length ltov.old ≡ length line.now }
     requires vtol { length vtol.old ≡ length line.now }
     requires chars { length chars.old ≡ length line.now }
-    ensures { IsShown tables.now base line.now levels.old places.now
+    ensures { IsShown tables.now options base line.now levels.old places.now
         result levels.new ltov.new vtol.new chars.new }
 {
     let is_flat = reset_line(properties, base, levels);
