@@ -1,5 +1,5 @@
 //! The lines of a paragraph as they are shown, and one of them, which borrows from its paragraph.
-ghost use Rattle.std.specs.Prelude.{◌≡◌, ◌<◌, ◌≤◌, ℕ, true, length, map, slice_index, OnOk};
+ghost use Rattle.std.specs.Prelude.{◌≡◌, ◌<◌, ◌≤◌, ℕ, true, false, length, map, slice_index, OnOk};
 ghost use Rattle.std.specs.List.{range_with_len};
 ghost use Rattle.ucd.specs.Properties.{properties_of};
 ghost use Rattle.bidi.specs.Classes.{class_in};
@@ -10,7 +10,7 @@ ghost use Rattle.lines.specs.Kept.{AreStarts};
 ghost use Rattle.lines.specs.Layouts;
 ghost use Rattle.lines.specs.Lists.{held_lines, AreSound};
 ghost use Rattle.lines.specs.Mirroring.{visual_chars};
-ghost use Rattle.lines.specs.Order.{ltov_of, vtol_of};
+ghost use Rattle.lines.specs.Order.{is_odd, ltov_of, vtol_of};
 ghost use Rattle.lines.specs.Showing.{end_of, AreShown, IsShown};
 ghost use Rattle.lines.specs.Visual.{lines_from};
 
@@ -306,7 +306,26 @@ fn are_zero(levels: &[u8]) -> bool
     highest == 0
 }
 
-// Writes what belongs to the shown part of a line whose levels are all 0: it is its own order.
+// Whether no level is odd.
+fn are_even(levels: &[u8]) -> bool
+    ensures { result ≡ true → (k : ℕ) → is_odd (slice_index levels.now k) ≡ false }
+{
+    let mut odd = 0;
+    for level in levels {
+        odd = odd.max(*level % 2);
+    }
+    odd == 0
+}
+
+// Whether no level is odd, which needs no look at levels that are all 0.
+fn is_plain(levels: &[u8], is_flat: bool) -> bool
+    requires { is_flat ≡ true → (k : ℕ) → slice_index levels.now k ≡ 0 }
+    ensures { result ≡ true → (k : ℕ) → is_odd (slice_index levels.now k) ≡ false }
+{
+    is_flat || are_even(levels)
+}
+
+// Writes what belongs to the shown part of a line without an odd level: it is its own order.
 fn show_plain(part: &[char], ltov: &mut [u32], vtol: &mut [u32], chars: &mut [char])
     requires part { length part.now ≤ 1048576 }
     requires ltov { length ltov.old ≡ length part.now }
@@ -341,7 +360,7 @@ fn show_part(
     ensures chars { chars.new ≡ visual_chars tables.now levels.now part.now (vtol_of levels.now) }
     ensures within { AreWithin (length levels.now) vtol.new }
 {
-    if is_flat {
+    if is_plain(levels, is_flat) {
         show_plain(part, ltov, vtol, chars);
     } else {
         order(levels, vtol, ltov);
