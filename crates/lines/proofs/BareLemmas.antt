@@ -12,6 +12,7 @@ use Rattle.lines.specs.BarePlaces.{bare_places}
 use Rattle.lines.specs.Filling.{by_break, columns, fits_to, is_break, is_must, line_len, may_end, must_end, nothing, place_at, shown, stop}
 use Rattle.lines.specs.Places.{place, places}
 use Rattle.lines.specs.Visual.{Line, line_between, lines_from}
+use Rattle.lines.specs.declared.options.Options.{Options}
 use Rattle.lines.specs.declared.places.Place.{Place}
 
 -- ---- lists
@@ -173,18 +174,18 @@ with_more old current ends k e within size e_is so_far =
 
 -- ---- lines
 
-module _ (tables : Tables) (base : ℕ) (text levels : List ℕ) where
-  line_bare : (xs : List Place) (s e : ℕ) → line_between tables base text levels (map bare xs) s e ≡ line_between tables base text levels xs s e
+module _ (tables : Tables) (options : Options) (base : ℕ) (text levels : List ℕ) where
+  line_bare : (xs : List Place) (s e : ℕ) → line_between tables options base text levels (map bare xs) s e ≡ line_between tables options base text levels xs s e
   line_bare xs s e =
       let part = slice_range xs s e in
       let amount : length (shown (slice_range (map bare xs) s e)) ≡ length (shown part) = ap (λ ys. length (shown ys)) (range_bare xs s e) ∙ shown_length_bare part in
       let sum : columns (shown (slice_range (map bare xs) s e)) ≡ columns (shown part) = ap (λ ys. columns (shown ys)) (range_bare xs s e) ∙ shown_columns_bare part in
       rw (amount, sum) refl
 
-  lines_bare : (xs : List Place) (starts : List ℕ) → lines_from tables base text levels (map bare xs) starts ≡ lines_from tables base text levels xs starts
+  lines_bare : (xs : List Place) (starts : List ℕ) → lines_from tables options base text levels (map bare xs) starts ≡ lines_from tables options base text levels xs starts
   lines_bare xs [] = refl
   lines_bare xs (s ∷ []) = ap (λ (l : Line). l ∷ []) (line_bare xs s (length text))
   lines_bare xs (s ∷ t ∷ starts) = ap₂ (λ (l : Line) (ls : List Line). l ∷ ls) (line_bare xs s t) (lines_bare xs (t ∷ starts))
 
-  pub same_lines : (xs ys : List Place) (starts : List ℕ) → AreAlike xs ys → lines_from tables base text levels xs starts ≡ lines_from tables base text levels ys starts
-  same_lines xs ys starts alike = sym (lines_bare xs starts) ∙ ap (λ zs. lines_from tables base text levels zs starts) alike ∙ lines_bare ys starts
+  pub same_lines : (xs ys : List Place) (starts : List ℕ) → AreAlike xs ys → lines_from tables options base text levels xs starts ≡ lines_from tables options base text levels ys starts
+  same_lines xs ys starts alike = sym (lines_bare xs starts) ∙ ap (λ zs. lines_from tables options base text levels zs starts) alike ∙ lines_bare ys starts

@@ -6,15 +6,16 @@ use Rattle.lines.specs.Filling.{line_len, line_starts_of, starts}
 use Rattle.lines.specs.Layouts.{Rules, base_of, lines_of}
 use Rattle.lines.specs.Places.{places, places_of}
 use Rattle.lines.specs.Visual.{lines_from}
+use Rattle.lines.specs.declared.options.Options.{Options}
 use Rattle.lines.specs.declared.places.Place.{Place}
 use Rattle.bidi.specs.Levels.{levels_of}
 use Rattle.breaks.specs.Marks.{marks_of}
 use Rattle.lines.specs.Clusters.{cluster_ends}
 
-length-lines_from : (tables : Tables) (base : ℕ) (text levels : List ℕ) (ps : List Place) (ss : List ℕ) → length (lines_from tables base text levels ps ss) ≡ length ss
-length-lines_from tables base text levels ps [] = refl
-length-lines_from tables base text levels ps (s ∷ []) = refl
-length-lines_from tables base text levels ps (s ∷ t ∷ ss) = ap suc (length-lines_from tables base text levels ps (t ∷ ss))
+length-lines_from : (tables : Tables) (options : Options) (base : ℕ) (text levels : List ℕ) (ps : List Place) (ss : List ℕ) → length (lines_from tables options base text levels ps ss) ≡ length ss
+length-lines_from tables options base text levels ps [] = refl
+length-lines_from tables options base text levels ps (s ∷ []) = refl
+length-lines_from tables options base text levels ps (s ∷ t ∷ ss) = ap suc (length-lines_from tables options base text levels ps (t ∷ ss))
 
 few-starts : (nobreak : Bool) (width place left : ℕ) (rest : List Place) → length (starts nobreak width place left rest) ≤ length rest
 few-starts nobreak width place zero [] = omega arith
@@ -39,5 +40,5 @@ few-places_of t text = few-places t text (marks_of t text) (cluster_ends text)
 pub few_lines : (rules : Rules) (width : ℕ) (text : List ℕ) → length (lines_of rules width text) ≤ length text
 few_lines rules width text =
     let ps = places_of rules.tables text in
-    let ss = line_starts_of rules.nobreak width ps in
-    omega (arith, length-lines_from rules.tables (base_of rules text) text (levels_of rules.tables text rules.option) ps ss, few-line_starts rules.nobreak width ps, few-places_of rules.tables text)
+    let ss = line_starts_of rules.options.nobreak width ps in
+    omega (arith, length-lines_from rules.tables rules.options (base_of rules text) text (levels_of rules.tables text rules.options.base) ps ss, few-line_starts rules.options.nobreak width ps, few-places_of rules.tables text)

@@ -18,7 +18,7 @@ least_found p low (suc count) k from to here before =
           ∙ least_found p (suc low) count k (omega arith) (omega arith) here before
     ]
 
-least_none : (p : ℕ → Bool) (low count : ℕ) → ((m : ℕ) → p m ≡ false) → least p low count ≡ None
+pub least_none : (p : ℕ → Bool) (low count : ℕ) → ((m : ℕ) → p m ≡ false) → least p low count ≡ None
 least_none p low zero fails = refl
 least_none p low (suc count) fails =
     cond-false (p low) (Some low) (least p (suc low) count) (fails low) ∙ least_none p (suc low) count fails

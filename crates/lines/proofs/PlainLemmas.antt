@@ -1,6 +1,7 @@
--- A line whose levels are all 0 is its own order.
-use Rattle.std.proofs.Common.{◌≡◌, ℕ, zero, suc, ◌<◌, max, List, [], ◌∷◌, length, map, take, drop, ◌++◌, get_or, None, refl, sym, ap, ◌∙◌, arith}
-use Rattle.std.specs.List.{fold, range_with_len}
+-- A line without an odd level is its own order.
+use Rattle.std.proofs.Common.{◌≡◌, ℕ, zero, suc, ◌<◌, ◌==◌, Bool, true, false, ◌&&◌, ◌||◌, List, [], ◌∷◌, length, map, take, drop, ◌++◌, get_or, None, refl, sym, ap, ◌∙◌, inl, inr, arith}
+use Rattle.std.specs.List.{list_any, range_with_len}
+use Rattle.std.proofs.lemmas.Bool.{and_left, and_right, both_ways, cases_Bool, cond-false, ne_eqb}
 use Rattle.std.proofs.lemmas.List.{ext_get_or, get_or_past}
 use Rattle.std.proofs.lemmas.List.FromFn.{get_or-range_with_len, get_or-map-range_with_len, length-range_with_len, length-map-range_with_len}
 use Rattle.std.proofs.Math.Seq.{take-append_seam}
@@ -8,11 +9,11 @@ use Rattle.ucd.specs.Properties.{properties_of}
 use Rattle.ucd.specs.Tables.{class_of}
 use Rattle.ucd.specs.declared.tables.Tables.{Tables}
 use Rattle.bidi.specs.Classes.{class_in}
-use Rattle.bidi.specs.Least.{least}
 use Rattle.bidi.specs.Runs.{AreWithin}
 use Rattle.lines.specs.Mirroring.{mirrored, visual_chars}
-use Rattle.lines.specs.Order.{has_odd, highest, lowest_odd, ltov_of, places, vtol_of}
+use Rattle.lines.specs.Order.{has_odd, highest, is_odd, lowest_odd, ltov_of, places, vtol_of}
 use Rattle.lines.proofs.InverseLemmas.{inverse_maps}
+use Rattle.lines.proofs.LevelLemmas.{least_none}
 use Rattle.lines.proofs.OrderLemmas.{without_odd}
 
 abbrev pub AreZero : List ℕ → Type 0
@@ -25,34 +26,50 @@ zero_take [] (suc n) zeros k = refl
 zero_take (level ∷ levels) (suc n) zeros zero = zeros 0
 zero_take (level ∷ levels) (suc n) zeros (suc k) = zero_take levels n (λ j. zeros (suc j)) k
 
-highest_of_zeros : (levels : List ℕ) → AreZero levels → highest levels ≡ 0
-highest_of_zeros [] zeros = refl
-highest_of_zeros (level ∷ levels) zeros = ap (λ n. fold max (max 0 n) levels) (zeros 0) ∙ highest_of_zeros levels (λ k. zeros (suc k))
+abbrev pub AreEven : List ℕ → Type 0
+AreEven levels = (k : ℕ) → is_odd (get_or levels k 0) ≡ false
 
-pub plain_vtol : (levels : List ℕ) → AreZero levels → range_with_len 0 (length levels) ≡ vtol_of levels
-plain_vtol levels zeros =
-    let none : lowest_odd levels ≡ None = ap (λ n. least (has_odd levels) 0 (suc n)) (highest_of_zeros levels zeros) in
+pub zeros_even : (levels : List ℕ) → AreZero levels → AreEven levels
+zeros_even levels zeros k = ap is_odd (zeros k)
+
+-- no character has an odd level then
+lacks : (levels : List ℕ) (m : ℕ) → AreEven levels → is_odd m ≡ true → list_any (λ other. other == m) levels ≡ false
+lacks [] m evens odd = refl
+lacks (level ∷ levels) m evens odd =
+    let other : (level == m) ≡ false = ne_eqb level m (λ e. both_ways (is_odd level) (evens 0) (ap is_odd e ∙ odd)) in
+    ap (λ b. b || list_any (λ other. other == m) levels) other ∙ lacks levels m (λ k. evens (suc k)) odd
+
+none_odd : (levels : List ℕ) (m : ℕ) → AreEven levels → has_odd levels m ≡ false
+none_odd levels m evens =
+    elim (cases_Bool (is_odd m)) [
+      | inl odd ↦ ap (λ b. is_odd m && b) (lacks levels m evens odd) ∙ and_right (is_odd m) false refl
+      | inr e ↦ and_left (is_odd m) (list_any (λ other. other == m) levels) e
+    ]
+
+pub plain_vtol : (levels : List ℕ) → AreEven levels → range_with_len 0 (length levels) ≡ vtol_of levels
+plain_vtol levels evens =
+    let none : lowest_odd levels ≡ None = least_none (has_odd levels) 0 (suc (highest levels)) (λ m. none_odd levels m evens) in
     without_odd levels (places levels) refl (sym none)
 
-pub plain_ltov : (levels : List ℕ) → AreZero levels → range_with_len 0 (length levels) ≡ ltov_of levels
+pub plain_ltov : (levels : List ℕ) → AreEven levels → range_with_len 0 (length levels) ≡ ltov_of levels
 unfolding ltov_of
-plain_ltov levels zeros =
+plain_ltov levels evens =
     let n : ℕ = length levels in
     let size : length (ltov_of levels) ≡ n = length-map-range_with_len _ 0 n in
     ext_get_or 0 (range_with_len 0 n) (ltov_of levels) (length-range_with_len 0 n ∙ sym size) (λ k below.
     let lt : k < n = omega (arith, below, length-range_with_len 0 n) in
     let here : get_or (range_with_len 0 n) k 0 ≡ k = get_or-range_with_len 0 n k 0 lt ∙ omega arith in
-    let there : get_or (vtol_of levels) k 0 ≡ k = ap (λ xs. get_or xs k 0) (sym (plain_vtol levels zeros)) ∙ here in
+    let there : get_or (vtol_of levels) k 0 ≡ k = ap (λ xs. get_or xs k 0) (sym (plain_vtol levels evens)) ∙ here in
     here ∙ sym (ap (λ i. get_or (ltov_of levels) i 0) (sym there) ∙ (inverse_maps levels).at_vtol k lt))
 
-pub plain_chars : (t : Tables) (levels part : List ℕ) → length levels ≡ length part → AreZero levels → part ≡ visual_chars t levels part (vtol_of levels)
-plain_chars t levels part sizes zeros =
+pub plain_chars : (t : Tables) (levels part : List ℕ) → length levels ≡ length part → AreEven levels → part ≡ visual_chars t levels part (vtol_of levels)
+plain_chars t levels part sizes evens =
     let n : ℕ = length levels in
     let f : ℕ → ℕ = λ i. mirrored t (get_or levels i 0) (get_or part i 0) in
-    let order : map f (range_with_len 0 n) ≡ visual_chars t levels part (vtol_of levels) = ap (map f) (plain_vtol levels zeros) in
+    let order : map f (range_with_len 0 n) ≡ visual_chars t levels part (vtol_of levels) = ap (map f) (plain_vtol levels evens) in
     ext_get_or 0 part (map f (range_with_len 0 n)) (sym sizes ∙ sym (length-map-range_with_len f 0 n)) (λ k below.
     let lt : k < n = omega (arith, below, sizes) in
-    sym (get_or-map-range_with_len f 0 n k k 0 lt (omega arith) ∙ ap (λ level. mirrored t level (get_or part k 0)) (zeros k)))
+    sym (get_or-map-range_with_len f 0 n k k 0 lt (omega arith) ∙ cond-false (is_odd (get_or levels k 0)) _ (get_or part k 0) (evens k)))
     ∙ order
 
 pub plain_within : (n : ℕ) → AreWithin n (range_with_len 0 n)

@@ -18,6 +18,7 @@ use Rattle.lines.specs.Order.{ltov_of, vtol_of}
 use Rattle.lines.specs.Showing.{end_of, nothing_shown, AreShown, IsPlaced, IsShown}
 use Rattle.lines.specs.Spaces.{line_levels}
 use Rattle.lines.specs.Visual.{Line, line_between, lines_from}
+use Rattle.lines.specs.declared.options.Options.{Options}
 use Rattle.lines.specs.declared.places.Place.{Place}
 use Rattle.lines.specs.declared.visual.Shown.{Shown}
 
@@ -82,9 +83,9 @@ length_range xs s e order within = length-take-le (e - s) (drop s xs) (omega (ar
 -- ---- one line more
 
 -- what is kept while the lines are written: the levels from the next line on are the old ones
-pub record Showing (tables : Tables) (base : ℕ) (text old : List ℕ) (places : List Place) (starts : List ℕ) (k : ℕ) (parts : List Shown)
+pub record Showing (tables : Tables) (options : Options) (base : ℕ) (text old : List ℕ) (places : List Place) (starts : List ℕ) (k : ℕ) (parts : List Shown)
     (levels ltov vtol chars : List ℕ) : Type 0 where
-  pub so_far : AreShown tables base text old places starts k parts levels ltov vtol chars
+  pub so_far : AreShown tables options base text old places starts k parts levels ltov vtol chars
   pub k_within : k ≤ length starts
   pub parts_len : length parts ≡ k
   pub levels_len : length levels ≡ length text
@@ -111,11 +112,11 @@ drop_later a b xs ys order same =
 same_line : (s c c2 : ℕ) (l t v h l2 t2 v2 h2 : List ℕ) → c ≡ c2 → l ≡ l2 → t ≡ t2 → v ≡ v2 → h ≡ h2 → line_of s c l t v h ≡ line_of s c2 l2 t2 v2 h2
 same_line s c c2 l t v h l2 t2 v2 h2 a b d e f = rw (a, b, d, e, f) refl
 
-module _ (tables : Tables) (base : ℕ) (text old : List ℕ) (places : List Place) where
+module _ (tables : Tables) (options : Options) (base : ℕ) (text old : List ℕ) (places : List Place) where
   -- a line that ends where the write begins, or before
-  placed_still : (s e a k : ℕ) (part : Shown) (levels ltov vtol chars l t v h : List ℕ) → IsPlaced tables base text old places s e part levels ltov vtol chars
+  placed_still : (s e a k : ℕ) (part : Shown) (levels ltov vtol chars l t v h : List ℕ) → IsPlaced tables options base text old places s e part levels ltov vtol chars
       → e ≤ a → a ≤ length levels → a ≤ length ltov → a ≤ length vtol → a ≤ length chars
-      → IsPlaced tables base text old places s e part (put_mid a k levels l) (put_mid a k ltov t) (put_mid a k vtol v) (put_mid a k chars h)
+      → IsPlaced tables options base text old places s e part (put_mid a k levels l) (put_mid a k ltov t) (put_mid a k vtol v) (put_mid a k chars h)
   placed_still s e a k part levels ltov vtol chars l t v h is below wl wt wv wh =
       let m : ℕ = s + part.len in
       let before : m ≤ a = omega (arith, is.within, below) in
@@ -129,10 +130,10 @@ module _ (tables : Tables) (base : ℕ) (text old : List ℕ) (places : List Pla
 
   -- the line that is written
   placed_now : (s e : ℕ) (part : Shown) (levels ltov vtol chars l t v h : List ℕ)
-      → IsShown tables base (slice_range text s e) (slice_range levels s e) (slice_range places s e) part l t v h
+      → IsShown tables options base (slice_range text s e) (slice_range levels s e) (slice_range places s e) part l t v h
       → s < e → e ≤ length text → length levels ≡ length text → length ltov ≡ length text → length vtol ≡ length text → length chars ≡ length text
       → length l ≡ e - s → length t ≡ e - s → length v ≡ e - s → length h ≡ e - s → drop s levels ≡ drop s old
-      → IsPlaced tables base text old places s e part (put_mid s (e - s) levels l) (put_mid s (e - s) ltov t) (put_mid s (e - s) vtol v) (put_mid s (e - s) chars h)
+      → IsPlaced tables options base text old places s e part (put_mid s (e - s) levels l) (put_mid s (e - s) ltov t) (put_mid s (e - s) vtol v) (put_mid s (e - s) chars h)
   placed_now s e part levels ltov vtol chars l t v h is some within wl wt wv wh sl st sv sh rest =
       let m : ℕ = e - s in
       let n : ℕ = part.len in
@@ -158,11 +159,11 @@ module _ (tables : Tables) (base : ℕ) (text old : List ℕ) (places : List Pla
   -- and all lines with it
   pub show_more : (starts : List ℕ) (k e : ℕ) (part : Shown) (parts more : List Shown) (levels ltov vtol chars l t v h : List ℕ)
       → AreStarts (length text) starts → k < length starts → e ≡ end_of (length text) starts k
-      → Showing tables base text old places starts k parts levels ltov vtol chars
-      → IsShown tables base (slice_range text (get_or starts k 0) e) (slice_range levels (get_or starts k 0) e) (slice_range places (get_or starts k 0) e) part l t v h
+      → Showing tables options base text old places starts k parts levels ltov vtol chars
+      → IsShown tables options base (slice_range text (get_or starts k 0) e) (slice_range levels (get_or starts k 0) e) (slice_range places (get_or starts k 0) e) part l t v h
       → length l ≡ e - get_or starts k 0 → length t ≡ e - get_or starts k 0 → length v ≡ e - get_or starts k 0 → length h ≡ e - get_or starts k 0
       → more ≡ parts ++ part ∷ []
-      → Showing tables base text old places starts (k + 1) more
+      → Showing tables options base text old places starts (k + 1) more
       (put_mid (get_or starts k 0) (e - get_or starts k 0) levels l) (put_mid (get_or starts k 0) (e - get_or starts k 0) ltov t)
       (put_mid (get_or starts k 0) (e - get_or starts k 0) vtol v) (put_mid (get_or starts k 0) (e - get_or starts k 0) chars h)
   show_more starts k e part parts more levels ltov vtol chars l t v h are below e_is kept_so is sl st sv sh more_is =
@@ -181,17 +182,17 @@ module _ (tables : Tables) (base : ℕ) (text old : List ℕ) (places : List Pla
       sym (ap (λ (ps : List Shown). get_or ps k nothing_shown) more_is
       ∙ ap (λ j. get_or (parts ++ part ∷ []) j nothing_shown) (sym kept_so.parts_len) ∙ get_or-append_seam parts part [] nothing_shown) in
       record {
-        so_far = below_more (λ (j : ℕ). IsPlaced tables base text old places (get_or starts j 0) (end_of n starts j) (get_or more j nothing_shown)
+        so_far = below_more (λ (j : ℕ). IsPlaced tables options base text old places (get_or starts j 0) (end_of n starts j) (get_or more j nothing_shown)
             (put_mid s m levels l) (put_mid s m ltov t) (put_mid s m vtol v) (put_mid s m chars h)) k
             (λ j h2.
             let same : get_or parts j nothing_shown ≡ get_or more j nothing_shown =
             sym (ap (λ (ps : List Shown). get_or ps j nothing_shown) more_is ∙ get_or-append parts (part ∷ []) nothing_shown j (omega (arith, h2, kept_so.parts_len))) in
-            subst (λ (p : Shown). IsPlaced tables base text old places (get_or starts j 0) (end_of n starts j) p
+            subst (λ (p : Shown). IsPlaced tables options base text old places (get_or starts j 0) (end_of n starts j) p
             (put_mid s m levels l) (put_mid s m ltov t) (put_mid s m vtol v) (put_mid s m chars h)) same
             (placed_still _ _ s m _ levels ltov vtol chars l t v h (kept_so.so_far j h2) (ends_before n starts j k are h2 below) wl wt wv wh))
-            (subst (λ (p : Shown). IsPlaced tables base text old places s (end_of n starts k) p
+            (subst (λ (p : Shown). IsPlaced tables options base text old places s (end_of n starts k) p
             (put_mid s m levels l) (put_mid s m ltov t) (put_mid s m vtol v) (put_mid s m chars h)) last
-            (subst (λ (x : ℕ). IsPlaced tables base text old places s x part
+            (subst (λ (x : ℕ). IsPlaced tables options base text old places s x part
             (put_mid s m levels l) (put_mid s m ltov t) (put_mid s m vtol v) (put_mid s m chars h)) e_is now));
         k_within = omega (arith, below);
         parts_len = ap length more_is ∙ length-append parts (part ∷ []) ∙ ap (λ j. j + 1) kept_so.parts_len;
@@ -229,12 +230,12 @@ all_lines P levels ltov vtol chars starts parts h each = λ j d below.
     let within : j < length starts = omega (arith, below, length_lines levels ltov vtol chars starts parts h) in
     subst P (line_at levels ltov vtol chars starts parts j d h within) (each j within)
 
-module _ (tables : Tables) (base : ℕ) (text old : List ℕ) (places : List Place) where
+module _ (tables : Tables) (options : Options) (base : ℕ) (text old : List ℕ) (places : List Place) where
   -- lines that are equal one by one
   lines_are : (levels ltov vtol chars starts : List ℕ) (parts : List Shown) → length parts ≡ length starts
       → ((j : ℕ) → j < length starts → line_in levels ltov vtol chars (get_or starts j 0) (get_or parts j nothing_shown)
-      ≡ line_between tables base text old places (get_or starts j 0) (end_of (length text) starts j))
-      → lines_by levels ltov vtol chars starts parts ≡ lines_from tables base text old places starts
+      ≡ line_between tables options base text old places (get_or starts j 0) (end_of (length text) starts j))
+      → lines_by levels ltov vtol chars starts parts ≡ lines_from tables options base text old places starts
   lines_are levels ltov vtol chars [] parts h each = refl
   lines_are levels ltov vtol chars (s ∷ starts) [] h each = absurd (omega (arith, h))
   lines_are levels ltov vtol chars (s ∷ []) (p ∷ []) h each = ap (λ (line : Line). line ∷ []) (each zero (omega arith))
@@ -243,8 +244,8 @@ module _ (tables : Tables) (base : ℕ) (text old : List ℕ) (places : List Pla
       ap₂ ◌∷◌ (each zero (omega arith)) (lines_are levels ltov vtol chars (t ∷ starts) parts (omega (arith, h)) (λ j below. each (suc j) (omega (arith, below))))
 
   pub all_shown : (levels ltov vtol chars starts : List ℕ) (parts : List Shown) → length parts ≡ length starts
-      → AreShown tables base text old places starts (length starts) parts levels ltov vtol chars
-      → lines_in starts parts levels ltov vtol chars ≡ lines_from tables base text old places starts
+      → AreShown tables options base text old places starts (length starts) parts levels ltov vtol chars
+      → lines_in starts parts levels ltov vtol chars ≡ lines_from tables options base text old places starts
   all_shown levels ltov vtol chars starts parts h each = lines_are levels ltov vtol chars starts parts h (λ j below. (each j below).line_is)
 
   -- the part of a line within the lists has the length of the line
@@ -254,7 +255,7 @@ module _ (tables : Tables) (base : ℕ) (text old : List ℕ) (places : List Pla
 
   pub sound : (levels ltov vtol chars starts : List ℕ) (parts : List Shown) → AreStarts (length text) starts → length parts ≡ length starts
       → length levels ≡ length text → length ltov ≡ length text → length vtol ≡ length text → length chars ≡ length text
-      → AreShown tables base text old places starts (length starts) parts levels ltov vtol chars
+      → AreShown tables options base text old places starts (length starts) parts levels ltov vtol chars
       → IsSound starts parts levels ltov vtol chars
   sound levels ltov vtol chars starts parts are h wl wt wv wh each = record {
     all_shown = h;
@@ -274,7 +275,7 @@ module _ (tables : Tables) (base : ℕ) (text old : List ℕ) (places : List Pla
 
   pub all_within : (levels ltov vtol chars starts : List ℕ) (parts : List Shown) → AreStarts (length text) starts → length parts ≡ length starts
       → length levels ≡ length text
-      → AreShown tables base text old places starts (length starts) parts levels ltov vtol chars
+      → AreShown tables options base text old places starts (length starts) parts levels ltov vtol chars
       → LinesAreWithin (length text) (lines_in starts parts levels ltov vtol chars)
   all_within levels ltov vtol chars starts parts are h wl each =
       all_lines (λ line. line.start + length line.levels ≤ length text) levels ltov vtol chars starts parts h

@@ -15,6 +15,7 @@ use Rattle.lines.specs.Pages.{lines_bytes, paragraph_bytes}
 use Rattle.lines.specs.Places.{places, places_of}
 use Rattle.lines.specs.Printing.{skips_lines}
 use Rattle.lines.specs.Visual.{Line, Visual, lines_from, visual_of}
+use Rattle.lines.specs.declared.options.Options.{Options}
 use Rattle.lines.specs.declared.places.Place.{Place}
 use Rattle.lines.specs.declared.print.Print.{Print}
 use Rattle.lines.proofs.ClusterLemmas.{length-cluster_ends}
@@ -81,10 +82,10 @@ unfolding line_starts_of
 some_starts nobreak width [] some = some
 some_starts nobreak width (p ∷ ps) some = omega arith
 
-some_from : (tables : Tables) (base : ℕ) (text levels : List ℕ) (ps : List Place) (starts : List ℕ) → 0 < length starts → 0 < length (lines_from tables base text levels ps starts)
-some_from tables base text levels ps [] some = some
-some_from tables base text levels ps (s ∷ []) some = omega arith
-some_from tables base text levels ps (s ∷ t ∷ starts) some = omega arith
+some_from : (tables : Tables) (options : Options) (base : ℕ) (text levels : List ℕ) (ps : List Place) (starts : List ℕ) → 0 < length starts → 0 < length (lines_from tables options base text levels ps starts)
+some_from tables options base text levels ps [] some = some
+some_from tables options base text levels ps (s ∷ []) some = omega arith
+some_from tables options base text levels ps (s ∷ t ∷ starts) some = omega arith
 
 some_text : (rules : Rules) (text : List ℕ) → IsParagraph rules text → 0 < length text
 some_text rules [] paragraph = let bad = paragraph.whole in cc
@@ -96,8 +97,8 @@ some_lines rules width text paragraph marks =
     let ps : List Place = places_of rules.tables text in
     let size = length-places rules.tables text (marks_of rules.tables text) (cluster_ends text) marks (length-cluster_ends text) in
     let some : 0 < length ps = omega (arith, size, some_text rules text paragraph) in
-    some_from rules.tables (base_of rules text) text (levels_of rules.tables text rules.option) ps (line_starts_of rules.nobreak width ps)
-    (some_starts rules.nobreak width ps some)
+    some_from rules.tables rules.options (base_of rules text) text (levels_of rules.tables text rules.options.base) ps (line_starts_of rules.options.nobreak width ps)
+    (some_starts rules.options.nobreak width ps some)
 
 pub direction_only : (rules : Rules) (width : ℕ) (print : Print) (text : List ℕ) → skips_lines print ≡ true → IsParagraph rules text
     → length (marks_of rules.tables text) ≡ length text

@@ -14,6 +14,7 @@ use Rattle.lines.specs.Layouts.{AreWithin, Rules, base_of, lines_of}
 use Rattle.lines.specs.Places.{places, places_of}
 use Rattle.lines.specs.Spaces.{line_levels}
 use Rattle.lines.specs.Visual.{Line, line_between, lines_from}
+use Rattle.lines.specs.declared.options.Options.{Options}
 use Rattle.lines.specs.declared.places.Place.{Place}
 use Rattle.bidi.specs.Levels.{levels_of}
 
@@ -54,8 +55,8 @@ length-take-most : {X : Type 0} (n : ℕ) (xs : List X) → length (take n xs) �
 length-take-most n xs = omega (arith, length-take n xs)
 
 -- what is shown between two places is no longer than what stands there
-levels_most : (tables : Tables) (base : ℕ) (text levels : List ℕ) (ps : List Place) (s e : ℕ) → length (line_between tables base text levels ps s e).levels ≤ e - s
-levels_most tables base text levels ps s e =
+levels_most : (tables : Tables) (options : Options) (base : ℕ) (text levels : List ℕ) (ps : List Place) (s e : ℕ) → length (line_between tables options base text levels ps s e).levels ≤ e - s
+levels_most tables options base text levels ps s e =
     let span : List Place = slice_range ps s e in
     omega (
       arith,
@@ -64,21 +65,21 @@ levels_most tables base text levels ps s e =
       length-take-most (e - s) (drop s ps),
     )
 
-from_within : (tables : Tables) (base : ℕ) (text levels : List ℕ) (ps : List Place) (low n : ℕ) (at : List ℕ) → n ≡ length text → Rise low n at
-    → AreWithin n (lines_from tables base text levels ps at)
-from_within tables base text levels ps low n [] e rise = All-nil (λ (line : Line). line.start + length line.levels ≤ n)
-from_within tables base text levels ps low n (s ∷ []) e rise =
-    All-cons (λ (line : Line). line.start + length line.levels ≤ n) (line_between tables base text levels ps s (length text)) []
-    (omega (arith, levels_most tables base text levels ps s (length text), rise.1, e)) (All-nil (λ (line : Line). line.start + length line.levels ≤ n))
-from_within tables base text levels ps low n (s ∷ t ∷ at) e rise =
-    All-cons (λ (line : Line). line.start + length line.levels ≤ n) (line_between tables base text levels ps s t) (lines_from tables base text levels ps (t ∷ at))
-    (omega (arith, levels_most tables base text levels ps s t, rise.2.0, rise.2.1)) (from_within tables base text levels ps (suc s) n (t ∷ at) e rise.2)
+from_within : (tables : Tables) (options : Options) (base : ℕ) (text levels : List ℕ) (ps : List Place) (low n : ℕ) (at : List ℕ) → n ≡ length text → Rise low n at
+    → AreWithin n (lines_from tables options base text levels ps at)
+from_within tables options base text levels ps low n [] e rise = All-nil (λ (line : Line). line.start + length line.levels ≤ n)
+from_within tables options base text levels ps low n (s ∷ []) e rise =
+    All-cons (λ (line : Line). line.start + length line.levels ≤ n) (line_between tables options base text levels ps s (length text)) []
+    (omega (arith, levels_most tables options base text levels ps s (length text), rise.1, e)) (All-nil (λ (line : Line). line.start + length line.levels ≤ n))
+from_within tables options base text levels ps low n (s ∷ t ∷ at) e rise =
+    All-cons (λ (line : Line). line.start + length line.levels ≤ n) (line_between tables options base text levels ps s t) (lines_from tables options base text levels ps (t ∷ at))
+    (omega (arith, levels_most tables options base text levels ps s t, rise.2.0, rise.2.1)) (from_within tables options base text levels ps (suc s) n (t ∷ at) e rise.2)
 
 -- the lines of a paragraph stand in it
 pub lines_within : (rules : Rules) (width : ℕ) (text : List ℕ) → AreWithin (length text) (lines_of rules width text)
 unfolding line_starts_of places_of
 lines_within rules width text =
     let ps : List Place = places_of rules.tables text in
-    from_within rules.tables (base_of rules text) text (levels_of rules.tables text rules.option) ps 0 (length text) (line_starts_of rules.nobreak width ps) refl
-    (rise_to 0 (length ps) (length text) (line_starts_of rules.nobreak width ps) (length-places rules.tables text (marks_of rules.tables text) (cluster_ends text))
-    (starts_rise rules.nobreak width 0 0 (length ps) ps (omega arith)))
+    from_within rules.tables rules.options (base_of rules text) text (levels_of rules.tables text rules.options.base) ps 0 (length text) (line_starts_of rules.options.nobreak width ps) refl
+    (rise_to 0 (length ps) (length text) (line_starts_of rules.options.nobreak width ps) (length-places rules.tables text (marks_of rules.tables text) (cluster_ends text))
+    (starts_rise rules.options.nobreak width 0 0 (length ps) ps (omega arith)))

@@ -2,7 +2,6 @@
 use Rattle.std.specs.Prelude.{◌≡◌, ℕ, ◌+◌, ◌≤◌, Bool, List, [], ◌∷◌, length, map, All}
 use Rattle.ucd.specs.Tables.{class_of}
 use Rattle.ucd.specs.declared.tables.Tables.{Tables}
-use Rattle.bidi.specs.declared.base.Base.{Base}
 use Rattle.bidi.specs.Base.{base_level_of}
 use Rattle.bidi.specs.Cuts.{cut, paragraphs}
 use Rattle.bidi.specs.Levels.{levels_of}
@@ -11,12 +10,12 @@ use Rattle.breaks.specs.declared.mark.Mark.{Mark}
 use Rattle.lines.specs.Filling.{line_starts_of}
 use Rattle.lines.specs.Places.{places_of}
 use Rattle.lines.specs.Visual.{Line, lines_from}
+use Rattle.lines.specs.declared.options.Options.{Options}
 
--- what a layout goes by: the tables, the option on the base level, and whether lines end at mandatory breaks only
+-- what a layout goes by
 pub record Rules : Type 0 where
   pub tables : Tables
-  pub option : Base
-  pub nobreak : Bool
+  pub options : Options
 
 -- a paragraph: its characters, its base level, the level and the mark of each character, and its lines
 pub record Layout : Type 0 where
@@ -27,19 +26,19 @@ pub record Layout : Type 0 where
   pub lines : List Line
 
 abbrev pub base_of : Rules → List ℕ → ℕ
-base_of rules text = base_level_of (map (class_of rules.tables) text) rules.option
+base_of rules text = base_level_of (map (class_of rules.tables) text) rules.options.base
 
 abbrev pub lines_of : Rules → ℕ → List ℕ → List Line
 lines_of rules width text =
     let places = places_of rules.tables text in
-    lines_from rules.tables (base_of rules text) text (levels_of rules.tables text rules.option) places (line_starts_of rules.nobreak width places)
+    lines_from rules.tables rules.options (base_of rules text) text (levels_of rules.tables text rules.options.base) places (line_starts_of rules.options.nobreak width places)
 
 -- the layout of a paragraph from scratch
 abbrev pub layout_of : Rules → ℕ → List ℕ → Layout
 layout_of rules width text = record {
   text = text;
   base = base_of rules text;
-  levels = levels_of rules.tables text rules.option;
+  levels = levels_of rules.tables text rules.options.base;
   marks = marks_of rules.tables text;
   lines = lines_of rules width text;
 }

@@ -9,6 +9,7 @@ use Rattle.lines.specs.Mirroring.{visual_chars}
 use Rattle.lines.specs.Order.{ltov_of, vtol_of}
 use Rattle.lines.specs.Spaces.{line_levels}
 use Rattle.lines.specs.Visual.{line_between}
+use Rattle.lines.specs.declared.options.Options.{Options}
 use Rattle.lines.specs.declared.places.Place.{Place}
 use Rattle.lines.specs.declared.visual.Shown.{Shown}
 
@@ -20,7 +21,7 @@ end_of n (s ∷ t ∷ starts) zero = t
 end_of n (s ∷ t ∷ starts) (suc k) = end_of n (t ∷ starts) k
 
 -- what is written of one line, of which `part` is shown
-pub record IsShown (tables : Tables) (base : ℕ) (line old : List ℕ) (places : List Place) (part : Shown) (levels ltov vtol chars : List ℕ) : Type 0 where
+pub record IsShown (tables : Tables) (options : Options) (base : ℕ) (line old : List ℕ) (places : List Place) (part : Shown) (levels ltov vtol chars : List ℕ) : Type 0 where
   pub len_is : part.len ≡ length (shown places)
   pub columns_are : part.columns ≡ columns (shown places)
   pub within : part.len ≤ length line
@@ -34,13 +35,13 @@ abbrev pub nothing_shown : Shown
 nothing_shown = record { len = 0; columns = 0 }
 
 -- the shown part of the line from s up to e stands in the lists
-pub record IsPlaced (tables : Tables) (base : ℕ) (text old : List ℕ) (places : List Place) (s e : ℕ) (part : Shown) (levels ltov vtol chars : List ℕ) : Type 0 where
-  pub line_is : line_in levels ltov vtol chars s part ≡ line_between tables base text old places s e
+pub record IsPlaced (tables : Tables) (options : Options) (base : ℕ) (text old : List ℕ) (places : List Place) (s e : ℕ) (part : Shown) (levels ltov vtol chars : List ℕ) : Type 0 where
+  pub line_is : line_in levels ltov vtol chars s part ≡ line_between tables options base text old places s e
   pub within : s + part.len ≤ e
   pub vtol_within : AreWithin part.len (slice_range vtol s (s + part.len))
 
 -- so do those of the first k lines
-abbrev pub AreShown : Tables → ℕ → List ℕ → List ℕ → List Place → List ℕ → ℕ → List Shown → List ℕ → List ℕ → List ℕ → List ℕ → Type 0
-AreShown tables base text old places starts k parts levels ltov vtol chars =
+abbrev pub AreShown : Tables → Options → ℕ → List ℕ → List ℕ → List Place → List ℕ → ℕ → List Shown → List ℕ → List ℕ → List ℕ → List ℕ → Type 0
+AreShown tables options base text old places starts k parts levels ltov vtol chars =
     (j : ℕ) → j < k
-    → IsPlaced tables base text old places (slice_index starts j) (end_of (length text) starts j) (slice_index_or parts j nothing_shown) levels ltov vtol chars
+    → IsPlaced tables options base text old places (slice_index starts j) (end_of (length text) starts j) (slice_index_or parts j nothing_shown) levels ltov vtol chars

@@ -6,6 +6,7 @@ use Rattle.lines.specs.Filling.{columns, shown}
 use Rattle.lines.specs.Mirroring.{visual_chars}
 use Rattle.lines.specs.Order.{ltov_of, vtol_of}
 use Rattle.lines.specs.Spaces.{line_levels}
+use Rattle.lines.specs.declared.options.Options.{Options}
 use Rattle.lines.specs.declared.places.Place.{Place}
 
 -- A line of a paragraph, by the character that it starts at. All else is of its shown part, whose positions count from its start: the
@@ -20,7 +21,7 @@ pub record Line : Type 0 where
   pub chars : List ℕ
 
 -- a paragraph of which all is known but its lines
-module _ (tables : Tables) (base : ℕ) (text levels : List ℕ) (places : List Place) where
+module _ (tables : Tables) (options : Options) (base : ℕ) (text levels : List ℕ) (places : List Place) where
   -- L1 is applied to the whole line from s up to e, L2 and L4 to its shown part
   abbrev pub line_between : ℕ → ℕ → Line
   line_between s e =

@@ -12,10 +12,11 @@ ghost use Rattle.lines.specs.Printing.{FailedAs, skips_lines};
 
 use crate::bytes::write_base;
 use crate::laid::Laid;
+use crate::options::Options;
 use crate::print::{Print, PrintFault};
 use crate::visual::{Fill, Lists};
 use crate::work::{Kept, Parts, Work};
-use bidi::{Base, base_level, first_cut, is_cut};
+use bidi::{base_level, first_cut, is_cut};
 use breaks::{Mark, marks_are_as_many};
 use device::Sink;
 use std::alloc::{AllocError, Global};
@@ -29,8 +30,7 @@ pub const PARAGRAPH_LIMIT: usize = 1_048_576;
 #[derive(Debug, Drop)]
 pub struct Engine {
     tables: Tables,
-    base: Base,
-    nobreak: bool,
+    options: Options,
     analysed: u64,
     filled: u64,
     // Made for the first paragraph, and kept for the next ones.
@@ -45,7 +45,7 @@ impl Model for Engine {
     ghost Value = { State };
 
     ghost view = { λ e. record {
-      rules = record { tables = e.tables; option = e.base; nobreak = e.nobreak };
+      rules = record { tables = e.tables; options = e.options };
       analysed = e.analysed;
       filled = e.filled;
     } };
@@ -60,16 +60,15 @@ impl Engine {
     ghost use Rattle.lines.specs.Engine.{rules_of, analysed_of, filled_of, SameRules};
     ghost use Rattle.lines.specs.Engine.{Fills, FillsAtMost, LaysOut, LaysOutAtMost, Prints};
 
-    /// An engine that has not worked yet. With `nobreak`, lines end at mandatory breaks only.
-    pub fn new(tables: Tables, base: Base, nobreak: bool) -> Engine
-        ensures rules { rules_of result ≡ record { tables = tables; option = base; nobreak = nobreak } }
+    /// An engine that has not worked yet.
+    pub fn new(tables: Tables, options: Options) -> Engine
+        ensures rules { rules_of result ≡ record { tables = tables; options = options } }
         ensures analysed { analysed_of result ≡ 0 }
         ensures filled { filled_of result ≡ 0 }
     {
         Engine {
             tables,
-            base,
-            nobreak,
+            options,
             analysed: 0,
             filled: 0,
             work: None,
@@ -205,8 +204,7 @@ impl Engine {
     {
         let work = self.work.get_or_insert_with(|| Work::new(alloc));
         let kept = self.kept.get_or_insert_with(|| Kept::new(alloc));
-        let (base, nobreak) = (self.base, self.nobreak);
-        let Ok(base) = work.lay_out(alloc, &self.tables, base, nobreak, text, width, kept) else {
+        let Ok(base) = work.lay_out(alloc, &self.tables, self.options, text, width, kept) else {
             return Err(PrintFault::Memory);
         };
         write_lists(alloc, &mut kept.lines, text, base, writer, width, print)
@@ -227,7 +225,7 @@ impl Engine {
             (W.state writer.old) (W.state writer.new)) }
         ensures memory { ¬ (IsErrOf result PrintFault.Memory) }
     {
-        let base = base_level(&self.tables, text, self.base);
+        let base = base_level(&self.tables, text, self.options.base);
         match write_base(writer, 0, print.basedir, base) {
             Ok(_) => Ok(()),
             Err(fault) => Err(PrintFault::Write(fault)),
@@ -251,8 +249,7 @@ impl Engine {
     {
         let work = self.work.get_or_insert_with(|| Work::new(alloc));
         let mut kept = Kept::new(alloc);
-        let (base, nobreak) = (self.base, self.nobreak);
-        let base = work.lay_out(alloc, &self.tables, base, nobreak, text, width, &mut kept)?;
+        let base = work.lay_out(alloc, &self.tables, self.options, text, width, &mut kept)?;
         Ok(Parts {
             base,
             levels: kept.levels,
@@ -273,7 +270,7 @@ impl Engine {
     ) -> Result<Fill, AllocError>
         requires base { base ≡ base_of (rules_of self.old) text.now }
         requires levels { levels.now
-            ≡ levels_of (rules_of self.old).tables text.now (rules_of self.old).option }
+            ≡ levels_of (rules_of self.old).tables text.now (rules_of self.old).options.base }
         requires len { length levels.now ≡ length text.now }
         requires marks { marks.now ≡ marks_of (rules_of self.old).tables text.now }
         requires within { length text.now ≤ 1048576 }
@@ -285,8 +282,7 @@ impl Engine {
         work.fill(
             alloc,
             &self.tables,
-            self.base,
-            self.nobreak,
+            self.options,
             text,
             base,
             levels,

@@ -6,7 +6,7 @@ ghost use Rattle.lines.specs.Layouts.{AreLinesOf, IsLaidOut};
 mod printed;
 mod written;
 
-use crate::{Engine, Fill, Laid, PARAGRAPH_LIMIT, VisualLine};
+use crate::{Engine, Fill, Laid, Options, PARAGRAPH_LIMIT, VisualLine};
 use bidi::Base;
 use breaks::Mark;
 use std::alloc::Global;
@@ -29,7 +29,12 @@ fn engine(alloc: Global, nobreak: bool) -> Result<Engine, Fail> {
         Err(fault) if fault.cause == Cause::Memory => Tables::read(alloc, &FILES)?,
         tables => tables?,
     };
-    Ok(Engine::new(tables, Base::WeakLtr, nobreak))
+    let options = Options {
+        base: Base::WeakLtr,
+        nobreak,
+        reordernsm: false,
+    };
+    Ok(Engine::new(tables, options))
 }
 
 // The layout of a text that is one paragraph, at a width that is not 0.

@@ -1,5 +1,5 @@
 //! The lines of a paragraph as they are shown, and one of them, which borrows from its paragraph.
-ghost use Rattle.std.specs.Prelude.{◌≡◌, ◌<◌, ◌≤◌, ℕ, true, length, map, slice_index, OnOk};
+ghost use Rattle.std.specs.Prelude.{◌≡◌, ◌<◌, ◌≤◌, ℕ, true, false, length, map, slice_index, OnOk};
 ghost use Rattle.std.specs.List.{range_with_len};
 ghost use Rattle.ucd.specs.Properties.{properties_of};
 ghost use Rattle.bidi.specs.Classes.{class_in};
@@ -10,11 +10,12 @@ ghost use Rattle.lines.specs.Kept.{AreStarts};
 ghost use Rattle.lines.specs.Layouts;
 ghost use Rattle.lines.specs.Lists.{held_lines, AreSound};
 ghost use Rattle.lines.specs.Mirroring.{visual_chars};
-ghost use Rattle.lines.specs.Order.{ltov_of, vtol_of};
+ghost use Rattle.lines.specs.Order.{is_odd, ltov_of, vtol_of};
 ghost use Rattle.lines.specs.Showing.{end_of, AreShown, IsShown};
 ghost use Rattle.lines.specs.Visual.{lines_from};
 
 use crate::mirror::visual_chars;
+use crate::options::Options;
 use crate::order::{identity, order};
 use crate::places::Place;
 use crate::room::make_room;
@@ -120,6 +121,7 @@ pub(crate) fn show_lines(
     tables: &Tables,
     text: &[char],
     properties: &[Properties],
+    options: Options,
     base: u8,
     levels: &[u8],
     places: &[Place],
@@ -131,7 +133,7 @@ pub(crate) fn show_lines(
     requires starts { AreStarts (length text.now) lists.old.starts.items }
     ensures sound { OnOk result (AreSound lists.new) }
     ensures lines { OnOk result (held_lines lists.new
-        ≡ lines_from tables.now base text.now levels.now places.now lists.old.starts.items) }
+        ≡ lines_from tables.now options base text.now levels.now places.now lists.old.starts.items) }
     ensures within { OnOk result (Layouts.AreWithin (length text.now) (held_lines lists.new)) }
 {
     copy(levels, &mut lists.levels)?;
@@ -143,6 +145,7 @@ pub(crate) fn show_lines(
         tables,
         text,
         properties,
+        options,
         base,
         places,
         &lists.starts,
@@ -185,6 +188,7 @@ fn show_each(
     tables: &Tables,
     text: &[char],
     properties: &[Properties],
+    options: Options,
     base: u8,
     places: &[Place],
     starts: &[u32],
@@ -200,8 +204,8 @@ fn show_each(
     requires ltov { length ltov.old ≡ length text.now }
     requires vtol { length vtol.old ≡ length text.now }
     requires chars { length chars.old ≡ length text.now }
-    ensures lines { OnOk result (AreShown tables.now base text.now levels.old places.now starts.now
-        (length starts.now) shown.new.items levels.new ltov.new vtol.new chars.new) }
+    ensures lines { OnOk result (AreShown tables.now options base text.now levels.old places.now
+        starts.now (length starts.now) shown.new.items levels.new ltov.new vtol.new chars.new) }
     ensures len { OnOk result (length shown.new.items ≡ length starts.now) }
 {
     shown.clear();
@@ -214,6 +218,7 @@ fn show_each(
             tables,
             &text[start..end],
             &properties[start..end],
+            options,
             base,
             &places[start..end],
             &mut levels[start..end],
@@ -245,6 +250,7 @@ fn show_line(
     tables: &Tables,
     line: &[char],
     properties: &[Properties],
+    options: Options,
     base: u8,
     places: &[Place],
     levels: &mut [u8],
@@ -258,7 +264,7 @@ fn show_line(
     requires ltov { length ltov.old ≡ length line.now }
     requires vtol { length vtol.old ≡ length line.now }
     requires chars { length chars.old ≡ length line.now }
-    ensures { IsShown tables.now base line.now levels.old places.now
+    ensures { IsShown tables.now options base line.now levels.old places.now
         result levels.new ltov.new vtol.new chars.new }
 {
     let is_flat = reset_line(properties, base, levels);
@@ -301,7 +307,26 @@ fn are_zero(levels: &[u8]) -> bool
     highest == 0
 }
 
-// Writes what belongs to the shown part of a line whose levels are all 0: it is its own order.
+// Whether no level is odd.
+fn are_even(levels: &[u8]) -> bool
+    ensures { result ≡ true → (k : ℕ) → is_odd (slice_index levels.now k) ≡ false }
+{
+    let mut odd = 0;
+    for level in levels {
+        odd = odd.max(*level % 2);
+    }
+    odd == 0
+}
+
+// Whether no level is odd, which needs no look at levels that are all 0.
+fn is_plain(levels: &[u8], is_flat: bool) -> bool
+    requires { is_flat ≡ true → (k : ℕ) → slice_index levels.now k ≡ 0 }
+    ensures { result ≡ true → (k : ℕ) → is_odd (slice_index levels.now k) ≡ false }
+{
+    is_flat || are_even(levels)
+}
+
+// Writes what belongs to the shown part of a line without an odd level: it is its own order.
 fn show_plain(part: &[char], ltov: &mut [u32], vtol: &mut [u32], chars: &mut [char])
     requires part { length part.now ≤ 1048576 }
     requires ltov { length ltov.old ≡ length part.now }
@@ -338,7 +363,7 @@ fn show_part(
     ensures chars { chars.new ≡ visual_chars tables.now levels.now part.now (vtol_of levels.now) }
     ensures within { AreWithin (length levels.now) vtol.new }
 {
-    if is_flat {
+    if is_plain(levels, is_flat) {
         show_plain(part, ltov, vtol, chars);
     } else {
         order(levels, vtol, ltov);

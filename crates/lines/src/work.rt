@@ -12,10 +12,11 @@ ghost use Rattle.lines.specs.Places.{places_of};
 ghost use Rattle.lines.specs.Visual.{lines_from};
 
 use crate::filling::line_starts;
+use crate::options::Options;
 use crate::places::{Place, take_places};
 use crate::room::make_room;
 use crate::visual::{Fill, Lists, show_lines};
-use bidi::{Base, Resolver};
+use bidi::Resolver;
 use breaks::{Mark, marks_into};
 use std::alloc::{AllocError, Global};
 use ucd::{Properties, Tables};
@@ -79,21 +80,20 @@ impl Work {
         &mut self,
         alloc: Global,
         tables: &Tables,
-        option: Base,
-        nobreak: bool,
+        options: Options,
         text: &[char],
         width: u16,
         kept: &mut Kept,
     ) -> Result<u8, AllocError>
         requires { length text.now ≤ 1048576 }
         ensures base { IfOk result (λ base. base ≡ (layout_of
-            (record { tables = tables.now; option = option; nobreak = nobreak }) width text.now).base) }
+            (record { tables = tables.now; options = options }) width text.now).base) }
         ensures levels { OnOk result (kept.new.levels.items ≡ (layout_of
-            (record { tables = tables.now; option = option; nobreak = nobreak }) width text.now).levels) }
+            (record { tables = tables.now; options = options }) width text.now).levels) }
         ensures marks { OnOk result (kept.new.marks.items ≡ (layout_of
-            (record { tables = tables.now; option = option; nobreak = nobreak }) width text.now).marks) }
+            (record { tables = tables.now; options = options }) width text.now).marks) }
         ensures lines { OnOk result (held_lines kept.new.lines ≡ (layout_of
-            (record { tables = tables.now; option = option; nobreak = nobreak }) width text.now).lines) }
+            (record { tables = tables.now; options = options }) width text.now).lines) }
         ensures len { OnOk result (length kept.new.levels.items ≡ length text.now) }
         ensures sound { OnOk result (AreSound kept.new.lines) }
         ensures within { OnOk result (AreWithin (length text.now) (held_lines kept.new.lines)) }
@@ -103,15 +103,14 @@ impl Work {
         make_room(&mut kept.levels, text.len())?;
         let base = self
             .resolver
-            .resolve(tables, text, properties, option, &mut kept.levels)?;
+            .resolve(tables, text, properties, options.base, &mut kept.levels)?;
         make_room(&mut kept.marks, text.len())?;
         marks_into(tables, text, properties, &mut kept.marks)?;
         let places = &mut self.places;
         put_lines(
             alloc,
             tables,
-            option,
-            nobreak,
+            options,
             text,
             properties,
             places,
@@ -129,8 +128,7 @@ impl Work {
         &mut self,
         alloc: Global,
         tables: &Tables,
-        option: Base,
-        nobreak: bool,
+        options: Options,
         text: &[char],
         base: u8,
         levels: &[u8],
@@ -138,13 +136,13 @@ impl Work {
         width: u16,
     ) -> Result<Fill, AllocError>
         requires base { base
-            ≡ base_of (record { tables = tables.now; option = option; nobreak = nobreak }) text.now }
-        requires levels { levels.now ≡ levels_of tables.now text.now option }
+            ≡ base_of (record { tables = tables.now; options = options }) text.now }
+        requires levels { levels.now ≡ levels_of tables.now text.now options.base }
         requires len { length levels.now ≡ length text.now }
         requires marks { marks.now ≡ marks_of tables.now text.now }
         requires within { length text.now ≤ 1048576 }
         ensures lines { IfOk result (λ lines. lines
-            ≡ lines_of (record { tables = tables.now; option = option; nobreak = nobreak }) width text.now) }
+            ≡ lines_of (record { tables = tables.now; options = options }) width text.now) }
         ensures within { IfOk result (AreWithin (length text.now)) }
     {
         take_properties(tables, text, &mut self.properties)?;
@@ -152,7 +150,7 @@ impl Work {
         let places = &mut self.places;
         let mut lists = Lists::new(alloc);
         put_lines(
-            alloc, tables, option, nobreak, text, properties, places, base, levels, marks, width,
+            alloc, tables, options, text, properties, places, base, levels, marks, width,
             &mut lists,
         )?;
         Ok(Fill::of(lists))
@@ -179,8 +177,7 @@ fn take_properties(
 fn put_lines(
     alloc: Global,
     tables: &Tables,
-    option: Base,
-    nobreak: bool,
+    options: Options,
     text: &[char],
     properties: &[Properties],
     places: &mut Vec<Place>,
@@ -192,19 +189,19 @@ fn put_lines(
 ) -> Result<(), AllocError>
     requires properties { properties.now ≡ map (properties_of tables.now) text.now }
     requires base { base
-        ≡ base_of (record { tables = tables.now; option = option; nobreak = nobreak }) text.now }
-    requires levels { levels.now ≡ levels_of tables.now text.now option }
+        ≡ base_of (record { tables = tables.now; options = options }) text.now }
+    requires levels { levels.now ≡ levels_of tables.now text.now options.base }
     requires len { length levels.now ≡ length text.now }
     requires marks { marks.now ≡ marks_of tables.now text.now }
     requires within { length text.now ≤ 1048576 }
     ensures lines { OnOk result (held_lines lists.new
-        ≡ lines_of (record { tables = tables.now; option = option; nobreak = nobreak }) width text.now) }
+        ≡ lines_of (record { tables = tables.now; options = options }) width text.now) }
     ensures sound { OnOk result (AreSound lists.new) }
     ensures within { OnOk result (AreWithin (length text.now) (held_lines lists.new)) }
 {
     take_places(tables, text, properties, marks, places)?;
     put_lines_of_places(
-        alloc, tables, nobreak, text, properties, places, base, levels, width, lists,
+        alloc, tables, options, text, properties, places, base, levels, width, lists,
     )
 }
 
@@ -212,7 +209,7 @@ fn put_lines(
 fn put_lines_of_places(
     alloc: Global,
     tables: &Tables,
-    nobreak: bool,
+    options: Options,
     text: &[char],
     properties: &[Properties],
     places: &mut [Place],
@@ -225,11 +222,21 @@ fn put_lines_of_places(
     requires places { with_ends places.old (cluster_ends text.now) ≡ places_of tables.now text.now }
     requires len { (length places.old ≡ length text.now) × (length levels.now ≡ length text.now) }
     requires within { length text.now ≤ 1048576 }
-    ensures lines { OnOk result (held_lines lists.new ≡ lines_from tables.now base text.now levels.now
-        (places_of tables.now text.now) (line_starts_of nobreak width (places_of tables.now text.now))) }
+    ensures lines { OnOk result (held_lines lists.new ≡ lines_from tables.now options base text.now
+        levels.now (places_of tables.now text.now)
+        (line_starts_of options.nobreak width (places_of tables.now text.now))) }
     ensures sound { OnOk result (AreSound lists.new) }
     ensures within { OnOk result (AreWithin (length text.now) (held_lines lists.new)) }
 {
-    line_starts(alloc, text, places, width, nobreak, &mut lists.starts)?;
-    show_lines(tables, text, properties, base, levels, places, lists)
+    line_starts(
+        alloc,
+        text,
+        places,
+        width,
+        options.nobreak,
+        &mut lists.starts,
+    )?;
+    show_lines(
+        tables, text, properties, options, base, levels, places, lists,
+    )
 }

@@ -6,7 +6,7 @@ use Rattle.lines.proofs.visual.show_each.Goals as goal
 
 pub loop-k-preserved : goal.loop-k-preserved
 loop-k-preserved c =
-    show_more _ _ _ _ _ _ _ _ _ _ _ _ _ _ _ _ _ _ _ c.requires.starts c.loop-k-test.true c.end_of-end.ensures.end c.loop-k.invariant c.show_line.ensures
+    show_more _ _ _ _ _ _ _ _ _ _ _ _ _ _ _ _ _ _ _ _ c.requires.starts c.loop-k-test.true c.end_of-end.ensures.end c.loop-k.invariant c.show_line.ensures
     (omega arith) (omega arith) (omega arith) (omega arith) c.in_ok-push.ensures.items
 
 pub show_line-requires-clause-properties : goal.show_line-requires-clause-properties

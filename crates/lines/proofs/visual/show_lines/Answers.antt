@@ -6,14 +6,14 @@ use Rattle.lines.proofs.visual.show_lines.Goals as goal
 use Rattle.lines.proofs.visual.show_lines.Goals.{In_ok-show_each}
 
 -- the lines as they are written, over the levels before L1
-shown : (c : In_ok-show_each) → AreShown c.args.tables.now c.args.base c.args.text.now c.args.levels.now c.args.places.now c.args.lists.now.starts.items (length c.args.lists.now.starts.items)
+shown : (c : In_ok-show_each) → AreShown c.args.tables.now c.args.options c.args.base c.args.text.now c.args.levels.now c.args.places.now c.args.lists.now.starts.items (length c.args.lists.now.starts.items)
     c.show_each.new.shown.items c.show_each.new.levels c.show_each.new.ltov c.show_each.new.vtol c.show_each.new.chars
 shown c =
     let old : c.deref_mut.result.now ≡ c.args.levels.now = c.deref_mut.ensures.value ∙ c.in_ok-copy.ensures in
     let starts : c.deref.result.now ≡ c.args.lists.now.starts.items = c.deref.ensures.value in
-    subst (λ (xs : List ℕ). AreShown c.args.tables.now c.args.base c.args.text.now xs c.args.places.now c.args.lists.now.starts.items (length c.args.lists.now.starts.items)
+    subst (λ (xs : List ℕ). AreShown c.args.tables.now c.args.options c.args.base c.args.text.now xs c.args.places.now c.args.lists.now.starts.items (length c.args.lists.now.starts.items)
     c.show_each.new.shown.items c.show_each.new.levels c.show_each.new.ltov c.show_each.new.vtol c.show_each.new.chars) old
-    (subst (λ (ss : List ℕ). AreShown c.args.tables.now c.args.base c.args.text.now c.deref_mut.result.now c.args.places.now ss (length ss)
+    (subst (λ (ss : List ℕ). AreShown c.args.tables.now c.args.options c.args.base c.args.text.now c.deref_mut.result.now c.args.places.now ss (length ss)
     c.show_each.new.shown.items c.show_each.new.levels c.show_each.new.ltov c.show_each.new.vtol c.show_each.new.chars) starts c.in_ok-show_each.ensures.lines)
 
 -- as many as the starts
@@ -32,7 +32,7 @@ returns-clause-sound c =
     let t = with_items_is c.make_numbers.new.list c.show_each.new.ltov (omega arith) in
     let v = with_items_is c.make_numbers-2.new.list c.show_each.new.vtol (omega arith) in
     let h = with_items_is c.make_characters.new.list c.show_each.new.chars (omega arith) in
-    rw (l, t, v, h) (sound _ _ _ _ _ _ _ _ _ _ _ c.requires.starts (count c) (levels_len c)
+    rw (l, t, v, h) (sound _ _ _ _ _ _ _ _ _ _ _ _ c.requires.starts (count c) (levels_len c)
     (omega (arith, c.in_ok-make_numbers.ensures)) (omega (arith, c.in_ok-make_numbers-2.ensures)) (omega (arith, c.in_ok-make_characters.ensures)) (shown c))
 
 pub returns-clause-lines : goal.returns-clause-lines
@@ -41,7 +41,7 @@ returns-clause-lines c =
     let t = with_items_is c.make_numbers.new.list c.show_each.new.ltov (omega arith) in
     let v = with_items_is c.make_numbers-2.new.list c.show_each.new.vtol (omega arith) in
     let h = with_items_is c.make_characters.new.list c.show_each.new.chars (omega arith) in
-    rw (l, t, v, h) (all_shown _ _ _ _ _ _ _ _ _ _ _ (count c) (shown c))
+    rw (l, t, v, h) (all_shown _ _ _ _ _ _ _ _ _ _ _ _ (count c) (shown c))
 
 pub returns-clause-within : goal.returns-clause-within
 returns-clause-within c =
@@ -49,4 +49,4 @@ returns-clause-within c =
     let t = with_items_is c.make_numbers.new.list c.show_each.new.ltov (omega arith) in
     let v = with_items_is c.make_numbers-2.new.list c.show_each.new.vtol (omega arith) in
     let h = with_items_is c.make_characters.new.list c.show_each.new.chars (omega arith) in
-    rw (l, t, v, h) (all_within _ _ _ _ _ _ _ _ _ _ _ c.requires.starts (count c) (levels_len c) (shown c))
+    rw (l, t, v, h) (all_within _ _ _ _ _ _ _ _ _ _ _ _ c.requires.starts (count c) (levels_len c) (shown c))

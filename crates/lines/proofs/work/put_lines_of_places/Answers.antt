@@ -20,8 +20,8 @@ returns-clause-lines c =
     let starts = c.line_starts.new.starts.items in
     let alike : AreAlike new whole =
     c.in_ok-line_starts.ensures.alike ∙ sym (with_alike old (cluster_ends text) (length-cluster_ends text ∙ sym c.requires.len.0)) ∙ ap (map bare) c.requires.places in
-    let starts_are : starts ≡ line_starts_of c.args.nobreak c.args.width whole =
-    c.in_ok-line_starts.ensures.lines ∙ ap (line_starts_of c.args.nobreak c.args.width) c.requires.places in
-    let lines : lines_from tables c.args.base text c.args.levels.now new starts ≡ lines_from tables c.args.base text c.args.levels.now whole (line_starts_of c.args.nobreak c.args.width whole) =
-    same_lines tables c.args.base text c.args.levels.now new whole starts alike ∙ ap (lines_from tables c.args.base text c.args.levels.now whole) starts_are in
+    let starts_are : starts ≡ line_starts_of c.args.options.nobreak c.args.width whole =
+    c.in_ok-line_starts.ensures.lines ∙ ap (line_starts_of c.args.options.nobreak c.args.width) c.requires.places in
+    let lines : lines_from tables c.args.options c.args.base text c.args.levels.now new starts ≡ lines_from tables c.args.options c.args.base text c.args.levels.now whole (line_starts_of c.args.options.nobreak c.args.width whole) =
+    same_lines tables c.args.options c.args.base text c.args.levels.now new whole starts alike ∙ ap (lines_from tables c.args.options c.args.base text c.args.levels.now whole) starts_are in
     subst (λ (ls : List Line). OnOk c.show_lines.result (held_lines c.show_lines.new.lists ≡ ls)) lines c.show_lines.ensures.lines

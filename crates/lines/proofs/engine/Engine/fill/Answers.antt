@@ -6,7 +6,7 @@ use Rattle.lines.proofs.engine.Engine.fill.Goals as goal
 
 pub fill-requires-clause-levels : goal.fill-requires-clause-levels
 fill-requires-clause-levels c =
-    c.requires.levels ∙ sym (ap (λ (s : State). levels_of (rules_of s).tables c.args.text.now (rules_of s).option) c.self.view_is)
+    c.requires.levels ∙ sym (ap (λ (s : State). levels_of (rules_of s).tables c.args.text.now (rules_of s).options.base) c.self.view_is)
 
 pub returns-clause-lines : goal.returns-clause-lines
 returns-clause-lines c =

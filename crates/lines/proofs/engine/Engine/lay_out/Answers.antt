@@ -7,7 +7,7 @@ use Rattle.lines.proofs.engine.Engine.lay_out.Goals as goal
 pub returns-in-Ok-clause-ok : goal.returns-in-Ok-clause-ok
 returns-in-Ok-clause-ok c =
     let parts = c.in-Ok.ensures in
-    let rules : Rules = record { tables = c.self.inside.tables; option = c.self.inside.base; nobreak = c.self.inside.nobreak } in
+    let rules : Rules = record { tables = c.self.inside.tables; options = c.self.inside.options } in
     same_layout rules c.args.width c.args.text.items c.deref.result.now c.in-Ok.parts.base c.in-Ok.parts.levels.items c.in-Ok.parts.marks.items c.in-Ok.parts.lines
     c.deref.ensures.value parts.base parts.levels parts.marks parts.lines
     ∙ ap (λ s. layout_of (rules_of s) c.args.width c.args.text.items) c.self.view_is

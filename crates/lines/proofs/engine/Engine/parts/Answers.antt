@@ -4,6 +4,10 @@ use Rattle.lines.specs.Layouts.{Rules, layout_of}
 use Rattle.lines.specs.Lists.{held_lines}
 use Rattle.lines.proofs.engine.Engine.parts.Goals as goal
 
+pub returns-clause-base : goal.returns-clause-base
+returns-clause-base c =
+    subst (λ (rules : Rules). c.in_ok-base.base ≡ (layout_of rules c.args.width c.args.text.now).base) (ap rules_of c.self.view_is) c.in_ok-base.ensures.base
+
 pub returns-clause-levels : goal.returns-clause-levels
 returns-clause-levels c =
     subst (λ (rules : Rules). c.lay_out.new.kept.levels.items ≡ (layout_of rules c.args.width c.args.text.now).levels) (ap rules_of c.self.view_is) c.in_ok-base.ensures.levels

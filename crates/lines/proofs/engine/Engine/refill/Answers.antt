@@ -8,7 +8,7 @@ use Rattle.lines.proofs.engine.Engine.refill.Goals as goal
 pub fill-requires-clause-levels : goal.fill-requires-clause-levels
 fill-requires-clause-levels c =
     c.levels.ensures.levels ∙ ap (λ (l : Layout). l.levels) c.requires.laid.from_scratch
-    ∙ ap (λ text. levels_of (rules_of c.args.self.now).tables text (rules_of c.args.self.now).option) (sym c.text-text.ensures)
+    ∙ ap (λ text. levels_of (rules_of c.args.self.now).tables text (rules_of c.args.self.now).options.base) (sym c.text-text.ensures)
 
 pub returns-clause-ok : goal.returns-clause-ok
 returns-clause-ok c = c.in_ok-fill.ensures.lines ∙ ap (lines_of (rules_of c.args.self.now) c.args.width) c.text-text.ensures
