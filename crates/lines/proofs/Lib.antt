@@ -1,3 +1,4 @@
+mod AloneLemmas
 mod BareLemmas
 pub mod ClusterLemmas
 mod FewLines

@@ -1,8 +1,9 @@
 //! Where the grapheme clusters of a paragraph end (UAX #29), as the crate `unicode_segmentation` has
 //! them.
 ghost use Rattle.std.specs.Prelude.{◌≡◌, ◌++◌, length, IfOk, OnOk};
+ghost use Rattle.std.specs.List.{list_all};
 ghost use Rattle.lines.specs.Bare.{with_ends};
-ghost use Rattle.lines.specs.Clusters.{cluster_ends, ends_of};
+ghost use Rattle.lines.specs.Clusters.{cluster_ends, ends_of, is_alone};
 
 use crate::places::Place;
 use std::alloc::{AllocError, Global};
@@ -13,6 +14,9 @@ pub fn cluster_ends(alloc: Global, text: &[char]) -> Result<Vec<bool>, AllocErro
     ensures ends { IfOk result (λ ends. ends.items ≡ cluster_ends text.now) }
     ensures len { IfOk result (λ ends. length ends.items ≡ length text.now) }
 {
+    if are_alone(text) {
+        return vec![in alloc; true; text.len()];
+    }
     let utf8: String = text.iter().collect(alloc)?;
     let mut ends = Vec::with_capacity(alloc, text.len())?;
     for cluster in utf8.graphemes(true) {
@@ -29,6 +33,27 @@ pub fn mark_clusters(alloc: Global, text: &[char], places: &mut [Place]) -> Resu
     let ends = cluster_ends(alloc, text)?;
     put_ends(places, &ends);
     Ok(())
+}
+
+// Whether all characters are of those that no rule joins to one another.
+fn are_alone(text: &[char]) -> bool
+    ensures { result ≡ list_all is_alone text.now }
+{
+    text.iter().all(|c| is_alone(*c))
+}
+
+fn is_alone(c: char) -> bool
+    ensures { result ≡ is_alone c }
+{
+    matches!(
+        c,
+        ' '..='~'
+            | '\u{A0}'..='\u{FF}'
+            | '\u{5D0}'..='\u{5EA}'
+            | '\u{621}'..='\u{64A}'
+            | '\u{202A}'..='\u{202E}'
+            | '\u{2066}'..='\u{2069}'
+    )
 }
 
 fn put_ends(places: &mut [Place], ends: &[bool])

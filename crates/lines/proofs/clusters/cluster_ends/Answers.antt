@@ -1,10 +1,16 @@
-use Rattle.std.proofs.Common.{◌++◌, length, append-nil, sym, ap, ap₂, ◌∙◌}
+use Rattle.std.proofs.Common.{rules, ◌≡◌, replicate, true, ◌++◌, length, append-nil, sym, ap, ap₂, ◌∙◌}
 use Rattle.std.proofs.lemmas.Iterator.{YieldsList-from_slice, items_from_drains}
 use Rattle.std.specs.List.{flat_map}
 use Rattle.unicode_segmentation.specs.Iter.{graphemes_left}
+use Rattle.lines.proofs.AloneLemmas.{ends_alone}
 use Rattle.lines.proofs.ClusterLemmas.{ends_of_graphemes, length-cluster_ends, spelled}
 use Rattle.lines.specs.Clusters.{cluster_ends, ends_of}
 use Rattle.lines.proofs.clusters.cluster_ends.Goals as goal
+
+pub returns-then-are_alone-clause-ends : goal.returns-then-are_alone-clause-ends
+returns-then-are_alone-clause-ends c =
+    let all : replicate (length c.args.text.now) true ≡ cluster_ends c.args.text.now = ends_alone c.args.text.now (sym c.are_alone.ensures ∙ c.if-are_alone.true) in
+    search rules
 
 -- all clusters are left
 pub loop-cluster-init : goal.loop-cluster-init
