@@ -1,8 +1,7 @@
 //! Edits at places that look random, in a text of many paragraphs that a session keeps.
 use crate::numbers::Numbers;
 use anyhow::{Result, bail};
-use bidi::Base;
-use lines::Engine;
+use lines::{Engine, Options};
 use session::{Kept, Session};
 use std::alloc::{AllocError, Global};
 use store::{ParagraphStore, TreeStore, VecStore};
@@ -65,7 +64,7 @@ pub fn open<S: ParagraphStore<Kept> + Drop>(
     tables: Tables,
     text: &str,
 ) -> Result<Session<S>> {
-    match Session::open(alloc, Engine::new(tables, Base::WeakLtr, false), text, 80) {
+    match Session::open(alloc, Engine::new(tables, Options::default()), text, 80) {
         Ok(session) => Ok(session),
         Err((_, fault)) => bail!("{fault}"),
     }

@@ -6,8 +6,7 @@ ghost use Rattle.lines.specs.Layouts.{IsLaidOut};
 
 use crate::paragraphs::{RUNS, tables, text_of};
 use anyhow::{Result, bail};
-use bidi::Base;
-use lines::{Engine, Laid, PARAGRAPH_LIMIT};
+use lines::{Engine, Laid, Options, PARAGRAPH_LIMIT};
 use std::time::Instant;
 
 // A paragraph of these words, in an order that looks random, and a width in columns.
@@ -89,7 +88,7 @@ const CASES: [Case; 12] = [
 /// Prints a line for each case, with a paragraph of so many characters: its least times in
 /// nanoseconds, laid out and filled again, how many lines it has, the width, and its name.
 pub fn run(rt: &HostRuntime, folder: &str, characters: usize) -> Result<()> {
-    let mut engine = Engine::new(tables(rt, folder)?, Base::WeakLtr, false);
+    let mut engine = Engine::new(tables(rt, folder)?, Options::default());
     for case in &CASES {
         let (time, laid) = lay_out(rt, &mut engine, case.words, case.width, characters)?;
         let again = refill(rt, &mut engine, &laid, case.width)?;

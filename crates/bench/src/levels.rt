@@ -2,8 +2,7 @@
 use crate::fill::lay_out;
 use crate::paragraphs::{Kind, Subject, measure_all, tables};
 use anyhow::Result;
-use bidi::Base;
-use lines::Engine;
+use lines::{Engine, Options};
 
 // As many openers as are held, and a closer for each.
 const DEEP: &str = "(((((((((((((((((((((((((((((((((((((((((((((((((((((((((((((((\
@@ -119,7 +118,7 @@ pub fn run(rt: &HostRuntime, folder: &str, characters: usize) -> Result<()> {
 /// Prints a line for each kind of paragraph of so many characters that is laid out at 80 columns: its least
 /// time in nanoseconds, how many lines it has, and its name.
 pub fn lay_out_each(rt: &HostRuntime, folder: &str, characters: usize) -> Result<()> {
-    let mut engine = Engine::new(tables(rt, folder)?, Base::WeakLtr, false);
+    let mut engine = Engine::new(tables(rt, folder)?, Options::default());
     for kind in &KINDS {
         let (time, laid) = lay_out(rt, &mut engine, kind.words, 80, characters)?;
         println!(rt; "{time} {} {}", laid.line_count(), kind.name)?;

@@ -7,8 +7,7 @@ ghost use Rattle.lines.specs.Layouts.{IsLaidOut};
 use crate::edits::{PARAGRAPH, make_edits, open, text_of};
 use crate::paragraphs::{RUNS, tables};
 use anyhow::{Result, bail};
-use bidi::Base;
-use lines::{Engine, Fill, Laid, PARAGRAPH_LIMIT};
+use lines::{Engine, Fill, Laid, Options, PARAGRAPH_LIMIT};
 use session::{Kept, Session};
 use std::time::{Duration, Instant};
 use store::{ParagraphStore, TreeStore, VecStore};
@@ -92,7 +91,7 @@ fn change<S: ParagraphStore<Kept> + Drop>(
 
 // How long it takes to lay out each paragraph, and to fill each again.
 fn fill(rt: &HostRuntime, folder: &str, paragraphs: usize) -> Result<(u64, u64)> {
-    let mut engine = Engine::new(tables(rt, folder)?, Base::WeakLtr, false);
+    let mut engine = Engine::new(tables(rt, folder)?, Options::default());
     let text: Vec<char> = PARAGRAPH.chars().collect(rt.alloc())?;
     let start = Instant::now(rt)?;
     let all = lay_out_all(rt, &mut engine, &text, paragraphs)?;

@@ -46,7 +46,7 @@ fn run(rt: &HostRuntime) -> Result<(), ProgramFault> {
     };
     let settings = settings(alloc, &words).map_err(ProgramFault::Line)?;
     let tables = tables(rt, settings.ucd)?;
-    let mut engine = Engine::new(tables, settings.base, settings.nobreak);
+    let mut engine = Engine::new(tables, settings.options);
     let mut output = ToWrite::new(rt.stdout());
     if let Some(script) = settings.script {
         return obey(rt, script, &mut output, engine, &settings);

@@ -2,12 +2,14 @@
 use bidi::Base;
 
 /// The options of an engine.
-#[derive(Clone, Copy, Debug, PartialEq, Eq)]
+#[derive(Clone, Copy, Debug, Default, PartialEq, Eq)]
 pub struct Options {
     /// How the base level of a paragraph is found.
     pub base: Base,
-    /// Lines end at mandatory breaks only.
+    /// Whether lines end at mandatory breaks only.
     pub nobreak: bool,
     /// Asks for marks in reading order. Nothing goes by it yet.
     pub reordernsm: bool,
+    /// Asks for whole numbers. Nothing goes by it yet.
+    pub whole_numbers: bool,
 }

@@ -32,7 +32,7 @@ fn engine(alloc: Global, nobreak: bool) -> Result<Engine, Fail> {
     let options = Options {
         base: Base::WeakLtr,
         nobreak,
-        reordernsm: false,
+        ..Options::default()
     };
     Ok(Engine::new(tables, options))
 }

@@ -1,7 +1,6 @@
 //! The table files, which no refusal blames.
 use crate::Wrong;
-use bidi::Base;
-use lines::Engine;
+use lines::{Engine, Options};
 use std::alloc::Global;
 use ucd::{Cause, TableFault, Tables, UcdFiles};
 
@@ -40,5 +39,5 @@ pub fn try_read(alloc: Global) -> Result<(), Wrong> {
 
 /// An engine of its own for each call.
 pub fn engine(alloc: Global) -> Result<Engine, Wrong> {
-    Ok(Engine::new(read(alloc)?, Base::WeakLtr, false))
+    Ok(Engine::new(read(alloc)?, Options::default()))
 }

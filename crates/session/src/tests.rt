@@ -6,9 +6,8 @@ mod refusals;
 mod rows;
 
 use crate::{Damage, Edit, EditFault, Kept, Session};
-use bidi::Base;
 use device::ToWrite;
-use lines::{Engine, Laid, Print, VisualLine};
+use lines::{Engine, Laid, Options, Print, VisualLine};
 use std::alloc::{AllocError, Global};
 use std::io;
 use std::io::Write;
@@ -37,7 +36,7 @@ fn engine(alloc: Global) -> Result<Engine, Fail> {
         Err(fault) if fault.cause == Cause::Memory => tables(alloc)?,
         tables => tables?,
     };
-    Ok(Engine::new(tables, Base::WeakLtr, false))
+    Ok(Engine::new(tables, Options::default()))
 }
 
 // A session on a text. Where memory ran out once, the engine that came back opens it.

@@ -42,7 +42,9 @@ files_rule = record (new_rule (codes "files")) { value_names = 1; action = Some 
 abbrev pub layout_rules : List Rule
 layout_rules =
     ucd_rule ∷ width_rule
-    ∷ map flag_rule (codes "rtl" ∷ codes "ltr" ∷ codes "wrtl" ∷ codes "wltr" ∷ codes "nobreak" ∷ [])
+    ∷ map flag_rule (
+    codes "rtl" ∷ codes "ltr" ∷ codes "wrtl" ∷ codes "wltr" ∷ codes "nobreak" ∷ codes "reordernsm" ∷ codes "whole-numbers" ∷ []
+    )
 
 abbrev pub print_rules : List Rule
 print_rules =
@@ -88,10 +90,12 @@ number_of text = digits_value 10 (without_leading_plus text)
 pub record AreSettings (words : List Text) (settings : Settings) : Type 0 where
   pub taken : fault_of program words ≡ []
   pub ucd : first_of (codes "ucd") (matches_of program words) ≡ Some settings.ucd.now
-  pub base : base_of (matches_of program words) ≡ Some settings.base
+  pub base : base_of (matches_of program words) ≡ Some settings.options.base
   pub width : option_map number_of (first_of (codes "width") (matches_of program words)) ≡ Some settings.width
   pub wide : (1 ≤ settings.width) × (settings.width ≤ 65535)
-  pub nobreak : settings.nobreak ≡ is_given (codes "nobreak") (matches_of program words)
+  pub nobreak : settings.options.nobreak ≡ is_given (codes "nobreak") (matches_of program words)
+  pub reordernsm : settings.options.reordernsm ≡ is_given (codes "reordernsm") (matches_of program words)
+  pub whole_numbers : settings.options.whole_numbers ≡ is_given (codes "whole-numbers") (matches_of program words)
   pub novisual : settings.print.novisual ≡ is_given (codes "novisual") (matches_of program words)
   pub basedir : settings.print.basedir ≡ is_given (codes "basedir") (matches_of program words)
   pub ltov : settings.print.ltov ≡ is_given (codes "ltov") (matches_of program words)

@@ -6,12 +6,12 @@ ghost use Rattle.tool.specs.CommandLine.{program, ucd_rule, width_rule, script_r
 ghost use Rattle.tool.specs.CommandLine.{AreMatches, AreSettings, IsLineFault, base_by, fits_script};
 ghost use Rattle.tool.specs.CommandLine.{layout_rules, print_rules};
 
-use crate::options::{LineFault, Settings as Options};
+use crate::options::{LineFault, Settings};
 use bidi::Base;
 use clap::error::ErrorKind;
 use clap::parser::ValueSource;
 use clap::{Arg, ArgAction, ArgMatches, Command, value_parser};
-use lines::Print;
+use lines::{Options, Print};
 use std::alloc::{AllocError, Global};
 
 // The options and the texts that the program takes.
@@ -45,7 +45,13 @@ fn with_layout<'a>(alloc: Global, command: Command<'a>) -> Result<Command<'a>, A
             "wltr",
             "from left to right where no character is strong, which is the default",
         ))?
-        .arg(flag(alloc, "nobreak", "end lines at mandatory breaks only"))
+        .arg(flag(alloc, "nobreak", "end lines at mandatory breaks only"))?
+        .arg(flag(
+            alloc,
+            "reordernsm",
+            "marks behind their letters from right to left too",
+        ))?
+        .arg(flag(alloc, "whole-numbers", "end no line inside a number"))
 }
 
 // The options by which lines are printed.
@@ -178,7 +184,7 @@ fn parse<'a>(alloc: Global, words: &'a [&'a str]) -> Result<ArgMatches<'a>, Line
 }
 
 /// Reads the words behind the program's name.
-pub fn settings<'a>(alloc: Global, words: &'a [&'a str]) -> Result<Options<'a>, LineFault>
+pub fn settings<'a>(alloc: Global, words: &'a [&'a str]) -> Result<Settings<'a>, LineFault>
     ensures ok { IfOk result (AreSettings (map (λ word. word.now) words.entry.now)) }
     ensures err { IfErr result (IsLineFault (map (λ word. word.now) words.entry.now)) }
 {
@@ -191,6 +197,12 @@ pub fn settings<'a>(alloc: Global, words: &'a [&'a str]) -> Result<Options<'a>, 
     ) else {
         return Err(LineFault::Directions);
     };
+    let options = Options {
+        base,
+        nobreak: is_set(&matches, "nobreak"),
+        reordernsm: is_set(&matches, "reordernsm"),
+        whole_numbers: is_set(&matches, "whole-numbers"),
+    };
     let print = Print {
         novisual: is_set(&matches, "novisual"),
         basedir: is_set(&matches, "basedir"),
@@ -200,7 +212,6 @@ pub fn settings<'a>(alloc: Global, words: &'a [&'a str]) -> Result<Options<'a>, 
         nopad: is_set(&matches, "nopad"),
         nomirror: is_set(&matches, "nomirror"),
     };
-    let nobreak = is_set(&matches, "nobreak");
     let Some(ucd) = matches.get_str("ucd") else {
         unreachable!()
     };
@@ -214,11 +225,10 @@ pub fn settings<'a>(alloc: Global, words: &'a [&'a str]) -> Result<Options<'a>, 
     if !fits_script(script, files.len()) {
         return Err(LineFault::ScriptFiles);
     }
-    Ok(Options {
+    Ok(Settings {
         ucd,
         width,
-        base,
-        nobreak,
+        options,
         print,
         script,
         files,

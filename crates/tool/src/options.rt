@@ -1,6 +1,5 @@
 //! What a command line asks for, and why one is refused.
-use bidi::Base;
-use lines::Print;
+use lines::{Options, Print};
 use thiserror::Error;
 
 /// What the words of a command line ask for.
@@ -10,10 +9,8 @@ pub struct Settings<'a> {
     pub ucd: &'a str,
     /// How many columns a line may take, 1 to 65,535.
     pub width: u16,
-    /// How base levels are found.
-    pub base: Base,
-    /// Whether lines end at mandatory breaks only.
-    pub nobreak: bool,
+    /// By what texts are laid out.
+    pub options: Options,
     /// What is printed of each line.
     pub print: Print,
     /// The edit script to run over the one text, if there is one.

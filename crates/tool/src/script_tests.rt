@@ -1,9 +1,8 @@
 //! Worked rows: edit scripts over texts, and what they answer.
 use crate::tests::{LINES, Pieces, STOPS, Short, Stopping, repeated, tables};
 use crate::{RunFault, open_text, run_script};
-use bidi::Base;
 use device::{FromRead, ToWrite};
-use lines::{Engine, Print};
+use lines::{Engine, Options, Print};
 use session::{Kept, Session};
 use std::alloc::Global;
 use std::io;
@@ -77,7 +76,7 @@ fn answered<S: ParagraphStore<Kept> + Drop, R: Read + Drop>(
     room: usize,
     stop: Option<ErrorKind>,
 ) -> Result<Answered, Fail> {
-    let engine = Engine::new(tables(alloc)?, Base::WeakLtr, false);
+    let engine = Engine::new(tables(alloc)?, Options::default());
     let session: Session<S> = open_text(alloc, engine, text.as_bytes(), 80)?;
     Ok(run_over(alloc, session, script, print, room, stop))
 }
@@ -445,7 +444,7 @@ fn check_start(
     bytes: &[u8],
     expected: RunFault,
 ) -> Result<(), Fail> {
-    let engine = Engine::new(tables(alloc)?, Base::WeakLtr, false);
+    let engine = Engine::new(tables(alloc)?, Options::default());
     match open_text::<TreeStore<Kept>>(alloc, engine, bytes, 80) {
         Ok(_) => Err(Fail::new("the text was taken")),
         Err(fault) => {
@@ -467,7 +466,7 @@ fn texts_that_no_script_begins_with(rt: HostRuntime) -> Result<(), Fail> {
 
 // How much of an endless script is read where nothing can be written, and how its run ends.
 fn read_in_vain(alloc: Global) -> Result<(usize, Result<(), RunFault>), Fail> {
-    let engine = Engine::new(tables(alloc)?, Base::WeakLtr, false);
+    let engine = Engine::new(tables(alloc)?, Options::default());
     let session: Session<TreeStore<Kept>> = open_text(alloc, engine, b"a", 80)?;
     let mut given = 0;
     let mut taken = Vec::new(alloc);

@@ -153,7 +153,7 @@ fn ask(alloc: Global, options: &str) -> Result<Asked, Fail> {
     let words: Vec<&str> = options.split_whitespace().collect(alloc)?;
     let settings = settings(alloc, &words)?;
     Ok(Asked {
-        engine: Engine::new(tables(alloc)?, settings.base, settings.nobreak),
+        engine: Engine::new(tables(alloc)?, settings.options),
         width: settings.width,
         print: settings.print,
     })

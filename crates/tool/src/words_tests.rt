@@ -2,7 +2,7 @@
 use crate::tests::{FILES, LINES};
 use crate::{LineFault, ProgramFault, RunFault, settings};
 use bidi::Base;
-use lines::Print;
+use lines::{Options, Print};
 use std::alloc::Global;
 use std::process::Abort;
 use std::test::Fail;
@@ -217,9 +217,9 @@ fn command_lines(rt: HostRuntime) -> Result<(), Fail> {
     let found = settings(rt.alloc(), &["--ucd", "D"])?;
     assert_eq!(rt; found.ucd, "D");
     assert_eq!(rt; found.width, 80);
-    assert_eq!(rt; found.base, Base::WeakLtr);
+    assert_eq!(rt; found.options, Options::default());
     assert_eq!(rt; found.print, LINES);
-    assert!(rt; !found.nobreak && found.files.is_empty() && found.script.is_none());
+    assert!(rt; found.files.is_empty() && found.script.is_none());
     let found = settings(rt.alloc(), &["--ucd", "D", "--script", "S", "a"])?;
     assert_eq!(rt; found.script, Some("S"));
     assert_eq!(rt; found.files.as_slice(), ["a"].as_slice());
@@ -229,7 +229,7 @@ fn command_lines(rt: HostRuntime) -> Result<(), Fail> {
 fn check_direction(rt: &impl Abort, alloc: Global, word: &str, base: Base) -> Result<(), Fail> {
     let words = ["-", "--basedir", word, "--novisual", "--ucd=E", "b"];
     let found = settings(alloc, &words)?;
-    assert_eq!(rt; found.base, base);
+    assert_eq!(rt; found.options.base, base);
     assert!(rt; found.print.novisual && found.print.basedir && found.ucd == "E");
     assert_eq!(rt; found.files.as_slice(), ["-", "b"].as_slice());
     Ok(())
@@ -244,15 +244,14 @@ fn command_lines_with_a_direction(rt: HostRuntime) -> Result<(), Fail> {
     check_direction(&rt, alloc, "--wltr", Base::WeakLtr)
 }
 
-// An option without a value, and what it sets.
-const OPTIONS: [(&str, Print, bool); 8] = [
+// An option of printing without a value, and what it sets.
+const PRINTS: [(&str, Print); 7] = [
     (
         "--novisual",
         Print {
             novisual: true,
             ..LINES
         },
-        false,
     ),
     (
         "--basedir",
@@ -260,7 +259,6 @@ const OPTIONS: [(&str, Print, bool); 8] = [
             basedir: true,
             ..LINES
         },
-        false,
     ),
     (
         "--ltov",
@@ -268,7 +266,6 @@ const OPTIONS: [(&str, Print, bool); 8] = [
             ltov: true,
             ..LINES
         },
-        false,
     ),
     (
         "--vtol",
@@ -276,7 +273,6 @@ const OPTIONS: [(&str, Print, bool); 8] = [
             vtol: true,
             ..LINES
         },
-        false,
     ),
     (
         "--levels",
@@ -284,7 +280,6 @@ const OPTIONS: [(&str, Print, bool); 8] = [
             levels: true,
             ..LINES
         },
-        false,
     ),
     (
         "--nopad",
@@ -292,7 +287,6 @@ const OPTIONS: [(&str, Print, bool); 8] = [
             nopad: true,
             ..LINES
         },
-        false,
     ),
     (
         "--nomirror",
@@ -300,34 +294,54 @@ const OPTIONS: [(&str, Print, bool); 8] = [
             nomirror: true,
             ..LINES
         },
-        false,
     ),
-    ("--nobreak", LINES, true),
 ];
 
-fn check_option(rt: &impl Abort, alloc: Global, option: &(&str, Print, bool)) -> Result<(), Fail> {
-    let (word, print, nobreak) = *option;
+fn check_print(rt: &impl Abort, alloc: Global, option: &(&str, Print)) -> Result<(), Fail> {
+    let (word, print) = *option;
     let words = ["--ucd", "D", word];
     let found = settings(alloc, &words)?;
     assert_eq!(rt; found.print, print, "{word}");
-    assert_eq!(rt; found.nobreak, nobreak, "{word}");
+    assert_eq!(rt; found.options, Options::default(), "{word}");
     Ok(())
 }
 
-fn check_options(
-    rt: &impl Abort,
-    alloc: Global,
-    options: &[(&str, Print, bool)],
-) -> Result<(), Fail> {
+fn check_prints(rt: &impl Abort, alloc: Global, options: &[(&str, Print)]) -> Result<(), Fail> {
     for option in options {
-        check_option(rt, alloc, option)?;
+        check_print(rt, alloc, option)?;
     }
+    Ok(())
+}
+
+// An option of layouts without a value, and what it sets.
+fn check_layout(rt: &impl Abort, alloc: Global, word: &str, options: Options) -> Result<(), Fail> {
+    let words = ["--ucd", "D", word];
+    let found = settings(alloc, &words)?;
+    assert_eq!(rt; found.options, options, "{word}");
+    assert_eq!(rt; found.print, LINES, "{word}");
     Ok(())
 }
 
 #[test]
 fn options_of_command_lines(rt: HostRuntime) -> Result<(), Fail> {
-    check_options(&rt, rt.alloc(), &OPTIONS)
+    let alloc = rt.alloc();
+    let none = Options::default();
+    let nobreak = Options {
+        nobreak: true,
+        ..none
+    };
+    let reordernsm = Options {
+        reordernsm: true,
+        ..none
+    };
+    let whole_numbers = Options {
+        whole_numbers: true,
+        ..none
+    };
+    check_prints(&rt, alloc, &PRINTS)?;
+    check_layout(&rt, alloc, "--nobreak", nobreak)?;
+    check_layout(&rt, alloc, "--reordernsm", reordernsm)?;
+    check_layout(&rt, alloc, "--whole-numbers", whole_numbers)
 }
 
 fn check_width(rt: &impl Abort, alloc: Global, word: &str, width: u16) -> Result<(), Fail> {
