@@ -1,9 +1,9 @@
 //! What is found of the paragraphs that standard input names, one a line, for Unicode's conformance tests.
-use crate::paragraphs::tables;
+use crate::paragraphs::{lay_out, tables};
 use anyhow::{Result, bail};
 use bidi::Base;
 use breaks::{Mark, marks};
-use lines::{Engine, Laid, PARAGRAPH_LIMIT};
+use lines::{Engine, Laid};
 use std::alloc::Global;
 use std::io;
 use std::io::{BufRead, BufReader, BufWriter, Write};
@@ -31,15 +31,15 @@ fn sign(mark: Mark) -> char {
     }
 }
 
-/// Lays each paragraph out in one line, and prints its base level and, of what is shown, the levels after L1 and
-/// the logical positions in visual order: `1; 1 2; 1 0`. The direction is `ltr`, `rtl`, `wltr` or `wrtl`, as
-/// the command's options have them.
+/// Lays each paragraph out in one line, and prints its base level and, of what is shown, the levels after L1
+/// and the logical positions in visual order: `1; 1 2; 1 0`. The direction is `ltr`, `rtl`, `wltr` or `wrtl`,
+/// as the command's options have them.
 pub fn lines_of(rt: &HostRuntime, folder: &str, direction: &str) -> Result<()> {
     let mut engine = engine(rt, folder, direction)?;
     let mut output = BufWriter::new(rt.alloc(), io::writer(rt))?;
     for line in BufReader::new(rt.alloc(), rt.reader())?.lines(rt.alloc()) {
         let text = characters(rt.alloc(), line?.as_str())?;
-        let laid = lay_out(rt.alloc(), &mut engine, text)?;
+        let laid = lay_out(rt.alloc(), &mut engine, text, u16::MAX)?;
         write_line(&mut output, &laid)?;
     }
     Ok(output.flush()?)
@@ -67,17 +67,6 @@ fn characters(alloc: Global, line: &str) -> Result<Vec<char>> {
         text.push(c)?;
     }
     Ok(text)
-}
-
-fn lay_out(alloc: Global, engine: &mut Engine, text: Vec<char>) -> Result<Laid> {
-    let is_long = text.len() > PARAGRAPH_LIMIT;
-    if text.is_empty() || is_long || engine.first_cut(&text).is_some() {
-        bail!("that is no paragraph");
-    }
-    match engine.lay_out(alloc, text, u16::MAX) {
-        Ok(laid) => Ok(laid),
-        Err(_) => bail!("out of memory"),
-    }
 }
 
 fn write_line<W: Write>(output: &mut W, laid: &Laid) -> Result<()> {
