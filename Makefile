@@ -3,13 +3,14 @@
 # make demo   both, and the command on the sample text, and on an edit script over it
 # make test   the gate: every proof from nothing, the must-fail edits, the tests and the stored run; then each allocation
 #             refused in turn, and each call of a device failing
+# make conformance  Unicode 15.0's three conformance tests, of the same package, over what the proved library finds
 # make bench  the time of the command beside that of Debian's fribidi and of ICU, edits a second of a session and lines a
 #             second of a script, and the time of levels, of break marks and of filling by what a text is made of, of stores,
 #             of a long text, and of hostile ones
 
 UNICODE = /usr/share/unicode
 
-.PHONY: all program ucd demo test bench
+.PHONY: all program ucd demo test bench-program conformance bench
 
 all: program
 
@@ -51,9 +52,14 @@ demo: program ucd
 test:
 	@log=$$(mktemp) && bash -o pipefail -c "rt ci | tee $$log" && faults/run $$log; status=$$?; rm -f $$log; exit $$status
 
-bench: program ucd
+bench-program: program
 	cd crates/bench && rt run -- edits tree 1 1 > /dev/null
 	cp crates/bench/out/bench bin/bench
+
+conformance: bench-program ucd
+	conformance/run
+
+bench: bench-program ucd
 	bench/compare
 	bench/edits
 	bench/levels

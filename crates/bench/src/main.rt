@@ -11,8 +11,14 @@
 //! - `bench fill UCD CHARACTERS` prints how long a paragraph takes to be laid out and filled again.
 //! - `bench store KIND PARAGRAPHS TIMES` prints how long a store of paragraphs takes, a `list` or a
 //!   `tree`, to be made, and for a replacement and for a search.
+//!
+//! And tells what is found of paragraphs whose characters are named on standard input, for `conformance/run`:
+//!
+//! - `bench marks-of UCD` prints the break marks of each.
+//! - `bench lines-of UCD DIRECTION` prints the base level, the levels and the order of each, in one line.
 #![tactic(auto)]
 
+mod conformance;
 mod edits;
 mod fill;
 mod levels;
@@ -60,6 +66,18 @@ fn main(rt: HostRuntime) -> Result<()> {
             match subject.as_str() {
                 "session" => sessions::run(&rt, folder.as_str(), kind.as_str(), paragraphs, edits),
                 _ => sessions::change_width(&rt, folder.as_str(), kind.as_str(), paragraphs),
+            }
+        }
+        "marks-of" | "lines-of" => {
+            let Some(folder) = words.next() else {
+                bail!("where are the table files?");
+            };
+            match (subject.as_str(), words.next()) {
+                ("lines-of", Some(direction)) => {
+                    conformance::lines_of(&rt, folder.as_str(), direction.as_str())
+                }
+                ("lines-of", None) => bail!("in which direction?"),
+                _ => conformance::marks_of(&rt, folder.as_str()),
             }
         }
         "levels" | "layouts" | "marks" | "fill" => {

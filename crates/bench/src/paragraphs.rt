@@ -1,8 +1,13 @@
 //! How long it takes to analyse one paragraph, by what it is made of.
+ghost use Rattle.std.specs.Prelude.{◌<◌, IfOk};
+ghost use Rattle.lines.specs.Engine.{rules_of, SameRules};
+ghost use Rattle.lines.specs.Layouts.{IsLaidOut};
+
 use crate::numbers::Numbers;
-use anyhow::Result;
+use anyhow::{Result, bail};
 use bidi::{Base, resolve};
 use breaks::{Mark, marks};
+use lines::{Engine, Laid, PARAGRAPH_LIMIT};
 use std::alloc::{AllocError, Global};
 use std::fs;
 use std::time::Instant;
@@ -82,6 +87,22 @@ pub fn text_of(alloc: Global, words: &[&str], characters: usize) -> Result<Vec<c
         }
     }
     Ok(text)
+}
+
+/// A paragraph that is laid out at a width in columns.
+pub fn lay_out(alloc: Global, engine: &mut Engine, text: Vec<char>, width: u16) -> Result<Laid>
+    requires { 0 < width }
+    ensures laid { IfOk result (IsLaidOut (rules_of engine.old)) }
+    ensures rules { SameRules engine.old engine.new }
+{
+    let is_long = text.len() > PARAGRAPH_LIMIT;
+    if text.is_empty() || is_long || engine.first_cut(&text).is_some() {
+        bail!("that is no paragraph");
+    }
+    match engine.lay_out(alloc, text, width) {
+        Ok(laid) => Ok(laid),
+        Err(_) => bail!("out of memory"),
+    }
 }
 
 // The least time in nanoseconds, and what was found.

@@ -5,9 +5,9 @@ ghost use Rattle.lines.specs.Engine.{rules_of, SameRules};
 ghost use Rattle.lines.specs.Layouts.{IsLaidOut};
 
 use crate::edits::{PARAGRAPH, make_edits, open, text_of};
-use crate::paragraphs::{RUNS, tables};
+use crate::paragraphs::{RUNS, lay_out, tables};
 use anyhow::{Result, bail};
-use lines::{Engine, Fill, Laid, Options, PARAGRAPH_LIMIT};
+use lines::{Engine, Fill, Laid, Options};
 use session::{Kept, Session};
 use std::time::{Duration, Instant};
 use store::{ParagraphStore, TreeStore, VecStore};
@@ -117,23 +117,10 @@ fn lay_out_all(
 {
     let mut all = Vec::new(rt.alloc());
     for _ in 0..paragraphs {
-        all.push(lay_out(rt, engine, text)?)?;
+        let text = Vec::from_slice(rt.alloc(), text)?;
+        all.push(lay_out(rt.alloc(), engine, text, 80)?)?;
     }
     Ok(all)
-}
-
-fn lay_out(rt: &HostRuntime, engine: &mut Engine, text: &[char]) -> Result<Laid>
-    ensures laid { IfOk result (IsLaidOut (rules_of engine.old)) }
-    ensures rules { SameRules engine.old engine.new }
-{
-    let is_long = text.len() > PARAGRAPH_LIMIT;
-    if text.is_empty() || is_long || engine.first_cut(text).is_some() {
-        bail!("that is no paragraph");
-    }
-    match engine.lay_out(rt.alloc(), Vec::from_slice(rt.alloc(), text)?, 80) {
-        Ok(laid) => Ok(laid),
-        Err(_) => bail!("out of memory"),
-    }
 }
 
 fn refill_all(rt: &HostRuntime, engine: &mut Engine, all: &[Laid]) -> Result<Vec<Fill>>
