@@ -2,13 +2,13 @@
 use Rattle.std.proofs.Common.{◌≡◌, ℕ, zero, suc, ◌+◌, ◌<◌, ◌≤◌, nat_le, Bool, true, false, not, ◌&&◌, ◌||◌, List, [], ◌∷◌, length, map, replicate, unwrap_or, Option, Some, None, refl, sym, ap, ◌∙◌, inl, inr, arith}
 use Rattle.std.specs.List.{list_all}
 use Rattle.std.proofs.lemmas.Simd.{splat_is_map}
-use Rattle.std.proofs.lemmas.Bool.{and_parts, cases_Bool, cases_lt, leb-true}
+use Rattle.std.proofs.lemmas.Bool.{and_parts, cases_lt}
 use Rattle.std.proofs.lemmas.Bool.Decides.{nat_tests}
 use Rattle.ucd_table.specs.Rows.{value_in}
 use Rattle.ucd_breaks.specs.GraphemeClusterBreak.{grapheme_cluster_break}
 use Rattle.ucd_breaks.specs.GraphemeClusterBreakRows.{grapheme_cluster_break_rows}
 use Rattle.ucd_breaks.specs.declared.GraphemeClusterBreak.{GraphemeClusterBreak}
-use Rattle.ucd_breaks.specs.declared.GraphemeClusterBreak.TheVariants.{Control, Other}
+use Rattle.ucd_breaks.specs.declared.GraphemeClusterBreak.TheVariants.{Control, Lf, Other}
 use Rattle.ucd_derived.specs.IndicConjunctBreak.{indic_conjunct_break}
 use Rattle.ucd_derived.specs.IndicConjunctBreakRows.{indic_conjunct_break_rows}
 use Rattle.unicode_segmentation.specs.Grapheme.{break_by_pair, ends_in_half_flag, ends_in_linker, is_consonant, is_grapheme_break, is_regional, is_zwj}
@@ -16,6 +16,7 @@ use Rattle.lines.specs.Clusters.{cluster_ends, ends_behind, is_alone, lies_in}
 
 abbrev stands_apart : GraphemeClusterBreak → Bool
 stands_apart Control = true
+stands_apart Lf = true
 stands_apart Other = true
 stands_apart _ = false
 
@@ -26,13 +27,17 @@ abbrev all_from : (ℕ → Bool) → ℕ → ℕ → Bool
 all_from test first zero = true
 all_from test first (suc n) = test first && all_from test (suc first) n
 
-latin : all_from is_apart 32 95 ≡ true
+latin : all_from is_apart 32 112 ≡ true
 unfolding grapheme_cluster_break value_in grapheme_cluster_break_rows indic_conjunct_break indic_conjunct_break_rows
 latin = refl
 
-more_latin : all_from is_apart 160 96 ≡ true
+more_latin : all_from is_apart 144 112 ≡ true
 unfolding grapheme_cluster_break value_in grapheme_cluster_break_rows indic_conjunct_break indic_conjunct_break_rows
 more_latin = refl
+
+line_feed : all_from is_apart 9 2 ≡ true
+unfolding grapheme_cluster_break value_in grapheme_cluster_break_rows indic_conjunct_break indic_conjunct_break_rows
+line_feed = refl
 
 hebrew : all_from is_apart 1488 27 ≡ true
 unfolding grapheme_cluster_break value_in grapheme_cluster_break_rows indic_conjunct_break indic_conjunct_break_rows
@@ -42,7 +47,7 @@ arabic : all_from is_apart 1569 42 ≡ true
 unfolding grapheme_cluster_break value_in grapheme_cluster_break_rows indic_conjunct_break indic_conjunct_break_rows
 arabic = refl
 
-embeddings : all_from is_apart 8234 5 ≡ true
+embeddings : all_from is_apart 8232 7 ≡ true
 unfolding grapheme_cluster_break value_in grapheme_cluster_break_rows indic_conjunct_break indic_conjunct_break_rows
 embeddings = refl
 
@@ -72,29 +77,46 @@ either : (a b : Bool) (P : Type 0) → (a ≡ true → P) → (b ≡ true → P)
 either true b P first second is = first refl
 either false b P first second is = second is
 
+latin_is_apart : (c : ℕ) → lies_in 32 255 c ≡ true → is_apart c ≡ true
+latin_is_apart c lies =
+    let parts = and_parts (nat_le 32 c) (nat_le c 255) lies in
+    let from = is_within 32 c parts.0 in
+    let to = is_within c 255 parts.1 in
+    elim (cases_lt c 144) [
+      | inl front ↦ one_of is_apart 32 112 c latin from (omega (arith, front))
+      | inr behind ↦ one_of is_apart 144 112 c more_latin behind (omega (arith, to))
+    ]
+
 alone_is_apart : (c : ℕ) → is_alone c ≡ true → is_apart c ≡ true
 alone_is_apart c =
-    either _ _ (is_apart c ≡ true) (apart_in 32 94 c latin)
-    (either _ _ (is_apart c ≡ true) (apart_in 160 95 c more_latin)
+    either _ _ (is_apart c ≡ true) (latin_is_apart c)
+    (either _ _ (is_apart c ≡ true) (apart_in 9 1 c line_feed)
     (either _ _ (is_apart c ≡ true) (apart_in 1488 26 c hebrew)
     (either _ _ (is_apart c ≡ true) (apart_in 1569 41 c arabic)
-    (either _ _ (is_apart c ≡ true) (apart_in 8234 4 c embeddings) (apart_in 8294 3 c isolates)))))
+    (either _ _ (is_apart c ≡ true) (apart_in 8232 6 c embeddings) (apart_in 8294 3 c isolates)))))
 
 -- no rule on pairs joins two of them, and no other rule asks for either
 by_pair : (g h : GraphemeClusterBreak) → stands_apart g ≡ true → stands_apart h ≡ true → unwrap_or (break_by_pair true g h) true ≡ true
 by_pair Control Control one other = refl
+by_pair Control Lf one other = refl
 by_pair Control Other one other = refl
+by_pair Lf Control one other = refl
+by_pair Lf Lf one other = refl
+by_pair Lf Other one other = refl
 by_pair Other Control one other = refl
+by_pair Other Lf one other = refl
 by_pair Other Other one other = refl
 by_pair g h one other = cc
 
 no_joiner : (g : GraphemeClusterBreak) → stands_apart g ≡ true → is_zwj g ≡ false
 no_joiner Control one = refl
+no_joiner Lf one = refl
 no_joiner Other one = refl
 no_joiner g one = cc
 
 no_flag : (g : GraphemeClusterBreak) → stands_apart g ≡ true → is_regional g ≡ false
 no_flag Control one = refl
+no_flag Lf one = refl
 no_flag Other one = refl
 no_flag g one = cc
 

@@ -15,13 +15,12 @@ cluster_ends text = ends_behind [] text
 abbrev pub ends_of : List ℕ → List Bool
 ends_of cluster = replicate (length (chars cluster) - 1) false ++ true ∷ []
 
--- Characters that no rule joins to one another: those of Latin-1, Hebrew and Arabic letters, embeddings and isolates. Most lines are of
--- these, so only the code speaks of them.
+-- Characters that no rule joins to one another: those of Latin-1 with the tab and the line feed, but no other control in front of the
+-- space; Hebrew and Arabic letters; separators, embeddings and isolates. Only the code speaks of these.
 abbrev pub lies_in : ℕ → ℕ → ℕ → Bool
 lies_in first last c = nat_le first c && nat_le c last
 
 abbrev pub is_alone : ℕ → Bool
 is_alone c =
-    lies_in 32 126 c
-    || (lies_in 160 255 c
-    || (lies_in 1488 1514 c || (lies_in 1569 1610 c || (lies_in 8234 8238 c || lies_in 8294 8297 c))))
+    lies_in 32 255 c
+    || (lies_in 9 10 c || (lies_in 1488 1514 c || (lies_in 1569 1610 c || (lies_in 8232 8238 c || lies_in 8294 8297 c))))
