@@ -1,13 +1,13 @@
 mod BareLemmas
 pub mod ClusterLemmas
 mod FewLines
-pub mod GroupLemmas
+mod GroupLemmas
 pub mod FillingLemmas
 mod InverseLemmas
 pub mod KeptLemmas
 pub mod LayoutLemmas
 mod LevelLemmas
-pub mod NeighbourLemmas
+mod NeighbourLemmas
 mod OrderLemmas
 pub mod PageLemmas
 pub mod PlaceLemmas

@@ -8,7 +8,7 @@ pub struct Options {
     pub base: Base,
     /// Lines end at mandatory breaks only.
     pub nobreak: bool,
-    /// Each character at an odd level stands in front of the marks that follow it at the same level, in reading
-    /// order, and not behind them (UAX #9, L3).
+    /// Each character at an odd level stands in front of the marks that follow it at the same level, which
+    /// stand in reading order, and not behind them (UAX #9, L3).
     pub reordernsm: bool,
 }
