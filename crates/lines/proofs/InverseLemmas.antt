@@ -1,5 +1,5 @@
 -- Places in another order, and where each of them stands there.
-use Rattle.std.proofs.Common.{◌≡◌, ℕ, zero, suc, ◌+◌, ◌<◌, ◌≤◌, ◌==◌, cond, List, length, get_or, set, take, drop, map, refl, sym, ap, ◌∙◌, inl, inr, arith}
+use Rattle.std.proofs.Common.{◌≡◌, ℕ, zero, suc, ◌+◌, ◌<◌, ◌≤◌, ◌==◌, Bool, cond, List, length, get_or, set, take, drop, map, refl, sym, ap, ◌∙◌, inl, inr, arith}
 use Rattle.std.specs.List.{count_by, position_or_len, range_with_len, Contains}
 use Rattle.std.specs.List.Sorted.{IsPermutation}
 use Rattle.std.proofs.lemmas.Bool.{cases_eq, cond-true, cond-false, eq-eqb, ne_eqb}
@@ -7,6 +7,7 @@ use Rattle.std.proofs.lemmas.List.{get_or_default, get_or-set_same, get_or-set_o
 use Rattle.std.proofs.lemmas.List.FromFn.{get_or-range_with_len, get_or-map-range_with_len, length-range_with_len, length-map-range_with_len}
 use Rattle.std.proofs.lemmas.List.Sorted.{Contains-permutation, length_permutation, sum_by-IsPermutation}
 use Rattle.std.proofs.lemmas.List.Sums.{get_or-le-sum_by, position_or_len_is, sum_by-cons, sum_by-take-drop}
+use Rattle.ucd.specs.declared.bidi_class.BidiClass.{BidiClass}
 use Rattle.lines.specs.Order.{ltov_of, vtol_of, AreInverse}
 use Rattle.lines.proofs.OrderLemmas.{permuted_within, vtol_permutes}
 
@@ -147,9 +148,11 @@ first_positions n vtol p =
     }
 
 -- so the two maps of a line are inverse
-pub inverse_maps : (levels : List ℕ) → AreInverse (length levels) (vtol_of levels) (ltov_of levels)
+pub inverse_maps : (reordernsm : Bool) (classes : List BidiClass) (levels : List ℕ)
+    → AreInverse (length levels) (vtol_of reordernsm classes levels) (ltov_of reordernsm classes levels)
 unfolding ltov_of
-inverse_maps levels =
+inverse_maps reordernsm classes levels =
     let n : ℕ = length levels in
-    let p : ArePlaces n (vtol_of levels) = permuted_places n (vtol_of levels) (vtol_permutes levels) in
-    Placed-inverse n (vtol_of levels) (map (λ j. position_or_len (λ x. x == j) (vtol_of levels)) (range_with_len 0 n)) n p (first_positions n (vtol_of levels) p) (omega arith)
+    let vtol : List ℕ = vtol_of reordernsm classes levels in
+    let p : ArePlaces n vtol = permuted_places n vtol (vtol_permutes reordernsm classes levels) in
+    Placed-inverse n vtol (map (λ j. position_or_len (λ x. x == j) vtol) (range_with_len 0 n)) n p (first_positions n vtol p) (omega arith)

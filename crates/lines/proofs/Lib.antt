@@ -2,11 +2,13 @@ mod AloneLemmas
 mod BareLemmas
 pub mod ClusterLemmas
 mod FewLines
+mod GroupLemmas
 pub mod FillingLemmas
 mod InverseLemmas
 pub mod KeptLemmas
 pub mod LayoutLemmas
 mod LevelLemmas
+mod NeighbourLemmas
 mod OrderLemmas
 pub mod PageLemmas
 pub mod PlaceLemmas

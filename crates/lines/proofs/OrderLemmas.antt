@@ -10,8 +10,9 @@ use Rattle.std.proofs.lemmas.List.Sums.{prefix_len-le-length, prefix_len_passes,
 use Rattle.std.proofs.lemmas.Slice.{drop-put_mid, take-put_mid}
 use Rattle.std.proofs.Math.Seq.{take-add}
 use borrow.Rule.Slice.PartMut.{put_mid, same_len_mid}
+use Rattle.ucd.specs.declared.bidi_class.BidiClass.{BidiClass}
 use Rattle.bidi.specs.Runs.{AreWithin}
-use Rattle.lines.specs.Order.{highest, is_at_least, lowest_odd, ltov_of, places, reverse_runs, reversed_from, vtol_by, vtol_of}
+use Rattle.lines.specs.Order.{highest, is_at_least, lowest_odd, order_by, order_of, places, reverse_runs, reversed_from, reverse_with_next, has_base, ltov_of, vtol_of}
 
 pub range_more : (a n : ℕ) → range_with_len a (n + 1) ≡ range_with_len a n ++ (a + n) ∷ []
 range_more a zero = ap (λ k. k ∷ []) (omega arith)
@@ -114,18 +115,18 @@ Turned-next levels top low current level before after w e more is =
     }
 
 pub Turned-end : (levels : List ℕ) (top low : ℕ) (current : List ℕ) (level : ℕ) → Turned levels top low current level → level < low
-    → top ≡ highest levels → Some low ≡ lowest_odd levels → current ≡ vtol_of levels
-unfolding vtol_of
+    → top ≡ highest levels → Some low ≡ lowest_odd levels → current ≡ order_of levels
+unfolding order_of
 Turned-end levels top low current level w past most lowest =
     let from : level + 1 ≡ low = omega (arith, w.from) in
     let count : top - level ≡ suc (highest levels) - low = omega (arith, w.to) in
     w.done ∙ ap (λ n. reversed_from levels (level + 1) n (places levels)) count
     ∙ ap (λ n. reversed_from levels n (suc (highest levels) - low) (places levels)) from
-    ∙ ap (vtol_by levels) lowest
+    ∙ ap (order_by levels) lowest
 
-pub without_odd : (levels current : List ℕ) → current ≡ places levels → None ≡ lowest_odd levels → current ≡ vtol_of levels
-unfolding vtol_of
-without_odd levels current is none = is ∙ ap (vtol_by levels) none
+pub without_odd : (levels current : List ℕ) → current ≡ places levels → None ≡ lowest_odd levels → current ≡ order_of levels
+unfolding order_of
+without_odd levels current is none = is ∙ ap (order_by levels) none
 
 -- reversing intervals moves items alone
 runs_permute : (test : ℕ → Bool) (run xs : List ℕ) → IsPermutation (run ++ xs) (reverse_runs test run xs)
@@ -147,13 +148,38 @@ reversed_permute levels low (suc count) items =
     (reversed_permute levels (suc low) count items)
     (runs_permute (is_at_least levels low) [] (reversed_from levels (suc low) count items))
 
-by_permutes : (levels : List ℕ) (lowest : Option ℕ) → IsPermutation (places levels) (vtol_by levels lowest)
+by_permutes : (levels : List ℕ) (lowest : Option ℕ) → IsPermutation (places levels) (order_by levels lowest)
 by_permutes levels None = IsPermutation-refl (places levels)
 by_permutes levels (Some low) = reversed_permute levels low (suc (highest levels) - low) (places levels)
 
-pub vtol_permutes : (levels : List ℕ) → IsPermutation (places levels) (vtol_of levels)
+pub order_of_permutes : (levels : List ℕ) → IsPermutation (places levels) (order_of levels)
+unfolding order_of
+order_of_permutes levels = by_permutes levels (lowest_odd levels)
+
+-- reversing intervals together with what stands behind them moves items alone
+with_next_permutes : (test : ℕ → Bool) (run xs : List ℕ) → IsPermutation (run ++ xs) (reverse_with_next test run xs)
+with_next_permutes test run [] = subst (λ (ys : List ℕ). IsPermutation ys run) (sym (append-nil run)) (IsPermutation-refl run)
+with_next_permutes test run (x ∷ xs) =
+    elim (cases_Bool (test x)) [
+      | inl passed ↦
+          subst (λ (ys : List ℕ). IsPermutation (run ++ x ∷ xs) ys)
+          (sym (cond-true (test x) (reverse_with_next test (x ∷ run) xs) (x ∷ (run ++ reverse_with_next test [] xs)) passed))
+          (IsPermutation-trans (run ++ x ∷ xs) (x ∷ (run ++ xs)) (reverse_with_next test (x ∷ run) xs) (IsPermutation-middle run x xs)
+          (with_next_permutes test (x ∷ run) xs))
+      | inr failed ↦
+          subst (λ (ys : List ℕ). IsPermutation (run ++ x ∷ xs) ys)
+          (sym (cond-false (test x) (reverse_with_next test (x ∷ run) xs) (x ∷ (run ++ reverse_with_next test [] xs)) failed))
+          (IsPermutation-trans (run ++ x ∷ xs) (x ∷ (run ++ xs)) (x ∷ (run ++ reverse_with_next test [] xs)) (IsPermutation-middle run x xs)
+          (IsPermutation-cons x (run ++ xs) (run ++ reverse_with_next test [] xs)
+          (IsPermutation-append_right run xs (reverse_with_next test [] xs) (with_next_permutes test [] xs))))
+    ]
+
+pub vtol_permutes : (reordernsm : Bool) (classes : List BidiClass) (levels : List ℕ) → IsPermutation (places levels) (vtol_of reordernsm classes levels)
 unfolding vtol_of
-vtol_permutes levels = by_permutes levels (lowest_odd levels)
+vtol_permutes false classes levels = order_of_permutes levels
+vtol_permutes true classes levels =
+    IsPermutation-trans (places levels) (order_of levels) (reverse_with_next (has_base classes levels) [] (order_of levels)) (order_of_permutes levels)
+    (with_next_permutes (has_base classes levels) [] (order_of levels))
 
 -- places in another order are places
 pub permuted_within : (n : ℕ) (xs : List ℕ) → IsPermutation (range_with_len 0 n) xs → (k : ℕ) → k < length xs → get_or xs k 0 < n
@@ -169,18 +195,23 @@ Turned-within levels top low current level w =
     permuted_within (length levels) current (subst (λ (xs : List ℕ). IsPermutation (places levels) xs) (sym w.done)
     (reversed_permute levels (level + 1) (top - level) (places levels)))
 
-pub length-vtol : (levels vtol : List ℕ) → vtol ≡ vtol_of levels → length vtol ≡ length levels
-length-vtol levels vtol is =
-    ap length is ∙ length_permutation (places levels) (vtol_of levels) (vtol_permutes levels) ∙ length-range_with_len 0 (length levels)
+pub length-order : (levels : List ℕ) → length (order_of levels) ≡ length levels
+length-order levels = length_permutation (places levels) (order_of levels) (order_of_permutes levels) ∙ length-range_with_len 0 (length levels)
 
-pub order_permutes : (levels vtol : List ℕ) → vtol ≡ vtol_of levels → IsPermutation (range_with_len 0 (length vtol)) vtol
-order_permutes levels vtol is =
-    subst (λ (n : ℕ). IsPermutation (range_with_len 0 n) vtol) (sym (length-vtol levels vtol is))
-    (subst (λ (xs : List ℕ). IsPermutation (places levels) xs) (sym is) (vtol_permutes levels))
+module _ (reordernsm : Bool) (classes : List BidiClass) (levels : List ℕ) where
+  pub length-vtol : (vtol : List ℕ) → vtol ≡ vtol_of reordernsm classes levels → length vtol ≡ length levels
+  length-vtol vtol is =
+      ap length is ∙ length_permutation (places levels) (vtol_of reordernsm classes levels) (vtol_permutes reordernsm classes levels)
+      ∙ length-range_with_len 0 (length levels)
 
-pub is_ltov : (levels vtol ltov : List ℕ) → vtol ≡ vtol_of levels → ltov ≡ map (λ k. position_or_len (λ i. i == k) vtol) (range_with_len 0 (length vtol))
-    → ltov ≡ ltov_of levels
-unfolding ltov_of
-is_ltov levels vtol ltov is places_of =
-    places_of ∙ ap (λ n. map (λ k. position_or_len (λ i. i == k) vtol) (range_with_len 0 n)) (length-vtol levels vtol is)
-    ∙ ap (λ xs. map (λ k. position_or_len (λ i. i == k) xs) (places levels)) is
+  pub order_permutes : (vtol : List ℕ) → vtol ≡ vtol_of reordernsm classes levels → IsPermutation (range_with_len 0 (length vtol)) vtol
+  order_permutes vtol is =
+      subst (λ (n : ℕ). IsPermutation (range_with_len 0 n) vtol) (sym (length-vtol vtol is))
+      (subst (λ (xs : List ℕ). IsPermutation (places levels) xs) (sym is) (vtol_permutes reordernsm classes levels))
+
+  pub is_ltov : (vtol ltov : List ℕ) → vtol ≡ vtol_of reordernsm classes levels
+      → ltov ≡ map (λ k. position_or_len (λ i. i == k) vtol) (range_with_len 0 (length vtol)) → ltov ≡ ltov_of reordernsm classes levels
+  unfolding ltov_of
+  is_ltov vtol ltov is places_of =
+      places_of ∙ ap (λ n. map (λ k. position_or_len (λ i. i == k) vtol) (range_with_len 0 n)) (length-vtol vtol is)
+      ∙ ap (λ xs. map (λ k. position_or_len (λ i. i == k) xs) (places levels)) is

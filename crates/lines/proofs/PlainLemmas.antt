@@ -1,17 +1,18 @@
 -- A line without an odd level is its own order.
-use Rattle.std.proofs.Common.{◌≡◌, ℕ, zero, suc, ◌<◌, ◌==◌, Bool, true, false, ◌&&◌, ◌||◌, List, [], ◌∷◌, length, map, take, drop, ◌++◌, get_or, None, refl, sym, ap, ◌∙◌, inl, inr, arith}
+use Rattle.std.proofs.Common.{◌≡◌, ℕ, zero, suc, ◌<◌, ◌==◌, Bool, true, false, ◌&&◌, ◌||◌, not, List, [], ◌∷◌, length, map, take, drop, ◌++◌, get_or, None, refl, sym, ap, ◌∙◌, inl, inr, arith}
 use Rattle.std.specs.List.{list_any, range_with_len}
 use Rattle.std.proofs.lemmas.Bool.{and_left, and_right, both_ways, cases_Bool, cond-false, ne_eqb}
 use Rattle.std.proofs.lemmas.List.{ext_get_or, get_or_past}
 use Rattle.std.proofs.lemmas.List.FromFn.{get_or-range_with_len, get_or-map-range_with_len, length-range_with_len, length-map-range_with_len}
 use Rattle.std.proofs.Math.Seq.{take-append_seam}
+use Rattle.ucd.specs.declared.bidi_class.BidiClass.{BidiClass}
 use Rattle.ucd.specs.Properties.{properties_of}
 use Rattle.ucd.specs.Tables.{class_of}
 use Rattle.ucd.specs.declared.tables.Tables.{Tables}
 use Rattle.bidi.specs.Classes.{class_in}
 use Rattle.bidi.specs.Runs.{AreWithin}
 use Rattle.lines.specs.Mirroring.{mirrored, visual_chars}
-use Rattle.lines.specs.Order.{has_odd, highest, is_odd, lowest_odd, ltov_of, places, vtol_of}
+use Rattle.lines.specs.Order.{has_base, has_odd, highest, is_mark_at, is_odd, lowest_odd, ltov_of, order_of, places, precedes_mark, reverse_with_next, vtol_of}
 use Rattle.lines.proofs.InverseLemmas.{inverse_maps}
 use Rattle.lines.proofs.LevelLemmas.{least_none}
 use Rattle.lines.proofs.OrderLemmas.{without_odd}
@@ -46,27 +47,52 @@ none_odd levels m evens =
       | inr e ↦ and_left (is_odd m) (list_any (λ other. other == m) levels) e
     ]
 
-pub plain_vtol : (levels : List ℕ) → AreEven levels → range_with_len 0 (length levels) ≡ vtol_of levels
-plain_vtol levels evens =
+plain_order : (levels : List ℕ) → AreEven levels → range_with_len 0 (length levels) ≡ order_of levels
+plain_order levels evens =
     let none : lowest_odd levels ≡ None = least_none (has_odd levels) 0 (suc (highest levels)) (λ m. none_odd levels m evens) in
     without_odd levels (places levels) refl (sym none)
 
-pub plain_ltov : (levels : List ℕ) → AreEven levels → range_with_len 0 (length levels) ≡ ltov_of levels
+-- no mark has a base
+without_base : (classes : List BidiClass) (levels : List ℕ) (i : ℕ) → AreEven levels → has_base classes levels i ≡ false
+without_base classes levels zero evens = refl
+without_base classes levels (suc i) evens =
+    let rest : Bool = not (is_mark_at classes i) || has_base classes levels i in
+    let same : Bool = get_or levels (suc i) 0 == get_or levels i 0 in
+    let none : precedes_mark classes levels i ≡ false =
+    ap (λ odd. is_mark_at classes (suc i) && (odd && same)) (evens i) ∙ and_right (is_mark_at classes (suc i)) false refl in
+    and_left (precedes_mark classes levels i) rest none
+
+passed_by : (test : ℕ → Bool) (xs : List ℕ) → ((i : ℕ) → test i ≡ false) → reverse_with_next test [] xs ≡ xs
+passed_by test [] fails = refl
+passed_by test (x ∷ xs) fails =
+    cond-false (test x) (reverse_with_next test (x ∷ []) xs) (x ∷ reverse_with_next test [] xs) (fails x) ∙ ap (λ ys. x ∷ ys) (passed_by test xs fails)
+
+pub plain_vtol : (reordernsm : Bool) (classes : List BidiClass) (levels : List ℕ) → AreEven levels
+    → range_with_len 0 (length levels) ≡ vtol_of reordernsm classes levels
+unfolding vtol_of
+plain_vtol false classes levels evens = plain_order levels evens
+plain_vtol true classes levels evens =
+    plain_order levels evens ∙ sym (passed_by (has_base classes levels) (order_of levels) (λ i. without_base classes levels i evens))
+
+pub plain_ltov : (reordernsm : Bool) (classes : List BidiClass) (levels : List ℕ) → AreEven levels
+    → range_with_len 0 (length levels) ≡ ltov_of reordernsm classes levels
 unfolding ltov_of
-plain_ltov levels evens =
+plain_ltov reordernsm classes levels evens =
     let n : ℕ = length levels in
-    let size : length (ltov_of levels) ≡ n = length-map-range_with_len _ 0 n in
-    ext_get_or 0 (range_with_len 0 n) (ltov_of levels) (length-range_with_len 0 n ∙ sym size) (λ k below.
+    let ltov : List ℕ = ltov_of reordernsm classes levels in
+    let size : length ltov ≡ n = length-map-range_with_len _ 0 n in
+    ext_get_or 0 (range_with_len 0 n) ltov (length-range_with_len 0 n ∙ sym size) (λ k below.
     let lt : k < n = omega (arith, below, length-range_with_len 0 n) in
     let here : get_or (range_with_len 0 n) k 0 ≡ k = get_or-range_with_len 0 n k 0 lt ∙ omega arith in
-    let there : get_or (vtol_of levels) k 0 ≡ k = ap (λ xs. get_or xs k 0) (sym (plain_vtol levels evens)) ∙ here in
-    here ∙ sym (ap (λ i. get_or (ltov_of levels) i 0) (sym there) ∙ (inverse_maps levels).at_vtol k lt))
+    let there : get_or (vtol_of reordernsm classes levels) k 0 ≡ k = ap (λ xs. get_or xs k 0) (sym (plain_vtol reordernsm classes levels evens)) ∙ here in
+    here ∙ sym (ap (λ i. get_or ltov i 0) (sym there) ∙ (inverse_maps reordernsm classes levels).at_vtol k lt))
 
-pub plain_chars : (t : Tables) (levels part : List ℕ) → length levels ≡ length part → AreEven levels → part ≡ visual_chars t levels part (vtol_of levels)
-plain_chars t levels part sizes evens =
+pub plain_chars : (t : Tables) (reordernsm : Bool) (classes : List BidiClass) (levels part : List ℕ) → length levels ≡ length part → AreEven levels
+    → part ≡ visual_chars t levels part (vtol_of reordernsm classes levels)
+plain_chars t reordernsm classes levels part sizes evens =
     let n : ℕ = length levels in
     let f : ℕ → ℕ = λ i. mirrored t (get_or levels i 0) (get_or part i 0) in
-    let order : map f (range_with_len 0 n) ≡ visual_chars t levels part (vtol_of levels) = ap (map f) (plain_vtol levels evens) in
+    let order : map f (range_with_len 0 n) ≡ visual_chars t levels part (vtol_of reordernsm classes levels) = ap (map f) (plain_vtol reordernsm classes levels evens) in
     ext_get_or 0 part (map f (range_with_len 0 n)) (sym sizes ∙ sym (length-map-range_with_len f 0 n)) (λ k below.
     let lt : k < n = omega (arith, below, sizes) in
     sym (get_or-map-range_with_len f 0 n k k 0 lt (omega arith) ∙ cond-false (is_odd (get_or levels k 0)) _ (get_or part k 0) (evens k)))

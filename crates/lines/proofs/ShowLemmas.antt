@@ -8,6 +8,7 @@ use Rattle.std.proofs.Math.Seq.{get_or-append_seam}
 use Rattle.std.proofs.lemmas.Slice.{between_is, between-put_mid, drop-put_mid, take-put_mid_below}
 use Rattle.std.specs.List.{slice_range, All}
 use Rattle.ucd.specs.Tables.{class_of}
+use Rattle.ucd.specs.declared.bidi_class.BidiClass.{BidiClass}
 use Rattle.ucd.specs.declared.tables.Tables.{Tables}
 use Rattle.bidi.specs.Runs.{AreWithin}
 use Rattle.lines.specs.Filling.{columns, shown}
@@ -138,6 +139,7 @@ module _ (tables : Tables) (options : Options) (base : ℕ) (text old : List ℕ
       let m : ℕ = e - s in
       let n : ℕ = part.len in
       let line : List ℕ = slice_range text s e in
+      let classes : List BidiClass = map (class_of tables) line in
       let size : length line ≡ m = length_range text s e (omega (arith, some)) within in
       let below : n ≤ m = omega (arith, is.within, size) in
       let whole : ℕ → List ℕ → List ℕ = λ (j : ℕ) (xs : List ℕ). take j (line_levels base (map (class_of tables) line) xs) in
@@ -148,10 +150,10 @@ module _ (tables : Tables) (options : Options) (base : ℕ) (text old : List ℕ
         line_is = same_line s part.columns (columns (shown (slice_range places s e))) _ _ _ _ _ _ _ _
             is.columns_are
             (written s m levels l n (omega (arith, wl, within, some)) sl below ∙ levels_here)
-            (written s m ltov t n (omega (arith, wt, within, some)) st below ∙ is.ltov_is ∙ ap ltov_of levels_here)
-            (vtol_here ∙ is.vtol_is ∙ ap vtol_of levels_here)
+            (written s m ltov t n (omega (arith, wt, within, some)) st below ∙ is.ltov_is ∙ ap (ltov_of options.reordernsm classes) levels_here)
+            (vtol_here ∙ is.vtol_is ∙ ap (vtol_of options.reordernsm classes) levels_here)
             (written s m chars h n (omega (arith, wh, within, some)) sh below ∙ is.chars_are
-            ∙ ap₂ (λ (xs ys : List ℕ). visual_chars tables xs ys (vtol_of xs)) levels_here (ap (λ j. take j line) is.len_is));
+            ∙ ap₂ (λ (xs ys : List ℕ). visual_chars tables xs ys (vtol_of options.reordernsm classes xs)) levels_here (ap (λ j. take j line) is.len_is));
         within = omega (arith, below, some);
         vtol_within = subst (λ (xs : List ℕ). AreWithin n xs) (sym vtol_here) is.vtol_within;
       }

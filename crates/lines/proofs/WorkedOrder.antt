@@ -1,10 +1,10 @@
 -- Rows of L1, L2 and L4, worked.
-use Rattle.std.proofs.Common.{◌≡◌, [], ◌∷◌, Some, None, unwrap_or, refl}
+use Rattle.std.proofs.Common.{◌≡◌, true, false, [], ◌∷◌, Some, None, unwrap_or, refl}
 use Rattle.ucd.specs.Tables.{mirror_of}
-use Rattle.ucd.specs.declared.bidi_class.BidiClass.TheVariants.{L, R, S, B, WS, PDI, RLI, RLE, PDF}
+use Rattle.ucd.specs.declared.bidi_class.BidiClass.TheVariants.{L, R, EN, NSM, S, B, WS, PDI, RLI, RLE, PDF}
 use Rattle.ucd.specs.declared.tables.Tables.{Tables}
 use Rattle.lines.specs.Mirroring.{visual_chars}
-use Rattle.lines.specs.Order.{lowest_odd, ltov_of, vtol_of}
+use Rattle.lines.specs.Order.{lowest_odd, ltov_of, order_of, vtol_of}
 use Rattle.lines.specs.Spaces.{line_levels}
 
 -- a space in the line keeps its level; one in front of a tab, and one at the end, with what stands between, does not
@@ -19,43 +19,43 @@ blanks : line_levels 0 (WS ∷ WS ∷ []) (1 ∷ 3 ∷ []) ≡ 0 ∷ 0 ∷ []
 blanks = refl
 
 -- one interval, and the characters around it
-middle : vtol_of (0 ∷ 0 ∷ 1 ∷ 1 ∷ 0 ∷ []) ≡ 0 ∷ 1 ∷ 3 ∷ 2 ∷ 4 ∷ []
-unfolding vtol_of
+middle : order_of (0 ∷ 0 ∷ 1 ∷ 1 ∷ 0 ∷ []) ≡ 0 ∷ 1 ∷ 3 ∷ 2 ∷ 4 ∷ []
+unfolding order_of
 middle = refl
 
 -- a higher level in a line from right to left
-number : vtol_of (1 ∷ 1 ∷ 2 ∷ 2 ∷ []) ≡ 2 ∷ 3 ∷ 1 ∷ 0 ∷ []
-unfolding vtol_of
+number : order_of (1 ∷ 1 ∷ 2 ∷ 2 ∷ []) ≡ 2 ∷ 3 ∷ 1 ∷ 0 ∷ []
+unfolding order_of
 number = refl
 
-number_places : ltov_of (1 ∷ 1 ∷ 2 ∷ 2 ∷ []) ≡ 3 ∷ 2 ∷ 0 ∷ 1 ∷ []
-unfolding ltov_of vtol_of
+number_places : ltov_of false [] (1 ∷ 1 ∷ 2 ∷ 2 ∷ []) ≡ 3 ∷ 2 ∷ 0 ∷ 1 ∷ []
+unfolding ltov_of vtol_of order_of
 number_places = refl
 
-digit : vtol_of (1 ∷ 1 ∷ 2 ∷ []) ≡ 2 ∷ 1 ∷ 0 ∷ []
-unfolding vtol_of
+digit : order_of (1 ∷ 1 ∷ 2 ∷ []) ≡ 2 ∷ 1 ∷ 0 ∷ []
+unfolding order_of
 digit = refl
 
 -- no odd level
-even : vtol_of (2 ∷ 2 ∷ []) ≡ 0 ∷ 1 ∷ []
-unfolding vtol_of
+even : order_of (2 ∷ 2 ∷ []) ≡ 0 ∷ 1 ∷ []
+unfolding order_of
 even = refl
 
-even_levels : vtol_of (0 ∷ 2 ∷ []) ≡ 0 ∷ 1 ∷ []
-unfolding vtol_of
+even_levels : order_of (0 ∷ 2 ∷ []) ≡ 0 ∷ 1 ∷ []
+unfolding order_of
 even_levels = refl
 
-nested : vtol_of (1 ∷ 2 ∷ 3 ∷ 2 ∷ 1 ∷ []) ≡ 4 ∷ 1 ∷ 2 ∷ 3 ∷ 0 ∷ []
-unfolding vtol_of
+nested : order_of (1 ∷ 2 ∷ 3 ∷ 2 ∷ 1 ∷ []) ≡ 4 ∷ 1 ∷ 2 ∷ 3 ∷ 0 ∷ []
+unfolding order_of
 nested = refl
 
 -- not reversed at level 2, which is below the lowest odd one
-above : vtol_of (3 ∷ 3 ∷ 2 ∷ 0 ∷ []) ≡ 1 ∷ 0 ∷ 2 ∷ 3 ∷ []
-unfolding vtol_of
+above : order_of (3 ∷ 3 ∷ 2 ∷ 0 ∷ []) ≡ 1 ∷ 0 ∷ 2 ∷ 3 ∷ []
+unfolding order_of
 above = refl
 
-nothing : vtol_of [] ≡ []
-unfolding vtol_of
+nothing : order_of [] ≡ []
+unfolding order_of
 nothing = refl
 
 lowest : lowest_odd (2 ∷ 5 ∷ 3 ∷ 4 ∷ []) ≡ Some 3
@@ -63,6 +63,46 @@ lowest = refl
 
 no_odd : lowest_odd (2 ∷ 4 ∷ []) ≡ None
 no_odd = refl
+
+-- a mark stands in front of its base, and with the option behind it
+point : vtol_of false (R ∷ NSM ∷ R ∷ []) (1 ∷ 1 ∷ 1 ∷ []) ≡ 2 ∷ 1 ∷ 0 ∷ []
+unfolding vtol_of order_of
+point = refl
+
+point_read : vtol_of true (R ∷ NSM ∷ R ∷ []) (1 ∷ 1 ∷ 1 ∷ []) ≡ 2 ∷ 0 ∷ 1 ∷ []
+unfolding vtol_of order_of
+point_read = refl
+
+point_places : ltov_of true (R ∷ NSM ∷ R ∷ []) (1 ∷ 1 ∷ 1 ∷ []) ≡ 1 ∷ 2 ∷ 0 ∷ []
+unfolding ltov_of vtol_of order_of
+point_places = refl
+
+points_read : vtol_of true (R ∷ NSM ∷ NSM ∷ []) (1 ∷ 1 ∷ 1 ∷ []) ≡ 0 ∷ 1 ∷ 2 ∷ []
+unfolding vtol_of order_of
+points_read = refl
+
+-- at an even level it stands behind it anyway
+digit_read : vtol_of true (R ∷ EN ∷ NSM ∷ []) (1 ∷ 2 ∷ 2 ∷ []) ≡ 1 ∷ 2 ∷ 0 ∷ []
+unfolding vtol_of order_of
+digit_read = refl
+
+digit_places : ltov_of true (R ∷ EN ∷ NSM ∷ []) (1 ∷ 2 ∷ 2 ∷ []) ≡ 2 ∷ 0 ∷ 1 ∷ []
+unfolding ltov_of vtol_of order_of
+digit_places = refl
+
+-- a mark at another level than the character in front of it has no base, nor has one at the start, nor one behind such a mark
+other_level : vtol_of true (R ∷ NSM ∷ NSM ∷ []) (1 ∷ 3 ∷ 3 ∷ []) ≡ 2 ∷ 1 ∷ 0 ∷ []
+unfolding vtol_of order_of
+other_level = refl
+
+no_base : vtol_of true (NSM ∷ NSM ∷ R ∷ NSM ∷ []) (1 ∷ 1 ∷ 1 ∷ 1 ∷ []) ≡ 2 ∷ 3 ∷ 1 ∷ 0 ∷ []
+unfolding vtol_of order_of
+no_base = refl
+
+-- what is not shown stays out of it
+shown_part : vtol_of true (R ∷ NSM ∷ NSM ∷ []) (1 ∷ 1 ∷ []) ≡ 0 ∷ 1 ∷ []
+unfolding vtol_of order_of
+shown_part = refl
 
 -- a character at level 1 is mirrored, and one at level 2 is not
 mirrors : (t : Tables) → visual_chars t (1 ∷ 2 ∷ 0 ∷ []) (40 ∷ 41 ∷ 97 ∷ []) (1 ∷ 0 ∷ 2 ∷ []) ≡ 41 ∷ unwrap_or (mirror_of t 40) 40 ∷ 97 ∷ []

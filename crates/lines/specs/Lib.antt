@@ -4,6 +4,7 @@ pub mod Bytes
 pub mod Clusters
 pub mod Engine
 pub mod Filling
+pub mod Groups
 pub mod Kept
 pub mod Layouts
 pub mod Lists

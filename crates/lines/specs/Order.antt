@@ -1,7 +1,10 @@
--- The visual order of a line's characters (UAX #9, L2), by their levels after L1.
-use Rattle.std.specs.Prelude.{◌≡◌, ℕ, zero, suc, ◌-◌, ◌%◌, ◌<◌, nat_le, ◌==◌, max, Bool, ◌&&◌, List, [], ◌∷◌, ◌++◌, length, map, fold, slice_index, Option, Some, None, if◌then◌else◌}
+-- The visual order of a line's characters (UAX #9, L2), by their levels after L1, and with an option marks in reading order (L3).
+use Rattle.std.specs.Prelude.{◌≡◌, ℕ, zero, suc, ◌-◌, ◌%◌, ◌<◌, nat_le, ◌==◌, max, Bool, false, ◌&&◌, ◌||◌, not, List, [], ◌∷◌, ◌++◌, length, map, fold, slice_index, Option, Some, None, if◌then◌else◌}
 use Rattle.std.specs.List.{list_any, position_or_len, range_with_len}
+use Rattle.ucd.specs.declared.bidi_class.BidiClass.{BidiClass}
+use Rattle.bidi.specs.Classes.{class_at}
 use Rattle.bidi.specs.Least.{least}
+use Rattle.bidi.specs.Weak.{is_mark}
 
 -- a list with each maximal interval of items that pass a test reversed; `run` is the interval under way, reversed
 abbrev pub reverse_runs : (ℕ → Bool) → List ℕ → List ℕ → List ℕ
@@ -37,17 +40,43 @@ module _ (levels : List ℕ) where
   places = range_with_len 0 (length levels)
 
   -- reversed for each level from the highest down to the lowest odd one, if there is one
-  abbrev pub vtol_by : Option ℕ → List ℕ
-  vtol_by None = places
-  vtol_by (Some low) = reversed_from low (suc highest - low) places
+  abbrev pub order_by : Option ℕ → List ℕ
+  order_by None = places
+  order_by (Some low) = reversed_from low (suc highest - low) places
 
--- of each visual position, the place in the line
-unfoldable pub vtol_of : List ℕ → List ℕ
-vtol_of levels = vtol_by levels (lowest_odd levels)
+-- L2: of each visual position, the place in the line
+unfoldable pub order_of : List ℕ → List ℕ
+order_of levels = order_by levels (lowest_odd levels)
+
+-- a list with each maximal interval of items that pass a test reversed together with the item behind it; `run` is the interval under
+-- way, reversed
+abbrev pub reverse_with_next : (ℕ → Bool) → List ℕ → List ℕ → List ℕ
+reverse_with_next test run [] = run
+reverse_with_next test run (i ∷ items) = if test i then reverse_with_next test (i ∷ run) items else i ∷ (run ++ reverse_with_next test [] items)
+
+-- by the classes that the characters of a line have in the tables
+abbrev pub is_mark_at : List BidiClass → ℕ → Bool
+is_mark_at classes i = is_mark (class_at classes i)
+
+-- and by the levels of its shown part
+module _ (classes : List BidiClass) (levels : List ℕ) where
+  -- the character behind this one is a mark, and both are at the same, odd level
+  abbrev pub precedes_mark : ℕ → Bool
+  precedes_mark i = is_mark_at classes (suc i) && (is_odd (slice_index levels i) && (slice_index levels (suc i) == slice_index levels i))
+
+  -- A mark has a base if the character in front of it is at the same, odd level, and is no mark, or has a base too.
+  abbrev pub has_base : ℕ → Bool
+  has_base zero = false
+  has_base (suc i) = precedes_mark i && (not (is_mark_at classes i) || has_base i)
+
+-- Of each visual position, the place in the line. In L2's order marks that have a base stand in front of it, the last one first; with the
+-- option this is reversed.
+unfoldable pub vtol_of : Bool → List BidiClass → List ℕ → List ℕ
+vtol_of reordernsm classes levels = if reordernsm then reverse_with_next (has_base classes levels) [] (order_of levels) else order_of levels
 
 -- of each place in the line, the visual position
-unfoldable pub ltov_of : List ℕ → List ℕ
-ltov_of levels = map (λ k. position_or_len (λ i. i == k) (vtol_of levels)) (places levels)
+unfoldable pub ltov_of : Bool → List BidiClass → List ℕ → List ℕ
+ltov_of reordernsm classes levels = map (λ k. position_or_len (λ i. i == k) (vtol_of reordernsm classes levels)) (places levels)
 
 -- each of two lists of numbers below n says where a number stands in the other
 pub record AreInverse (n : ℕ) (vtol ltov : List ℕ) : Type 0 where

@@ -26,9 +26,10 @@ pub record IsShown (tables : Tables) (options : Options) (base : ℕ) (line old 
   pub columns_are : part.columns ≡ columns (shown places)
   pub within : part.len ≤ length line
   pub levels_are : take part.len levels ≡ take part.len (line_levels base (map (class_of tables) line) old)
-  pub ltov_is : take part.len ltov ≡ ltov_of (take part.len levels)
-  pub vtol_is : take part.len vtol ≡ vtol_of (take part.len levels)
-  pub chars_are : take part.len chars ≡ visual_chars tables (take part.len levels) (take part.len line) (vtol_of (take part.len levels))
+  pub ltov_is : take part.len ltov ≡ ltov_of options.reordernsm (map (class_of tables) line) (take part.len levels)
+  pub vtol_is : take part.len vtol ≡ vtol_of options.reordernsm (map (class_of tables) line) (take part.len levels)
+  pub chars_are : take part.len chars
+      ≡ visual_chars tables (take part.len levels) (take part.len line) (vtol_of options.reordernsm (map (class_of tables) line) (take part.len levels))
   pub vtol_within : AreWithin part.len (take part.len vtol)
 
 abbrev pub nothing_shown : Shown

@@ -22,19 +22,21 @@ pub record Line : Type 0 where
 
 -- a paragraph of which all is known but its lines
 module _ (tables : Tables) (options : Options) (base : ℕ) (text levels : List ℕ) (places : List Place) where
-  -- L1 is applied to the whole line from s up to e, L2 and L4 to its shown part
+  -- L1 is applied to the whole line from s up to e, L2, L3 and L4 to its shown part
   abbrev pub line_between : ℕ → ℕ → Line
   line_between s e =
       let part = shown (slice_range places s e) in
       let line = slice_range text s e in
-      let part_levels = take (length part) (line_levels base (map (class_of tables) line) (slice_range levels s e)) in
+      let classes = map (class_of tables) line in
+      let part_levels = take (length part) (line_levels base classes (slice_range levels s e)) in
+      let vtol = vtol_of options.reordernsm classes part_levels in
       record {
         start = s;
         columns = columns part;
         levels = part_levels;
-        ltov = ltov_of part_levels;
-        vtol = vtol_of part_levels;
-        chars = visual_chars tables part_levels (take (length part) line) (vtol_of part_levels);
+        ltov = ltov_of options.reordernsm classes part_levels;
+        vtol = vtol;
+        chars = visual_chars tables part_levels (take (length part) line) vtol;
       }
 
   -- each line ends where the next one starts, the last one with the paragraph

@@ -8,7 +8,8 @@ pub struct Options {
     pub base: Base,
     /// Whether lines end at mandatory breaks only.
     pub nobreak: bool,
-    /// Asks for marks in reading order. Nothing goes by it yet.
+    /// Each character at an odd level stands in front of the marks that follow it at the same level, which
+    /// stand in reading order, and not behind them (UAX #9, L3).
     pub reordernsm: bool,
     /// Asks for whole numbers. Nothing goes by it yet.
     pub whole_numbers: bool,

@@ -1,31 +1,45 @@
-//! The visual order of one line (UAX #9, L2).
-ghost use Rattle.std.specs.Prelude.{◌≡◌, ◌<◌, ◌≤◌, ◌==◌, min, if◌then◌else◌};
-ghost use Rattle.std.specs.Prelude.{ℕ, List, [], length, map, unwrap_or, IfSome};
+//! The visual order of one line (UAX #9, L2), and marks in reading order where they are asked for (L3).
+ghost use Rattle.std.specs.Prelude.{◌≡◌, ◌<◌, ◌≤◌, ◌==◌, ◌++◌, min, if◌then◌else◌};
+ghost use Rattle.std.specs.Prelude.{ℕ, Bool, List, [], length, map, take, drop, unwrap_or, IfSome};
 ghost use Rattle.std.specs.List.{position_or_len, prefix_len, range_with_len};
 ghost use Rattle.std.specs.List.Sorted.{IsPermutation};
 ghost use Rattle.bidi.specs.Runs.{AreWithin};
-ghost use Rattle.lines.specs.Order.{highest, is_at_least, is_odd, lowest_odd, ltov_of, reverse_runs, vtol_of};
-ghost use Rattle.lines.specs.Order.{AreInverse};
+ghost use Rattle.ucd.specs.declared.bidi_class.BidiClass.{BidiClass};
+ghost use Rattle.bidi.specs.Classes.{class_in};
+ghost use Rattle.lines.specs.Groups.{is_bound, AreBound};
+ghost use Rattle.lines.specs.Order.{has_base, highest, is_at_least, is_mark_at, is_odd, lowest_odd, ltov_of};
+ghost use Rattle.lines.specs.Order.{order_of, reverse_runs, reverse_with_next, vtol_of, AreInverse};
+
+use ucd::{BidiClass, Properties};
 
 /// Orders a line, or a part of it, by the levels of its characters after L1: writes the place of each
-/// visual position to `vtol`, and the visual position of each place to `ltov`.
-pub fn order(levels: &[u8], vtol: &mut [u32], ltov: &mut [u32])
+/// visual position to `vtol`, and the visual position of each place to `ltov`. With `reordernsm`, marks stand
+/// in reading order.
+pub fn order(
+    line: &[Properties],
+    levels: &[u8],
+    reordernsm: bool,
+    vtol: &mut [u32],
+    ltov: &mut [u32],
+)
+    requires line { length levels.now ≤ length line.now }
     requires vtol { length vtol.old ≡ length levels.now }
     requires ltov { length ltov.old ≡ length levels.now }
     requires within { length levels.now ≤ 1048576 }
-    ensures vtol { vtol.new ≡ vtol_of levels.now }
-    ensures ltov { ltov.new ≡ ltov_of levels.now }
+    ensures vtol { vtol.new ≡ vtol_of reordernsm (map class_in line.now) levels.now }
+    ensures ltov { ltov.new ≡ ltov_of reordernsm (map class_in line.now) levels.now }
     ensures within { AreWithin (length levels.now) vtol.new }
     ensures inverse { AreInverse (length levels.now) vtol.new ltov.new }
 {
     identity(vtol);
-    reverse_levels(levels, vtol);
+    arrange(line, levels, reordernsm, vtol);
     invert(vtol, ltov);
 }
 
 /// The two maps of a line are inverse, whatever its levels are: a law, which takes no time.
 pub fn maps_are_inverse()
-    ensures { (levels : List ℕ) → AreInverse (length levels) (vtol_of levels) (ltov_of levels) }
+    ensures { (reordernsm : Bool) (classes : List BidiClass) (levels : List ℕ) → AreInverse (length levels)
+        (vtol_of reordernsm classes levels) (ltov_of reordernsm classes levels) }
 {}
 
 /// Writes 0, 1, and so on.
@@ -38,10 +52,94 @@ pub fn identity(items: &mut [u32])
     }
 }
 
+// Puts places into visual order.
+fn arrange(line: &[Properties], levels: &[u8], reordernsm: bool, vtol: &mut [u32])
+    requires line { length levels.now ≤ length line.now }
+    requires vtol { vtol.old ≡ range_with_len 0 (length levels.now) }
+    requires within { length levels.now ≤ 1048576 }
+    ensures { vtol.new ≡ vtol_of reordernsm (map class_in line.now) levels.now }
+{
+    reverse_levels(levels, vtol);
+    if reordernsm {
+        reverse_groups(line, levels, vtol);
+    }
+}
+
+// Reverses each base at an odd level with the marks that L2 put in front of it.
+fn reverse_groups(line: &[Properties], levels: &[u8], vtol: &mut [u32])
+    requires line { length levels.now ≤ length line.now }
+    requires vtol { vtol.old ≡ order_of levels.now }
+    requires within { length levels.now ≤ 1048576 }
+    ensures { vtol.new ≡ reverse_with_next (has_base (map class_in line.now) levels.now) [] vtol.old }
+{
+    let mut start = 0;
+    while start < vtol.len() {
+        start += reverse_group(line, levels, &mut vtol[start..]);
+    }
+}
+
+// Reverses the group that begins there, if one does, and says how many places are done: up to a base, or up
+// to a mark that has none.
+fn reverse_group(line: &[Properties], levels: &[u8], items: &mut [u32]) -> usize
+    requires line { length levels.now ≤ length line.now }
+    requires items { (start : ℕ) × (items.old ≡ drop start (order_of levels.now)) }
+    requires some { 0 < length items.old }
+    requires within { length levels.now ≤ 1048576 }
+    ensures len { (0 < result) × (result ≤ length items.old) }
+    ensures rest { drop result items.new ≡ drop result items.old }
+    ensures done { reverse_with_next (has_base (map class_in line.now) levels.now) [] items.old
+        ≡ take result items.new
+        ++ reverse_with_next (has_base (map class_in line.now) levels.now) [] (drop result items.old) }
+{
+    let len = bound_len(line, levels, items);
+    if !is_mark_at(line, items[len]) {
+        items[..len + 1].reverse();
+    }
+    len + 1
+}
+
+// How many places of marks stand there in front of the character that they follow.
+fn bound_len(line: &[Properties], levels: &[u8], items: &[u32]) -> usize
+    requires line { length levels.now ≤ length line.now }
+    requires items { AreWithin (length levels.now) items.now }
+    requires some { 0 < length items.now }
+    ensures { AreBound (map class_in line.now) levels.now items.now result }
+{
+    let mut len = 0;
+    while len + 1 < items.len() && is_bound(line, levels, items[len], items[len + 1]) {
+        len += 1;
+    }
+    len
+}
+
+// Whether a mark follows a character, and both are at the same, odd level.
+fn is_bound(line: &[Properties], levels: &[u8], place: u32, next: u32) -> bool
+    requires line { length levels.now ≤ length line.now }
+    requires places { (place < length levels.now) × (next < length levels.now) }
+    ensures { result ≡ is_bound (map class_in line.now) levels.now place next }
+{
+    let (at, before) = (place as usize, next as usize);
+    before + 1 == at
+        && is_mark_at(line, place)
+        && levels[before] % 2 == 1
+        && levels[at] == levels[before]
+}
+
+// Whether the character at a place is a mark by the tables.
+fn is_mark_at(line: &[Properties], place: u32) -> bool
+    requires { place < length line.now }
+    ensures { result ≡ is_mark_at (map class_in line.now) place }
+{
+    match line[place as usize].bidi_class() {
+        BidiClass::NSM => true,
+        _ => false,
+    }
+}
+
 // Reverses the intervals of each level from the highest down to the lowest odd one, if there is one.
 fn reverse_levels(levels: &[u8], vtol: &mut [u32])
     requires { vtol.old ≡ range_with_len 0 (length levels.now) }
-    ensures { vtol.new ≡ vtol_of levels.now }
+    ensures { vtol.new ≡ order_of levels.now }
 {
     let (highest, lowest) = highest_and_lowest_odd(levels);
     if let Some(lowest) = lowest {

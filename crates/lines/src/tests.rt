@@ -3,6 +3,7 @@ ghost use Rattle.std.specs.Prelude.{◌<◌, IfOk};
 ghost use Rattle.lines.specs.Engine.{rules_of, SameRules};
 ghost use Rattle.lines.specs.Layouts.{AreLinesOf, IsLaidOut};
 
+mod marks;
 mod printed;
 mod written;
 
@@ -25,14 +26,18 @@ const FILES: UcdFiles<'_> = UcdFiles {
 };
 
 fn engine(alloc: Global, nobreak: bool) -> Result<Engine, Fail> {
-    let tables = match Tables::read(alloc, &FILES) {
-        Err(fault) if fault.cause == Cause::Memory => Tables::read(alloc, &FILES)?,
-        tables => tables?,
-    };
     let options = Options {
         base: Base::WeakLtr,
         nobreak,
         ..Options::default()
+    };
+    engine_by(alloc, &FILES, options)
+}
+
+fn engine_by(alloc: Global, files: &UcdFiles<'_>, options: Options) -> Result<Engine, Fail> {
+    let tables = match Tables::read(alloc, files) {
+        Err(fault) if fault.cause == Cause::Memory => Tables::read(alloc, files)?,
+        tables => tables?,
     };
     Ok(Engine::new(tables, options))
 }

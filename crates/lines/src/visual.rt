@@ -1,5 +1,5 @@
 //! The lines of a paragraph as they are shown, and one of them, which borrows from its paragraph.
-ghost use Rattle.std.specs.Prelude.{◌≡◌, ◌<◌, ◌≤◌, ℕ, true, false, length, map, slice_index, OnOk};
+ghost use Rattle.std.specs.Prelude.{◌≡◌, ◌<◌, ◌≤◌, ℕ, true, false, length, map, take, slice_index, OnOk};
 ghost use Rattle.std.specs.List.{range_with_len};
 ghost use Rattle.ucd.specs.Properties.{properties_of};
 ghost use Rattle.bidi.specs.Classes.{class_in};
@@ -273,7 +273,8 @@ fn show_line(
     show_part(
         tables,
         &line[..n],
-        &properties[..n],
+        properties,
+        options,
         &levels[..n],
         is_flat,
         &mut ltov[..n],
@@ -345,29 +346,32 @@ fn show_plain(part: &[char], ltov: &mut [u32], vtol: &mut [u32], chars: &mut [ch
 fn show_part(
     tables: &Tables,
     part: &[char],
-    properties: &[Properties],
+    line: &[Properties],
+    options: Options,
     levels: &[u8],
     is_flat: bool,
     ltov: &mut [u32],
     vtol: &mut [u32],
     chars: &mut [char],
 )
-    requires properties { properties.now ≡ map (properties_of tables.now) part.now }
     requires levels { (length levels.now ≡ length part.now) × (length part.now ≤ 1048576) }
+    requires line { length levels.now ≤ length line.now }
+    requires properties { take (length part.now) line.now ≡ map (properties_of tables.now) part.now }
     requires flat { is_flat ≡ true → (k : ℕ) → slice_index levels.now k ≡ 0 }
     requires ltov { length ltov.old ≡ length part.now }
     requires vtol { length vtol.old ≡ length part.now }
     requires chars { length chars.old ≡ length part.now }
-    ensures ltov { ltov.new ≡ ltov_of levels.now }
-    ensures vtol { vtol.new ≡ vtol_of levels.now }
-    ensures chars { chars.new ≡ visual_chars tables.now levels.now part.now (vtol_of levels.now) }
+    ensures ltov { ltov.new ≡ ltov_of options.reordernsm (map class_in line.now) levels.now }
+    ensures vtol { vtol.new ≡ vtol_of options.reordernsm (map class_in line.now) levels.now }
+    ensures chars { chars.new ≡ visual_chars tables.now levels.now part.now
+        (vtol_of options.reordernsm (map class_in line.now) levels.now) }
     ensures within { AreWithin (length levels.now) vtol.new }
 {
     if is_plain(levels, is_flat) {
         show_plain(part, ltov, vtol, chars);
     } else {
-        order(levels, vtol, ltov);
-        visual_chars(tables, part, properties, levels, vtol, chars);
+        order(line, levels, options.reordernsm, vtol, ltov);
+        visual_chars(tables, part, &line[..part.len()], levels, vtol, chars);
     }
 }
 

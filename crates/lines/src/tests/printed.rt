@@ -134,7 +134,7 @@ fn is_printed(
     )
 }
 
-fn are_printed(
+pub(super) fn are_printed(
     alloc: Global,
     engine: &mut Engine,
     rows: &[(&str, u16, Print, &str)],

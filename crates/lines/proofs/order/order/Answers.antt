@@ -1,24 +1,27 @@
-use Rattle.std.proofs.Common.{sym, ◌∙◌, arith}
+use Rattle.std.proofs.Common.{map, sym, ◌∙◌, arith}
+use Rattle.bidi.specs.Classes.{class_in}
 use Rattle.lines.proofs.OrderLemmas.{is_ltov, length-vtol, order_permutes}
 use Rattle.lines.proofs.order.order.Goals as goal
 
 pub invert-requires : goal.invert-requires
 invert-requires c =
-    let size = length-vtol c.args.levels.now c.reverse_levels.new.vtol c.reverse_levels.ensures in
+    let classes = map class_in c.args.line.now in
+    let size = length-vtol c.args.reordernsm classes c.args.levels.now c.arrange.new.vtol c.arrange.ensures in
     record {
-      places = order_permutes _ _ c.reverse_levels.ensures;
+      places = order_permutes c.args.reordernsm classes c.args.levels.now c.arrange.new.vtol c.arrange.ensures;
       len = c.requires.ltov ∙ sym size;
-      within = omega arith;
+      within = omega (arith, size, c.requires.within);
     }
 
 pub returns : goal.returns
 returns c =
-    let vtol = c.reverse_levels.new.vtol in
-    let size = length-vtol c.args.levels.now vtol c.reverse_levels.ensures in
+    let classes = map class_in c.args.line.now in
+    let vtol = c.arrange.new.vtol in
+    let size = length-vtol c.args.reordernsm classes c.args.levels.now vtol c.arrange.ensures in
     let inverse = rw size at c.invert.ensures.inverse in
     record {
-      vtol = c.reverse_levels.ensures;
-      ltov = is_ltov _ _ _ c.reverse_levels.ensures c.invert.ensures.ltov;
-      within = λ k h. inverse.vtol_within k (omega arith);
+      vtol = c.arrange.ensures;
+      ltov = is_ltov c.args.reordernsm classes c.args.levels.now vtol _ c.arrange.ensures c.invert.ensures.ltov;
+      within = λ k h. inverse.vtol_within k (omega (arith, h, size));
       inverse = inverse;
     }
