@@ -1,17 +1,17 @@
 -- What the tables of the walk say is what the rules say, computed for each entry.
 use Rattle.std.proofs.Common.{◌≡◌, ℕ, ◌+◌, ◌*◌, ◌/◌, ◌%◌, ◌==◌, nat_lt, nat_le, Bool, true, false, not, ◌&&◌, ◌||◌, List, [], ◌∷◌, map, get_or, refl, if◌then◌else◌}
 use Rattle.std.proofs.Math.ListN.{set}
-use Rattle.ucd.specs.declared.line_class.LineClass.TheVariants.{CM, ZWJ}
+use Rattle.ucd.specs.declared.line_class.LineClass.TheVariants.{CM, NU, OP, ZWJ}
 use Rattle.breaks.specs.Bases.{Base, alone}
 use Rattle.breaks.specs.Classes.{is_same, is_one_of}
-use Rattle.breaks.specs.Rules.{rules, is}
+use Rattle.breaks.specs.Rules.{rows_before_numbers, rows_of_numbers, rows_behind_numbers, is}
 use Rattle.breaks.specs.Symbols.{shown}
-use Rattle.breaks.specs.Walk.{bases_at, unattached, answers, carried, mark_at}
+use Rattle.breaks.specs.Walk.{base, bases_at, unattached, answers, carried, decided_at, mark_of, rows}
 use Rattle.breaks.specs.declared.character.Character.{Character}
 use Rattle.breaks.specs.declared.mark.Mark.{Mark}
 use Rattle.breaks.specs.declared.mark.Mark.TheVariants.{Never, May, Must}
-use Rattle.breaks.specs.declared.symbol.TheConstants.{JOINER, SYMBOLS}
-use Rattle.breaks.specs.declared.table.TheConstants.{PARTS, STAYS, TABLE}
+use Rattle.breaks.specs.declared.symbol.TheConstants.{ATTACHED, DIGIT, JOINER, SYMBOLS}
+use Rattle.breaks.specs.declared.table.TheConstants.{PARTS, STAYS, TABLE, WAITS}
 use Rattle.breaks.proofs.BoolLemmas.{same, all_same, all_below}
 
 -- the mark of the first rule of which both answers are true, and LB31 where there is none
@@ -19,15 +19,24 @@ abbrev pub decide : List Mark → List Bool → List Bool → Mark
 decide (mark ∷ marks) (before ∷ befores) (behind ∷ behinds) = if before && behind then mark else decide marks befores behinds
 decide _ _ _ = May
 
-abbrev pub marks_by_rule : List Mark
-marks_by_rule = map (λ rule. rule.mark) rules
+abbrev pub marks_by_row : Bool → List Mark
+marks_by_row whole_numbers = map (λ row. row.mark) (rows whole_numbers)
 
-abbrev pub behinds : Character → List Bool
-behinds c = map (λ rule. rule.behind (alone c ∷ [])) rules
+-- the answers of what stands behind: a character that begins a base, and whether the base behind that is NU
+abbrev pub bases_behind : Character → Bool → List Base
+bases_behind c true = alone c ∷ base NU ∷ []
+bases_behind c false = alone c ∷ []
 
--- the answers of all rules: LB8a is the eighth, LB30b of pictographs the last
-abbrev pub answered_with : Bool → Bool → List Bool → List Bool
-answered_with is_joined is_pictograph answers = set (set answers 7 is_joined) 47 is_pictograph
+abbrev pub behinds : Bool → Character → Bool → List Bool
+behinds whole_numbers c before_digit = map (λ row. row.behind (bases_behind c before_digit)) (rows whole_numbers)
+
+-- the answers of all rows: LB8a is the eighth, LB30b of pictographs the last
+abbrev pub last_row : Bool → ℕ
+last_row true = 48
+last_row false = 47
+
+abbrev pub answered_with : Bool → Bool → Bool → List Bool → List Bool
+answered_with whole_numbers is_joined is_pictograph answers = set (set answers 7 is_joined) (last_row whole_numbers) is_pictograph
 
 -- whether two marks are the same
 abbrev pub is_mark : Mark → Mark → Bool
@@ -41,41 +50,66 @@ abbrev pub stays : ℕ → ℕ → Bool
 stays state symbol = is_one_of (CM ∷ ZWJ ∷ []) (shown symbol).class && not (is unattached (bases_at state))
 
 -- the bases of one state are to the rules as those of another
-abbrev pub is_as : List Base → List Base → Bool
-is_as bases others = all_same (answers bases) (answers others) && all_same (carried bases) (carried others)
+abbrev pub is_as : Bool → List Base → List Base → Bool
+is_as whole_numbers bases others =
+    all_same (answers whole_numbers bases) (answers whole_numbers others) && all_same (carried bases) (carried others)
 
 -- an outcome is the mark that the rules give
-abbrev pub gives : ℕ → ℕ → ℕ → Bool → Bool → Bool
-gives state symbol outcome is_joined is_pictograph =
-    is_mark (mark_at outcome is_joined is_pictograph)
-    (decide marks_by_rule (answered_with is_joined is_pictograph (answers (bases_at state))) (behinds (shown symbol)))
+abbrev pub gives : Bool → ℕ → ℕ → ℕ → Bool → Bool → Bool → Bool
+gives whole_numbers state symbol outcome is_joined is_pictograph before_digit =
+    is_mark (mark_of whole_numbers (decided_at outcome is_joined is_pictograph) before_digit)
+    (decide (marks_by_row whole_numbers)
+    (answered_with whole_numbers is_joined is_pictograph (answers whole_numbers (bases_at state)))
+    (behinds whole_numbers (shown symbol) before_digit))
+
+abbrev pub gives_both : Bool → ℕ → ℕ → ℕ → Bool → Bool → Bool
+gives_both whole_numbers state symbol outcome is_joined is_pictograph =
+    gives whole_numbers state symbol outcome is_joined is_pictograph false
+    && gives whole_numbers state symbol outcome is_joined is_pictograph true
 
 -- where a ZWJ is the last character, the last base is one to which a character may be attached
-abbrev pub gives_each : ℕ → ℕ → ℕ → Bool
-gives_each state symbol outcome =
-    (gives state symbol outcome false false && gives state symbol outcome false true)
-    && (is unattached (bases_at state) || (gives state symbol outcome true false && gives state symbol outcome true true))
+abbrev pub gives_each : Bool → ℕ → ℕ → ℕ → Bool
+gives_each whole_numbers state symbol outcome =
+    (gives_both whole_numbers state symbol outcome false false && gives_both whole_numbers state symbol outcome false true)
+    && (is unattached (bases_at state)
+    || (gives_both whole_numbers state symbol outcome true false && gives_both whole_numbers state symbol outcome true true))
 
-abbrev pub leads : Bool → ℕ → ℕ → ℕ → ℕ → Bool
-leads true state symbol outcome next =
-    (outcome == STAYS) && (is_as (bases_at state) (bases_at next) && same (is unattached (bases_at state)) (is unattached (bases_at next)))
-leads false state symbol outcome next =
+-- what waits is in front of a character to which others may be attached
+abbrev pub waits_for_base : ℕ → ℕ → Bool
+waits_for_base symbol outcome = not (outcome == WAITS) || is_one_of (OP ∷ []) (shown symbol).class
+
+abbrev pub leads : Bool → Bool → ℕ → ℕ → ℕ → ℕ → Bool
+leads whole_numbers true state symbol outcome next =
+    (outcome == STAYS)
+    && (is_as whole_numbers (bases_at state) (bases_at next)
+    && same (is unattached (bases_at state)) (is unattached (bases_at next)))
+leads whole_numbers false state symbol outcome next =
     not (outcome == STAYS)
-    && (is_as (alone (shown symbol) ∷ bases_at state) (bases_at next)
-    && (same (is_one_of unattached (shown symbol).class) (is unattached (bases_at next)) && gives_each state symbol outcome))
+    && (is_as whole_numbers (alone (shown symbol) ∷ bases_at state) (bases_at next)
+    && (same (is_one_of unattached (shown symbol).class) (is unattached (bases_at next))
+    && (waits_for_base symbol outcome && gives_each whole_numbers state symbol outcome)))
 
-abbrev pub entry_leads : ℕ → ℕ → ℕ → ℕ → Bool
-entry_leads state symbol entry next =
-    (entry / PARTS == next * 40) && (nat_lt next 37 && leads (stays state symbol) state symbol (entry % PARTS) next)
+abbrev pub entry_leads : Bool → ℕ → ℕ → ℕ → ℕ → Bool
+entry_leads whole_numbers state symbol entry next =
+    (entry / PARTS == next * 40)
+    && (nat_lt next 41 && leads whole_numbers (stays state symbol) state symbol (entry % PARTS) next)
 
-abbrev pub is_right : ℕ → ℕ → ℕ → Bool
-is_right state symbol entry = entry_leads state symbol entry (entry / PARTS / 40)
+abbrev pub is_right : Bool → ℕ → ℕ → ℕ → Bool
+is_right whole_numbers state symbol entry = entry_leads whole_numbers state symbol entry (entry / PARTS / 40)
 
-pub table_is_right : all_below 37 (λ state. all_below 40 (λ symbol. is_right state symbol (get_or TABLE (state * 40 + symbol) 0))) ≡ true
-unfolding rules
+abbrev pub all_right : Bool → ℕ → Bool
+all_right whole_numbers state =
+    all_below 40 (λ symbol. is_right whole_numbers state symbol (get_or TABLE (state * 40 + symbol) 0))
+
+pub table_is_right : all_below 41 (all_right false) ≡ true
+unfolding rows rows_before_numbers rows_of_numbers rows_behind_numbers
 table_is_right = refl
 
-pub entries_are_within : all_below 1480 (λ place. nat_le (get_or TABLE place 0 / PARTS) 1440) ≡ true
+pub table_is_right_whole : all_below 41 (all_right true) ≡ true
+unfolding rows rows_before_numbers rows_of_numbers rows_behind_numbers
+table_is_right_whole = refl
+
+pub entries_are_within : all_below 1640 (λ place. nat_le (get_or TABLE place 0 / PARTS) 1600) ≡ true
 entries_are_within = refl
 
 pub symbols_are_within : all_below 512 (λ place. nat_lt (get_or SYMBOLS place 0) 40) ≡ true
@@ -83,3 +117,9 @@ symbols_are_within = refl
 
 pub joiner_is_one : all_below 40 (λ symbol. same (symbol == JOINER) (is_same (shown symbol).class ZWJ)) ≡ true
 joiner_is_one = refl
+
+pub digit_is_one : all_below 40 (λ symbol. same (symbol == DIGIT) (is_same (shown symbol).class NU)) ≡ true
+digit_is_one = refl
+
+pub attached_are_last : all_below 40 (λ symbol. same (nat_lt symbol ATTACHED) (not (is_one_of (CM ∷ ZWJ ∷ []) (shown symbol).class))) ≡ true
+attached_are_last = refl

@@ -1,5 +1,6 @@
 pub mod BoolLemmas
 pub mod Computed
+pub mod NumberLemmas
 pub mod PassLemmas
 pub mod StepLemmas
 pub mod SymbolLemmas

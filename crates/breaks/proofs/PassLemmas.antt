@@ -1,21 +1,21 @@
 -- One step of the walk keeps that its state stands for the bases so far, and finds the mark that the rules give.
-use Rattle.std.proofs.Common.{◌≡◌, ℕ, ◌+◌, ◌*◌, ◌/◌, ◌%◌, ◌<◌, ◌≤◌, ◌==◌, nat_lt, nat_le, Bool, true, false, not, ◌&&◌, ◌||◌, List, [], ◌∷◌, ◌++◌, get_or, refl, sym, ap, ◌∙◌, arith, if◌then◌else◌, inl, inr}
+use Rattle.std.proofs.Common.{◌≡◌, ℕ, ◌+◌, ◌*◌, ◌/◌, ◌%◌, ◌<◌, ◌≤◌, ◌==◌, nat_lt, nat_le, Bool, true, false, not, ◌&&◌, ◌||◌, List, [], ◌∷◌, ◌++◌, map, get_or, refl, sym, ap, ◌∙◌, arith, if◌then◌else◌, inl, inr}
 use Rattle.std.proofs.lemmas.Bool.{cases_Bool}
 use Rattle.ucd.specs.declared.line_class.LineClass.{LineClass}
-use Rattle.ucd.specs.declared.line_class.LineClass.TheVariants.{CM, ZWJ}
-use Rattle.breaks.specs.Bases.{Base, alone, end_of, stays_with}
+use Rattle.ucd.specs.declared.line_class.LineClass.TheVariants.{CM, NU, OP, ZWJ}
+use Rattle.breaks.specs.Bases.{Base, alone, base_class, bases_of, end_of, joined, stays_with}
 use Rattle.breaks.specs.Classes.{is_same, is_one_of}
-use Rattle.breaks.specs.Rules.{rules, mark_by, is}
+use Rattle.breaks.specs.Rules.{rows_before_numbers, rows_of_numbers, rows_behind_numbers, rules, mark_by, is}
 use Rattle.breaks.specs.Symbols.{shown, told}
-use Rattle.breaks.specs.Walk.{Stands, Passes, with_attached, bases_at, unattached, answers, carried, mark_at}
+use Rattle.breaks.specs.Walk.{Stands, Passes, with_attached, bases_at, unattached, answers, carried, decided_at, is_before_digit, mark_of, rows}
 use Rattle.breaks.specs.declared.character.Character.{Character}
 use Rattle.breaks.specs.declared.mark.Mark.{Mark}
 use Rattle.breaks.specs.declared.mark.Mark.TheVariants.{Never, May, Must}
 use Rattle.breaks.specs.declared.symbol.TheConstants.{JOINER}
-use Rattle.breaks.specs.declared.table.TheConstants.{PARTS, STAYS, TABLE}
+use Rattle.breaks.specs.declared.table.TheConstants.{NEVER, PARTS, STAYS, TABLE, UNLESS, WAITS}
 use Rattle.breaks.specs.declared.walk.Walk.{Walk}
-use Rattle.breaks.proofs.BoolLemmas.{both, same, same_is, all_same, all_same_is, all_below, below, is_below, is_within, is_equal}
-use Rattle.breaks.proofs.Computed.{decide, marks_by_rule, behinds, answered_with, is_mark, stays, is_as, gives, gives_each, leads, is_right, table_is_right, entries_are_within}
+use Rattle.breaks.proofs.BoolLemmas.{both, same, same_is, all_same, all_same_is, below, is_below, is_within, is_equal}
+use Rattle.breaks.proofs.Computed.{all_right, decide, marks_by_row, behinds, answered_with, is_mark, stays, is_as, gives, gives_both, gives_each, leads, is_right, table_is_right, table_is_right_whole, entries_are_within, waits_for_base}
 use Rattle.breaks.proofs.StepLemmas.{end_attached, marked, answers_attached, carried_attached, answers_same, carried_same, answers_told, carried_told}
 use Rattle.breaks.proofs.SymbolLemmas.{is_joiner, behinds_told}
 
@@ -47,80 +47,108 @@ and_false : (b : Bool) → (b && false) ≡ false
 and_false true = refl
 and_false false = refl
 
--- the outcome of an entry, in each of the four cases that a walk keeps
-given : (state symbol outcome : ℕ) (is_joined is_pictograph : Bool) → (is_joined ≡ true → is unattached (bases_at state) ≡ false) → gives_each state symbol outcome ≡ true → mark_at outcome is_joined is_pictograph ≡ decide marks_by_rule (answered_with is_joined is_pictograph (answers (bases_at state))) (behinds (shown symbol))
-given state symbol outcome false false free each = is_mark_is _ _ (both _ _ (both _ _ each).0).0
-given state symbol outcome false true free each = is_mark_is _ _ (both _ _ (both _ _ each).0).1
-given state symbol outcome true is_pictograph free each =
-    let joined : (is unattached (bases_at state) || (gives state symbol outcome true false && gives state symbol outcome true true)) ≡ true = (both _ _ each).1 in
-    let whole : (gives state symbol outcome true false && gives state symbol outcome true true) ≡ true = rw (free refl) at joined in
-    elim is_pictograph as (λ p. mark_at outcome true p ≡ decide marks_by_rule (answered_with true p (answers (bases_at state))) (behinds (shown symbol))) [
-      | false ↦ is_mark_is _ _ (both _ _ whole).0
-      | true ↦ is_mark_is _ _ (both _ _ whole).1
+-- the outcome of an entry, in each of the eight cases that a walk knows
+given_both : (whole_numbers : Bool) (state symbol outcome : ℕ) (is_joined is_pictograph before_digit : Bool) → gives_both whole_numbers state symbol outcome is_joined is_pictograph ≡ true → mark_of whole_numbers (decided_at outcome is_joined is_pictograph) before_digit ≡ decide (marks_by_row whole_numbers) (answered_with whole_numbers is_joined is_pictograph (answers whole_numbers (bases_at state))) (behinds whole_numbers (shown symbol) before_digit)
+given_both whole_numbers state symbol outcome is_joined is_pictograph false gives = is_mark_is _ _ (both _ _ gives).0
+given_both whole_numbers state symbol outcome is_joined is_pictograph true gives = is_mark_is _ _ (both _ _ gives).1
+
+given : (whole_numbers : Bool) (state symbol outcome : ℕ) (is_joined is_pictograph before_digit : Bool) → (is_joined ≡ true → is unattached (bases_at state) ≡ false) → gives_each whole_numbers state symbol outcome ≡ true → mark_of whole_numbers (decided_at outcome is_joined is_pictograph) before_digit ≡ decide (marks_by_row whole_numbers) (answered_with whole_numbers is_joined is_pictograph (answers whole_numbers (bases_at state))) (behinds whole_numbers (shown symbol) before_digit)
+given whole_numbers state symbol outcome false false before_digit free each = given_both whole_numbers state symbol outcome false false before_digit (both _ _ (both _ _ each).0).0
+given whole_numbers state symbol outcome false true before_digit free each = given_both whole_numbers state symbol outcome false true before_digit (both _ _ (both _ _ each).0).1
+given whole_numbers state symbol outcome true is_pictograph before_digit free each =
+    let joined : (is unattached (bases_at state) || (gives_both whole_numbers state symbol outcome true false && gives_both whole_numbers state symbol outcome true true)) ≡ true = (both _ _ each).1 in
+    let whole : (gives_both whole_numbers state symbol outcome true false && gives_both whole_numbers state symbol outcome true true) ≡ true = rw (free refl) at joined in
+    elim is_pictograph as (λ p. mark_of whole_numbers (decided_at outcome true p) before_digit ≡ decide (marks_by_row whole_numbers) (answered_with whole_numbers true p (answers whole_numbers (bases_at state))) (behinds whole_numbers (shown symbol) before_digit)) [
+      | false ↦ given_both whole_numbers state symbol outcome true false before_digit (both _ _ whole).0
+      | true ↦ given_both whole_numbers state symbol outcome true true before_digit (both _ _ whole).1
     ]
 
 -- what an entry says
-pub record Leads (state symbol entry : ℕ) : Type 0 where
+pub record Leads (whole_numbers : Bool) (state symbol entry : ℕ) : Type 0 where
   pub next : ℕ
-  pub below : next < 37
+  pub below : next < 41
   pub row : entry / PARTS ≡ next * 40
-  pub leads : leads (stays state symbol) state symbol (entry % PARTS) next ≡ true
+  pub leads : leads whole_numbers (stays state symbol) state symbol (entry % PARTS) next ≡ true
 
-pub entry_is_right : (state symbol row entry : ℕ) → state < 37 → symbol < 40 → row ≡ state * 40 → entry ≡ get_or TABLE (row + symbol) 0 → Leads state symbol entry
-entry_is_right state symbol row entry state_lt symbol_lt begins reads =
-    let at_state = below 37 (λ state. all_below 40 (λ symbol. is_right state symbol (get_or TABLE (state * 40 + symbol) 0))) table_is_right state state_lt in
-    let at_symbol = below 40 (λ symbol. is_right state symbol (get_or TABLE (state * 40 + symbol) 0)) at_state symbol symbol_lt in
-    let right : is_right state symbol entry ≡ true = rw (reads, begins) at_symbol in
+state_is_right : (whole_numbers : Bool) (state : ℕ) → state < 41 → all_right whole_numbers state ≡ true
+state_is_right true state state_lt = below 41 (all_right true) table_is_right_whole state state_lt
+state_is_right false state state_lt = below 41 (all_right false) table_is_right state state_lt
+
+pub entry_is_right : (whole_numbers : Bool) (state symbol row entry : ℕ) → state < 41 → symbol < 40 → row ≡ state * 40 → entry ≡ get_or TABLE (row + symbol) 0 → Leads whole_numbers state symbol entry
+entry_is_right whole_numbers state symbol row entry state_lt symbol_lt begins reads =
+    let at_state = state_is_right whole_numbers state state_lt in
+    let at_symbol = below 40 (λ symbol. is_right whole_numbers state symbol (get_or TABLE (state * 40 + symbol) 0)) at_state symbol symbol_lt in
+    let right : is_right whole_numbers state symbol entry ≡ true = rw (reads, begins) at_symbol in
     let next : ℕ = entry / PARTS / 40 in
-    let leading : Bool = leads (stays state symbol) state symbol (entry % PARTS) next in
-    let row_and : ((entry / PARTS == next * 40) ≡ true) × ((nat_lt next 37 && leading) ≡ true) = both _ _ right in
-    let next_and : (nat_lt next 37 ≡ true) × (leading ≡ true) = both _ _ row_and.1 in
+    let leading : Bool = leads whole_numbers (stays state symbol) state symbol (entry % PARTS) next in
+    let row_and : ((entry / PARTS == next * 40) ≡ true) × ((nat_lt next 41 && leading) ≡ true) = both _ _ right in
+    let next_and : (nat_lt next 41 ≡ true) × (leading ≡ true) = both _ _ row_and.1 in
     record { next = next; below = is_below _ _ next_and.0; row = is_equal _ _ row_and.0; leads = next_and.1 }
 
--- a character that begins a base, behind bases that carry what those of a state do
-pub begins : (state symbol entry : ℕ) (c : Character) (before : List Base) → symbol < 40 → shown symbol ≡ told c → Leads state symbol entry → stays state symbol ≡ false → carried before ≡ carried (bases_at state) → Stands (record { row = entry / PARTS; is_joined = symbol == JOINER; is_pictograph = c.is_future_pictograph }) (alone c) before
-begins state symbol entry c before symbol_lt shows entry_leads begun carry =
-    let led : leads false state symbol (entry % PARTS) entry_leads.next ≡ true = rw begun at entry_leads.leads in
+-- what it says in front of a character that begins a base
+record Begins (whole_numbers : Bool) (state symbol outcome next : ℕ) : Type 0 where
+  answered : answers whole_numbers (alone (shown symbol) ∷ bases_at state) ≡ answers whole_numbers (bases_at next)
+  carries : carried (alone (shown symbol) ∷ bases_at state) ≡ carried (bases_at next)
+  attaches : is_one_of unattached (shown symbol).class ≡ is unattached (bases_at next)
+  waits : waits_for_base symbol outcome ≡ true
+  gives : gives_each whole_numbers state symbol outcome ≡ true
+
+beginning : (whole_numbers : Bool) (state symbol outcome next : ℕ) → leads whole_numbers false state symbol outcome next ≡ true → Begins whole_numbers state symbol outcome next
+beginning whole_numbers state symbol outcome next led =
     let after : List Base = alone (shown symbol) ∷ bases_at state in
-    let next : List Base = bases_at entry_leads.next in
-    let attaching : Bool = same (is_one_of unattached (shown symbol).class) (is unattached next) in
-    let giving : Bool = gives_each state symbol (entry % PARTS) in
-    let rest : (not (entry % PARTS == STAYS) ≡ true) × ((is_as after next && (attaching && giving)) ≡ true) = both _ _ led in
-    let facts : (is_as after next ≡ true) × ((attaching && giving) ≡ true) = both _ _ rest.1 in
-    let as_next : (all_same (answers after) (answers next) ≡ true) × (all_same (carried after) (carried next) ≡ true) = both _ _ facts.0 in
-    let attaches : (attaching ≡ true) × (giving ≡ true) = both _ _ facts.1 in
+    let there : List Base = bases_at next in
+    let attaching : Bool = same (is_one_of unattached (shown symbol).class) (is unattached there) in
+    let waiting : Bool = waits_for_base symbol outcome in
+    let giving : Bool = gives_each whole_numbers state symbol outcome in
+    let rest : (not (outcome == STAYS) ≡ true) × ((is_as whole_numbers after there && (attaching && (waiting && giving))) ≡ true) = both _ _ led in
+    let facts : (is_as whole_numbers after there ≡ true) × ((attaching && (waiting && giving)) ≡ true) = both _ _ rest.1 in
+    let as_next : (all_same (answers whole_numbers after) (answers whole_numbers there) ≡ true) × (all_same (carried after) (carried there) ≡ true) = both _ _ facts.0 in
+    let attaches : (attaching ≡ true) × ((waiting && giving) ≡ true) = both _ _ facts.1 in
+    let waits : (waiting ≡ true) × (giving ≡ true) = both _ _ attaches.1 in
+    record {
+      answered = all_same_is _ _ as_next.0;
+      carries = all_same_is _ _ as_next.1;
+      attaches = same_is _ _ attaches.0;
+      waits = waits.0;
+      gives = waits.1;
+    }
+
+-- a character that begins a base, behind bases that carry what those of a state do
+pub begins : (whole_numbers : Bool) (state symbol entry : ℕ) (c : Character) (before : List Base) → symbol < 40 → shown symbol ≡ told c → Leads whole_numbers state symbol entry → stays state symbol ≡ false → carried before ≡ carried (bases_at state) → Stands whole_numbers (record { row = entry / PARTS; is_joined = symbol == JOINER; is_pictograph = c.is_future_pictograph }) (alone c) before
+begins whole_numbers state symbol entry c before symbol_lt shows entry_leads begun carry =
+    let says : Begins whole_numbers state symbol (entry % PARTS) entry_leads.next = beginning _ _ _ _ _ (rw begun at entry_leads.leads) in
     record {
       state = entry_leads.next;
       below = entry_leads.below;
       row = entry_leads.row;
       answered =
-          answers_told c before ∙ ap (λ d. answers (alone d ∷ before)) (sym shows)
-          ∙ answers_same (alone (shown symbol)) before (bases_at state) carry ∙ all_same_is _ _ as_next.0;
+          answers_told whole_numbers c before ∙ ap (λ d. answers whole_numbers (alone d ∷ before)) (sym shows)
+          ∙ answers_same whole_numbers (alone (shown symbol)) before (bases_at state) carry ∙ says.answered;
       carries =
           carried_told c before ∙ ap (λ d. carried (alone d ∷ before)) (sym shows)
-          ∙ carried_same (alone (shown symbol)) before (bases_at state) carry ∙ all_same_is _ _ as_next.1;
-      attaches = ap (λ d. is_one_of unattached d.class) (sym shows) ∙ same_is _ _ attaches.0;
+          ∙ carried_same (alone (shown symbol)) before (bases_at state) carry ∙ says.carries;
+      attaches = ap (λ d. is_one_of unattached d.class) (sym shows) ∙ says.attaches;
       is_joined = is_joiner symbol symbol_lt ∙ ap (λ d. is_same d.class ZWJ) shows;
       is_pictograph = refl;
     }
 
 -- a character that stays with the last base
-attached : (walk : Walk) (last : Base) (others : List Base) (stands : Stands walk last others) (symbol entry : ℕ) (c : Character) → symbol < 40 → shown symbol ≡ told c → Leads stands.state symbol entry → stays stands.state symbol ≡ true → Stands (record { row = entry / PARTS; is_joined = symbol == JOINER; is_pictograph = walk.is_pictograph }) (with_attached last c) others
-attached walk last others stands symbol entry c symbol_lt shows entry_leads stay =
-    let led : leads true stands.state symbol (entry % PARTS) entry_leads.next ≡ true = rw stay at entry_leads.leads in
+attached : (whole_numbers : Bool) (walk : Walk) (last : Base) (others : List Base) (stands : Stands whole_numbers walk last others) (symbol entry : ℕ) (c : Character) → symbol < 40 → shown symbol ≡ told c → Leads whole_numbers stands.state symbol entry → stays stands.state symbol ≡ true → Stands whole_numbers (record { row = entry / PARTS; is_joined = symbol == JOINER; is_pictograph = walk.is_pictograph }) (with_attached last c) others
+attached whole_numbers walk last others stands symbol entry c symbol_lt shows entry_leads stay =
+    let led : leads whole_numbers true stands.state symbol (entry % PARTS) entry_leads.next ≡ true = rw stay at entry_leads.leads in
     let here : List Base = bases_at stands.state in
     let next : List Base = bases_at entry_leads.next in
     let attaching : Bool = same (is unattached here) (is unattached next) in
-    let facts : ((entry % PARTS == STAYS) ≡ true) × ((is_as here next && attaching) ≡ true) = both _ _ led in
-    let likes : (is_as here next ≡ true) × (attaching ≡ true) = both _ _ facts.1 in
-    let as_next : (all_same (answers here) (answers next) ≡ true) × (all_same (carried here) (carried next) ≡ true) = both _ _ likes.0 in
+    let facts : ((entry % PARTS == STAYS) ≡ true) × ((is_as whole_numbers here next && attaching) ≡ true) = both _ _ led in
+    let likes : (is_as whole_numbers here next ≡ true) × (attaching ≡ true) = both _ _ facts.1 in
+    let as_next : (all_same (answers whole_numbers here) (answers whole_numbers next) ≡ true) × (all_same (carried here) (carried next) ≡ true) = both _ _ likes.0 in
     let mark_and : (is_one_of (CM ∷ ZWJ ∷ []) (shown symbol).class ≡ true) × (not (is unattached here) ≡ true) = both _ _ stay in
     let ends : end_of (with_attached last c) ≡ c = end_attached last.first last.attached c in
     record {
       state = entry_leads.next;
       below = entry_leads.below;
       row = entry_leads.row;
-      answered = answers_attached last others (last.attached ++ c ∷ []) ∙ stands.answered ∙ all_same_is _ _ as_next.0;
+      answered = answers_attached whole_numbers last others (last.attached ++ c ∷ []) ∙ stands.answered ∙ all_same_is _ _ as_next.0;
       carries = carried_attached last others (last.attached ++ c ∷ []) ∙ stands.carries ∙ all_same_is _ _ as_next.1;
       attaches =
           ap (λ d. is_one_of unattached d.class) ends ∙ ap (λ d. is_one_of unattached d.class) (sym shows)
@@ -129,41 +157,120 @@ attached walk last others stands symbol entry c symbol_lt shows entry_leads stay
       is_pictograph = stands.is_pictograph;
     }
 
+-- of the bases behind a position the rules read what the first begins with, and whether the second is NU
+reads_behind : (whole_numbers : Bool) (c : Character) (attached : List Character) (bases : List Base) → map (λ row. row.behind (record { first = c; attached = attached } ∷ bases)) (rows whole_numbers) ≡ behinds whole_numbers c (is (NU ∷ []) bases)
+unfolding rows rows_before_numbers rows_of_numbers rows_behind_numbers
+reads_behind true c attached bases =
+    elim (cases_Bool (is (NU ∷ []) bases)) [
+      | inl digit ↦ rw digit refl
+      | inr other ↦ rw other refl
+    ]
+reads_behind false c attached bases =
+    elim (cases_Bool (is (NU ∷ []) bases)) [
+      | inl digit ↦ rw digit refl
+      | inr other ↦ rw other refl
+    ]
+
+-- the bases of a text that is not empty begin with one that begins with its first character
+pub first_base : (c : Character) (text : List Character) → (attached : List Character) × (bases : List Base) × (bases_of (c ∷ text) ≡ record { first = c; attached = attached } ∷ bases)
+first_base c [] = ([], [], refl)
+first_base c (d ∷ text) =
+    let next = first_base d text in
+    elim (cases_Bool (stays_with c d)) [
+      | inl stays ↦ (d ∷ next.0, next.1, rw (stays, next.2) refl)
+      | inr begins ↦ ([], record { first = d; attached = next.0 } ∷ next.1, rw (begins, next.2) refl)
+    ]
+
+-- whether the base behind the one that begins with a character is NU
+abbrev second_is_digit : List Base → Bool
+second_is_digit [] = false
+second_is_digit (b ∷ bases) = is (NU ∷ []) bases
+
+digit_class : (class : LineClass) → is_one_of (CM ∷ ZWJ ∷ []) class ≡ false → is_one_of (NU ∷ []) (base_class class) ≡ is_same class NU
+digit_class NU h = refl
+digit_class CM h = cc
+digit_class ZWJ h = cc
+digit_class class h = refl
+
+second_joined : (c : Character) (bases : List Base) → second_is_digit (joined c bases) ≡ second_is_digit bases
+second_joined c [] = refl
+second_joined c (b ∷ bases) = refl
+
+-- where others may be attached to it
+second_is : (c : Character) (text : List Character) → is_one_of unattached c.class ≡ false → second_is_digit (bases_of (c ∷ text)) ≡ is_before_digit text
+second_is c [] free = refl
+second_is c (d ∷ text) free =
+    elim (cases_Bool (is_one_of (CM ∷ ZWJ ∷ []) d.class)) [
+      | inl stays ↦ rw (stays, free) (second_joined c (bases_of (d ∷ text)) ∙ second_is d text (mark_attaches d.class stays))
+      | inr begins ↦
+          let next = first_base d text in
+          rw (begins, next.2) (digit_class d.class begins)
+    ]
+
+-- what is read of the bases of a text
+read_text : (whole_numbers : Bool) (c : Character) (text : List Character) → map (λ row. row.behind (bases_of (c ∷ text))) (rows whole_numbers) ≡ behinds whole_numbers c (second_is_digit (bases_of (c ∷ text)))
+read_text whole_numbers c text =
+    let next = first_base c text in
+    rw next.2 (reads_behind whole_numbers c next.0 next.1)
+
+-- whether what is behind the second base matters
+waits_or_not : (whole_numbers : Bool) (outcome : ℕ) (is_joined is_pictograph : Bool) (a b : Bool) → (outcome == WAITS) ≡ false → mark_of whole_numbers (decided_at outcome is_joined is_pictograph) a ≡ mark_of whole_numbers (decided_at outcome is_joined is_pictograph) b
+waits_or_not false outcome is_joined is_pictograph a b h = refl
+waits_or_not true outcome true is_pictograph a b h = refl
+waits_or_not true outcome false is_pictograph a b h =
+    elim (cases_Bool ((outcome == UNLESS) && is_pictograph)) [
+      | inl unless ↦ rw unless refl
+      | inr other ↦ rw (other, h) refl
+    ]
+
+opening_attaches : (class : LineClass) → is_one_of (OP ∷ []) class ≡ true → is_one_of unattached class ≡ false
+opening_attaches OP h = refl
+opening_attaches class h = cc
+
+told_class : (symbol : ℕ) (c : Character) → shown symbol ≡ told c → (shown symbol).class ≡ c.class
+told_class symbol c shows = ap (λ d. d.class) shows
+
+same_of_digit : (whole_numbers : Bool) (symbol outcome : ℕ) (c : Character) (text : List Character) (is_joined is_pictograph : Bool) → shown symbol ≡ told c → waits_for_base symbol outcome ≡ true → mark_of whole_numbers (decided_at outcome is_joined is_pictograph) (is_before_digit text) ≡ mark_of whole_numbers (decided_at outcome is_joined is_pictograph) (second_is_digit (bases_of (c ∷ text)))
+same_of_digit whole_numbers symbol outcome c text is_joined is_pictograph shows waits =
+    elim (cases_Bool (outcome == WAITS)) [
+      | inl waiting ↦
+          let opening : is_one_of (OP ∷ []) (shown symbol).class ≡ true = rw waiting at waits in
+          let free : is_one_of unattached c.class ≡ false = ap (is_one_of unattached) (sym (told_class symbol c shows)) ∙ opening_attaches (shown symbol).class opening in
+          ap (mark_of whole_numbers (decided_at outcome is_joined is_pictograph)) (sym (second_is c text free))
+      | inr other ↦ waits_or_not whole_numbers outcome is_joined is_pictograph _ _ other
+    ]
+
 -- the mark in front of a character that begins a base
-marks_begun : (walk : Walk) (last : Base) (others : List Base) (stands : Stands walk last others) (symbol entry : ℕ) (c : Character) → shown symbol ≡ told c → Leads stands.state symbol entry → stays stands.state symbol ≡ false → mark_at (entry % PARTS) walk.is_joined walk.is_pictograph ≡ mark_by rules (last ∷ others) (alone c ∷ [])
-marks_begun walk last others stands symbol entry c shows entry_leads begun =
-    let led : leads false stands.state symbol (entry % PARTS) entry_leads.next ≡ true = rw begun at entry_leads.leads in
-    let after : List Base = alone (shown symbol) ∷ bases_at stands.state in
-    let next : List Base = bases_at entry_leads.next in
-    let attaching : Bool = same (is_one_of unattached (shown symbol).class) (is unattached next) in
-    let giving : Bool = gives_each stands.state symbol (entry % PARTS) in
-    let rest : (not (entry % PARTS == STAYS) ≡ true) × ((is_as after next && (attaching && giving)) ≡ true) = both _ _ led in
-    let facts : (is_as after next ≡ true) × ((attaching && giving) ≡ true) = both _ _ rest.1 in
-    let gives : (attaching ≡ true) × (giving ≡ true) = both _ _ facts.1 in
+marks_begun : (whole_numbers : Bool) (walk : Walk) (last : Base) (others : List Base) (stands : Stands whole_numbers walk last others) (symbol entry : ℕ) (c : Character) (text : List Character) → shown symbol ≡ told c → Leads whole_numbers stands.state symbol entry → stays stands.state symbol ≡ false → mark_of whole_numbers (decided_at (entry % PARTS) walk.is_joined walk.is_pictograph) (is_before_digit text) ≡ mark_by (rules whole_numbers) (last ∷ others) (bases_of (c ∷ text))
+marks_begun whole_numbers walk last others stands symbol entry c text shows entry_leads begun =
+    let says : Begins whole_numbers stands.state symbol (entry % PARTS) entry_leads.next = beginning _ _ _ _ _ (rw begun at entry_leads.leads) in
+    let digit : Bool = second_is_digit (bases_of (c ∷ text)) in
     let free : walk.is_joined ≡ true → is unattached (bases_at stands.state) ≡ false =
     λ joined. sym stands.attaches ∙ joiner_attaches (end_of last).class (sym stands.is_joined ∙ joined) in
-    given stands.state symbol (entry % PARTS) walk.is_joined walk.is_pictograph free gives.1
-    ∙ ap (λ row. decide marks_by_rule (answered_with walk.is_joined walk.is_pictograph row) (behinds (shown symbol))) (sym stands.answered)
-    ∙ ap (λ joined. decide marks_by_rule (answered_with joined walk.is_pictograph (answers (last ∷ others))) (behinds (shown symbol))) stands.is_joined
-    ∙ ap (λ pictograph. decide marks_by_rule (answered_with (is_same (end_of last).class ZWJ) pictograph (answers (last ∷ others))) (behinds (shown symbol))) stands.is_pictograph
-    ∙ ap (λ row. decide marks_by_rule (answered_with (is_same (end_of last).class ZWJ) last.first.is_future_pictograph (answers (last ∷ others))) row) (ap behinds shows ∙ sym (behinds_told c))
-    ∙ sym (marked last others c)
+    same_of_digit whole_numbers symbol (entry % PARTS) c text walk.is_joined walk.is_pictograph shows says.waits
+    ∙ given whole_numbers stands.state symbol (entry % PARTS) walk.is_joined walk.is_pictograph digit free says.gives
+    ∙ ap (λ row. decide (marks_by_row whole_numbers) (answered_with whole_numbers walk.is_joined walk.is_pictograph row) (behinds whole_numbers (shown symbol) digit)) (sym stands.answered)
+    ∙ ap (λ joined. decide (marks_by_row whole_numbers) (answered_with whole_numbers joined walk.is_pictograph (answers whole_numbers (last ∷ others))) (behinds whole_numbers (shown symbol) digit)) stands.is_joined
+    ∙ ap (λ pictograph. decide (marks_by_row whole_numbers) (answered_with whole_numbers (is_same (end_of last).class ZWJ) pictograph (answers whole_numbers (last ∷ others))) (behinds whole_numbers (shown symbol) digit)) stands.is_pictograph
+    ∙ ap (λ row. decide (marks_by_row whole_numbers) (answered_with whole_numbers (is_same (end_of last).class ZWJ) last.first.is_future_pictograph (answers whole_numbers (last ∷ others))) row)
+    (ap (λ d. behinds whole_numbers d digit) shows ∙ sym (behinds_told whole_numbers c digit) ∙ sym (read_text whole_numbers c text))
+    ∙ sym (marked whole_numbers last others (bases_of (c ∷ text)))
 
 -- whether the next character stays with the last base
-stays_is : (walk : Walk) (last : Base) (others : List Base) (stands : Stands walk last others) (symbol : ℕ) (c : Character) → shown symbol ≡ told c → stays_with (end_of last) c ≡ stays stands.state symbol
-stays_is walk last others stands symbol c shows =
+stays_is : (whole_numbers : Bool) (walk : Walk) (last : Base) (others : List Base) (stands : Stands whole_numbers walk last others) (symbol : ℕ) (c : Character) → shown symbol ≡ told c → stays_with (end_of last) c ≡ stays stands.state symbol
+stays_is whole_numbers walk last others stands symbol c shows =
     ap (λ attaches. is_one_of (CM ∷ ZWJ ∷ []) c.class && not attaches) stands.attaches
     ∙ ap (λ d. is_one_of (CM ∷ ZWJ ∷ []) d.class && not (is unattached (bases_at stands.state))) (sym shows)
 
 -- where it does, the outcome says so
-outcome_stays : (walk : Walk) (last : Base) (others : List Base) (stands : Stands walk last others) (symbol entry : ℕ) → Leads stands.state symbol entry → (entry % PARTS == STAYS) ≡ stays stands.state symbol
-outcome_stays walk last others stands symbol entry entry_leads =
+outcome_stays : (whole_numbers : Bool) (walk : Walk) (last : Base) (others : List Base) (stands : Stands whole_numbers walk last others) (symbol entry : ℕ) → Leads whole_numbers stands.state symbol entry → (entry % PARTS == STAYS) ≡ stays stands.state symbol
+outcome_stays whole_numbers walk last others stands symbol entry entry_leads =
     elim (cases_Bool (stays stands.state symbol)) [
       | inl stay ↦
-          let led : leads true stands.state symbol (entry % PARTS) entry_leads.next ≡ true = rw stay at entry_leads.leads in
+          let led : leads whole_numbers true stands.state symbol (entry % PARTS) entry_leads.next ≡ true = rw stay at entry_leads.leads in
           (both _ _ led).0 ∙ sym stay
       | inr begun ↦
-          let led : leads false stands.state symbol (entry % PARTS) entry_leads.next ≡ true = rw begun at entry_leads.leads in
+          let led : leads whole_numbers false stands.state symbol (entry % PARTS) entry_leads.next ≡ true = rw begun at entry_leads.leads in
           not_true _ (both _ _ led).0 ∙ sym begun
     ]
 
@@ -172,40 +279,50 @@ abbrev pub kept : Walk → ℕ → Character → Bool
 kept walk outcome c = if outcome == STAYS then walk.is_pictograph else c.is_future_pictograph
 
 -- LB9: no line ends in front of a character that stays
-never_stays : (outcome : ℕ) (is_joined is_pictograph : Bool) → (outcome == STAYS) ≡ true → mark_at outcome is_joined is_pictograph ≡ Never
-never_stays outcome true is_pictograph stay = refl
-never_stays outcome false is_pictograph stay = rw (is_equal outcome STAYS stay) refl
+never_outcome : (whole_numbers before_digit is_pictograph : Bool) → mark_of whole_numbers (decided_at STAYS false is_pictograph) before_digit ≡ Never
+never_outcome true before_digit is_pictograph = refl
+never_outcome false before_digit is_pictograph = refl
 
-pub passes : (walk : Walk) (symbol entry : ℕ) (c : Character) → symbol < 40 → shown symbol ≡ told c → entry ≡ get_or TABLE (walk.row + symbol) 0 → (last : Base) (others : List Base) → Stands walk last others → Passes (record { row = entry / PARTS; is_joined = symbol == JOINER; is_pictograph = kept walk (entry % PARTS) c }) last others c (mark_at (entry % PARTS) walk.is_joined walk.is_pictograph)
-passes walk symbol entry c symbol_lt shows reads last others stands =
-    let entry_leads : Leads stands.state symbol entry = entry_is_right stands.state symbol walk.row entry stands.below symbol_lt stands.row reads in
-    let whether = stays_is walk last others stands symbol c shows in
-    let outcome = outcome_stays walk last others stands symbol entry entry_leads in
+never_joined : (whole_numbers before_digit : Bool) → mark_of whole_numbers NEVER before_digit ≡ Never
+never_joined true before_digit = refl
+never_joined false before_digit = refl
+
+never_stays : (whole_numbers : Bool) (outcome : ℕ) (is_joined is_pictograph before_digit : Bool) → (outcome == STAYS) ≡ true → mark_of whole_numbers (decided_at outcome is_joined is_pictograph) before_digit ≡ Never
+never_stays whole_numbers outcome true is_pictograph before_digit stay = never_joined whole_numbers before_digit
+never_stays whole_numbers outcome false is_pictograph before_digit stay =
+    ap (λ o. mark_of whole_numbers (decided_at o false is_pictograph) before_digit) (is_equal outcome STAYS stay)
+    ∙ never_outcome whole_numbers before_digit is_pictograph
+
+pub passes : (whole_numbers : Bool) (walk : Walk) (symbol entry : ℕ) (c : Character) → symbol < 40 → shown symbol ≡ told c → entry ≡ get_or TABLE (walk.row + symbol) 0 → (last : Base) (others : List Base) → Stands whole_numbers walk last others → Passes whole_numbers (record { row = entry / PARTS; is_joined = symbol == JOINER; is_pictograph = kept walk (entry % PARTS) c }) last others c (decided_at (entry % PARTS) walk.is_joined walk.is_pictograph)
+passes whole_numbers walk symbol entry c symbol_lt shows reads last others stands =
+    let entry_leads : Leads whole_numbers stands.state symbol entry = entry_is_right whole_numbers stands.state symbol walk.row entry stands.below symbol_lt stands.row reads in
+    let whether = stays_is whole_numbers walk last others stands symbol c shows in
+    let outcome = outcome_stays whole_numbers walk last others stands symbol entry entry_leads in
     elim (cases_Bool (stays stands.state symbol)) [
       | inl stay ↦
           rw (whether, outcome, stay) (
-            never_stays (entry % PARTS) walk.is_joined walk.is_pictograph (outcome ∙ stay),
-            attached walk last others stands symbol entry c symbol_lt shows entry_leads stay,
+            λ digit. never_stays whole_numbers (entry % PARTS) walk.is_joined walk.is_pictograph digit (outcome ∙ stay),
+            attached whole_numbers walk last others stands symbol entry c symbol_lt shows entry_leads stay,
           )
       | inr begun ↦
           rw (whether, outcome, begun) (
-            marks_begun walk last others stands symbol entry c shows entry_leads begun,
-            begins stands.state symbol entry c (last ∷ others) symbol_lt shows entry_leads begun stands.carries,
+            λ text. marks_begun whole_numbers walk last others stands symbol entry c text shows entry_leads begun,
+            begins whole_numbers stands.state symbol entry c (last ∷ others) symbol_lt shows entry_leads begun stands.carries,
           )
     ]
 
 -- a text's start is to what follows as BK is
-pub starts : (symbol entry : ℕ) (c : Character) → symbol < 40 → shown symbol ≡ told c → entry ≡ get_or TABLE (0 + symbol) 0 → Stands (record { row = entry / PARTS; is_joined = symbol == JOINER; is_pictograph = c.is_future_pictograph }) (alone c) []
-starts symbol entry c symbol_lt shows reads =
-    begins 0 symbol entry c [] symbol_lt shows (entry_is_right 0 symbol 0 entry (omega arith) symbol_lt refl reads) (and_false _) refl
+pub starts : (symbol entry : ℕ) (c : Character) → symbol < 40 → shown symbol ≡ told c → entry ≡ get_or TABLE (0 + symbol) 0 → (whole_numbers : Bool) → Stands whole_numbers (record { row = entry / PARTS; is_joined = symbol == JOINER; is_pictograph = c.is_future_pictograph }) (alone c) []
+starts symbol entry c symbol_lt shows reads whole_numbers =
+    begins whole_numbers 0 symbol entry c [] symbol_lt shows (entry_is_right whole_numbers 0 symbol 0 entry (omega arith) symbol_lt refl reads) (and_false _) refl
 
 -- the same, of what a step makes of what is kept
-pub passes_as : (walk : Walk) (symbol entry : ℕ) (c : Character) (is_pictograph : Bool) (mark : Mark) → symbol < 40 → shown symbol ≡ told c → entry ≡ get_or TABLE (walk.row + symbol) 0 → kept walk (entry % PARTS) c ≡ is_pictograph → mark ≡ mark_at (entry % PARTS) walk.is_joined walk.is_pictograph → (last : Base) (others : List Base) → Stands walk last others → Passes (record { row = entry / PARTS; is_joined = symbol == JOINER; is_pictograph = is_pictograph }) last others c mark
-passes_as walk symbol entry c is_pictograph mark symbol_lt shows reads keeps marked last others stands =
-    rw (← keeps, marked) (passes walk symbol entry c symbol_lt shows reads last others stands)
+pub passes_as : (walk : Walk) (symbol entry : ℕ) (c : Character) (is_pictograph : Bool) (decided : ℕ) → symbol < 40 → shown symbol ≡ told c → entry ≡ get_or TABLE (walk.row + symbol) 0 → kept walk (entry % PARTS) c ≡ is_pictograph → decided ≡ decided_at (entry % PARTS) walk.is_joined walk.is_pictograph → (whole_numbers : Bool) (last : Base) (others : List Base) → Stands whole_numbers walk last others → Passes whole_numbers (record { row = entry / PARTS; is_joined = symbol == JOINER; is_pictograph = is_pictograph }) last others c decided
+passes_as walk symbol entry c is_pictograph decided symbol_lt shows reads keeps is whole_numbers last others stands =
+    rw (← keeps, is) (passes whole_numbers walk symbol entry c symbol_lt shows reads last others stands)
 
 -- each entry's next row is one of the table
-pub row_within : (place entry : ℕ) → place < 1480 → entry ≡ get_or TABLE place 0 → entry / PARTS ≤ 1440
+pub row_within : (place entry : ℕ) → place < 1640 → entry ≡ get_or TABLE place 0 → entry / PARTS ≤ 1600
 row_within place entry lt reads =
-    let test : nat_le (get_or TABLE place 0 / PARTS) 1440 ≡ true = below 1480 (λ place. nat_le (get_or TABLE place 0 / PARTS) 1440) entries_are_within place lt in
-    is_within (entry / PARTS) 1440 (ap (λ e. nat_le (e / PARTS) 1440) reads ∙ test)
+    let test : nat_le (get_or TABLE place 0 / PARTS) 1600 ≡ true = below 1640 (λ place. nat_le (get_or TABLE place 0 / PARTS) 1600) entries_are_within place lt in
+    is_within (entry / PARTS) 1600 (ap (λ e. nat_le (e / PARTS) 1600) reads ∙ test)

@@ -1,28 +1,85 @@
 -- One step of the walk.
-use Rattle.std.proofs.Common.{◌≡◌, ℕ, ◌+◌, ◌%◌, ◌==◌, true, false, not, cond, ◌&&◌, List, [], ◌∷◌, ◌++◌, map, get_or, refl, sym, ap, ◌∙◌, arith, if◌then◌else◌}
+use Rattle.std.proofs.Common.{◌≡◌, ℕ, ◌+◌, ◌%◌, ◌==◌, Bool, true, false, not, cond, ◌&&◌, ◌||◌, List, [], ◌∷◌, ◌++◌, map, get_or, refl, sym, ap, ◌∙◌, arith, if◌then◌else◌}
 use Rattle.std.specs.List.{prefix_len}
 use Rattle.std.proofs.lemmas.Bool.Decides.{nat_tests}
 use Rattle.ucd.specs.declared.line_class.LineClass.{LineClass}
-use Rattle.ucd.specs.declared.line_class.LineClass.TheVariants.{B2, BA, CL, CM, CP, HL, HY, OP, QU, RI, SP, ZW, ZWJ}
+use Rattle.ucd.specs.declared.line_class.LineClass.TheVariants.{B2, BA, CL, CM, CP, HL, HY, NU, OP, QU, RI, SP, ZW, ZWJ}
 use Rattle.breaks.specs.Bases.{Base, alone, class_of, end_of, last_of}
 use Rattle.breaks.specs.Classes.{is_same, is_one_of}
-use Rattle.breaks.specs.Rules.{Rule, rules, mark_by, is, is_pair, is_spaced, without_spaces, ends_in_odd_run}
+use Rattle.breaks.specs.Numbers.{affix, closing, middle, opening, is_in_number}
+use Rattle.breaks.specs.Rules.{Row, Rule, rule_of, rules, rows_before_numbers, rows_of_numbers, rows_behind_numbers, mark_by, is, is_pair, is_spaced, without_spaces, ends_in_odd_run}
 use Rattle.breaks.specs.Symbols.{narrow, told}
-use Rattle.breaks.specs.Walk.{answers, carried}
+use Rattle.breaks.specs.Walk.{answers, begins_unaffixed, carried, ends_in_closed_digits, ends_in_digits, goes_on_behind_digits, number_rows, rows}
 use Rattle.breaks.specs.declared.character.Character.{Character}
+use Rattle.breaks.specs.declared.mark.Mark.{Mark}
+use Rattle.breaks.specs.declared.mark.Mark.TheVariants.{Never, May}
 use Rattle.breaks.proofs.BoolLemmas.{cons}
+use Rattle.breaks.proofs.NumberLemmas.{in_number_is}
 use Rattle.breaks.proofs.SymbolLemmas.{narrow_before}
-use Rattle.breaks.proofs.Computed.{decide, answered_with, behinds, marks_by_rule}
+use Rattle.breaks.proofs.Computed.{decide, answered_with, marks_by_row}
 
 -- a base with a character attached ends with it
 pub end_attached : (first : Character) (attached : List Character) (c : Character) → last_of first (attached ++ c ∷ []) ≡ c
 end_attached first [] c = refl
 end_attached first (a ∷ attached) c = end_attached a attached c
 
--- the rules decide by their answers
-decides : (rows : List Rule) (before behind : List Base) → mark_by rows before behind ≡ decide (map (λ rule. rule.mark) rows) (map (λ rule. rule.before before) rows) (map (λ rule. rule.behind behind) rows)
+-- rows as rules, where others follow
+abbrev row_mark : List Row → Mark → List Base → List Base → Mark
+row_mark [] else_mark before behind = else_mark
+row_mark (row ∷ rest) else_mark before behind = if row.before before && row.behind behind then row.mark else row_mark rest else_mark before behind
+
+rules_of_rows : (some : List Row) (more : List Rule) (before behind : List Base) → mark_by (map rule_of some ++ more) before behind ≡ row_mark some (mark_by more before behind) before behind
+rules_of_rows [] more before behind = refl
+rules_of_rows (row ∷ some) more before behind = ap (λ mark. if row.before before && row.behind behind then row.mark else mark) (rules_of_rows some more before behind)
+
+last_rules_of_rows : (some : List Row) (before behind : List Base) → mark_by (map rule_of some) before behind ≡ row_mark some May before behind
+last_rules_of_rows [] before behind = refl
+last_rules_of_rows (row ∷ some) before behind = ap (λ mark. if row.before before && row.behind behind then row.mark else mark) (last_rules_of_rows some before behind)
+
+more_rows : (some more : List Row) (mark : Mark) (before behind : List Base) → row_mark (some ++ more) mark before behind ≡ row_mark some (row_mark more mark before behind) before behind
+more_rows [] more mark before behind = refl
+more_rows (row ∷ some) more mark before behind = ap (λ rest. if row.before before && row.behind behind then row.mark else rest) (more_rows some more mark before behind)
+
+-- rows decide by their answers
+decides : (some : List Row) (before behind : List Base) → row_mark some May before behind ≡ decide (map (λ row. row.mark) some) (map (λ row. row.before before) some) (map (λ row. row.behind behind) some)
 decides [] before behind = refl
-decides (rule ∷ rows) before behind = rw (decides rows before behind) refl
+decides (row ∷ some) before behind = ap (λ rest. if row.before before && row.behind behind then row.mark else rest) (decides some before behind)
+
+four : (a b c d : Bool) (mark : Mark) → (if a || (b || (c || d)) then Never else mark) ≡ (if a then Never else if b then Never else if c then Never else if d then Never else mark)
+four true b c d mark = refl
+four false true c d mark = refl
+four false false true d mark = refl
+four false false false true mark = refl
+four false false false false mark = refl
+
+-- the rule of whole numbers is its rows
+number_mark : (mark : Mark) (before behind : List Base) → (if is_in_number before behind then Never else mark) ≡ row_mark (number_rows true) mark before behind
+number_mark mark before behind =
+    ap (λ whole. if whole then Never else mark) (in_number_is before behind)
+    ∙ four (is affix before && begins_unaffixed behind) (is opening before && is (NU ∷ []) behind)
+    (ends_in_digits before && is goes_on_behind_digits behind) (ends_in_closed_digits before && is affix behind) mark
+
+-- the rules are their rows
+rows_mark : (whole_numbers : Bool) (before behind : List Base) → mark_by (rules whole_numbers) before behind ≡ row_mark rows_before_numbers (row_mark (number_rows whole_numbers) (row_mark rows_behind_numbers May before behind) before behind) before behind
+unfolding rules
+rows_mark true before behind =
+    rules_of_rows rows_before_numbers _ before behind
+    ∙ ap (λ mark. row_mark rows_before_numbers mark before behind)
+    (ap (λ mark. if is_in_number before behind then Never else mark) (last_rules_of_rows rows_behind_numbers before behind)
+    ∙ number_mark (row_mark rows_behind_numbers May before behind) before behind)
+rows_mark false before behind =
+    rules_of_rows rows_before_numbers _ before behind
+    ∙ ap (λ mark. row_mark rows_before_numbers mark before behind)
+    (rules_of_rows rows_of_numbers _ before behind
+    ∙ ap (λ mark. row_mark rows_of_numbers mark before behind) (last_rules_of_rows rows_behind_numbers before behind))
+
+rules_decide : (whole_numbers : Bool) (before behind : List Base) → mark_by (rules whole_numbers) before behind ≡ decide (marks_by_row whole_numbers) (map (λ row. row.before before) (rows whole_numbers)) (map (λ row. row.behind behind) (rows whole_numbers))
+unfolding rows
+rules_decide whole_numbers before behind =
+    rows_mark whole_numbers before behind
+    ∙ sym (more_rows rows_before_numbers (number_rows whole_numbers ++ rows_behind_numbers) May before behind
+    ∙ ap (λ mark. row_mark rows_before_numbers mark before behind) (more_rows (number_rows whole_numbers) rows_behind_numbers May before behind))
+    ∙ decides (rows_before_numbers ++ (number_rows whole_numbers ++ rows_behind_numbers)) before behind
 
 -- of one base more the rules ask what is carried
 pair_behind : (firsts classes : List LineClass) (b : Base) (bases : List Base) → is_pair firsts classes (b ∷ bases) ≡ (is firsts bases && is_one_of classes (class_of b))
@@ -65,8 +122,8 @@ module _ (b : Base) (p q : List Base) (carry : carried p ≡ carried q) where
   qu : is_spaced (QU ∷ []) (b ∷ p) ≡ is_spaced (QU ∷ []) (b ∷ q)
   qu = spaced_same (QU ∷ []) (ap (λ l. get_or l 3 false) carry)
 
-  closing : is_spaced (CL ∷ CP ∷ []) (b ∷ p) ≡ is_spaced (CL ∷ CP ∷ []) (b ∷ q)
-  closing = spaced_same (CL ∷ CP ∷ []) (ap (λ l. get_or l 4 false) carry)
+  after_closing : is_spaced (CL ∷ CP ∷ []) (b ∷ p) ≡ is_spaced (CL ∷ CP ∷ []) (b ∷ q)
+  after_closing = spaced_same (CL ∷ CP ∷ []) (ap (λ l. get_or l 4 false) carry)
 
   dash : is_spaced (B2 ∷ []) (b ∷ p) ≡ is_spaced (B2 ∷ []) (b ∷ q)
   dash = spaced_same (B2 ∷ []) (ap (λ l. get_or l 5 false) carry)
@@ -74,8 +131,14 @@ module _ (b : Base) (p q : List Base) (carry : carried p ≡ carried q) where
   odd : ends_in_odd_run (b ∷ p) ≡ ends_in_odd_run (b ∷ q)
   odd = odd_behind b p ∙ ap (λ o. is_same (class_of b) RI && not o) (ap (λ l. get_or l 6 false) carry) ∙ sym (odd_behind b q)
 
+  digits : ends_in_digits (b ∷ p) ≡ ends_in_digits (b ∷ q)
+  digits = ap (λ digits. is_same (class_of b) NU || (is_one_of middle (class_of b) && digits)) (ap (λ l. get_or l 7 false) carry)
+
+  closed_digits : ends_in_closed_digits (b ∷ p) ≡ ends_in_closed_digits (b ∷ q)
+  closed_digits = ap (λ digits. is_one_of closing (class_of b) && digits) (ap (λ l. get_or l 7 false) carry)
+
   pub carried_same : carried (b ∷ p) ≡ carried (b ∷ q)
-  carried_same = cons _ _ _ _ refl (cons _ _ _ _ zw (cons _ _ _ _ op (cons _ _ _ _ qu (cons _ _ _ _ closing (cons _ _ _ _ dash (cons _ _ _ _ odd refl))))))
+  carried_same = cons _ _ _ _ refl (cons _ _ _ _ zw (cons _ _ _ _ op (cons _ _ _ _ qu (cons _ _ _ _ after_closing (cons _ _ _ _ dash (cons _ _ _ _ odd (cons _ _ _ _ digits refl)))))))
 
 -- the class alone says what is carried
 pub carried_same_class : (b d : Base) (bases : List Base) → class_of b ≡ class_of d → carried (b ∷ bases) ≡ carried (d ∷ bases)
@@ -86,19 +149,30 @@ carried_same_class b d bases e =
     (cons _ _ _ _ (spaced_same_class (QU ∷ []) b d bases e)
     (cons _ _ _ _ (spaced_same_class (CL ∷ CP ∷ []) b d bases e)
     (cons _ _ _ _ (spaced_same_class (B2 ∷ []) b d bases e)
-    (cons _ _ _ _ (odd_behind b bases ∙ ap (λ c. is_same c RI && not (ends_in_odd_run bases)) e ∙ sym (odd_behind d bases)) refl))))))
+    (cons _ _ _ _ (odd_behind b bases ∙ ap (λ c. is_same c RI && not (ends_in_odd_run bases)) e ∙ sym (odd_behind d bases))
+    (cons _ _ _ _ (ap (λ c. is_same c NU || (is_one_of middle c && ends_in_digits bases)) e) refl)))))))
 
-answers_same_plain : (b : Base) (p q : List Base) → carried p ≡ carried q → map (λ rule. rule.before (b ∷ p)) rules ≡ map (λ rule. rule.before (b ∷ q)) rules
-unfolding rules
-answers_same_plain b p q carry = rw (zw b p q carry, op b p q carry, qu b p q carry, closing b p q carry, dash b p q carry, odd b p q carry, pair_same b p q carry (BA ∷ HY ∷ [])) refl
+answers_same_plain : (whole_numbers : Bool) (b : Base) (p q : List Base) → carried p ≡ carried q → map (λ row. row.before (b ∷ p)) (rows whole_numbers) ≡ map (λ row. row.before (b ∷ q)) (rows whole_numbers)
+unfolding rows rows_before_numbers rows_of_numbers rows_behind_numbers
+answers_same_plain true b p q carry = rw (zw b p q carry, op b p q carry, qu b p q carry, after_closing b p q carry, dash b p q carry, odd b p q carry, pair_same b p q carry (BA ∷ HY ∷ []), digits b p q carry, closed_digits b p q carry) refl
+answers_same_plain false b p q carry = rw (zw b p q carry, op b p q carry, qu b p q carry, after_closing b p q carry, dash b p q carry, odd b p q carry, pair_same b p q carry (BA ∷ HY ∷ [])) refl
 
-pub answers_same : (b : Base) (p q : List Base) → carried p ≡ carried q → answers (b ∷ p) ≡ answers (b ∷ q)
-answers_same b p q carry = answers_same_plain (record { first = record b.first { is_future_pictograph = false }; attached = narrow CM ∷ [] }) p q carry
+pub answers_same : (whole_numbers : Bool) (b : Base) (p q : List Base) → carried p ≡ carried q → answers whole_numbers (b ∷ p) ≡ answers whole_numbers (b ∷ q)
+answers_same whole_numbers b p q carry = answers_same_plain whole_numbers (record { first = record b.first { is_future_pictograph = false }; attached = narrow CM ∷ [] }) p q carry
 
 -- all answers of some bases, with what LB8a and LB30b ask of the last one
-all_answers : (last : Base) (others : List Base) → map (λ rule. rule.before (last ∷ others)) rules ≡ answered_with (is_same (end_of last).class ZWJ) last.first.is_future_pictograph (answers (last ∷ others))
-unfolding rules
-all_answers last others =
+all_answers : (whole_numbers : Bool) (last : Base) (others : List Base) → map (λ row. row.before (last ∷ others)) (rows whole_numbers) ≡ answered_with whole_numbers (is_same (end_of last).class ZWJ) last.first.is_future_pictograph (answers whole_numbers (last ∷ others))
+unfolding rows rows_before_numbers rows_of_numbers rows_behind_numbers
+all_answers true last others =
+    let plain_last : Base = record { first = record last.first { is_future_pictograph = false }; attached = narrow CM ∷ [] } in
+    rw (
+      spaced_same_class (ZW ∷ []) last plain_last others refl,
+      spaced_same_class (OP ∷ []) last plain_last others refl,
+      spaced_same_class (QU ∷ []) last plain_last others refl,
+      spaced_same_class (CL ∷ CP ∷ []) last plain_last others refl,
+      spaced_same_class (B2 ∷ []) last plain_last others refl,
+    ) refl
+all_answers false last others =
     let plain_last : Base = record { first = record last.first { is_future_pictograph = false }; attached = narrow CM ∷ [] } in
     rw (
       spaced_same_class (ZW ∷ []) last plain_last others refl,
@@ -108,21 +182,35 @@ all_answers last others =
       spaced_same_class (B2 ∷ []) last plain_last others refl,
     ) refl
 
-pub marked : (last : Base) (others : List Base) (c : Character) → mark_by rules (last ∷ others) (alone c ∷ []) ≡ decide marks_by_rule (answered_with (is_same (end_of last).class ZWJ) last.first.is_future_pictograph (answers (last ∷ others))) (behinds c)
-marked last others c = decides rules (last ∷ others) (alone c ∷ []) ∙ ap (λ befores. decide marks_by_rule befores (behinds c)) (all_answers last others)
+pub marked : (whole_numbers : Bool) (last : Base) (others behind : List Base) → mark_by (rules whole_numbers) (last ∷ others) behind ≡ decide (marks_by_row whole_numbers) (answered_with whole_numbers (is_same (end_of last).class ZWJ) last.first.is_future_pictograph (answers whole_numbers (last ∷ others))) (map (λ row. row.behind behind) (rows whole_numbers))
+marked whole_numbers last others behind =
+    rules_decide whole_numbers (last ∷ others) behind
+    ∙ ap (λ befores. decide (marks_by_row whole_numbers) befores (map (λ row. row.behind behind) (rows whole_numbers))) (all_answers whole_numbers last others)
 
 -- a character attached changes no other answer
-pub answers_attached : (last : Base) (others : List Base) (attached : List Character) → answers (record { first = last.first; attached = attached } ∷ others) ≡ answers (last ∷ others)
-unfolding rules
-answers_attached last others attached = refl
+pub answers_attached : (whole_numbers : Bool) (last : Base) (others : List Base) (attached : List Character) → answers whole_numbers (record { first = last.first; attached = attached } ∷ others) ≡ answers whole_numbers (last ∷ others)
+unfolding rows rows_before_numbers rows_of_numbers rows_behind_numbers
+answers_attached true last others attached = refl
+answers_attached false last others attached = refl
 
 pub carried_attached : (last : Base) (others : List Base) (attached : List Character) → carried (record { first = last.first; attached = attached } ∷ others) ≡ carried (last ∷ others)
 carried_attached last others attached = carried_same_class (record { first = last.first; attached = attached }) last others refl
 
 -- the rules read no more of a base than what the symbol of its first character shows
-pub answers_told : (c : Character) (bases : List Base) → answers (alone c ∷ bases) ≡ answers (alone (told c) ∷ bases)
-unfolding rules
-answers_told c bases =
+pub answers_told : (whole_numbers : Bool) (c : Character) (bases : List Base) → answers whole_numbers (alone c ∷ bases) ≡ answers whole_numbers (alone (told c) ∷ bases)
+unfolding rows rows_before_numbers rows_of_numbers rows_behind_numbers
+answers_told true c bases =
+    let read : Base = record { first = record c { is_future_pictograph = false }; attached = narrow CM ∷ [] } in
+    let told_base : Base = record { first = told c; attached = narrow CM ∷ [] } in
+    rw (
+      narrow_before c.class c.is_wide,
+      spaced_same_class (ZW ∷ []) read told_base bases refl,
+      spaced_same_class (OP ∷ []) read told_base bases refl,
+      spaced_same_class (QU ∷ []) read told_base bases refl,
+      spaced_same_class (CL ∷ CP ∷ []) read told_base bases refl,
+      spaced_same_class (B2 ∷ []) read told_base bases refl,
+    ) refl
+answers_told false c bases =
     let read : Base = record { first = record c { is_future_pictograph = false }; attached = narrow CM ∷ [] } in
     let told_base : Base = record { first = told c; attached = narrow CM ∷ [] } in
     rw (

@@ -6,14 +6,15 @@ use Rattle.ucd.specs.contracts.line_class.LineClass.{the_type}
 use denote.Enum.Declared.{tag_of}
 use Rattle.breaks.specs.Bases.{resolved, base_class}
 use Rattle.breaks.specs.Classes.{is_same, is_one_of}
-use Rattle.breaks.specs.Rules.{rules}
+use Rattle.breaks.specs.Rules.{rows_before_numbers, rows_of_numbers, rows_behind_numbers}
+use Rattle.breaks.specs.Walk.{rows}
 use Rattle.ucd.specs.declared.properties.Properties.{Properties}
 use Rattle.ucd.specs.Answers.{line_index}
 use Rattle.breaks.specs.Symbols.{character_by, shown, told}
 use Rattle.breaks.specs.declared.character.Character.{Character}
-use Rattle.breaks.specs.declared.symbol.TheConstants.{JOINER, SYMBOLS}
+use Rattle.breaks.specs.declared.symbol.TheConstants.{ATTACHED, DIGIT, JOINER, SYMBOLS}
 use Rattle.breaks.proofs.BoolLemmas.{same, same_is, below, is_below}
-use Rattle.breaks.proofs.Computed.{behinds, joiner_is_one, symbols_are_within}
+use Rattle.breaks.proofs.Computed.{attached_are_last, behinds, digit_is_one, joiner_is_one, symbols_are_within}
 
 -- the table has the symbol of a class
 abbrev HasSymbol : LineClass → Bool → Bool → Bool → Type 0
@@ -80,6 +81,13 @@ has_symbol XX = eight (HasSymbol XX) refl refl refl refl refl refl refl refl
 pub is_joiner : (symbol : ℕ) → symbol < 40 → (symbol == JOINER) ≡ is_same (shown symbol).class ZWJ
 is_joiner symbol lt = same_is _ _ (below 40 (λ x. same (x == JOINER) (is_same (shown x).class ZWJ)) joiner_is_one symbol lt)
 
+-- which is that of a digit, and which those of what stays with the character before it
+pub is_digit : (symbol : ℕ) → symbol < 40 → (symbol == DIGIT) ≡ is_same (shown symbol).class NU
+is_digit symbol lt = same_is _ _ (below 40 (λ x. same (x == DIGIT) (is_same (shown x).class NU)) digit_is_one symbol lt)
+
+pub is_not_attached : (symbol : ℕ) → symbol < 40 → nat_lt symbol ATTACHED ≡ not (is_one_of (CM ∷ ZWJ ∷ []) (shown symbol).class)
+is_not_attached symbol lt = same_is _ _ (below 40 (λ x. same (nat_lt x ATTACHED) (not (is_one_of (CM ∷ ZWJ ∷ []) (shown x).class))) attached_are_last symbol lt)
+
 -- the rules read no more of a character than its symbol shows
 pub narrow_before : (class : LineClass) (is_wide : Bool) → (is_one_of (CP ∷ []) (base_class class) && not is_wide) ≡ (is_one_of (CP ∷ []) (base_class class) && not (is_one_of (CP ∷ OP ∷ []) class && is_wide))
 narrow_before CP is_wide = refl
@@ -89,9 +97,12 @@ narrow_behind : (class : LineClass) (is_wide : Bool) → (is_one_of (OP ∷ []) 
 narrow_behind OP is_wide = refl
 narrow_behind class is_wide = refl
 
-pub behinds_told : (c : Character) → behinds c ≡ behinds (told c)
-unfolding rules
-behinds_told c = rw (narrow_behind c.class c.is_wide) refl
+pub behinds_told : (whole_numbers : Bool) (c : Character) (before_digit : Bool) → behinds whole_numbers c before_digit ≡ behinds whole_numbers (told c) before_digit
+unfolding rows rows_before_numbers rows_of_numbers rows_behind_numbers
+behinds_told true c true = rw (narrow_behind c.class c.is_wide) refl
+behinds_told true c false = rw (narrow_behind c.class c.is_wide) refl
+behinds_told false c true = rw (narrow_behind c.class c.is_wide) refl
+behinds_told false c false = rw (narrow_behind c.class c.is_wide) refl
 
 -- the symbol that the table has for some properties
 pub symbol_shown : (p : Properties) (index symbol : ℕ) → index ≡ line_index p → symbol ≡ get_or SYMBOLS index 0 → shown symbol ≡ told (character_by p)

@@ -1,5 +1,5 @@
 -- The break marks of a paragraph (UAX #14).
-use Rattle.std.specs.Prelude.{ℕ, List, [], ◌∷◌, ◌++◌, map}
+use Rattle.std.specs.Prelude.{ℕ, Bool, List, [], ◌∷◌, ◌++◌, map}
 use Rattle.ucd.specs.declared.tables.Tables.{Tables}
 use Rattle.breaks.specs.Bases.{Base, bases_of, character}
 use Rattle.breaks.specs.Rules.{rules, mark_by}
@@ -8,11 +8,12 @@ use Rattle.breaks.specs.declared.mark.Mark.TheVariants.{Never}
 
 -- The marks of the positions behind the characters of some bases, of which others stand before, the nearest first.
 -- LB9: no line ends inside a base. Behind it the rules give the mark.
-abbrev pub marks_behind : List Base → List Base → List Mark
-marks_behind before [] = []
-marks_behind before (b ∷ behind) =
-    map (λ _. Never) b.attached ++ mark_by rules (b ∷ before) behind ∷ marks_behind (b ∷ before) behind
+abbrev pub marks_behind : Bool → List Base → List Base → List Mark
+marks_behind whole_numbers before [] = []
+marks_behind whole_numbers before (b ∷ behind) =
+    map (λ _. Never) b.attached
+    ++ mark_by (rules whole_numbers) (b ∷ before) behind ∷ marks_behind whole_numbers (b ∷ before) behind
 
--- the mark of the position behind each character of a paragraph
-unfoldable pub marks_of : Tables → List ℕ → List Mark
-marks_of t text = marks_behind [] (bases_of (map (character t) text))
+-- the mark of the position behind each character of a paragraph, where numbers stay whole or LB25 is a rule on two bases
+unfoldable pub marks_of : Tables → Bool → List ℕ → List Mark
+marks_of t whole_numbers text = marks_behind whole_numbers [] (bases_of (map (character t) text))

@@ -1,28 +1,38 @@
 -- The rules for break marks (UAX #14, LB3 to LB31), in the order of the annex. LB1, LB9 and LB10 have made bases of the characters
 -- (Bases.antt), LB2 speaks of the position before a text, which has no mark, and LB31 is what holds where no rule of the table does.
-use Rattle.std.specs.Prelude.{◌%◌, ◌==◌, Bool, true, false, not, ◌&&◌, List, [], ◌∷◌, if◌then◌else◌}
+-- Numbers that stay whole have a rule of their own in place of LB25 (Numbers.antt).
+use Rattle.std.specs.Prelude.{◌%◌, ◌==◌, Bool, true, false, not, ◌&&◌, List, [], ◌∷◌, ◌++◌, map, if◌then◌else◌}
 use Rattle.std.specs.List.{prefix_len}
 use Rattle.ucd.specs.declared.line_class.LineClass.{LineClass}
 use Rattle.ucd.specs.declared.line_class.LineClass.TheVariants.{AL, B2, BA, BB, BK, CB, CL, CP, CR, EB, EM, EX, GL, H2, H3, HL, HY, ID, IN, IS, JL, JT, JV, LF, NL, NS, NU, OP, PO, PR, QU, RI, SP, SY, WJ, ZW, ZWJ}
 use Rattle.breaks.specs.Bases.{Base, class_of, end_of}
 use Rattle.breaks.specs.Classes.{is_same, is_one_of}
+use Rattle.breaks.specs.Numbers.{is_in_number}
 use Rattle.breaks.specs.declared.mark.Mark.{Mark}
 use Rattle.breaks.specs.declared.mark.Mark.TheVariants.{Never, May, Must}
 
--- A rule: a condition on the bases before a position, the nearest first, one on the bases behind it, and the mark that it gives.
+-- A rule: the positions that it holds of, by the bases before one, the nearest first, and those behind it, and the mark that it gives.
 pub record Rule : Type 0 where
+  pub holds : List Base → List Base → Bool
+  pub mark : Mark
+
+-- what most rules are: a condition on the bases before a position, and one on those behind it
+pub record Row : Type 0 where
   pub before : List Base → Bool
   pub behind : List Base → Bool
   pub mark : Mark
 
+abbrev pub rule_of : Row → Rule
+rule_of row = record { holds = λ before behind. row.before before && row.behind behind; mark = row.mark }
+
 -- `×`, `÷` and `!`
-abbrev never : (List Base → Bool) → (List Base → Bool) → Rule
+abbrev pub never : (List Base → Bool) → (List Base → Bool) → Row
 never before behind = record { before = before; behind = behind; mark = Never }
 
-abbrev may : (List Base → Bool) → (List Base → Bool) → Rule
+abbrev may : (List Base → Bool) → (List Base → Bool) → Row
 may before behind = record { before = before; behind = behind; mark = May }
 
-abbrev must : (List Base → Bool) → (List Base → Bool) → Rule
+abbrev must : (List Base → Bool) → (List Base → Bool) → Row
 must before behind = record { before = before; behind = behind; mark = Must }
 
 -- conditions on the bases before a position, and on those behind it
@@ -82,8 +92,8 @@ letters = AL ∷ HL ∷ []
 abbrev syllables : List LineClass
 syllables = H2 ∷ H3 ∷ JL ∷ JT ∷ JV ∷ []
 
-unfoldable pub rules : List Rule
-rules =
+unfoldable pub rows_before_numbers : List Row
+rows_before_numbers =
     -- LB3
     must any none ∷
     -- LB4
@@ -142,10 +152,18 @@ rules =
     -- LB24
     never (is (PO ∷ PR ∷ [])) (is letters) ∷
     never (is letters) (is (PO ∷ PR ∷ [])) ∷
-    -- LB25
+    []
+
+-- LB25 as a rule on two bases
+unfoldable pub rows_of_numbers : List Row
+rows_of_numbers =
     never (is (CL ∷ CP ∷ NU ∷ [])) (is (PO ∷ PR ∷ [])) ∷
     never (is (PO ∷ PR ∷ [])) (is (OP ∷ NU ∷ [])) ∷
     never (is (HY ∷ IS ∷ NU ∷ SY ∷ [])) (is (NU ∷ [])) ∷
+    []
+
+unfoldable pub rows_behind_numbers : List Row
+rows_behind_numbers =
     -- LB26
     never (is (JL ∷ [])) (is (H2 ∷ H3 ∷ JL ∷ JV ∷ [])) ∷
     never (is (H2 ∷ JV ∷ [])) (is (JT ∷ JV ∷ [])) ∷
@@ -167,7 +185,15 @@ rules =
     never is_future_pictograph (is (EM ∷ [])) ∷
     []
 
--- the mark of a position: that of the first rule of which both conditions hold, and LB31 where there is none
+-- LB25: with whole numbers no line ends inside one, and else as its rows have it
+abbrev pub numbers : Bool → List Rule
+numbers true = record { holds = is_in_number; mark = Never } ∷ []
+numbers false = map rule_of rows_of_numbers
+
+unfoldable pub rules : Bool → List Rule
+rules whole_numbers = map rule_of rows_before_numbers ++ (numbers whole_numbers ++ map rule_of rows_behind_numbers)
+
+-- the mark of a position: that of the first rule that holds of it, and LB31 where there is none
 abbrev pub mark_by : List Rule → List Base → List Base → Mark
 mark_by [] before behind = May
-mark_by (rule ∷ rules) before behind = if rule.before before && rule.behind behind then rule.mark else mark_by rules before behind
+mark_by (rule ∷ rules) before behind = if rule.holds before behind then rule.mark else mark_by rules before behind

@@ -1,20 +1,21 @@
 -- What one walk over the characters keeps of the bases before a position: a state stands for some bases where the rules can't tell them
 -- from those of `bases_at`. Only the code speaks of these: that its marks are those of Marks.antt is what `marks` ensures.
-use Rattle.std.specs.Prelude.{◌≡◌, ℕ, ◌*◌, ◌<◌, Bool, false, ◌||◌, ◌&&◌, ◌==◌, ◌++◌, List, [], ◌∷◌, map, MatchBool, get_or, if◌then◌else◌}
+use Rattle.std.specs.Prelude.{◌≡◌, ℕ, ◌*◌, ◌<◌, Bool, true, false, ◌||◌, ◌&&◌, ◌==◌, ◌++◌, List, [], ◌∷◌, map, MatchBool, get_or, if◌then◌else◌}
 use Rattle.ucd.specs.declared.line_class.LineClass.{LineClass}
 use Rattle.ucd.specs.declared.line_class.LineClass.TheVariants as class
-use Rattle.breaks.specs.Bases.{Base, alone, end_of, stays_with}
+use Rattle.breaks.specs.Bases.{Base, alone, bases_of, class_of, end_of, stays_with}
 use Rattle.breaks.specs.Classes.{is_same, is_one_of}
-use Rattle.breaks.specs.Rules.{rules, mark_by, is, is_spaced, ends_in_odd_run}
+use Rattle.breaks.specs.Numbers.{affix, closing, middle, opening}
+use Rattle.breaks.specs.Rules.{Row, rules, rows_before_numbers, rows_of_numbers, rows_behind_numbers, mark_by, never, is, is_spaced, ends_in_odd_run}
 use Rattle.breaks.specs.Symbols.{narrow}
 use Rattle.breaks.specs.declared.character.Character.{Character}
 use Rattle.breaks.specs.declared.mark.Mark.{Mark}
 use Rattle.breaks.specs.declared.mark.Mark.TheVariants.{Never}
-use Rattle.breaks.specs.declared.table.TheConstants.{NEVER, UNLESS}
-use Rattle.breaks.specs.declared.walk.TheConstants.{MARKS}
+use Rattle.breaks.specs.declared.table.TheConstants.{NEVER, UNLESS, WAITS}
+use Rattle.breaks.specs.declared.walk.TheConstants.{MARKS, WHOLE_MARKS}
 use Rattle.breaks.specs.declared.walk.Walk.{Walk}
 
-abbrev base : LineClass → Base
+abbrev pub base : LineClass → Base
 base class = alone (narrow class)
 
 -- the bases that the states show, in their order, the nearest first
@@ -57,19 +58,65 @@ states =
     (base class.JT ∷ []) ∷
     (base class.RI ∷ []) ∷
     (base class.EX ∷ []) ∷
+    (base class.IS ∷ base class.NU ∷ []) ∷
+    (base class.SY ∷ base class.NU ∷ []) ∷
+    (base class.CL ∷ base class.NU ∷ []) ∷
+    (base class.CP ∷ base class.NU ∷ []) ∷
     []
 
 abbrev pub bases_at : ℕ → List Base
 bases_at number = get_or states number []
 
 -- what a line does by an outcome, where the last character is a ZWJ or the last base a pictograph to come
-abbrev pub mark_at : ℕ → Bool → Bool → Mark
-mark_at outcome is_joined is_pictograph =
-    get_or MARKS (if is_joined || ((outcome == UNLESS) && is_pictograph) then NEVER else outcome) Never
+abbrev pub decided_at : ℕ → Bool → Bool → ℕ
+decided_at outcome is_joined is_pictograph = if is_joined || ((outcome == UNLESS) && is_pictograph) then NEVER else outcome
+
+-- the mark of it, where the base behind the next one may be NU
+abbrev pub marks_alone : Bool → List Mark
+marks_alone true = WHOLE_MARKS
+marks_alone false = MARKS
+
+abbrev pub mark_of : Bool → ℕ → Bool → Mark
+mark_of whole_numbers decided before_digit =
+    if whole_numbers && ((decided == WAITS) && before_digit) then Never else get_or (marks_alone whole_numbers) decided Never
+
+-- whether the base is NU that begins in some characters, of which the first may be attached to the one before them
+abbrev pub is_before_digit : List Character → Bool
+is_before_digit [] = false
+is_before_digit (c ∷ text) = if is_one_of (class.CM ∷ class.ZWJ ∷ []) c.class then is_before_digit text else is_same c.class class.NU
 
 -- LB9: the classes to which no CM or ZWJ is attached
 abbrev pub unattached : List LineClass
 unattached = class.BK ∷ class.CR ∷ class.LF ∷ class.NL ∷ class.SP ∷ class.ZW ∷ []
+
+-- LB25 of whole numbers as conditions on the bases before and on those behind: a place in the expression of a number
+abbrev pub ends_in_digits : List Base → Bool
+ends_in_digits [] = false
+ends_in_digits (b ∷ bases) = is_same (class_of b) class.NU || (is_one_of middle (class_of b) && ends_in_digits bases)
+
+abbrev pub ends_in_closed_digits : List Base → Bool
+ends_in_closed_digits [] = false
+ends_in_closed_digits (b ∷ bases) = is_one_of closing (class_of b) && ends_in_digits bases
+
+abbrev pub begins_unaffixed : List Base → Bool
+begins_unaffixed [] = false
+begins_unaffixed (b ∷ bases) = is_same (class_of b) class.NU || (is_one_of opening (class_of b) && is (class.NU ∷ []) bases)
+
+abbrev pub goes_on_behind_digits : List LineClass
+goes_on_behind_digits = class.NU ∷ class.SY ∷ class.IS ∷ class.CL ∷ class.CP ∷ class.PR ∷ class.PO ∷ []
+
+abbrev pub number_rows : Bool → List Row
+number_rows true =
+    never (is affix) begins_unaffixed ∷
+    never (is opening) (is (class.NU ∷ [])) ∷
+    never ends_in_digits (is goes_on_behind_digits) ∷
+    never ends_in_closed_digits (is affix) ∷
+    []
+number_rows false = rows_of_numbers
+
+-- all rules as such conditions
+unfoldable pub rows : Bool → List Row
+rows whole_numbers = rows_before_numbers ++ (number_rows whole_numbers ++ rows_behind_numbers)
 
 -- bases of which the nearest ends in no ZWJ and is no pictograph to come
 abbrev pub plain : List Base → List Base
@@ -77,24 +124,24 @@ plain [] = []
 plain (b ∷ bases) = record { first = record b.first { is_future_pictograph = false }; attached = narrow class.CM ∷ [] } ∷ bases
 
 -- what the rules answer of bases before a position, but for LB8a and LB30b of pictographs
-abbrev pub answers : List Base → List Bool
-answers bases = map (λ rule. rule.before (plain bases)) rules
+abbrev pub answers : Bool → List Base → List Bool
+answers whole_numbers bases = map (λ row. row.before (plain bases)) (rows whole_numbers)
 
--- what they may answer of the next one, if it is a hyphen behind HL, a space or an RI
+-- what they may answer of the next one, if it is a hyphen behind HL, a space, an RI or what goes on with a number
 abbrev pub carried : List Base → List Bool
 carried bases =
     is (class.HL ∷ []) bases
     ∷ is_spaced (class.ZW ∷ []) bases ∷ is_spaced (class.OP ∷ []) bases ∷ is_spaced (class.QU ∷ []) bases
     ∷ is_spaced (class.CL ∷ class.CP ∷ []) bases ∷ is_spaced (class.B2 ∷ []) bases
-    ∷ ends_in_odd_run bases ∷ []
+    ∷ ends_in_odd_run bases ∷ ends_in_digits bases ∷ []
 
 -- What a walk keeps of bases of which the nearest is the last one, to which a character may still be attached: the row of a state whose
 -- bases have the same answers, carry the same and take a CM or ZWJ where these do; and of the last base the two bits that aren't in it.
-pub record Stands (walk : Walk) (last : Base) (others : List Base) : Type 0 where
+pub record Stands (whole_numbers : Bool) (walk : Walk) (last : Base) (others : List Base) : Type 0 where
   pub state : ℕ
-  pub below : state < 37
+  pub below : state < 41
   pub row : walk.row ≡ state * 40
-  pub answered : answers (last ∷ others) ≡ answers (bases_at state)
+  pub answered : answers whole_numbers (last ∷ others) ≡ answers whole_numbers (bases_at state)
   pub carries : carried (last ∷ others) ≡ carried (bases_at state)
   pub attaches : is_one_of unattached (end_of last).class ≡ is unattached (bases_at state)
   pub is_joined : walk.is_joined ≡ is_same (end_of last).class class.ZWJ
@@ -104,8 +151,11 @@ pub record Stands (walk : Walk) (last : Base) (others : List Base) : Type 0 wher
 abbrev pub with_attached : Base → Character → Base
 with_attached last c = record { first = last.first; attached = last.attached ++ c ∷ [] }
 
-abbrev pub Passes : Walk → Base → List Base → Character → Mark → Type 0
-Passes after last others c mark =
+-- what is decided in front of it gives the mark, once it is known whether the base behind it is NU
+abbrev pub Passes : Bool → Walk → Base → List Base → Character → ℕ → Type 0
+Passes whole_numbers after last others c decided =
     MatchBool (stays_with (end_of last) c)
-    ((mark ≡ Never) × Stands after (with_attached last c) others)
-    ((mark ≡ mark_by rules (last ∷ others) (alone c ∷ [])) × Stands after (alone c) (last ∷ others))
+    (((before_digit : Bool) → mark_of whole_numbers decided before_digit ≡ Never) × Stands whole_numbers after (with_attached last c) others)
+    (((text : List Character) →
+    mark_of whole_numbers decided (is_before_digit text) ≡ mark_by (rules whole_numbers) (last ∷ others) (bases_of (c ∷ text)))
+    × Stands whole_numbers after (alone c) (last ∷ others))

@@ -1,9 +1,14 @@
 //! The break marks of a paragraph.
-ghost use Rattle.std.specs.Prelude.{◌≡◌, ◌<◌, length, map, slice_index_or, IfOk, OnOk};
+ghost use Rattle.std.specs.Prelude.{◌≡◌, ◌+◌, ◌<◌, ◌≤◌, drop, length, map, slice_index_or, IfOk, OnOk};
 ghost use Rattle.ucd.specs.Properties.{properties_of};
+ghost use Rattle.breaks.specs.Bases.{character};
 ghost use Rattle.breaks.specs.Marks.{marks_of};
+ghost use Rattle.breaks.specs.Symbols.{character_by};
+ghost use Rattle.breaks.specs.Walk.{is_before_digit, mark_of};
 
-use crate::walk::Walk;
+use crate::symbol::{ATTACHED, DIGIT, symbol_of};
+use crate::table::WAITS;
+use crate::walk::{Walk, mark_alone};
 use std::alloc::{AllocError, Global};
 use ucd::{Properties, Tables};
 
@@ -19,14 +24,20 @@ pub enum Mark {
 }
 
 /// The mark of the position behind each character of a paragraph (UAX #14, LB1 to LB31, as
-/// docs/PROFILE.md has them). Behind the last one it is `Must`.
-pub fn marks(alloc: Global, tables: &Tables, text: &[char]) -> Result<Vec<Mark>, AllocError>
-    ensures marks { IfOk result (λ marks. marks.items ≡ marks_of tables.now text.now) }
+/// docs/PROFILE.md has them). Behind the last one it is `Must`. Where numbers stay whole, no line ends
+/// inside one, and LB25 keeps nothing else together.
+pub fn marks(
+    alloc: Global,
+    tables: &Tables,
+    text: &[char],
+    whole_numbers: bool,
+) -> Result<Vec<Mark>, AllocError>
+    ensures marks { IfOk result (λ marks. marks.items ≡ marks_of tables.now whole_numbers text.now) }
     ensures len { IfOk result (λ marks. length marks.items ≡ length text.now) }
 {
     let mut marks = Vec::new(alloc);
     marks.resize(text.len(), Mark::Must)?;
-    mark_text(tables, text, &mut marks);
+    mark_text(tables, text, whole_numbers, &mut marks);
     Ok(marks)
 }
 
@@ -35,35 +46,43 @@ pub fn marks_into(
     tables: &Tables,
     text: &[char],
     properties: &[Properties],
+    whole_numbers: bool,
     marks: &mut Vec<Mark>,
 ) -> Result<(), AllocError>
     requires { properties.now ≡ map (properties_of tables.now) text.now }
-    ensures marks { OnOk result (marks.new.items ≡ marks_of tables.now text.now) }
+    ensures marks { OnOk result (marks.new.items ≡ marks_of tables.now whole_numbers text.now) }
     ensures len { OnOk result (length marks.new.items ≡ length text.now) }
 {
     marks.resize(properties.len(), Mark::Must)?;
-    mark_properties(tables, text, properties, marks);
+    mark_properties(tables, text, properties, whole_numbers, marks);
     Ok(())
 }
 
-fn mark_text(tables: &Tables, text: &[char], marks: &mut [Mark])
+fn mark_text(tables: &Tables, text: &[char], whole_numbers: bool, marks: &mut [Mark])
     requires { length marks.old ≡ length text.now }
-    ensures { marks.new ≡ marks_of tables.now text.now }
+    ensures { marks.new ≡ marks_of tables.now whole_numbers text.now }
 {
     let Some((first, rest)) = text.split_first() else {
         return;
     };
     let mut walk = Walk::start(tables.properties(*first));
     for (i, c) in rest.iter().enumerate() {
-        marks[i] = walk.pass(tables.properties(*c));
+        let decided = walk.pass(tables.properties(*c));
+        marks[i] = mark_in_text(tables, rest, i, decided, whole_numbers);
     }
     marks[rest.len()] = Mark::Must;
 }
 
-fn mark_properties(tables: &Tables, text: &[char], properties: &[Properties], marks: &mut [Mark])
+fn mark_properties(
+    tables: &Tables,
+    text: &[char],
+    properties: &[Properties],
+    whole_numbers: bool,
+    marks: &mut [Mark],
+)
     requires len { length marks.old ≡ length text.now }
     requires properties { properties.now ≡ map (properties_of tables.now) text.now }
-    ensures { marks.new ≡ marks_of tables.now text.now }
+    ensures { marks.new ≡ marks_of tables.now whole_numbers text.now }
 {
     let Some((first, rest)) = properties.split_first() else {
         return;
@@ -71,7 +90,8 @@ fn mark_properties(tables: &Tables, text: &[char], properties: &[Properties], ma
     let mut walk = Walk::start(*first);
     let last = rest.len();
     for i in 0..last {
-        marks[i] = walk.pass(read(rest, i));
+        let decided = walk.pass(read(rest, i));
+        marks[i] = mark_in_properties(rest, i, decided, whole_numbers);
     }
     marks[last] = Mark::Must;
 }
@@ -83,7 +103,68 @@ fn read(properties: &[Properties], i: usize) -> Properties
     properties[i]
 }
 
+// The mark in front of a character, by what is decided there and, where that waits, by what stands
+// behind it.
+fn mark_in_text(tables: &Tables, text: &[char], i: usize, decided: u16, whole_numbers: bool) -> Mark
+    requires place { i < length text.now }
+    requires below { decided < 8 }
+    ensures { result ≡ mark_of whole_numbers decided
+        (is_before_digit (map (character tables.now) (drop (i + 1) text.now))) }
+{
+    if whole_numbers && decided == WAITS && is_text_before_digit(tables, text, i + 1) {
+        Mark::Never
+    } else {
+        mark_alone(decided, whole_numbers)
+    }
+}
+
+fn mark_in_properties(
+    properties: &[Properties],
+    i: usize,
+    decided: u16,
+    whole_numbers: bool,
+) -> Mark
+    requires place { i < length properties.now }
+    requires below { decided < 8 }
+    ensures { result ≡ mark_of whole_numbers decided
+        (is_before_digit (map character_by (drop (i + 1) properties.now))) }
+{
+    if whole_numbers && decided == WAITS && are_before_digit(properties, i + 1) {
+        Mark::Never
+    } else {
+        mark_alone(decided, whole_numbers)
+    }
+}
+
+// Whether the base behind one is NU, by the characters from a place on: those attached to the one in
+// front of them are read once more, and no others.
+fn is_text_before_digit(tables: &Tables, text: &[char], from: usize) -> bool
+    requires { from ≤ length text.now }
+    ensures { result ≡ is_before_digit (map (character tables.now) (drop from text.now)) }
+{
+    for i in from..text.len() {
+        let symbol = symbol_of(tables.properties(text[i]));
+        if symbol < ATTACHED {
+            return symbol == DIGIT;
+        }
+    }
+    false
+}
+
+fn are_before_digit(properties: &[Properties], from: usize) -> bool
+    requires { from ≤ length properties.now }
+    ensures { result ≡ is_before_digit (map character_by (drop from properties.now)) }
+{
+    for i in from..properties.len() {
+        let symbol = symbol_of(read(properties, i));
+        if symbol < ATTACHED {
+            return symbol == DIGIT;
+        }
+    }
+    false
+}
+
 /// A paragraph has as many marks as characters: a law, which takes no time.
-pub fn marks_are_as_many(tables: &Tables, text: &[char])
-    ensures { length (marks_of tables.now text.now) ≡ length text.now }
+pub fn marks_are_as_many(tables: &Tables, text: &[char], whole_numbers: bool)
+    ensures { length (marks_of tables.now whole_numbers text.now) ≡ length text.now }
 {}

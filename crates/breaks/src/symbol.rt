@@ -54,6 +54,12 @@ enum Symbol {
 /// The number of ZWJ.
 pub const JOINER: u8 = Symbol::ZWJ as u8;
 
+/// The number of NU.
+pub const DIGIT: u8 = Symbol::NU as u8;
+
+/// The first of the two numbers of what stays with the character before it, CM and ZWJ.
+pub const ATTACHED: u8 = Symbol::CM as u8;
+
 /// The number of the symbol of a character of these properties.
 pub fn symbol_of(properties: Properties) -> u8
     ensures shown { shown result ≡ told (character_by properties) }

@@ -8,7 +8,7 @@ use crate::{Mark, marks, marks_into};
 use std::alloc::{AllocError, Global};
 use std::process::Abort;
 use std::test::Fail;
-use ucd::{Cause, Properties, Tables, UcdFiles};
+use ucd::{Cause, LineClass, Properties, Tables, UcdFiles};
 
 // The table files of the tests.
 const FILES: UcdFiles<'_> = UcdFiles {
@@ -29,11 +29,11 @@ fn tables(alloc: Global, files: &UcdFiles<'_>) -> Result<Tables, Fail> {
 }
 
 // The marks of a text, in the signs of the annex.
-fn signs(alloc: Global, tables: &Tables, text: &str) -> Result<String, Fail> {
+fn signs(alloc: Global, tables: &Tables, text: &str, whole_numbers: bool) -> Result<String, Fail> {
     let text: Vec<char> = text.chars().collect(alloc)?;
-    let marks = match marks(alloc, tables, &text) {
+    let marks = match marks(alloc, tables, &text, whole_numbers) {
         Ok(marks) => marks,
-        Err(_) => marks(alloc, tables, &text)?,
+        Err(_) => marks(alloc, tables, &text, whole_numbers)?,
     };
     let signs = marks.iter().map(|mark| match mark {
         Mark::Never => '×',
@@ -43,7 +43,7 @@ fn signs(alloc: Global, tables: &Tables, text: &str) -> Result<String, Fail> {
     Ok(signs.collect(alloc)?)
 }
 
-// Texts and their marks.
+// Texts and their marks, whether numbers stay whole or not.
 const ROWS: [(&str, &str); 15] = [
     ("", ""),
     ("a b", "×÷!"),
@@ -65,6 +65,40 @@ const ROWS: [(&str, &str); 15] = [
     ("a \u{300}b", "×÷×!"),
 ];
 
+// Texts and their marks without whole numbers, and with them.
+const NUMBERS: [(&str, &str, &str); 23] = [
+    ("$(1", "××!", "××!"),
+    ("$(a", "××!", "÷×!"),
+    ("$(", "×!", "÷!"),
+    ("$\u{3008}1", "××!", "××!"),
+    ("$\u{3008}a", "××!", "÷×!"),
+    ("$\u{300}(\u{300}\u{200D}1", "×××××!", "×××××!"),
+    ("$(\u{300}a", "×××!", "÷××!"),
+    ("$(\u{300}", "××!", "÷×!"),
+    ("$\u{200D}(a", "×××!", "×××!"),
+    ("%( 1", "×××!", "÷××!"),
+    ("a}%", "××!", "×÷!"),
+    ("1}%", "××!", "××!"),
+    ("1\u{300},\u{300})\u{300}$", "××××××!", "××××××!"),
+    ("1))%", "×××!", "××÷!"),
+    ("1/%", "×÷!", "××!"),
+    ("a,1", "××!", "×÷!"),
+    ("0,1", "××!", "××!"),
+    ("1/2", "××!", "××!"),
+    ("1 /2", "×××!", "××÷!"),
+    ("$-1", "××!", "××!"),
+    ("$1,234.56", "××××××××!", "××××××××!"),
+    ("(12.5%)", "××××××!", "××××××!"),
+    ("%(1.)$1", "××××××!", "××××××!"),
+];
+
+// The same of a degree sign and a euro sign. A line may end behind a space, inside what would else be a
+// number.
+const SIGNS: [(&str, &str, &str); 2] = [
+    ("-5\u{B0}", "××!", "××!"),
+    ("\u{20AC} 30", "×÷×!", "×÷×!"),
+];
+
 // Those of U+00A9 and a modifier, where the first is unassigned and where it isn't.
 const PICTOGRAPHS: [(&[u8], &str); 2] = [(b"", "×!"), (b"00A9;So", "÷!")];
 
@@ -73,10 +107,15 @@ fn check(
     alloc: Global,
     tables: &Tables,
     text: &str,
+    whole_numbers: bool,
     want: &str,
 ) -> Result<(), Fail> {
-    let signs = signs(alloc, tables, text)?;
-    assert_eq!(rt; signs.as_str(), want, "{text:?}");
+    let signs = signs(alloc, tables, text, whole_numbers)?;
+    assert_eq!(rt;
+        signs.as_str(),
+        want,
+        "{text:?}, whole numbers: {whole_numbers}"
+    );
     Ok(())
 }
 
@@ -87,7 +126,21 @@ fn check_each(
     rows: &[(&str, &str)],
 ) -> Result<(), Fail> {
     for (text, want) in rows {
-        check(rt, alloc, tables, text, want)?;
+        check(rt, alloc, tables, text, false, want)?;
+        check(rt, alloc, tables, text, true, want)?;
+    }
+    Ok(())
+}
+
+fn check_numbers(
+    rt: &impl Abort,
+    alloc: Global,
+    tables: &Tables,
+    rows: &[(&str, &str, &str)],
+) -> Result<(), Fail> {
+    for (text, want, want_whole) in rows {
+        check(rt, alloc, tables, text, false, want)?;
+        check(rt, alloc, tables, text, true, want_whole)?;
     }
     Ok(())
 }
@@ -96,6 +149,22 @@ fn check_each(
 fn marks_of_rows(rt: HostRuntime) -> Result<(), Fail> {
     let tables = tables(rt.alloc(), &FILES)?;
     check_each(&rt, rt.alloc(), &tables, &ROWS)
+}
+
+#[test]
+fn marks_of_numbers(rt: HostRuntime) -> Result<(), Fail> {
+    let tables = tables(rt.alloc(), &FILES)?;
+    check_numbers(&rt, rt.alloc(), &tables, &NUMBERS)
+}
+
+#[test]
+fn marks_of_signs(rt: HostRuntime) -> Result<(), Fail> {
+    let files = UcdFiles {
+        line_break: b"0020;SP\n002D;HY\n0030..0039;NU\n00B0;PO\n20AC;PR",
+        ..FILES
+    };
+    let tables = tables(rt.alloc(), &files)?;
+    check_numbers(&rt, rt.alloc(), &tables, &SIGNS)
 }
 
 fn check_pictograph(
@@ -109,7 +178,12 @@ fn check_pictograph(
         general_category: categories,
         ..FILES
     };
-    check(rt, alloc, &tables(alloc, &files)?, "\u{A9}\u{1F3FB}", want)
+    check_each(
+        rt,
+        alloc,
+        &tables(alloc, &files)?,
+        &[("\u{A9}\u{1F3FB}", want)],
+    )
 }
 
 // A modifier stands behind a pictograph that is unassigned, and behind no other.
@@ -126,6 +200,7 @@ fn marks_behind_pictographs(rt: HostRuntime) -> Result<(), Fail> {
 struct Kept {
     text: Vec<char>,
     properties: Vec<Properties>,
+    classes: Vec<LineClass>,
     plain: Vec<Mark>,
     marks: Vec<Mark>,
 }
@@ -135,6 +210,7 @@ impl Kept {
         Kept {
             text: Vec::new(alloc),
             properties: Vec::new(alloc),
+            classes: Vec::new(alloc),
             plain: Vec::new(alloc),
             marks: Vec::new(alloc),
         }
@@ -155,11 +231,31 @@ fn read_all(
     Ok(())
 }
 
-// Whether the walk finds the marks of the text that the plain body finds.
+// Whether the walk finds the marks of the text that the plain body finds, without whole numbers and with
+// them.
 fn agrees(tables: &Tables, kept: &mut Kept) -> Result<bool, AllocError> {
     read_all(tables, &kept.text, &mut kept.properties)?;
-    plain_marks(tables, &kept.text, &mut kept.plain)?;
-    marks_into(tables, &kept.text, &kept.properties, &mut kept.marks)?;
+    Ok(agrees_where(tables, false, kept)? && agrees_where(tables, true, kept)?)
+}
+
+fn agrees_where(tables: &Tables, whole_numbers: bool, kept: &mut Kept) -> Result<bool, AllocError>
+    requires { kept.old.properties.items ≡ map (properties_of tables.now) kept.old.text.items }
+    ensures { OnOk result (kept.new.properties.items ≡ map (properties_of tables.now) kept.new.text.items) }
+{
+    plain_marks(
+        tables,
+        &kept.text,
+        whole_numbers,
+        &mut kept.classes,
+        &mut kept.plain,
+    )?;
+    marks_into(
+        tables,
+        &kept.text,
+        &kept.properties,
+        whole_numbers,
+        &mut kept.marks,
+    )?;
     Ok(kept.marks.as_slice() == kept.plain.as_slice())
 }
 

@@ -1,8 +1,9 @@
 //! One walk over the characters of a paragraph.
-ghost use Rattle.std.specs.Prelude.{◌≡◌, ◌<◌, ◌≤◌, ◌==◌, if◌then◌else◌, List, []};
+ghost use Rattle.std.specs.Prelude.{◌≡◌, ◌<◌, ◌≤◌, ◌==◌, Bool, get_or, if◌then◌else◌, List, []};
 ghost use Rattle.breaks.specs.Bases.{Base, alone};
 ghost use Rattle.breaks.specs.Symbols.{character_by};
-ghost use Rattle.breaks.specs.Walk.{Stands, Passes, mark_at};
+ghost use Rattle.breaks.specs.declared.mark.Mark.TheVariants.{Never};
+ghost use Rattle.breaks.specs.Walk.{Stands, Passes, decided_at, marks_alone};
 
 use crate::mark::Mark;
 use crate::symbol::{JOINER, symbol_of};
@@ -23,8 +24,9 @@ pub struct Walk {
 impl Walk {
     /// What stands before the second position of a text that begins with this character.
     pub fn start(first: Properties) -> Walk
-        ensures stands { Stands result (alone (character_by first)) [] }
-        ensures within { result.row ≤ 1440 }
+        ensures stands { (whole_numbers : Bool)
+            → Stands whole_numbers result (alone (character_by first)) [] }
+        ensures within { result.row ≤ 1600 }
     {
         let symbol = symbol_of(first);
         Walk {
@@ -34,23 +36,24 @@ impl Walk {
         }
     }
 
-    /// The mark of the position in front of the next character, which is one of those before it
-    /// from then on.
-    pub fn pass(&mut self, next: Properties) -> Mark
-        requires { self.old.row ≤ 1440 }
-        ensures passes { (last : Base) (others : List Base) → Stands self.old last others
-            → Passes self.new last others (character_by next) result }
-        ensures within { self.new.row ≤ 1440 }
+    /// What a line does in front of the next character, which is one of those before it from then on.
+    pub fn pass(&mut self, next: Properties) -> u16
+        requires { self.old.row ≤ 1600 }
+        ensures passes { (whole_numbers : Bool) (last : Base) (others : List Base)
+            → Stands whole_numbers self.old last others
+            → Passes whole_numbers self.new last others (character_by next) result }
+        ensures within { self.new.row ≤ 1600 }
+        ensures below { result < 8 }
     {
         let symbol = symbol_of(next);
         let entry = entry(self.row, symbol);
         let outcome = entry % PARTS;
-        let mark = mark_of(outcome, self.is_joined, self.is_pictograph);
+        let decided = decide(outcome, self.is_joined, self.is_pictograph);
         self.row = (entry / PARTS) as usize;
         self.is_joined = symbol == JOINER;
         let is_pictograph = next.is_future_pictograph();
         self.is_pictograph = is_now_pictograph(outcome, self.is_pictograph, is_pictograph);
-        mark
+        decided
     }
 }
 
@@ -62,26 +65,50 @@ fn is_now_pictograph(outcome: u16, before: bool, next: bool) -> bool
 }
 
 // What a line does, where the last character may be a ZWJ and the last base a pictograph to come.
-fn mark_of(outcome: u16, is_joined: bool, is_pictograph: bool) -> Mark
+fn decide(outcome: u16, is_joined: bool, is_pictograph: bool) -> u16
     requires { outcome < 8 }
-    ensures { result ≡ mark_at outcome is_joined is_pictograph }
+    ensures decided { result ≡ decided_at outcome is_joined is_pictograph }
+    ensures below { result < 8 }
 {
-    let decided = if is_joined || (outcome == UNLESS && is_pictograph) {
+    if is_joined || (outcome == UNLESS && is_pictograph) {
         NEVER
     } else {
         outcome
-    };
-    MARKS[decided as usize]
+    }
 }
 
-// The mark that each outcome gives alone. There are five.
+/// The mark in front of the next character, where what stands behind it doesn't matter.
+pub fn mark_alone(decided: u16, whole_numbers: bool) -> Mark
+    requires { decided < 8 }
+    ensures { result ≡ get_or (marks_alone whole_numbers) decided Never }
+{
+    if whole_numbers {
+        WHOLE_MARKS[decided as usize]
+    } else {
+        MARKS[decided as usize]
+    }
+}
+
+// The mark that each outcome gives alone.
 static MARKS: [Mark; 8] = [
     Mark::Never,
     Mark::Never,
     Mark::May,
     Mark::May,
     Mark::Must,
+    Mark::Never,
+    Mark::May,
+    Mark::Never,
+];
+
+// The mark that each outcome gives where numbers stay whole.
+static WHOLE_MARKS: [Mark; 8] = [
+    Mark::Never,
+    Mark::Never,
+    Mark::May,
+    Mark::May,
     Mark::Must,
-    Mark::Must,
-    Mark::Must,
+    Mark::May,
+    Mark::Never,
+    Mark::May,
 ];

@@ -4,7 +4,7 @@
 use crate::character::Character;
 use crate::mark::Mark;
 use crate::plain::classes::{BK, CM, CR, LF, NL, SP, ZW, ZWJ, has};
-use crate::plain::rules::mark_between;
+use crate::plain::rules::{Numbers, mark_between};
 use ucd::LineClass;
 
 /// What the rules ask of the bases before a position.
@@ -34,18 +34,18 @@ impl Before {
 
     /// The mark of the position in front of the next character, which is one of those before it
     /// from then on.
-    pub fn pass(&mut self, next: &Character) -> Mark {
+    pub fn pass(&mut self, next: &Character, numbers: Numbers) -> Mark {
         if self.keeps(next) {
             self.end = next.class;
             return Mark::Never;
         }
-        let mark = mark_between(self, next);
+        let mark = mark_between(self, next, numbers);
         *self = Before::begun(next, Some(self.class), self.unspaced, self.is_odd_run);
         mark
     }
 
-    // LB9: whether the character stays with the last base.
-    fn keeps(&self, next: &Character) -> bool {
+    /// LB9: whether the character stays with the last base.
+    pub fn keeps(&self, next: &Character) -> bool {
         has(CM | ZWJ, next.class) && !has(BK | CR | LF | NL | SP | ZW, self.end)
     }
 

@@ -74,26 +74,46 @@ impl Right {
     }
 }
 
-// The mark of the first rule of which both conditions hold, and LB31 where there is none.
-fn first_mark(rules: &[Rule], before: &Before, behind: &Character) -> Mark {
+// The mark of the first rule of which both conditions hold.
+fn first_mark(rules: &[Rule], before: &Before, behind: &Character) -> Option<Mark> {
     for Rule(left, right, mark) in rules {
         if left.holds(before) && right.holds(behind) {
-            return *mark;
+            return Some(*mark);
         }
     }
-    Mark::May
+    None
 }
 
-/// The mark of the position between the bases before it and the one that begins with `behind`.
-pub fn mark_between(before: &Before, behind: &Character) -> Mark {
-    first_mark(&RULES, before, behind)
+/// What LB25 is: a rule on two bases, or that no line ends inside a number, as here or not.
+#[derive(Clone, Copy)]
+pub enum Numbers {
+    Pairs,
+    Inside,
+    Outside,
+}
+
+/// The mark of the position between the bases before it and the one that begins with `behind`, and LB31
+/// where no rule holds.
+pub fn mark_between(before: &Before, behind: &Character, numbers: Numbers) -> Mark {
+    if let Some(mark) = first_mark(&RULES_BEFORE_NUMBERS, before, behind) {
+        return mark;
+    }
+    let in_number = match numbers {
+        Numbers::Pairs => first_mark(&RULES_OF_NUMBERS, before, behind),
+        Numbers::Inside => Some(Mark::Never),
+        Numbers::Outside => None,
+    };
+    if let Some(mark) = in_number {
+        return mark;
+    }
+    first_mark(&RULES_BEHIND_NUMBERS, before, behind).unwrap_or(Mark::May)
 }
 
 const LETTERS: Classes = AL | HL;
 
 const SYLLABLES: Classes = JL | JV | JT | H2 | H3;
 
-const RULES: [Rule; 47] = [
+const RULES_BEFORE_NUMBERS: [Rule; 32] = [
     // LB4
     Rule(Left::Is(BK), Right::Any, Mark::Must),
     // LB5
@@ -150,10 +170,16 @@ const RULES: [Rule; 47] = [
     // LB24
     Rule(Left::Is(PR | PO), Right::Is(LETTERS), Mark::Never),
     Rule(Left::Is(LETTERS), Right::Is(PR | PO), Mark::Never),
-    // LB25
+];
+
+// LB25
+const RULES_OF_NUMBERS: [Rule; 3] = [
     Rule(Left::Is(CL | CP | NU), Right::Is(PO | PR), Mark::Never),
     Rule(Left::Is(PO | PR), Right::Is(OP | NU), Mark::Never),
     Rule(Left::Is(HY | IS | NU | SY), Right::Is(NU), Mark::Never),
+];
+
+const RULES_BEHIND_NUMBERS: [Rule; 12] = [
     // LB26
     Rule(Left::Is(JL), Right::Is(JL | JV | H2 | H3), Mark::Never),
     Rule(Left::Is(JV | H2), Right::Is(JV | JT), Mark::Never),

@@ -7,7 +7,7 @@ use Rattle.breaks.proofs.mark.mark_text.Given as goal
 -- the marks so far, and those that the walk will find, are the marks of the text
 abbrev pub invariant-loop-i : goal.invariant-loop-i
 invariant-loop-i l = record {
-  walks : Walks l.walk (take l.i l.marks) (map (character l.tables) (drop l.i l.rest)) (marks_of l.tables l.text);
+  walks : Walks l.whole_numbers l.walk (take l.i l.marks) (map (character l.tables) (drop l.i l.rest)) (marks_of l.tables l.whole_numbers l.text);
   len : length l.marks ≡ length l.rest + 1;
-  within : l.walk.row ≤ 1440;
+  within : l.walk.row ≤ 1600;
 }

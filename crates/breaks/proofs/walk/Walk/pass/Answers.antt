@@ -6,9 +6,9 @@ use Rattle.breaks.proofs.walk.Walk.pass.Goals as goal
 pub returns-clause-passes : goal.returns-clause-passes
 returns-clause-passes c =
     passes_as c.args.self.now _ _ (character_by c.args.next) _ _ c.symbol_of-symbol.ensures.below c.symbol_of-symbol.ensures.shown c.entry-entry.ensures
-    (sym (rw c.is_future_pictograph-is_pictograph.ensures at c.is_now_pictograph-self.ensures)) c.mark_of-mark.ensures
+    (sym (rw c.is_future_pictograph-is_pictograph.ensures at c.is_now_pictograph-self.ensures)) c.decide-decided.ensures.decided
 
 pub returns-clause-within : goal.returns-clause-within
 returns-clause-within c =
-    let below : c.args.self.now.row + c.symbol_of-symbol.result < 1480 = omega arith in
+    let below : c.args.self.now.row + c.symbol_of-symbol.result < 1640 = omega arith in
     row_within _ _ below c.entry-entry.ensures

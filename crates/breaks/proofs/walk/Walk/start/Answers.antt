@@ -8,5 +8,5 @@ returns-clause-stands c = rw c.is_future_pictograph.ensures (starts _ _ (charact
 
 pub returns-clause-within : goal.returns-clause-within
 returns-clause-within c =
-    let below : 0 + c.symbol_of-symbol.result < 1480 = omega arith in
+    let below : 0 + c.symbol_of-symbol.result < 1640 = omega arith in
     row_within _ _ below c.entry.ensures

@@ -1,0 +1,63 @@
+-- Numbers that stay whole (UAX #14, LB25 as its section 8.2, example 7, has it): no line ends inside what the expression
+-- `(PR | PO)? (OP | HY)? NU (NU | SY | IS)* (CL | CP)? (PR | PO)?` matches, whichever bases those are.
+use Rattle.std.specs.Prelude.{Bool, true, false, ◌&&◌, List, [], ◌∷◌, ◌++◌, map, reverse, if◌then◌else◌}
+use Rattle.std.specs.List.{list_any}
+use Rattle.ucd.specs.declared.line_class.LineClass.{LineClass}
+use Rattle.ucd.specs.declared.line_class.LineClass.TheVariants.{CL, CP, HY, IS, NU, OP, PO, PR, SY}
+use Rattle.breaks.specs.Bases.{Base, class_of}
+use Rattle.breaks.specs.Classes.{is_same, is_one_of}
+
+-- the parts of a number
+abbrev pub affix : List LineClass
+affix = PR ∷ PO ∷ []
+
+abbrev pub opening : List LineClass
+opening = OP ∷ HY ∷ []
+
+abbrev pub middle : List LineClass
+middle = NU ∷ SY ∷ IS ∷ []
+
+abbrev pub closing : List LineClass
+closing = CL ∷ CP ∷ []
+
+-- what is left of a list behind one of these classes, if it begins with one, and behind all of them that it begins with
+abbrev pub behind_one : List LineClass → List LineClass → List LineClass
+behind_one classes [] = []
+behind_one classes (class ∷ rest) = if is_one_of classes class then rest else class ∷ rest
+
+abbrev pub behind_all : List LineClass → List LineClass → List LineClass
+behind_all classes [] = []
+behind_all classes (class ∷ rest) = if is_one_of classes class then behind_all classes rest else class ∷ rest
+
+abbrev pub is_nothing : List LineClass → Bool
+is_nothing [] = true
+is_nothing (class ∷ rest) = false
+
+-- `(PR | PO)?`, and from the other parts on to the end. No class is in two parts that stand next to one another, so that what may be taken
+-- from the front of a list is no part of what follows.
+abbrev pub is_end : List LineClass → Bool
+is_end classes = is_nothing (behind_one affix classes)
+
+abbrev pub goes_on : List LineClass → Bool
+goes_on classes = is_end (behind_one closing (behind_all middle classes))
+
+abbrev pub begins_with_digit : List LineClass → Bool
+begins_with_digit [] = false
+begins_with_digit (class ∷ rest) = is_same class NU && goes_on rest
+
+abbrev pub is_unaffixed : List LineClass → Bool
+is_unaffixed classes = begins_with_digit (behind_one opening classes)
+
+-- whether a list is a number
+abbrev pub is_number : List LineClass → Bool
+is_number classes = is_unaffixed (behind_one affix classes)
+
+-- the first one, the first two and so on of a list
+abbrev pub fronts : {A : Type 0} → List A → List (List A)
+fronts [] = []
+fronts (a ∷ rest) = (a ∷ []) ∷ map (λ front. a ∷ front) (fronts rest)
+
+-- some of the bases before a position, the nearest first, and some of those behind it are together a number
+abbrev pub is_in_number : List Base → List Base → Bool
+is_in_number before behind =
+    list_any (λ front. list_any (λ back. is_number (map class_of (reverse front ++ back))) (fronts behind)) (fronts before)
