@@ -3,7 +3,7 @@ use crate::paragraphs::{lay_out, tables};
 use anyhow::{Result, bail};
 use bidi::Base;
 use breaks::{Mark, marks};
-use lines::{Engine, Options, Laid};
+use lines::{Engine, Laid, Options};
 use std::alloc::Global;
 use std::io;
 use std::io::{BufRead, BufReader, BufWriter, Write};
@@ -15,7 +15,7 @@ pub fn marks_of(rt: &HostRuntime, folder: &str) -> Result<()> {
     let mut output = BufWriter::new(rt.alloc(), io::writer(rt))?;
     for line in BufReader::new(rt.alloc(), rt.reader())?.lines(rt.alloc()) {
         let text = characters(rt.alloc(), line?.as_str())?;
-        for mark in &marks(rt.alloc(), &tables, &text)? {
+        for mark in &marks(rt.alloc(), &tables, &text, true)? {
             write!(output, "{}", sign(*mark))?;
         }
         writeln!(output)?;

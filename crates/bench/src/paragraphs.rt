@@ -136,7 +136,7 @@ fn analyse(
             Ok(usize::from(levels.iter().copied().max().unwrap_or(0)))
         }
         Subject::Marks => {
-            let marks = marks(alloc, tables, text)?;
+            let marks = marks(alloc, tables, text, false)?;
             Ok(marks.iter().filter(|mark| **mark != Mark::Never).count())
         }
     }

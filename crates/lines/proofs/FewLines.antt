@@ -33,12 +33,12 @@ few-line_starts : (nobreak : Bool) (width : ℕ) (ps : List Place) → length (l
 unfolding line_starts_of
 few-line_starts nobreak width ps = few-starts nobreak width 0 0 ps
 
-few-places_of : (t : Tables) (text : List ℕ) → length (places_of t text) ≤ length text
+few-places_of : (t : Tables) (whole_numbers : Bool) (text : List ℕ) → length (places_of t whole_numbers text) ≤ length text
 unfolding places_of
-few-places_of t text = few-places t text (marks_of t text) (cluster_ends text)
+few-places_of t whole_numbers text = few-places t text (marks_of t whole_numbers text) (cluster_ends text)
 
 pub few_lines : (rules : Rules) (width : ℕ) (text : List ℕ) → length (lines_of rules width text) ≤ length text
 few_lines rules width text =
-    let ps = places_of rules.tables text in
+    let ps = places_of rules.tables rules.options.whole_numbers text in
     let ss = line_starts_of rules.options.nobreak width ps in
-    omega (arith, length-lines_from rules.tables rules.options (base_of rules text) text (levels_of rules.tables text rules.options.base) ps ss, few-line_starts rules.options.nobreak width ps, few-places_of rules.tables text)
+    omega (arith, length-lines_from rules.tables rules.options (base_of rules text) text (levels_of rules.tables text rules.options.base) ps ss, few-line_starts rules.options.nobreak width ps, few-places_of rules.tables rules.options.whole_numbers text)

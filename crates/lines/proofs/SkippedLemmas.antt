@@ -91,17 +91,17 @@ some_text : (rules : Rules) (text : List ℕ) → IsParagraph rules text → 0 <
 some_text rules [] paragraph = let bad = paragraph.whole in cc
 some_text rules (x ∷ text) paragraph = omega arith
 
-some_lines : (rules : Rules) (width : ℕ) (text : List ℕ) → IsParagraph rules text → length (marks_of rules.tables text) ≡ length text → 0 < length (lines_of rules width text)
+some_lines : (rules : Rules) (width : ℕ) (text : List ℕ) → IsParagraph rules text → length (marks_of rules.tables rules.options.whole_numbers text) ≡ length text → 0 < length (lines_of rules width text)
 unfolding places_of
 some_lines rules width text paragraph marks =
-    let ps : List Place = places_of rules.tables text in
-    let size = length-places rules.tables text (marks_of rules.tables text) (cluster_ends text) marks (length-cluster_ends text) in
+    let ps : List Place = places_of rules.tables rules.options.whole_numbers text in
+    let size = length-places rules.tables text (marks_of rules.tables rules.options.whole_numbers text) (cluster_ends text) marks (length-cluster_ends text) in
     let some : 0 < length ps = omega (arith, size, some_text rules text paragraph) in
     some_from rules.tables rules.options (base_of rules text) text (levels_of rules.tables text rules.options.base) ps (line_starts_of rules.options.nobreak width ps)
     (some_starts rules.options.nobreak width ps some)
 
 pub direction_only : (rules : Rules) (width : ℕ) (print : Print) (text : List ℕ) → skips_lines print ≡ true → IsParagraph rules text
-    → length (marks_of rules.tables text) ≡ length text
+    → length (marks_of rules.tables rules.options.whole_numbers text) ≡ length text
     → (if print.basedir then direction_line (base_of rules text) else []) ≡ paragraph_bytes rules width print text
 direction_only rules width print text skips paragraph marks =
     sym (all_are width print skips (base_of rules text) text (lines_of rules width text) (some_lines rules width text paragraph marks))

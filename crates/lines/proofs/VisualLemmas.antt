@@ -79,7 +79,7 @@ from_within tables options base text levels ps low n (s ∷ t ∷ at) e rise =
 pub lines_within : (rules : Rules) (width : ℕ) (text : List ℕ) → AreWithin (length text) (lines_of rules width text)
 unfolding line_starts_of places_of
 lines_within rules width text =
-    let ps : List Place = places_of rules.tables text in
+    let ps : List Place = places_of rules.tables rules.options.whole_numbers text in
     from_within rules.tables rules.options (base_of rules text) text (levels_of rules.tables text rules.options.base) ps 0 (length text) (line_starts_of rules.options.nobreak width ps) refl
-    (rise_to 0 (length ps) (length text) (line_starts_of rules.options.nobreak width ps) (length-places rules.tables text (marks_of rules.tables text) (cluster_ends text))
+    (rise_to 0 (length ps) (length text) (line_starts_of rules.options.nobreak width ps) (length-places rules.tables text (marks_of rules.tables rules.options.whole_numbers text) (cluster_ends text))
     (starts_rise rules.options.nobreak width 0 0 (length ps) ps (omega arith)))

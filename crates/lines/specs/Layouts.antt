@@ -30,7 +30,7 @@ base_of rules text = base_level_of (map (class_of rules.tables) text) rules.opti
 
 abbrev pub lines_of : Rules → ℕ → List ℕ → List Line
 lines_of rules width text =
-    let places = places_of rules.tables text in
+    let places = places_of rules.tables rules.options.whole_numbers text in
     lines_from rules.tables rules.options (base_of rules text) text (levels_of rules.tables text rules.options.base) places (line_starts_of rules.options.nobreak width places)
 
 -- the layout of a paragraph from scratch
@@ -39,7 +39,7 @@ layout_of rules width text = record {
   text = text;
   base = base_of rules text;
   levels = levels_of rules.tables text rules.options.base;
-  marks = marks_of rules.tables text;
+  marks = marks_of rules.tables rules.options.whole_numbers text;
   lines = lines_of rules width text;
 }
 

@@ -28,5 +28,5 @@ abbrev pub places : Tables → List ℕ → List Mark → List Bool → List Pla
 places t (c ∷ text) (mark ∷ marks) (ends ∷ clusters) = place t c mark ends ∷ places t text marks clusters
 places t text marks clusters = []
 
-unfoldable pub places_of : Tables → List ℕ → List Place
-places_of t text = places t text (marks_of t text) (cluster_ends text)
+unfoldable pub places_of : Tables → Bool → List ℕ → List Place
+places_of t whole_numbers text = places t text (marks_of t whole_numbers text) (cluster_ends text)

@@ -178,7 +178,7 @@ impl Engine {
         let len = text.len() as u64;
         self.analysed = self.analysed.saturating_add(len);
         if print.skips_lines() {
-            marks_are_as_many(&self.tables, text);
+            marks_are_as_many(&self.tables, text, self.options.whole_numbers);
             return self.write_base(text, print, writer);
         }
         self.filled = self.filled.saturating_add(len);
@@ -272,7 +272,8 @@ impl Engine {
         requires levels { levels.now
             ≡ levels_of (rules_of self.old).tables text.now (rules_of self.old).options.base }
         requires len { length levels.now ≡ length text.now }
-        requires marks { marks.now ≡ marks_of (rules_of self.old).tables text.now }
+        requires marks { marks.now ≡ marks_of (rules_of self.old).tables
+            (rules_of self.old).options.whole_numbers text.now }
         requires within { length text.now ≤ 1048576 }
         ensures lines { IfOk result (λ lines. lines ≡ lines_of (rules_of self.old) width text.now) }
         ensures within { IfOk result (AreWithin (length text.now)) }

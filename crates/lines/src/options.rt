@@ -11,6 +11,6 @@ pub struct Options {
     /// Each character at an odd level stands in front of the marks that follow it at the same level, which
     /// stand in reading order, and not behind them (UAX #9, L3).
     pub reordernsm: bool,
-    /// Asks for whole numbers. Nothing goes by it yet.
+    /// Whether no line ends inside a number (a rule in place of UAX #14, LB25).
     pub whole_numbers: bool,
 }

@@ -74,16 +74,17 @@ pub fn take_places(
     tables: &Tables,
     text: &[char],
     properties: &[Properties],
+    whole_numbers: bool,
     marks: &[Mark],
     places: &mut Vec<Place>,
 ) -> Result<(), AllocError>
     requires properties { properties.now ≡ map (properties_of tables.now) text.now }
-    requires marks { marks.now ≡ marks_of tables.now text.now }
+    requires marks { marks.now ≡ marks_of tables.now whole_numbers text.now }
     ensures places { OnOk result
-        (with_ends places.new.items (cluster_ends text.now) ≡ places_of tables.now text.now) }
+        (with_ends places.new.items (cluster_ends text.now) ≡ places_of tables.now whole_numbers text.now) }
     ensures len { OnOk result (length places.new.items ≡ length text.now) }
 {
-    marks_are_as_many(tables, text);
+    marks_are_as_many(tables, text, whole_numbers);
     places.clear();
     places.reserve(text.len())?;
     push_places(tables, text, properties, marks, places)?;

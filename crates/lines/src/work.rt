@@ -105,7 +105,13 @@ impl Work {
             .resolver
             .resolve(tables, text, properties, options.base, &mut kept.levels)?;
         make_room(&mut kept.marks, text.len())?;
-        marks_into(tables, text, properties, &mut kept.marks)?;
+        marks_into(
+            tables,
+            text,
+            properties,
+            options.whole_numbers,
+            &mut kept.marks,
+        )?;
         let places = &mut self.places;
         put_lines(
             alloc,
@@ -139,7 +145,7 @@ impl Work {
             ≡ base_of (record { tables = tables.now; options = options }) text.now }
         requires levels { levels.now ≡ levels_of tables.now text.now options.base }
         requires len { length levels.now ≡ length text.now }
-        requires marks { marks.now ≡ marks_of tables.now text.now }
+        requires marks { marks.now ≡ marks_of tables.now options.whole_numbers text.now }
         requires within { length text.now ≤ 1048576 }
         ensures lines { IfOk result (λ lines. lines
             ≡ lines_of (record { tables = tables.now; options = options }) width text.now) }
@@ -192,14 +198,15 @@ fn put_lines(
         ≡ base_of (record { tables = tables.now; options = options }) text.now }
     requires levels { levels.now ≡ levels_of tables.now text.now options.base }
     requires len { length levels.now ≡ length text.now }
-    requires marks { marks.now ≡ marks_of tables.now text.now }
+    requires marks { marks.now ≡ marks_of tables.now options.whole_numbers text.now }
     requires within { length text.now ≤ 1048576 }
     ensures lines { OnOk result (held_lines lists.new
         ≡ lines_of (record { tables = tables.now; options = options }) width text.now) }
     ensures sound { OnOk result (AreSound lists.new) }
     ensures within { OnOk result (AreWithin (length text.now) (held_lines lists.new)) }
 {
-    take_places(tables, text, properties, marks, places)?;
+    let whole_numbers = options.whole_numbers;
+    take_places(tables, text, properties, whole_numbers, marks, places)?;
     put_lines_of_places(
         alloc, tables, options, text, properties, places, base, levels, width, lists,
     )
@@ -219,12 +226,12 @@ fn put_lines_of_places(
     lists: &mut Lists,
 ) -> Result<(), AllocError>
     requires properties { properties.now ≡ map (properties_of tables.now) text.now }
-    requires places { with_ends places.old (cluster_ends text.now) ≡ places_of tables.now text.now }
+    requires places { with_ends places.old (cluster_ends text.now) ≡ places_of tables.now options.whole_numbers text.now }
     requires len { (length places.old ≡ length text.now) × (length levels.now ≡ length text.now) }
     requires within { length text.now ≤ 1048576 }
     ensures lines { OnOk result (held_lines lists.new ≡ lines_from tables.now options base text.now
-        levels.now (places_of tables.now text.now)
-        (line_starts_of options.nobreak width (places_of tables.now text.now))) }
+        levels.now (places_of tables.now options.whole_numbers text.now)
+        (line_starts_of options.nobreak width (places_of tables.now options.whole_numbers text.now))) }
     ensures sound { OnOk result (AreSound lists.new) }
     ensures within { OnOk result (AreWithin (length text.now) (held_lines lists.new)) }
 {

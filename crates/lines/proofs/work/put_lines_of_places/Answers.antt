@@ -16,7 +16,7 @@ returns-clause-lines c =
     let text = c.args.text.now in
     let old = c.args.places.now in
     let new = c.line_starts.new.places in
-    let whole = places_of tables text in
+    let whole = places_of tables c.args.options.whole_numbers text in
     let starts = c.line_starts.new.starts.items in
     let alike : AreAlike new whole =
     c.in_ok-line_starts.ensures.alike ∙ sym (with_alike old (cluster_ends text) (length-cluster_ends text ∙ sym c.requires.len.0)) ∙ ap (map bare) c.requires.places in
