@@ -208,6 +208,49 @@ fn answers_over_a_list(rt: HostRuntime) -> Result<(), Fail> {
     check_rows::<VecStore<Kept>>(&rt, rt.alloc())
 }
 
+// Over a text at a width, by these options, without padding.
+fn check_options(
+    rt: &impl Abort,
+    alloc: Global,
+    options: Options,
+    width: u16,
+    row: &Row<'_>,
+) -> Result<(), Fail> {
+    let (text, script, answers) = *row;
+    let engine = Engine::new(tables(alloc)?, options);
+    let session: Session<TreeStore<Kept>> = open_text(alloc, engine, text.as_bytes(), width)?;
+    let print = Print {
+        nopad: true,
+        ..LINES
+    };
+    let (taken, result) = run_over(alloc, session, script.as_bytes(), &print, 1000, None);
+    assert_eq!(rt; taken.as_slice(), answers.as_bytes(), "{text:?}");
+    assert_eq!(rt; result, Ok(()), "{text:?}");
+    Ok(())
+}
+
+const REORDERED: Row<'_> = (
+    "\u{5d0}\u{5d1}",
+    "insert 1 \\u{300}\nshow\n",
+    "@ 0 1 1\n\u{5d1}\u{5d0}\u{300}\n",
+);
+
+const WHOLE: Row<'_> = ("$(a", "insert 2 1\nshow\n", "@ 0 2 2\n$(\n1a\n");
+
+#[test]
+fn answers_with_options(rt: HostRuntime) -> Result<(), Fail> {
+    let reordered = Options {
+        reordernsm: true,
+        ..Options::default()
+    };
+    let whole = Options {
+        whole_numbers: true,
+        ..Options::default()
+    };
+    check_options(&rt, rt.alloc(), reordered, 80, &REORDERED)?;
+    check_options(&rt, rt.alloc(), whole, 2, &WHOLE)
+}
+
 fn check_bad_row<S: ParagraphStore<Kept> + Drop>(
     rt: &impl Abort,
     alloc: Global,

@@ -195,7 +195,7 @@ fn lines_of<R: Read + Drop>(
 // Options, a text, and its lines.
 type Row<'a> = (&'a str, &'a str, &'a str);
 
-const ROWS: [Row<'_>; 32] = [
+const ROWS: [Row<'_>; 41] = [
     ("--ucd D", "", ""),
     ("--ucd D", "abc\n", "abc\n"),
     ("--ucd D", "abc", "abc\n"),
@@ -288,6 +288,35 @@ const ROWS: [Row<'_>; 32] = [
     ("--ucd D --novisual --basedir", "1 \u{627}", "RTL\n"),
     ("--ucd D", "a\r\nb", "a\nb\n"),
     ("--ucd D", "\u{1f30d}a\u{1f30d}", "\u{1f30d}a\u{1f30d}\n"),
+    (
+        "--ucd D --nopad --ltov --vtol",
+        "\u{5d0}\u{300}\u{5d1}",
+        "\u{5d1}\u{300}\u{5d0}\n2 1 0\n2 1 0\n",
+    ),
+    (
+        "--ucd D --reordernsm --nopad --ltov --vtol",
+        "\u{5d0}\u{300}\u{5d1}",
+        "\u{5d1}\u{5d0}\u{300}\n1 2 0\n2 0 1\n",
+    ),
+    (
+        "--ucd D --reordernsm --nopad --ltov --vtol",
+        "\u{5d0}\u{300}\u{301}",
+        "\u{5d0}\u{300}\u{301}\n0 1 2\n0 1 2\n",
+    ),
+    (
+        "--ucd D --reordernsm --nopad --ltov --vtol --rtl",
+        "a\u{300}",
+        "a\u{300}\n0 1\n0 1\n",
+    ),
+    (
+        "--ucd D --reordernsm --nopad --ltov --vtol",
+        "\u{5d0}1\u{300}",
+        "1\u{300}\u{5d0}\n2 0 1\n1 2 0\n",
+    ),
+    ("--ucd D --width 2", "$(a", "$(\na\n"),
+    ("--ucd D --width 2 --whole-numbers", "$(a", "$\n(a\n"),
+    ("--ucd D --width 4", "a 1/%", "a 1/\n%\n"),
+    ("--ucd D --width 4 --whole-numbers", "a 1/%", "a\n1/%\n"),
 ];
 
 // Options, bytes, what is written for them, and how the run ends.
