@@ -15,7 +15,7 @@ use Rattle.lines.proofs.PlainLemmas.{front_written}
 
 -- ---- where two items stand that are next to one another
 
-adjacent_at : (n : ℕ) (xs : List ℕ) (x y k : ℕ) → ArePlaces n xs → Adjacent x y xs → k < n → get_or xs k 0 ≡ x → (suc k < n) × (get_or xs (suc k) 0 ≡ y)
+pub adjacent_at : (n : ℕ) (xs : List ℕ) (x y k : ℕ) → ArePlaces n xs → Adjacent x y xs → k < n → get_or xs k 0 ≡ x → (suc k < n) × (get_or xs (suc k) 0 ≡ y)
 adjacent_at n xs x y k p a within here =
     let j : ℕ = length a.front in
     let there : get_or xs j 0 ≡ x = ap (λ (zs : List ℕ). get_or zs j 0) a.is ∙ get_or-append_seam a.front x (y ∷ a.back) 0 in

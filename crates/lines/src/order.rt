@@ -6,7 +6,7 @@ ghost use Rattle.std.specs.List.Sorted.{IsPermutation};
 ghost use Rattle.bidi.specs.Runs.{AreWithin};
 ghost use Rattle.ucd.specs.declared.bidi_class.BidiClass.{BidiClass};
 ghost use Rattle.bidi.specs.Classes.{class_in};
-ghost use Rattle.lines.specs.Groups.{is_bound, AreBound};
+ghost use Rattle.lines.specs.Groups.{is_bound, AreBound, IsGroup, StandsTogether};
 ghost use Rattle.lines.specs.Order.{has_base, highest, is_at_least, is_mark_at, is_odd, lowest_odd, ltov_of};
 ghost use Rattle.lines.specs.Order.{order_of, reverse_runs, reverse_with_next, vtol_of, AreInverse};
 
@@ -40,6 +40,13 @@ pub fn order(
 pub fn maps_are_inverse()
     ensures { (reordernsm : Bool) (classes : List BidiClass) (levels : List ℕ) → AreInverse (length levels)
         (vtol_of reordernsm classes levels) (ltov_of reordernsm classes levels) }
+{}
+
+/// A base at an odd level and its marks stand next to one another, with the option in reading order and else
+/// the other way round: a law, which takes no time.
+pub fn groups_stand_together()
+    ensures { (classes : List BidiClass) (levels : List ℕ) (base n : ℕ)
+        → IsGroup classes levels base n → StandsTogether classes levels base n }
 {}
 
 /// Writes 0, 1, and so on.
