@@ -6,12 +6,11 @@ use Rattle.std.proofs.lemmas.List.Sorted.{length_permutation}
 use Rattle.std.proofs.Math.ListN.{get_or-append}
 use Rattle.std.specs.Prelude.{⊤}
 use Rattle.ucd.specs.declared.bidi_class.BidiClass.{BidiClass}
-use Rattle.lines.specs.Groups.{IsGroup, StandsTogether}
+use Rattle.lines.specs.Groups.{IsAlone, IsGroup, StandsTogether}
 use Rattle.lines.specs.Order.{has_base, is_mark_at, is_odd, order_of, precedes_mark, reverse_with_next, vtol_of}
-use Rattle.lines.proofs.GroupLemmas.{adjacent_at, reversed}
+use Rattle.lines.proofs.GroupLemmas.{mark_stands, reversed}
 use Rattle.lines.proofs.InverseLemmas.{permuted_places, ArePlaces}
-use Rattle.lines.proofs.NeighbourLemmas.{neighbours}
-use Rattle.lines.proofs.OrderLemmas.{order_of_permutes, with_next_permutes}
+use Rattle.lines.proofs.OrderLemmas.{length-order, order_of_permutes, with_next_permutes}
 
 -- ---- a list is done in two parts where the first one ends with an item that fails
 
@@ -123,12 +122,7 @@ module _ (classes : List BidiClass) (levels : List ℕ) (base n : ℕ) (is : IsG
       let before = follows k (omega (arith, h)) in
       let i : ℕ = base + (n - suc k) in
       let next : base + (n - k) ≡ suc (base + (n - suc k)) = omega (arith, h) in
-      let mark = precedes (n - suc k) (omega (arith, h)) in
-      let odd : Bool = is_odd (get_or levels i 0) in
-      let same : Bool = get_or levels (suc i) 0 == get_or levels i 0 in
-      let parts = and_parts odd same (and_parts (is_mark_at classes (suc i)) (odd && same) mark).1 in
-      let beside = adjacent_at (length levels) (order_of levels) (suc i) i (start + k) are
-      (neighbours levels i parts.0 (eqb-true (get_or levels (suc i) 0) (get_or levels i 0) parts.1)) before.0 (before.1 ∙ next) in
+      let beside = mark_stands classes levels (start + k) i before.0 (before.1 ∙ next) (precedes (n - suc k) (omega (arith, h))) in
       let place : start + suc k ≡ suc (start + k) = omega arith in
       (omega (arith, beside.0), ap (λ m. get_or (order_of levels) m 0) place ∙ beside.1)
 
@@ -146,7 +140,7 @@ module _ (classes : List BidiClass) (levels : List ℕ) (base n : ℕ) (is : IsG
             let parts = and_parts odd same mark.1 in
             let level : get_or levels (suc i) 0 ≡ get_or levels i 0 = eqb-true (get_or levels (suc i) 0) (get_or levels i 0) parts.1 in
             let first = follows 0 (omega arith) in
-            let beside = adjacent_at (length levels) (order_of levels) (suc i) i at are (neighbours levels i parts.0 level) (omega (arith, e, first.0)) here in
+            let beside = mark_stands classes levels at i (omega (arith, e, first.0)) here some in
             let place : suc at ≡ start + 0 = omega (arith, e) in
             let last : i ≡ base + (n - 0) = sym beside.1 ∙ ap (λ m. get_or (order_of levels) m 0) place ∙ first.1 in
             let behind : suc i ≡ base + n + 1 = omega (arith, last) in
@@ -216,3 +210,50 @@ together classes levels base n is = record {
   reversed = λ k h. (follows classes levels base n is k h).1;
   read = read_at classes levels base n is;
 }
+
+-- ---- what is in no group
+
+first_stays : (test : ℕ → Bool) (xs : List ℕ) → test (get_or xs 0 0) ≡ false → get_or (reverse_with_next test [] xs) 0 0 ≡ get_or xs 0 0
+first_stays test [] fails = refl
+first_stays test (x ∷ xs) fails =
+    ap (λ (zs : List ℕ). get_or zs 0 0) (cond-false (test x) (reverse_with_next test (x ∷ []) xs) (x ∷ reverse_with_next test [] xs) fails)
+
+-- what stands in front of such a character is no mark that has a base
+before_alone : (classes : List BidiClass) (levels : List ℕ) (k z : ℕ) → suc k < length levels → IsAlone classes levels (get_or (order_of levels) (suc k) 0)
+    → get_or (order_of levels) k 0 ≡ z → has_base classes levels z ≡ false
+before_alone classes levels k zero within alone here = refl
+before_alone classes levels k (suc i) within alone here =
+    let rest : Bool = not (is_mark_at classes i) || has_base classes levels i in
+    elim (cases_Bool (has_base classes levels (suc i))) [
+      | inr none ↦ none
+      | inl some ↦
+          let beside = mark_stands classes levels k i (omega (arith, within)) here (and_parts (precedes_mark classes levels i) rest some).0 in
+          absurd (both_ways (has_base classes levels (suc i)) (ap (λ m. has_base classes levels (suc m)) (sym beside.1) ∙ alone.no_marks) some)
+    ]
+
+fails_before : (classes : List BidiClass) (levels : List ℕ) (k : ℕ) → k < length levels → IsAlone classes levels (get_or (order_of levels) k 0)
+    → EndsFailing (has_base classes levels) (take k (order_of levels))
+fails_before classes levels zero within alone = tt
+fails_before classes levels (suc k) within alone =
+    let order : List ℕ = order_of levels in
+    ends_failing (has_base classes levels) (take (suc k) order) k (length-take-le (suc k) order (omega (arith, within, length-order levels)))
+    (ap (has_base classes levels) (get_or-take (suc k) order k 0 (omega arith)) ∙ before_alone classes levels k (get_or order k 0) within alone refl)
+
+pub stays : (classes : List BidiClass) (levels : List ℕ) (k : ℕ) → k < length levels → IsAlone classes levels (get_or (vtol_of false classes levels) k 0)
+    → get_or (vtol_of true classes levels) k 0 ≡ get_or (vtol_of false classes levels) k 0
+unfolding vtol_of
+stays classes levels k within alone =
+    let test : ℕ → Bool = has_base classes levels in
+    let order : List ℕ = order_of levels in
+    let front : List ℕ = reverse_with_next test [] (take k order) in
+    let back : List ℕ = reverse_with_next test [] (drop k order) in
+    let size : length front ≡ k =
+    length_permutation (take k order) front (with_next_permutes test [] (take k order)) ∙ length-take-le k order (omega (arith, within, length-order levels)) in
+    let place : k ≡ length front + 0 = omega (arith, size) in
+    let here : get_or (drop k order) 0 0 ≡ get_or order k 0 = get_or-drop k order 0 0 ∙ ap (λ m. get_or order m 0) (omega arith) in
+    ap (λ (zs : List ℕ). get_or (reverse_with_next test [] zs) k 0) (sym (take-append-drop k order))
+    ∙ ap (λ (zs : List ℕ). get_or zs k 0) (in_parts test (take k order) (drop k order) (fails_before classes levels k within alone))
+    ∙ ap (λ m. get_or (front ++ back) m 0) place
+    ∙ get_or-append-add front back 0 0
+    ∙ first_stays test (drop k order) (ap test here ∙ alone.no_base)
+    ∙ here

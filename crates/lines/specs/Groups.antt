@@ -1,7 +1,7 @@
 -- A base with its marks, where they stand in the visual order of a line, and what the walk over it finds of them.
-use Rattle.std.specs.Prelude.{◌≡◌, ◌≢◌, ℕ, ◌+◌, ◌-◌, ◌<◌, ◌≤◌, ◌==◌, Bool, true, false, ◌&&◌, List, length, slice_index}
+use Rattle.std.specs.Prelude.{◌≡◌, ◌≢◌, ℕ, suc, ◌+◌, ◌-◌, ◌<◌, ◌≤◌, ◌==◌, Bool, true, false, ◌&&◌, List, length, slice_index}
 use Rattle.ucd.specs.declared.bidi_class.BidiClass.{BidiClass}
-use Rattle.lines.specs.Order.{is_mark_at, is_odd, vtol_of}
+use Rattle.lines.specs.Order.{has_base, is_mark_at, is_odd, vtol_of}
 
 module _ (classes : List BidiClass) (levels : List ℕ) where
   -- a character at an odd level that is no mark, and all n marks behind it that are at this level
@@ -18,6 +18,11 @@ module _ (classes : List BidiClass) (levels : List ℕ) where
     pub within : at + n < length levels
     pub reversed : (k : ℕ) → k ≤ n → slice_index (vtol_of false classes levels) (at + k) ≡ base + (n - k)
     pub read : (k : ℕ) → k ≤ n → slice_index (vtol_of true classes levels) (at + k) ≡ base + k
+
+  -- a character in no group: it has no base, and no mark has it as one
+  pub record IsAlone (place : ℕ) : Type 0 where
+    pub no_base : has_base classes levels place ≡ false
+    pub no_marks : has_base classes levels (suc place) ≡ false
 
   -- a mark, and the character that it follows, both at the same, odd level
   abbrev pub is_bound : ℕ → ℕ → Bool
