@@ -10,7 +10,7 @@ use Rattle.lines.specs.Groups.{is_bound, AreBound}
 use Rattle.lines.specs.Order.{has_base, is_mark_at, is_odd, order_of, precedes_mark, reverse_with_next}
 use Rattle.lines.proofs.InverseLemmas.{permuted_places, ArePlaces}
 use Rattle.lines.proofs.NeighbourLemmas.{neighbours, Adjacent}
-use Rattle.lines.proofs.OrderLemmas.{order_of_permutes}
+use Rattle.lines.proofs.OrderLemmas.{length-order, order_of_permutes}
 use Rattle.lines.proofs.PlainLemmas.{front_written}
 
 -- ---- where two items stand that are next to one another
@@ -40,6 +40,16 @@ rest_within levels xs start is k below =
     let p : ArePlaces (length levels) order = permuted_places (length levels) order (order_of_permutes levels) in
     let at : get_or xs k 0 ≡ get_or order (start + k) 0 = ap (λ (zs : List ℕ). get_or zs k 0) is ∙ get_or-drop start order k 0 in
     omega (arith, at, p.within (start + k) (omega (arith, below, ap length is, length-drop start order, p.sizes)))
+
+-- a mark at the same, odd level as the character in front of it stands directly before this one
+pub mark_stands : (classes : List BidiClass) (levels : List ℕ) (k i : ℕ) → k < length levels → get_or (order_of levels) k 0 ≡ suc i
+    → precedes_mark classes levels i ≡ true → (suc k < length levels) × (get_or (order_of levels) (suc k) 0 ≡ i)
+mark_stands classes levels k i within here some =
+    let odd : Bool = is_odd (get_or levels i 0) in
+    let same : Bool = get_or levels (suc i) 0 == get_or levels i 0 in
+    let parts = and_parts odd same (and_parts (is_mark_at classes (suc i)) (odd && same) some).1 in
+    adjacent_at (length levels) (order_of levels) (suc i) i k (permuted_places (length levels) (order_of levels) (order_of_permutes levels))
+    (neighbours levels i parts.0 (eqb-true (get_or levels (suc i) 0) (get_or levels i 0) parts.1)) within here
 
 -- ---- which marks have a base
 
@@ -103,19 +113,14 @@ module _ (classes : List BidiClass) (levels : List ℕ) where
       elim (cases_Bool (precedes_mark classes levels i)) [
         | inr none ↦ and_left (precedes_mark classes levels i) rest none
         | inl some ↦
-            let odd : Bool = is_odd (get_or levels i 0) in
-            let same : Bool = get_or levels (suc i) 0 == get_or levels i 0 in
-            let parts = and_parts odd same (and_parts (is_mark_at classes (suc i)) (odd && same) some).1 in
             let order : List ℕ = order_of levels in
-            let p : ArePlaces (length levels) order = permuted_places (length levels) order (order_of_permutes levels) in
             let at : (k : ℕ) → get_or xs k 0 ≡ get_or order (start + k) 0 = λ k. ap (λ (zs : List ℕ). get_or zs k 0) is ∙ get_or-drop start order k 0 in
             let size : length xs ≡ length (drop start order) = ap length is in
-            let within : start + n < length levels = omega (arith, size, length-drop start order, p.sizes, are.within) in
-            let next = adjacent_at (length levels) order (suc i) i (start + n) p
-            (neighbours levels i parts.0 (eqb-true (get_or levels (suc i) 0) (get_or levels i 0) parts.1)) within (sym (at n) ∙ here) in
+            let within : start + n < length levels = omega (arith, size, length-drop start order, length-order levels, are.within) in
+            let next = mark_stands classes levels (start + n) i within (sym (at n) ∙ here) some in
             let place : start + (n + 1) ≡ suc (start + n) = omega arith in
             let there : get_or xs (n + 1) 0 ≡ i = at (n + 1) ∙ ap (λ m. get_or order m 0) place ∙ next.1 in
-            let stops = are.stops (omega (arith, size, length-drop start order, p.sizes, next.0)) in
+            let stops = are.stops (omega (arith, size, length-drop start order, length-order levels, next.0)) in
             absurd (both_ways (is_bound classes levels (suc i) i) (sym (ap₂ (is_bound classes levels) here there) ∙ stops) (bound_back i some))
       ]
 

@@ -15,6 +15,7 @@ pub mod PlaceLemmas
 mod ShowLemmas
 pub mod SkippedLemmas
 mod SpaceLemmas
+mod TogetherLemmas
 pub mod VisualLemmas
 mod WorkedBytes
 mod WorkedOrder

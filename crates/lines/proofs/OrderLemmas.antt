@@ -157,7 +157,7 @@ unfolding order_of
 order_of_permutes levels = by_permutes levels (lowest_odd levels)
 
 -- reversing intervals together with what stands behind them moves items alone
-with_next_permutes : (test : ℕ → Bool) (run xs : List ℕ) → IsPermutation (run ++ xs) (reverse_with_next test run xs)
+pub with_next_permutes : (test : ℕ → Bool) (run xs : List ℕ) → IsPermutation (run ++ xs) (reverse_with_next test run xs)
 with_next_permutes test run [] = subst (λ (ys : List ℕ). IsPermutation ys run) (sym (append-nil run)) (IsPermutation-refl run)
 with_next_permutes test run (x ∷ xs) =
     elim (cases_Bool (test x)) [

@@ -24,7 +24,7 @@ pub use engine::{Engine, PARAGRAPH_LIMIT};
 pub use laid::Laid;
 pub use laws::lines_are_few;
 pub use options::Options;
-pub use order::maps_are_inverse;
+pub use order::{groups_stand_together, maps_are_inverse, others_stay};
 pub use print::{Print, PrintFault};
 pub use visual::Fill;
 pub use visual_line::VisualLine;

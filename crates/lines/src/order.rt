@@ -1,12 +1,12 @@
 //! The visual order of one line (UAX #9, L2), and marks in reading order where they are asked for (L3).
 ghost use Rattle.std.specs.Prelude.{◌≡◌, ◌<◌, ◌≤◌, ◌==◌, ◌++◌, min, if◌then◌else◌};
-ghost use Rattle.std.specs.Prelude.{ℕ, Bool, List, [], length, map, take, drop, unwrap_or, IfSome};
+ghost use Rattle.std.specs.Prelude.{ℕ, Bool, List, [], length, map, take, drop, slice_index, true, false, unwrap_or, IfSome};
 ghost use Rattle.std.specs.List.{position_or_len, prefix_len, range_with_len};
 ghost use Rattle.std.specs.List.Sorted.{IsPermutation};
 ghost use Rattle.bidi.specs.Runs.{AreWithin};
 ghost use Rattle.ucd.specs.declared.bidi_class.BidiClass.{BidiClass};
 ghost use Rattle.bidi.specs.Classes.{class_in};
-ghost use Rattle.lines.specs.Groups.{is_bound, AreBound};
+ghost use Rattle.lines.specs.Groups.{is_bound, AreBound, IsAlone, IsGroup, StandsTogether};
 ghost use Rattle.lines.specs.Order.{has_base, highest, is_at_least, is_mark_at, is_odd, lowest_odd, ltov_of};
 ghost use Rattle.lines.specs.Order.{order_of, reverse_runs, reverse_with_next, vtol_of, AreInverse};
 
@@ -40,6 +40,20 @@ pub fn order(
 pub fn maps_are_inverse()
     ensures { (reordernsm : Bool) (classes : List BidiClass) (levels : List ℕ) → AreInverse (length levels)
         (vtol_of reordernsm classes levels) (ltov_of reordernsm classes levels) }
+{}
+
+/// A base at an odd level and its marks stand next to one another, with the option in reading order and else
+/// the other way round: a law, which takes no time.
+pub fn groups_stand_together()
+    ensures { (classes : List BidiClass) (levels : List ℕ) (base n : ℕ)
+        → IsGroup classes levels base n → StandsTogether classes levels base n }
+{}
+
+/// What is in no such group stands where it does without the option: a law, which takes no time.
+pub fn others_stay()
+    ensures { (classes : List BidiClass) (levels : List ℕ) (k : ℕ) → k < length levels
+        → IsAlone classes levels (slice_index (vtol_of false classes levels) k)
+        → slice_index (vtol_of true classes levels) k ≡ slice_index (vtol_of false classes levels) k }
 {}
 
 /// Writes 0, 1, and so on.
