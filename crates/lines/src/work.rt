@@ -226,7 +226,8 @@ fn put_lines_of_places(
     lists: &mut Lists,
 ) -> Result<(), AllocError>
     requires properties { properties.now ≡ map (properties_of tables.now) text.now }
-    requires places { with_ends places.old (cluster_ends text.now) ≡ places_of tables.now options.whole_numbers text.now }
+    requires places { with_ends places.old (cluster_ends text.now)
+        ≡ places_of tables.now options.whole_numbers text.now }
     requires len { (length places.old ≡ length text.now) × (length levels.now ≡ length text.now) }
     requires within { length text.now ≤ 1048576 }
     ensures lines { OnOk result (held_lines lists.new ≡ lines_from tables.now options base text.now
