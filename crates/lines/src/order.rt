@@ -1,6 +1,7 @@
 //! The visual order of one line (UAX #9, L2), and marks in reading order where they are asked for (L3).
 ghost use Rattle.std.specs.Prelude.{◌≡◌, ◌<◌, ◌≤◌, ◌==◌, ◌++◌, min, if◌then◌else◌};
-ghost use Rattle.std.specs.Prelude.{ℕ, Bool, List, [], length, map, take, drop, slice_index, true, false, unwrap_or, IfSome};
+ghost use Rattle.std.specs.Prelude.{ℕ, Bool, true, false, List, [], length, map, take, drop, slice_index};
+ghost use Rattle.std.specs.Prelude.{unwrap_or, IfSome};
 ghost use Rattle.std.specs.List.{position_or_len, prefix_len, range_with_len};
 ghost use Rattle.std.specs.List.Sorted.{IsPermutation};
 ghost use Rattle.bidi.specs.Runs.{AreWithin};
@@ -36,7 +37,7 @@ pub fn order(
     invert(vtol, ltov);
 }
 
-/// The two maps of a line are inverse, whatever its levels are: a law, which takes no time.
+/// The two maps of a line are inverse, whatever its classes and levels are: a law, which takes no time.
 pub fn maps_are_inverse()
     ensures { (reordernsm : Bool) (classes : List BidiClass) (levels : List ℕ) → AreInverse (length levels)
         (vtol_of reordernsm classes levels) (ltov_of reordernsm classes levels) }
