@@ -37,7 +37,7 @@ pub fn order(
     invert(vtol, ltov);
 }
 
-/// The two maps of a line are inverse, whatever its levels are: a law, which takes no time.
+/// The two maps of a line are inverse, whatever its classes and levels are: a law, which takes no time.
 pub fn maps_are_inverse()
     ensures { (reordernsm : Bool) (classes : List BidiClass) (levels : List ℕ) → AreInverse (length levels)
         (vtol_of reordernsm classes levels) (ltov_of reordernsm classes levels) }
