@@ -71,7 +71,6 @@ pub fn identity(items: &mut [u32])
 fn arrange(line: &[Properties], levels: &[u8], reordernsm: bool, vtol: &mut [u32])
     requires line { length levels.now ≤ length line.now }
     requires vtol { vtol.old ≡ range_with_len 0 (length levels.now) }
-    requires within { length levels.now ≤ 1048576 }
     ensures { vtol.new ≡ vtol_of reordernsm (map class_in line.now) levels.now }
 {
     reverse_levels(levels, vtol);
@@ -84,7 +83,6 @@ fn arrange(line: &[Properties], levels: &[u8], reordernsm: bool, vtol: &mut [u32
 fn reverse_groups(line: &[Properties], levels: &[u8], vtol: &mut [u32])
     requires line { length levels.now ≤ length line.now }
     requires vtol { vtol.old ≡ order_of levels.now }
-    requires within { length levels.now ≤ 1048576 }
     ensures { vtol.new ≡ reverse_with_next (has_base (map class_in line.now) levels.now) [] vtol.old }
 {
     let mut start = 0;
@@ -99,7 +97,6 @@ fn reverse_group(line: &[Properties], levels: &[u8], items: &mut [u32]) -> usize
     requires line { length levels.now ≤ length line.now }
     requires items { (start : ℕ) × (items.old ≡ drop start (order_of levels.now)) }
     requires some { 0 < length items.old }
-    requires within { length levels.now ≤ 1048576 }
     ensures len { (0 < result) × (result ≤ length items.old) }
     ensures rest { drop result items.new ≡ drop result items.old }
     ensures done { reverse_with_next (has_base (map class_in line.now) levels.now) [] items.old
