@@ -93,9 +93,10 @@ const NUMBERS: [(&str, &str, &str); 23] = [
 ];
 
 // The same of a degree sign and a euro sign. A line may end behind a space, inside what would else be a
-// number.
-const SIGNS: [(&str, &str, &str); 2] = [
+// number, but not behind one that is no break.
+const SIGNS: [(&str, &str, &str); 3] = [
     ("-5\u{B0}", "××!", "××!"),
+    ("\u{20AC}\u{A0}30", "×××!", "×××!"),
     ("\u{20AC} 30", "×÷×!", "×÷×!"),
 ];
 
@@ -160,7 +161,7 @@ fn marks_of_numbers(rt: HostRuntime) -> Result<(), Fail> {
 #[test]
 fn marks_of_signs(rt: HostRuntime) -> Result<(), Fail> {
     let files = UcdFiles {
-        line_break: b"0020;SP\n002D;HY\n0030..0039;NU\n00B0;PO\n20AC;PR",
+        line_break: b"0020;SP\n002D;HY\n0030..0039;NU\n00A0;GL\n00B0;PO\n20AC;PR",
         ..FILES
     };
     let tables = tables(rt.alloc(), &files)?;
