@@ -12,6 +12,7 @@ const READ: Options = Options {
     base: Base::WeakLtr,
     nobreak: false,
     reordernsm: true,
+    whole_numbers: false,
 };
 
 const REVERSED: Options = Options {
