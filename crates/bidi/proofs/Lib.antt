@@ -12,6 +12,7 @@ mod OpenersLemmas
 pub mod PairLemmas
 mod PiecesLemmas
 mod ResolverLemmas
+mod ReuseLemmas
 mod RunLemmas
 mod FlatLemmas
 mod NoBracketLemmas

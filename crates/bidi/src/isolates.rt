@@ -1,6 +1,6 @@
 //! Isolate initiators: their matching PDIs (UAX #9, BD9), and the direction of those by the first
 //! strong character (X5c).
-ghost use Rattle.std.specs.Prelude.{◌≡◌, ◌+◌, ◌-◌, ◌<◌, ◌==◌, true, OnOk, if◌then◌else◌};
+ghost use Rattle.std.specs.Prelude.{◌≡◌, ◌+◌, ◌-◌, ◌<◌, ◌==◌, true, IfOk, OnOk, if◌then◌else◌};
 ghost use Rattle.std.specs.Prelude.{length, take, slice_index, slice_set};
 ghost use Rattle.std.specs.List.{list_any};
 ghost use Rattle.bidi.specs.Base.{first_strong_level};
@@ -55,6 +55,22 @@ pub(crate) fn find_matches(
     Ok(())
 }
 
+/// Finds the matches of a list's initiators, unless they are found already.
+pub(crate) fn find_or_keep_matches(
+    classes: &[BidiClass],
+    is_found: bool,
+    isolates: &mut Isolates,
+) -> Result<(), AllocError>
+    requires { is_found ≡ true → isolates.old.found.items ≡ matches_of classes.now }
+    ensures matches { OnOk result (isolates.new.found.items ≡ matches_of classes.now) }
+    ensures length { OnOk result (length isolates.new.found.items ≡ length classes.now) }
+{
+    if is_found {
+        return Ok(());
+    }
+    find_matches(classes, &mut isolates.found, &mut isolates.pending)
+}
+
 // Gives its match to the initiator that was opened last, and takes it off.
 fn close(found: &mut [usize], pending: &mut Vec<usize>, at: usize)
     requires { 0 < length pending.old.items
@@ -68,24 +84,27 @@ fn close(found: &mut [usize], pending: &mut Vec<usize>, at: usize)
     }
 }
 
-/// The classes of a paragraph, each FSI as the initiator that it acts as (X5c).
+/// The classes of a paragraph, each FSI as the initiator that it acts as (X5c). True where the matches
+/// were found for it, which then are those of these classes too.
 pub(crate) fn direct(
     classes: &[BidiClass],
     isolates: &mut Isolates,
     acting: &mut Vec<BidiClass>,
-) -> Result<(), AllocError>
-    ensures { OnOk result (acting.new.items ≡ directed classes.now) }
+) -> Result<bool, AllocError>
+    ensures acting { OnOk result (acting.new.items ≡ directed classes.now) }
+    ensures found { IfOk result (λ found. found ≡ true
+        → isolates.new.found.items ≡ matches_of acting.new.items) }
 {
     if !has_first_strong(classes) {
         copy_types(classes, acting)?;
-        return Ok(());
+        return Ok(false);
     }
     find_matches(classes, &mut isolates.found, &mut isolates.pending)?;
     acting.clear();
     for at in 0..classes.len() {
         acting.push(acting_class(classes, &isolates.found, at))?;
     }
-    Ok(())
+    Ok(true)
 }
 
 fn has_first_strong(classes: &[BidiClass]) -> bool

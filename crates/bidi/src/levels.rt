@@ -4,6 +4,7 @@ ghost use Rattle.std.specs.Prelude.{All, IfSome, OnOk};
 ghost use Rattle.std.specs.List.{range_with_len};
 ghost use Rattle.ucd.specs.Tables.{bracket_of};
 ghost use Rattle.bidi.specs.Classes.{class_at};
+ghost use Rattle.bidi.specs.Isolates.{matches_of};
 ghost use Rattle.bidi.specs.Levels.{levels_by, paragraph_levels, put, put_back, resolved, sequence_levels};
 ghost use Rattle.bidi.specs.Plain.{is_plain};
 ghost use Rattle.bidi.specs.Paragraphs.{AreSides, AreSidesBetween, IsReady, Takes};
@@ -15,7 +16,7 @@ ghost use Rattle.bidi.specs.Stayed.{HasAll};
 use crate::brackets::{Pairs, copy_types};
 use crate::classes::is_removed;
 use crate::explicit::{Stayed, explicit};
-use crate::isolates::{Isolates, direct, find_matches};
+use crate::isolates::{Isolates, direct, find_or_keep_matches};
 use crate::neutral::resolve_neutral;
 use crate::sequences::{direction, eos, gather, next_run, run_end, sos};
 use crate::weak::resolve_weak;
@@ -335,18 +336,21 @@ fn resolve_stayed(
     stayed: &Stayed,
     base: u8,
     isolates: &mut Isolates,
+    is_found: bool,
     continued: &mut Vec<bool>,
     sequence: &mut Sequence,
     done: &mut Vec<u8>,
 ) -> Result<(), AllocError>
     requires stayed { HasAll stayed.now }
+    requires found { is_found ≡ true
+        → isolates.old.found.items ≡ matches_of stayed.now.classes.items }
     requires characters { length characters.now ≡ length stayed.now.levels.items }
     requires brackets { has_brackets ≡ false
         → All (λ c. bracket_of tables.now c ≡ None) characters.now }
     ensures { OnOk result (done.new.items ≡ resolved (bracket_of tables.now) base characters.now
         stayed.now.classes.items stayed.now.levels.items stayed.now.types.items) }
 {
-    find_matches(&stayed.classes, &mut isolates.found, &mut isolates.pending)?;
+    find_or_keep_matches(&stayed.classes, is_found, isolates)?;
     continued.clear();
     continued.resize(stayed.levels.len(), false)?;
     done.clear();
@@ -405,23 +409,33 @@ fn put_back(
     Ok(())
 }
 
-/// The levels of a paragraph by all rules, by its classes without FSI.
+// Whether the matches are found and X9 took nothing out, so that they are those of what stays.
+fn are_still_found(is_found: bool, stayed: &[BidiClass], acting: &[BidiClass]) -> bool
+    ensures { result ≡ true → (is_found ≡ true) × (length stayed.now ≡ length acting.now) }
+{
+    is_found && stayed.len() == acting.len()
+}
+
+/// The levels of a paragraph by all rules, by its classes without FSI, of which the matches may be found.
 pub(crate) fn resolve_acting(
     tables: &Tables,
     text: &[char],
     acting: &[BidiClass],
+    is_found: bool,
     base: u8,
     has_brackets: bool,
     work: &mut Work,
     levels: &mut Vec<u8>,
 ) -> Result<(), AllocError>
     requires sizes { length text.now ≡ length acting.now }
+    requires found { is_found ≡ true → work.old.isolates.found.items ≡ matches_of acting.now }
     requires low { base ≤ 1 }
     requires brackets { has_brackets ≡ false → All (λ c. bracket_of tables.now c ≡ None) text.now }
     ensures { OnOk result (levels.new.items ≡ levels_by (bracket_of tables.now) text.now acting.now base) }
 {
     explicit(acting, base, &mut work.stayed)?;
     stayed_characters(text, acting, &mut work.characters)?;
+    let is_found = are_still_found(is_found, &work.stayed.classes, acting);
     resolve_stayed(
         tables,
         has_brackets,
@@ -429,6 +443,7 @@ pub(crate) fn resolve_acting(
         &work.stayed,
         base,
         &mut work.isolates,
+        is_found,
         &mut work.continued,
         &mut work.sequence,
         &mut work.resolved,
@@ -454,8 +469,17 @@ pub(crate) fn resolve_classes(
     ensures { OnOk result (levels.new.items
         ≡ paragraph_levels (bracket_of tables.now) text.now classes.now base) }
 {
-    direct(classes, &mut work.isolates, acting)?;
-    resolve_acting(tables, text, acting, base, has_brackets, work, levels)
+    let is_found = direct(classes, &mut work.isolates, acting)?;
+    resolve_acting(
+        tables,
+        text,
+        acting,
+        is_found,
+        base,
+        has_brackets,
+        work,
+        levels,
+    )
 }
 
 /// The levels of a paragraph in which nothing is opened, closed or taken out: it is one sequence as

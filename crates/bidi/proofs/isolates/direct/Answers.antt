@@ -1,4 +1,4 @@
-use Rattle.std.proofs.Common.{◌≡◌, ℕ, false, List, [], ◌∷◌, ◌++◌, length, map, refl, sym, ap, ◌∙◌, inl, inr, arith}
+use Rattle.std.proofs.Common.{rules, ◌≡◌, ℕ, false, List, [], ◌∷◌, ◌++◌, length, map, refl, sym, ap, ◌∙◌, inl, inr, arith}
 use Rattle.std.specs.List.{list_any, range_with_len}
 use Rattle.std.proofs.lemmas.Bool.{cases_Bool, both_ways}
 use Rattle.std.proofs.lemmas.List.FromFn.{fill_by_all, map-range_with_len_more}
@@ -6,7 +6,10 @@ use Rattle.std.proofs.lemmas.List.Folds.{list_any_at}
 use Rattle.ucd.specs.declared.bidi_class.BidiClass.{BidiClass}
 use Rattle.ucd.specs.declared.bidi_class.BidiClass.TheVariants.{ON, FSI}
 use Rattle.bidi.specs.Classes.{class_at}
+use Rattle.bidi.specs.Isolates.{matches_of}
 use Rattle.bidi.specs.Explicit.{directed, directed_at, is_first_strong}
+use Rattle.bidi.proofs.LengthLemmas.{length-directed}
+use Rattle.bidi.proofs.ReuseLemmas.{matches_directed}
 use Rattle.bidi.proofs.isolates.direct.Goals as goal
 
 directed_at-other : (classes : List BidiClass) (k : ℕ) (class : BidiClass) → is_first_strong class ≡ false → directed_at classes k class ≡ class
@@ -25,8 +28,8 @@ directed-none classes none =
 abbrev acting : List BidiClass → ℕ → BidiClass
 acting classes k = directed_at classes k (class_at classes k)
 
-pub returns-then-not-has_first_strong : goal.returns-then-not-has_first_strong
-returns-then-not-has_first_strong c = c.in_ok-copy_types.ensures ∙ directed-none c.args.classes.now (sym c.if-not-has_first_strong.ensures)
+pub returns-then-not-has_first_strong-clause-acting : goal.returns-then-not-has_first_strong-clause-acting
+returns-then-not-has_first_strong-clause-acting c = c.in_ok-copy_types.ensures ∙ directed-none c.args.classes.now (sym c.if-not-has_first_strong.ensures)
 
 pub loop-at-preserved : goal.loop-at-preserved
 loop-at-preserved c =
@@ -34,3 +37,9 @@ loop-at-preserved c =
     ∙ ap (λ items. items ++ c.acting_class.result ∷ []) c.loop-at.invariant
     ∙ ap (λ class. map (acting c.args.classes.now) (range_with_len 0 c.loop-at.at) ++ class ∷ []) c.acting_class.ensures
     ∙ sym (map-range_with_len_more (acting c.args.classes.now) 0 c.loop-at.at c.loop-at.at (omega arith))
+
+-- the matches go by initiators and PDIs, which stay what they are
+pub returns-clause-found : goal.returns-clause-found
+returns-clause-found c = λ found.
+    let all : c.loop-at.acting.items ≡ directed c.args.classes.now = search rules in
+    c.in_ok-find_matches.ensures.matches ∙ matches_directed c.args.classes.now (sym (length-directed c.args.classes.now)) ∙ ap matches_of (sym all)

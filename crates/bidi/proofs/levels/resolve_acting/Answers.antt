@@ -13,6 +13,8 @@ use Rattle.bidi.specs.Stayed.{HasAll, IsStayed}
 use Rattle.std.specs.List.{All}
 use Rattle.bidi.proofs.PartLemmas.{All-kept}
 use Rattle.bidi.proofs.ExplicitLemmas.{level_at-bound}
+use Rattle.bidi.specs.Isolates.{matches_of}
+use Rattle.bidi.proofs.ReuseLemmas.{all_stay}
 use Rattle.bidi.proofs.levels.resolve_acting.Goals as goal
 
 -- what the walk leaves is whole
@@ -48,19 +50,27 @@ resolve_stayed-requires-clause-stayed c = whole c.args.acting.now c.args.base c.
 pub resolve_stayed-requires-clause-characters : goal.resolve_stayed-requires-clause-characters
 resolve_stayed-requires-clause-characters c =
     let kept : IsStayed c.args.acting.now c.args.base c.explicit.new.stayed = c.in_ok-explicit.ensures in
-    ap length (c.deref.ensures.value ∙ c.in_ok-stayed_characters.ensures) ∙ length-map (stayed c.args.acting.now) (slice_index c.args.text.now)
+    ap length (c.deref-2.ensures.value ∙ c.in_ok-stayed_characters.ensures) ∙ length-map (stayed c.args.acting.now) (slice_index c.args.text.now)
     ∙ sym (ap length kept.levels_are ∙ length-map (stayed c.args.acting.now) (level_at c.args.base c.args.acting.now))
 
 pub resolve_stayed-requires-clause-brackets : goal.resolve_stayed-requires-clause-brackets
 resolve_stayed-requires-clause-brackets c = λ none.
     let P : ℕ → Type 0 = λ b. bracket_of c.args.tables.now b ≡ None in
-    subst (All P) (sym (c.deref.ensures.value ∙ c.in_ok-stayed_characters.ensures))
+    subst (All P) (sym (c.deref-2.ensures.value ∙ c.in_ok-stayed_characters.ensures))
     (All-kept P c.args.text.now (length c.args.acting.now) (λ k. not (is_removed (class_at c.args.acting.now k))) c.requires.sizes (c.requires.brackets none))
+
+pub resolve_stayed-requires-clause-found : goal.resolve_stayed-requires-clause-found
+resolve_stayed-requires-clause-found c = λ found.
+    let kept : IsStayed c.args.acting.now c.args.base c.explicit.new.stayed = c.in_ok-explicit.ensures in
+    let both = c.are_still_found-is_found.ensures found in
+    let all : c.explicit.new.stayed.classes.items ≡ c.args.acting.now =
+    all_stay c.args.acting.now c.explicit.new.stayed.classes.items kept.classes_are (sym (ap length c.deref.ensures.value) ∙ both.1) in
+    c.requires.found both.0 ∙ ap matches_of (sym all)
 
 pub returns : goal.returns
 returns c =
     let kept : IsStayed c.args.acting.now c.args.base c.explicit.new.stayed = c.in_ok-explicit.ensures in
     c.in_ok-put_back.ensures
-    ∙ ap (put_back c.args.base c.args.acting.now) c.deref-2.ensures.value
-    ∙ all_levels (bracket_of c.args.tables.now) c.args.text.now c.args.acting.now c.args.base c.deref.result.now c.explicit.new.stayed _ kept
-    (c.deref.ensures.value ∙ c.in_ok-stayed_characters.ensures) c.in_ok-resolve_stayed.ensures
+    ∙ ap (put_back c.args.base c.args.acting.now) c.deref-3.ensures.value
+    ∙ all_levels (bracket_of c.args.tables.now) c.args.text.now c.args.acting.now c.args.base c.deref-2.result.now c.explicit.new.stayed _ kept
+    (c.deref-2.ensures.value ∙ c.in_ok-stayed_characters.ensures) c.in_ok-resolve_stayed.ensures
