@@ -1,4 +1,6 @@
 //! Worked rows: edit scripts over texts, and what they answer.
+ghost use Rattle.std.specs.Prelude.{◌<◌};
+
 use crate::tests::{LINES, Pieces, STOPS, Short, Stopping, repeated, tables};
 use crate::{RunFault, open_text, run_script};
 use device::{FromRead, ToWrite};
@@ -215,7 +217,9 @@ fn check_options(
     options: Options,
     width: u16,
     row: &Row<'_>,
-) -> Result<(), Fail> {
+) -> Result<(), Fail>
+    requires { 0 < width }
+{
     let (text, script, answers) = *row;
     let engine = Engine::new(tables(alloc)?, options);
     let session: Session<TreeStore<Kept>> = open_text(alloc, engine, text.as_bytes(), width)?;
