@@ -54,25 +54,25 @@ abbrev pub is_as : Bool → List Base → List Base → Bool
 is_as whole_numbers bases others =
     all_same (answers whole_numbers bases) (answers whole_numbers others) && all_same (carried bases) (carried others)
 
--- an outcome is the mark that the rules give
-abbrev pub gives : Bool → ℕ → ℕ → ℕ → Bool → Bool → Bool → Bool
-gives whole_numbers state symbol outcome is_joined is_pictograph before_digit =
-    is_mark (mark_of whole_numbers (decided_at outcome is_joined is_pictograph) before_digit)
-    (decide (marks_by_row whole_numbers)
-    (answered_with whole_numbers is_joined is_pictograph (answers whole_numbers (bases_at state)))
-    (behinds whole_numbers (shown symbol) before_digit))
+-- An outcome is the mark that the rules give, by what a state answers and what stands behind, which are computed once.
+module _ (whole_numbers : Bool) (answered : List Bool) (behind digit_behind : List Bool) (outcome : ℕ) where
+  abbrev pub gives : List Bool → Bool → Bool → Bool → Bool
+  gives behind is_joined is_pictograph before_digit =
+      is_mark (mark_of whole_numbers (decided_at outcome is_joined is_pictograph) before_digit)
+      (decide (marks_by_row whole_numbers) (answered_with whole_numbers is_joined is_pictograph answered) behind)
 
-abbrev pub gives_both : Bool → ℕ → ℕ → ℕ → Bool → Bool → Bool
-gives_both whole_numbers state symbol outcome is_joined is_pictograph =
-    gives whole_numbers state symbol outcome is_joined is_pictograph false
-    && gives whole_numbers state symbol outcome is_joined is_pictograph true
+  abbrev pub gives_both : Bool → Bool → Bool
+  gives_both is_joined is_pictograph = gives behind is_joined is_pictograph false && gives digit_behind is_joined is_pictograph true
 
--- where a ZWJ is the last character, the last base is one to which a character may be attached
+  -- where a ZWJ is the last character, the last base is one to which a character may be attached
+  abbrev pub gives_all : Bool → Bool
+  gives_all is_unattached =
+      (gives_both false false && gives_both false true) && (is_unattached || (gives_both true false && gives_both true true))
+
 abbrev pub gives_each : Bool → ℕ → ℕ → ℕ → Bool
 gives_each whole_numbers state symbol outcome =
-    (gives_both whole_numbers state symbol outcome false false && gives_both whole_numbers state symbol outcome false true)
-    && (is unattached (bases_at state)
-    || (gives_both whole_numbers state symbol outcome true false && gives_both whole_numbers state symbol outcome true true))
+    gives_all whole_numbers (answers whole_numbers (bases_at state)) (behinds whole_numbers (shown symbol) false)
+    (behinds whole_numbers (shown symbol) true) outcome (is unattached (bases_at state))
 
 -- what waits is in front of a character to which others may be attached
 abbrev pub waits_for_base : ℕ → ℕ → Bool
@@ -101,13 +101,22 @@ abbrev pub all_right : Bool → ℕ → Bool
 all_right whole_numbers state =
     all_below 40 (λ symbol. is_right whole_numbers state symbol (get_or TABLE (state * 40 + symbol) 0))
 
+-- A test that computes to true has a proof, so that one that computes to false is refused at once.
+abbrev Holds : Bool → Type 0
+Holds true = Unit {0}
+Holds false = ⊥
+
+holds : (b : Bool) → Holds b → b ≡ true
+holds true h = refl
+holds false h = absurd h
+
 pub table_is_right : all_below 41 (all_right false) ≡ true
 unfolding rows rows_before_numbers rows_of_numbers rows_behind_numbers
-table_is_right = refl
+table_is_right = holds (all_below 41 (all_right false)) tt
 
 pub table_is_right_whole : all_below 41 (all_right true) ≡ true
 unfolding rows rows_before_numbers rows_of_numbers rows_behind_numbers
-table_is_right_whole = refl
+table_is_right_whole = holds (all_below 41 (all_right true)) tt
 
 pub entries_are_within : all_below 1640 (λ place. nat_le (get_or TABLE place 0 / PARTS) 1600) ≡ true
 entries_are_within = refl

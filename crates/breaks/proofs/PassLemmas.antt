@@ -15,7 +15,7 @@ use Rattle.breaks.specs.declared.symbol.TheConstants.{JOINER}
 use Rattle.breaks.specs.declared.table.TheConstants.{NEVER, PARTS, STAYS, TABLE, UNLESS, WAITS}
 use Rattle.breaks.specs.declared.walk.Walk.{Walk}
 use Rattle.breaks.proofs.BoolLemmas.{both, same, same_is, all_same, all_same_is, below, is_below, is_within, is_equal}
-use Rattle.breaks.proofs.Computed.{all_right, decide, marks_by_row, behinds, answered_with, is_mark, stays, is_as, gives, gives_both, gives_each, leads, is_right, table_is_right, table_is_right_whole, entries_are_within, waits_for_base}
+use Rattle.breaks.proofs.Computed.{all_right, decide, marks_by_row, behinds, answered_with, is_mark, stays, is_as, gives_both, gives_each, leads, is_right, table_is_right, table_is_right_whole, entries_are_within, waits_for_base}
 use Rattle.breaks.proofs.StepLemmas.{end_attached, marked, answers_attached, carried_attached, answers_same, carried_same, answers_told, carried_told}
 use Rattle.breaks.proofs.SymbolLemmas.{is_joiner, behinds_told}
 
@@ -48,7 +48,12 @@ and_false true = refl
 and_false false = refl
 
 -- the outcome of an entry, in each of the eight cases that a walk knows
-given_both : (whole_numbers : Bool) (state symbol outcome : ℕ) (is_joined is_pictograph before_digit : Bool) → gives_both whole_numbers state symbol outcome is_joined is_pictograph ≡ true → mark_of whole_numbers (decided_at outcome is_joined is_pictograph) before_digit ≡ decide (marks_by_row whole_numbers) (answered_with whole_numbers is_joined is_pictograph (answers whole_numbers (bases_at state))) (behinds whole_numbers (shown symbol) before_digit)
+abbrev both_of : Bool → ℕ → ℕ → ℕ → Bool → Bool → Bool
+both_of whole_numbers state symbol outcome =
+    gives_both whole_numbers (answers whole_numbers (bases_at state)) (behinds whole_numbers (shown symbol) false)
+    (behinds whole_numbers (shown symbol) true) outcome
+
+given_both : (whole_numbers : Bool) (state symbol outcome : ℕ) (is_joined is_pictograph before_digit : Bool) → both_of whole_numbers state symbol outcome is_joined is_pictograph ≡ true → mark_of whole_numbers (decided_at outcome is_joined is_pictograph) before_digit ≡ decide (marks_by_row whole_numbers) (answered_with whole_numbers is_joined is_pictograph (answers whole_numbers (bases_at state))) (behinds whole_numbers (shown symbol) before_digit)
 given_both whole_numbers state symbol outcome is_joined is_pictograph false gives = is_mark_is _ _ (both _ _ gives).0
 given_both whole_numbers state symbol outcome is_joined is_pictograph true gives = is_mark_is _ _ (both _ _ gives).1
 
@@ -56,8 +61,8 @@ given : (whole_numbers : Bool) (state symbol outcome : ℕ) (is_joined is_pictog
 given whole_numbers state symbol outcome false false before_digit free each = given_both whole_numbers state symbol outcome false false before_digit (both _ _ (both _ _ each).0).0
 given whole_numbers state symbol outcome false true before_digit free each = given_both whole_numbers state symbol outcome false true before_digit (both _ _ (both _ _ each).0).1
 given whole_numbers state symbol outcome true is_pictograph before_digit free each =
-    let joined : (is unattached (bases_at state) || (gives_both whole_numbers state symbol outcome true false && gives_both whole_numbers state symbol outcome true true)) ≡ true = (both _ _ each).1 in
-    let whole : (gives_both whole_numbers state symbol outcome true false && gives_both whole_numbers state symbol outcome true true) ≡ true = rw (free refl) at joined in
+    let joined : (is unattached (bases_at state) || (both_of whole_numbers state symbol outcome true false && both_of whole_numbers state symbol outcome true true)) ≡ true = (both _ _ each).1 in
+    let whole : (both_of whole_numbers state symbol outcome true false && both_of whole_numbers state symbol outcome true true) ≡ true = rw (free refl) at joined in
     elim is_pictograph as (λ p. mark_of whole_numbers (decided_at outcome true p) before_digit ≡ decide (marks_by_row whole_numbers) (answered_with whole_numbers true p (answers whole_numbers (bases_at state))) (behinds whole_numbers (shown symbol) before_digit)) [
       | false ↦ given_both whole_numbers state symbol outcome true false before_digit (both _ _ whole).0
       | true ↦ given_both whole_numbers state symbol outcome true true before_digit (both _ _ whole).1

@@ -39,28 +39,30 @@ fn report(rt: &HostRuntime, fault: &ProgramFault) -> io::Result<()> {
 }
 
 fn run(rt: &HostRuntime) -> Result<(), ProgramFault> {
-    let alloc = rt.alloc();
     let words = words(rt).map_err(word_fault)?;
-    let Ok(words) = texts(alloc, &words) else {
+    let Ok(words) = texts(rt.alloc(), &words) else {
         return Err(ProgramFault::Line(LineFault::NoMemory));
     };
-    let settings = settings(alloc, &words).map_err(ProgramFault::Line)?;
+    run_words(rt, &words)
+}
+
+// What the words ask for. It and those that it calls hold one value each that takes memory, since all that is
+// held when one of many calls fails makes the proof longer.
+fn run_words(rt: &HostRuntime, words: &[&str]) -> Result<(), ProgramFault> {
+    let settings = settings(rt.alloc(), words).map_err(ProgramFault::Line)?;
+    run_settings(rt, &settings)
+}
+
+fn run_settings(rt: &HostRuntime, settings: &Settings<'_>) -> Result<(), ProgramFault>
+    requires { 0 < settings.now.width }
+{
     let tables = tables(rt, settings.ucd)?;
     let mut engine = Engine::new(tables, settings.options);
     let mut output = ToWrite::new(rt.stdout());
-    if let Some(script) = settings.script {
-        return obey(rt, script, &mut output, engine, &settings);
+    match settings.script {
+        Some(script) => obey(rt, script, &mut output, engine, settings),
+        None => write_texts(rt, &mut output, &mut engine, settings),
     }
-    if settings.files.is_empty() {
-        return write_text(rt, rt.stdin(), &mut output, &mut engine, &settings);
-    }
-    for file in &settings.files {
-        let Ok(file) = File::open(rt, *file) else {
-            return Err(ProgramFault::Run(RunFault::Read));
-        };
-        write_text(rt, file, &mut output, &mut engine, &settings)?;
-    }
-    Ok(())
 }
 
 // The words behind the program's name.
@@ -117,6 +119,39 @@ fn table_file(rt: &HostRuntime, folder: &str, name: &'static str) -> Result<Vec<
     }
 }
 
+// Writes what each text asks for.
+fn write_texts(
+    rt: &HostRuntime,
+    output: &mut ToWrite<Stdout>,
+    engine: &mut Engine,
+    settings: &Settings<'_>,
+) -> Result<(), ProgramFault>
+    requires { 0 < settings.now.width }
+{
+    if settings.files.is_empty() {
+        return write_text(rt, rt.stdin(), output, engine, settings);
+    }
+    for path in &settings.files {
+        write_file(rt, path, output, engine, settings)?;
+    }
+    Ok(())
+}
+
+fn write_file(
+    rt: &HostRuntime,
+    path: &str,
+    output: &mut ToWrite<Stdout>,
+    engine: &mut Engine,
+    settings: &Settings<'_>,
+) -> Result<(), ProgramFault>
+    requires { 0 < settings.now.width }
+{
+    match File::open(rt, path) {
+        Ok(file) => write_text(rt, file, output, engine, settings),
+        Err(_) => Err(ProgramFault::Run(RunFault::Read)),
+    }
+}
+
 // Writes what one text asks for.
 fn write_text<R: Read + Drop>(
     rt: &HostRuntime,
@@ -150,12 +185,36 @@ fn obey(
     requires { 0 < settings.now.width }
 {
     let text = script_text(rt, settings.files.first().copied())?;
-    let session = open_text(rt.alloc(), engine, &text, settings.width);
-    let session = session.map_err(ProgramFault::Run)?;
-    let Ok(script) = File::open(rt, script) else {
-        return Err(ProgramFault::Run(RunFault::Read));
-    };
-    obey_lines(rt.alloc(), script, output, session, &settings.print)
+    obey_over(rt, &text, script, output, engine, settings)
+}
+
+fn obey_over(
+    rt: &HostRuntime,
+    text: &[u8],
+    script: &str,
+    output: &mut ToWrite<Stdout>,
+    engine: Engine,
+    settings: &Settings<'_>,
+) -> Result<(), ProgramFault>
+    requires { 0 < settings.now.width }
+{
+    match open_text(rt.alloc(), engine, text, settings.width) {
+        Ok(session) => obey_file(rt, script, output, session, &settings.print),
+        Err(fault) => Err(ProgramFault::Run(fault)),
+    }
+}
+
+fn obey_file(
+    rt: &HostRuntime,
+    script: &str,
+    output: &mut ToWrite<Stdout>,
+    session: Session<TreeStore<Kept>>,
+    print: &Print,
+) -> Result<(), ProgramFault> {
+    match File::open(rt, script) {
+        Ok(script) => obey_lines(rt.alloc(), script, output, session, print),
+        Err(_) => Err(ProgramFault::Run(RunFault::Read)),
+    }
 }
 
 // The bytes of the text that a script begins with.

@@ -30,54 +30,73 @@ fn command<'a>(alloc: Global) -> Result<Command<'a>, AllocError>
 fn with_layout<'a>(alloc: Global, command: Command<'a>) -> Result<Command<'a>, AllocError>
     ensures { IfOk result (λ new. app_of new ≡ fold with_rule (app_of command.entry) layout_rules) }
 {
-    command
-        .arg(ucd(alloc))?
-        .arg(width(alloc))?
-        .arg(flag(alloc, "rtl", "from right to left"))?
-        .arg(flag(alloc, "ltr", "from left to right"))?
-        .arg(flag(
-            alloc,
-            "wrtl",
-            "from right to left where no character is strong",
-        ))?
-        .arg(flag(
-            alloc,
-            "wltr",
-            "from left to right where no character is strong, which is the default",
-        ))?
-        .arg(flag(alloc, "nobreak", "end lines at mandatory breaks only"))?
-        .arg(flag(
-            alloc,
-            "reordernsm",
-            "marks behind their letters from right to left too",
-        ))?
-        .arg(flag(alloc, "whole-numbers", "end no line inside a number"))
+    let command = command.arg(ucd(alloc))?.arg(width(alloc))?;
+    with_flags(
+        alloc,
+        command,
+        &[
+            ("rtl", "from right to left"),
+            ("ltr", "from left to right"),
+            ("wrtl", "from right to left where no character is strong"),
+            (
+                "wltr",
+                "from left to right where no character is strong, which is the default",
+            ),
+            ("nobreak", "end lines at mandatory breaks only"),
+            (
+                "reordernsm",
+                "marks behind their letters from right to left too",
+            ),
+            ("whole-numbers", "end no line inside a number"),
+        ],
+    )
 }
 
 // The options by which lines are printed.
 fn with_print<'a>(alloc: Global, command: Command<'a>) -> Result<Command<'a>, AllocError>
     ensures { IfOk result (λ new. app_of new ≡ fold with_rule (app_of command.entry) print_rules) }
 {
-    command
-        .arg(flag(
-            alloc,
-            "nopad",
-            "no spaces in front of lines from right to left",
-        ))?
-        .arg(flag(
-            alloc,
-            "nomirror",
-            "characters as they are, not their mirrors",
-        ))?
-        .arg(flag(alloc, "novisual", "no visual lines"))?
-        .arg(flag(alloc, "basedir", "print the direction of each paragraph"))?
-        .arg(flag(alloc, "ltov", "print the visual position of each character"))?
-        .arg(flag(
-            alloc,
-            "vtol",
-            "print the logical position of each visual one",
-        ))?
-        .arg(flag(alloc, "levels", "print the level of each character"))
+    with_flags(
+        alloc,
+        command,
+        &[
+            ("nopad", "no spaces in front of lines from right to left"),
+            ("nomirror", "characters as they are, not their mirrors"),
+            ("novisual", "no visual lines"),
+            ("basedir", "print the direction of each paragraph"),
+            ("ltov", "print the visual position of each character"),
+            ("vtol", "print the logical position of each visual one"),
+            ("levels", "print the level of each character"),
+        ],
+    )
+}
+
+// Options without a value, by their names and what is told of them.
+fn with_flags<'a>(
+    alloc: Global,
+    command: Command<'a>,
+    flags: &[(&'a str, &'a str)],
+) -> Result<Command<'a>, AllocError>
+    ensures { IfOk result (λ new. app_of new
+        ≡ fold with_rule (app_of command.entry) (map (λ f. flag_rule f.0.now) flags.now)) }
+{
+    let mut command = command;
+    for (name, help) in flags {
+        command = with_flag(alloc, command, name, help)?;
+    }
+    Ok(command)
+}
+
+// One of them.
+fn with_flag<'a>(
+    alloc: Global,
+    command: Command<'a>,
+    name: &'a str,
+    help: &'a str,
+) -> Result<Command<'a>, AllocError>
+    ensures { IfOk result (λ new. app_of new ≡ with_rule (app_of command.entry) (flag_rule name.now)) }
+{
+    command.arg(flag(alloc, name, help))
 }
 
 // The folder of the table files.

@@ -8,13 +8,13 @@ use Rattle.ucd.specs.declared.tables.Entries.{Entries}
 
 abbrev pub contents_of : Entries → Contents
 contents_of e = record {
-  bidi_classes = e.bidi_classes;
-  brackets = e.brackets;
-  mirrors = e.mirrors;
-  line_classes = e.line_classes;
-  categories = e.categories;
-  widths = e.widths;
-  pictographs = e.pictographs;
+  bidi_classes = e.bidi.classes;
+  brackets = e.bidi.brackets;
+  mirrors = e.bidi.mirrors;
+  line_classes = e.breaks.classes;
+  categories = e.breaks.categories;
+  widths = e.breaks.widths;
+  pictographs = e.breaks.pictographs;
 }
 
 -- what they say of one

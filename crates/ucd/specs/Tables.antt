@@ -112,16 +112,26 @@ module _ {V : Type 0} (number : ℕ) (form : Form V) (lines : List (List ℕ)) w
   abbrev pub IsInOr : (TableFault → Type 0) → TableFault → Type 0
   IsInOr behind fault = IsFaultIn fault ⊎ (IsGood form lines × behind fault)
 
--- the files in their order, in which the first fault is looked for
+-- the files in their order, in which the first fault is looked for: those on bidirectional text, and behind them those on line breaking
+abbrev pub IsBidiFaultOf : UcdFiles → TableFault → Type 0
+IsBidiFaultOf files =
+    IsInOr 1 bidi_class_form (lines_of files.bidi_class.now) (
+    IsInOr 2 bracket_form (lines_of files.bidi_brackets.now) (
+    IsFaultIn 3 mirror_form (lines_of files.bidi_mirroring.now)))
+
+abbrev pub IsBreakFaultOf : UcdFiles → TableFault → Type 0
+IsBreakFaultOf files =
+    IsInOr 4 line_class_form (lines_of files.line_break.now) (
+    IsInOr 5 category_form (lines_of files.general_category.now) (
+    IsInOr 6 width_form (lines_of files.east_asian_width.now) (
+    IsFaultIn 7 emoji_form (lines_of files.emoji_data.now))))
+
 abbrev pub IsFaultOf : UcdFiles → TableFault → Type 0
 IsFaultOf files =
     IsInOr 1 bidi_class_form (lines_of files.bidi_class.now) (
     IsInOr 2 bracket_form (lines_of files.bidi_brackets.now) (
     IsInOr 3 mirror_form (lines_of files.bidi_mirroring.now) (
-    IsInOr 4 line_class_form (lines_of files.line_break.now) (
-    IsInOr 5 category_form (lines_of files.general_category.now) (
-    IsInOr 6 width_form (lines_of files.east_asian_width.now) (
-    IsFaultIn 7 emoji_form (lines_of files.emoji_data.now)))))))
+    IsBreakFaultOf files)))
 
 -- a fault in a line of a file, or want of memory, which is in none
 abbrev pub fault_by : ℕ → ℕ → Cause → TableFault

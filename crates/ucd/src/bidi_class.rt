@@ -34,36 +34,69 @@ pub enum BidiClass {
     PDI,
 }
 
+// Every class, in the order in which they are looked for.
+static ALL: [BidiClass; 23] = [
+    BidiClass::L,
+    BidiClass::R,
+    BidiClass::AL,
+    BidiClass::EN,
+    BidiClass::ES,
+    BidiClass::ET,
+    BidiClass::AN,
+    BidiClass::CS,
+    BidiClass::NSM,
+    BidiClass::BN,
+    BidiClass::B,
+    BidiClass::S,
+    BidiClass::WS,
+    BidiClass::ON,
+    BidiClass::LRE,
+    BidiClass::LRO,
+    BidiClass::RLE,
+    BidiClass::RLO,
+    BidiClass::PDF,
+    BidiClass::LRI,
+    BidiClass::RLI,
+    BidiClass::FSI,
+    BidiClass::PDI,
+];
+
 impl BidiClass {
     /// The class with this short name.
     pub fn from_name(name: &[u8]) -> Option<BidiClass>
         ensures { result ≡ class_named name.now }
     {
-        match name {
-            b"L" => Some(BidiClass::L),
-            b"R" => Some(BidiClass::R),
-            b"AL" => Some(BidiClass::AL),
-            b"EN" => Some(BidiClass::EN),
-            b"ES" => Some(BidiClass::ES),
-            b"ET" => Some(BidiClass::ET),
-            b"AN" => Some(BidiClass::AN),
-            b"CS" => Some(BidiClass::CS),
-            b"NSM" => Some(BidiClass::NSM),
-            b"BN" => Some(BidiClass::BN),
-            b"B" => Some(BidiClass::B),
-            b"S" => Some(BidiClass::S),
-            b"WS" => Some(BidiClass::WS),
-            b"ON" => Some(BidiClass::ON),
-            b"LRE" => Some(BidiClass::LRE),
-            b"LRO" => Some(BidiClass::LRO),
-            b"RLE" => Some(BidiClass::RLE),
-            b"RLO" => Some(BidiClass::RLO),
-            b"PDF" => Some(BidiClass::PDF),
-            b"LRI" => Some(BidiClass::LRI),
-            b"RLI" => Some(BidiClass::RLI),
-            b"FSI" => Some(BidiClass::FSI),
-            b"PDI" => Some(BidiClass::PDI),
-            _ => None,
+        ALL.iter().copied().find(|class| class.name() == name)
+    }
+
+    // Its short name.
+    fn name(self) -> &'static [u8]
+        ensures { result.now ≡ name_of self }
+    {
+        match self {
+            BidiClass::L => b"L",
+            BidiClass::R => b"R",
+            BidiClass::AL => b"AL",
+            BidiClass::EN => b"EN",
+            BidiClass::ES => b"ES",
+            BidiClass::ET => b"ET",
+            BidiClass::AN => b"AN",
+            BidiClass::CS => b"CS",
+            BidiClass::NSM => b"NSM",
+            BidiClass::BN => b"BN",
+            BidiClass::B => b"B",
+            BidiClass::S => b"S",
+            BidiClass::WS => b"WS",
+            BidiClass::ON => b"ON",
+            BidiClass::LRE => b"LRE",
+            BidiClass::LRO => b"LRO",
+            BidiClass::RLE => b"RLE",
+            BidiClass::RLO => b"RLO",
+            BidiClass::PDF => b"PDF",
+            BidiClass::LRI => b"LRI",
+            BidiClass::RLI => b"RLI",
+            BidiClass::FSI => b"FSI",
+            BidiClass::PDI => b"PDI",
         }
     }
 }

@@ -24,9 +24,10 @@ impl Property for Pictograph {
     }
 
     fn read_value(second: &[u8], _third: &[u8]) -> Option<Option<Pictograph>> {
-        match second {
-            b"Extended_Pictographic" => Some(Some(Pictograph)),
-            _ => Some(None),
+        if b"Extended_Pictographic".as_slice() == second {
+            Some(Some(Pictograph))
+        } else {
+            Some(None)
         }
     }
 

@@ -3,7 +3,13 @@ ghost use Rattle.std.specs.Prelude.{◌≡◌, IfOk, IfErr};
 ghost use Rattle.ucd.specs.Grammar.{lines_of};
 ghost use Rattle.ucd.specs.Files.{HoldsFile};
 ghost use Rattle.ucd.specs.Entries.{AreApart};
-ghost use Rattle.ucd.specs.Tables.{AreTablesOf, IsFaultIn, IsFaultOf};
+ghost use Rattle.ucd.specs.BidiClasses.{bidi_class_form};
+ghost use Rattle.ucd.specs.Brackets.{bracket_form, mirror_form};
+ghost use Rattle.ucd.specs.Categories.{category_form};
+ghost use Rattle.ucd.specs.Emoji.{emoji_form};
+ghost use Rattle.ucd.specs.LineClasses.{line_class_form};
+ghost use Rattle.ucd.specs.Widths.{width_form};
+ghost use Rattle.ucd.specs.Tables.{AreTablesOf, IsBidiFaultOf, IsBreakFaultOf, IsFaultIn, IsFaultOf};
 ghost use Rattle.ucd.specs.Tables.{class_of, bracket_of, mirror_of, line_class_of};
 ghost use Rattle.ucd.specs.Tables.{is_wide_in, is_mark_in, is_future_pictograph_in};
 
@@ -71,16 +77,58 @@ fn read_table<V: Property>(
     }
 }
 
-/// What the files say, before it is put into pages.
+// What the files on bidirectional text say.
 #[derive(Drop)]
-struct Entries {
-    bidi_classes: ApartEntries<BidiClass>,
+struct BidiEntries {
+    classes: ApartEntries<BidiClass>,
     brackets: ApartEntries<Bracket>,
     mirrors: ApartEntries<Mirror>,
-    line_classes: ApartEntries<LineClass>,
+}
+
+// What the files on line breaking say.
+#[derive(Drop)]
+struct BreakEntries {
+    classes: ApartEntries<LineClass>,
     categories: ApartEntries<Category>,
     widths: ApartEntries<Width>,
     pictographs: ApartEntries<Pictograph>,
+}
+
+// Reads the first three files.
+fn read_bidi(alloc: Global, files: &UcdFiles<'_>) -> Result<BidiEntries, TableFault>
+    ensures classes { IfOk result (λ e. HoldsFile bidi_class_form (lines_of files.now.bidi_class.now) e.classes) }
+    ensures brackets { IfOk result (λ e. HoldsFile bracket_form (lines_of files.now.bidi_brackets.now) e.brackets) }
+    ensures mirrors { IfOk result (λ e. HoldsFile mirror_form (lines_of files.now.bidi_mirroring.now) e.mirrors) }
+    ensures err { IfErr result (IsBidiFaultOf files.now) }
+{
+    Ok(BidiEntries {
+        classes: read_table(alloc, 1, files.bidi_class)?,
+        brackets: read_table(alloc, 2, files.bidi_brackets)?,
+        mirrors: read_table(alloc, 3, files.bidi_mirroring)?,
+    })
+}
+
+// Reads the others.
+fn read_breaks(alloc: Global, files: &UcdFiles<'_>) -> Result<BreakEntries, TableFault>
+    ensures classes { IfOk result (λ e. HoldsFile line_class_form (lines_of files.now.line_break.now) e.classes) }
+    ensures categories { IfOk result (λ e. HoldsFile category_form (lines_of files.now.general_category.now) e.categories) }
+    ensures widths { IfOk result (λ e. HoldsFile width_form (lines_of files.now.east_asian_width.now) e.widths) }
+    ensures pictographs { IfOk result (λ e. HoldsFile emoji_form (lines_of files.now.emoji_data.now) e.pictographs) }
+    ensures err { IfErr result (IsBreakFaultOf files.now) }
+{
+    Ok(BreakEntries {
+        classes: read_table(alloc, 4, files.line_break)?,
+        categories: read_table(alloc, 5, files.general_category)?,
+        widths: read_table(alloc, 6, files.east_asian_width)?,
+        pictographs: read_table(alloc, 7, files.emoji_data)?,
+    })
+}
+
+// What the files say, before it is put into pages.
+#[derive(Drop)]
+struct Entries {
+    bidi: BidiEntries,
+    breaks: BreakEntries,
 }
 
 impl Entries {
@@ -91,14 +139,14 @@ impl Entries {
         ensures { IfOk result (λ points. AreSaid (contents_of self.now) points.items) }
     {
         let mut points = unnamed_points(alloc, CODE_POINTS)?;
-        put_entries(&mut points, self.bidi_classes.as_slice());
-        put_entries(&mut points, self.brackets.as_slice());
-        put_entries(&mut points, self.mirrors.as_slice());
-        put_entries(&mut points, self.line_classes.as_slice());
-        put_entries(&mut points, self.widths.as_slice());
+        put_entries(&mut points, self.bidi.classes.as_slice());
+        put_entries(&mut points, self.bidi.brackets.as_slice());
+        put_entries(&mut points, self.bidi.mirrors.as_slice());
+        put_entries(&mut points, self.breaks.classes.as_slice());
+        put_entries(&mut points, self.breaks.widths.as_slice());
         // A pictograph is one to come until its category says that it is assigned.
-        put_entries(&mut points, self.pictographs.as_slice());
-        put_entries(&mut points, self.categories.as_slice());
+        put_entries(&mut points, self.breaks.pictographs.as_slice());
+        put_entries(&mut points, self.breaks.categories.as_slice());
         Ok(points)
     }
 }
@@ -114,15 +162,9 @@ impl Tables {
         ensures ok { IfOk result (AreTablesOf files.now) }
         ensures err { IfErr result (IsFaultOf files.now) }
     {
-        let entries = Entries {
-            bidi_classes: read_table(alloc, 1, files.bidi_class)?,
-            brackets: read_table(alloc, 2, files.bidi_brackets)?,
-            mirrors: read_table(alloc, 3, files.bidi_mirroring)?,
-            line_classes: read_table(alloc, 4, files.line_break)?,
-            categories: read_table(alloc, 5, files.general_category)?,
-            widths: read_table(alloc, 6, files.east_asian_width)?,
-            pictographs: read_table(alloc, 7, files.emoji_data)?,
-        };
+        let bidi = read_bidi(alloc, files)?;
+        let breaks = read_breaks(alloc, files)?;
+        let entries = Entries { bidi, breaks };
         match Tables::paged(alloc, &entries) {
             Ok(tables) => Ok(tables),
             Err(_) => Err(TableFault::memory()),
@@ -135,8 +177,8 @@ impl Tables {
     {
         let points = entries.points(alloc)?;
         let pages = pages_of(alloc, &points)?;
-        let brackets = points_of(alloc, entries.brackets.as_slice())?;
-        let mirrors = points_of(alloc, entries.mirrors.as_slice())?;
+        let brackets = points_of(alloc, entries.bidi.brackets.as_slice())?;
+        let mirrors = points_of(alloc, entries.bidi.mirrors.as_slice())?;
         Ok(Tables {
             pages,
             brackets,

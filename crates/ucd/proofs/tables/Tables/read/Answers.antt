@@ -6,13 +6,13 @@ use Rattle.ucd.proofs.tables.Tables.read.Goals as goal
 pub returns-in-Ok-clause-ok : goal.returns-in-Ok-clause-ok
 unfolding class_of bracket_of mirror_of line_class_of is_wide_in is_mark_in is_future_pictograph_in
 returns-in-Ok-clause-ok c =
-    let bidi_classes = c.in_ok-read_table.ensures.ok in
-    let brackets = c.in_ok-read_table-2.ensures.ok in
-    let mirrors = c.in_ok-read_table-3.ensures.ok in
-    let line_classes = c.in_ok-read_table-4.ensures.ok in
-    let categories = c.in_ok-read_table-5.ensures.ok in
-    let widths = c.in_ok-read_table-6.ensures.ok in
-    let pictographs = c.in_ok-read_table-7.ensures.ok in
+    let bidi_classes = c.in_ok-bidi.ensures.classes in
+    let brackets = c.in_ok-bidi.ensures.brackets in
+    let mirrors = c.in_ok-bidi.ensures.mirrors in
+    let line_classes = c.in_ok-breaks.ensures.classes in
+    let categories = c.in_ok-breaks.ensures.categories in
+    let widths = c.in_ok-breaks.ensures.widths in
+    let pictographs = c.in_ok-breaks.ensures.pictographs in
     record {
       good = record {
         bidi_class = bidi_classes.good;

@@ -1,0 +1,8 @@
+use Rattle.std.proofs.Common.{◌≡◌, fold, map, take}
+use Rattle.clap.specs.Words.{app_of, with_rule}
+use Rattle.tool.specs.CommandLine.{flag_rule}
+use Rattle.tool.proofs.command_line.with_flags.Given as goal
+
+-- the command has the options so far
+abbrev pub invariant-loop-name : goal.invariant-loop-name
+invariant-loop-name l = app_of l.command ≡ fold with_rule (app_of l.fn.command) (map (λ f. flag_rule f.0.now) (take l.name-index l.flags))
