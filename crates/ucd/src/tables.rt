@@ -96,9 +96,12 @@ struct BreakEntries {
 
 // Reads the first three files.
 fn read_bidi(alloc: Global, files: &UcdFiles<'_>) -> Result<BidiEntries, TableFault>
-    ensures classes { IfOk result (λ e. HoldsFile bidi_class_form (lines_of files.now.bidi_class.now) e.classes) }
-    ensures brackets { IfOk result (λ e. HoldsFile bracket_form (lines_of files.now.bidi_brackets.now) e.brackets) }
-    ensures mirrors { IfOk result (λ e. HoldsFile mirror_form (lines_of files.now.bidi_mirroring.now) e.mirrors) }
+    ensures classes { IfOk result (λ e.
+        HoldsFile bidi_class_form (lines_of files.now.bidi_class.now) e.classes) }
+    ensures brackets { IfOk result (λ e.
+        HoldsFile bracket_form (lines_of files.now.bidi_brackets.now) e.brackets) }
+    ensures mirrors { IfOk result (λ e.
+        HoldsFile mirror_form (lines_of files.now.bidi_mirroring.now) e.mirrors) }
     ensures err { IfErr result (IsBidiFaultOf files.now) }
 {
     Ok(BidiEntries {
@@ -110,10 +113,14 @@ fn read_bidi(alloc: Global, files: &UcdFiles<'_>) -> Result<BidiEntries, TableFa
 
 // Reads the others.
 fn read_breaks(alloc: Global, files: &UcdFiles<'_>) -> Result<BreakEntries, TableFault>
-    ensures classes { IfOk result (λ e. HoldsFile line_class_form (lines_of files.now.line_break.now) e.classes) }
-    ensures categories { IfOk result (λ e. HoldsFile category_form (lines_of files.now.general_category.now) e.categories) }
-    ensures widths { IfOk result (λ e. HoldsFile width_form (lines_of files.now.east_asian_width.now) e.widths) }
-    ensures pictographs { IfOk result (λ e. HoldsFile emoji_form (lines_of files.now.emoji_data.now) e.pictographs) }
+    ensures classes { IfOk result (λ e.
+        HoldsFile line_class_form (lines_of files.now.line_break.now) e.classes) }
+    ensures categories { IfOk result (λ e.
+        HoldsFile category_form (lines_of files.now.general_category.now) e.categories) }
+    ensures widths { IfOk result (λ e.
+        HoldsFile width_form (lines_of files.now.east_asian_width.now) e.widths) }
+    ensures pictographs { IfOk result (λ e.
+        HoldsFile emoji_form (lines_of files.now.emoji_data.now) e.pictographs) }
     ensures err { IfErr result (IsBreakFaultOf files.now) }
 {
     Ok(BreakEntries {
