@@ -1,5 +1,5 @@
 //! What lays paragraphs out: the tables and options, and how much was analysed and filled.
-ghost use Rattle.std.specs.Prelude.{◌≡◌, ◌<◌, ◌≤◌, [], false, length, map, IfOk, IfErr, IsErrOf, OnOk};
+ghost use Rattle.std.specs.Prelude.{◌≡◌, ◌<◌, ◌≤◌, [], true, false, length, map, IfOk, IfErr, IsErrOf, OnOk};
 ghost use Rattle.std.specs.Prelude.{if◌then◌else◌};
 ghost use Rattle.device.specs.Device.{Wrote};
 ghost use Rattle.bidi.specs.Levels.{levels_of};
@@ -173,6 +173,9 @@ impl Engine {
         ensures memory { IsErrOf result PrintFault.Memory → skips_lines print.now ≡ false }
         ensures counts { OnOk result (Prints (length text.now) print.now self.old self.new) }
         ensures at_most { LaysOutAtMost (length text.now) self.old self.new }
+
+        // Also after a fault: what is not laid out into lines is not counted as filled.
+        ensures skipped { skips_lines print.now ≡ true → filled_of self.new ≡ filled_of self.old }
         ensures rules { SameRules self.old self.new }
     {
         let len = text.len() as u64;
