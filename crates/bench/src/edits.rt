@@ -17,8 +17,8 @@ const FILES: UcdFiles<'_> = UcdFiles {
     emoji_data: b"",
 };
 
-/// A paragraph of 80 characters, with two Hebrew words.
-pub const PARAGRAPH: &str =
+// A paragraph of 80 characters, with two Hebrew words.
+const PARAGRAPH: &str =
     "the quick brown fox jumps over שלום עולם and (then) runs away before a dog wake\n";
 
 /// Makes the edits in a session over a `list` or a `tree`, and prints what it keeps in the end.

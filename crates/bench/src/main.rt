@@ -3,7 +3,7 @@
 //! - `bench edits KIND PARAGRAPHS EDITS` makes edits in a session over a `list` or a `tree` of paragraphs,
 //!   and prints what it keeps in the end.
 //! - `bench session UCD KIND PARAGRAPHS EDITS` prints how long a session takes to be opened, and for an edit.
-//! - `bench width UCD KIND PARAGRAPHS` prints how long a width change takes, beside laying out and filling.
+//! - `bench width UCD KIND FILE` prints how long width changes of a text take, beside laying out and filling.
 //! - `bench levels UCD CHARACTERS` prints how long the levels of a paragraph take, for texts of many
 //!   kinds, with the table files of the folder UCD.
 //! - `bench layouts UCD CHARACTERS` prints how long the same paragraphs take to be laid out.
@@ -54,7 +54,7 @@ fn main(rt: HostRuntime) -> Result<()> {
             let times = number(words.next());
             stores::run(&rt, kind.as_str(), paragraphs, times)
         }
-        "session" | "width" => {
+        "session" => {
             let Some(folder) = words.next() else {
                 bail!("where are the table files?");
             };
@@ -63,9 +63,17 @@ fn main(rt: HostRuntime) -> Result<()> {
             };
             let paragraphs = number(words.next());
             let edits = number(words.next());
-            match subject.as_str() {
-                "session" => sessions::run(&rt, folder.as_str(), kind.as_str(), paragraphs, edits),
-                _ => sessions::change_width(&rt, folder.as_str(), kind.as_str(), paragraphs),
+            sessions::run(&rt, folder.as_str(), kind.as_str(), paragraphs, edits)
+        }
+        "width" => {
+            let Some(folder) = words.next() else {
+                bail!("where are the table files?");
+            };
+            match (words.next(), words.next()) {
+                (Some(kind), Some(file)) => {
+                    sessions::change_width(&rt, folder.as_str(), kind.as_str(), file.as_str())
+                }
+                _ => bail!("a list or a tree, of which text?"),
             }
         }
         "marks-of" | "lines-of" => {

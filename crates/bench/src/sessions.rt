@@ -4,11 +4,12 @@ ghost use Rattle.std.specs.List.{All};
 ghost use Rattle.lines.specs.Engine.{rules_of, SameRules};
 ghost use Rattle.lines.specs.Layouts.{IsLaidOut};
 
-use crate::edits::{PARAGRAPH, make_edits, open, text_of};
+use crate::edits::{make_edits, open, text_of};
 use crate::paragraphs::{RUNS, lay_out, tables};
 use anyhow::{Result, bail};
 use lines::{Engine, Fill, Laid, Options};
 use session::{Kept, Session};
+use std::fs;
 use std::time::{Duration, Instant};
 use store::{ParagraphStore, TreeStore, VecStore};
 
@@ -50,86 +51,136 @@ fn nanoseconds(time: Duration) -> u64 {
     u64::try_from(time.as_nanos()).unwrap_or(u64::MAX)
 }
 
-// A width to fill at again, beside the one at which sessions are opened.
+// The widths that are changed to, in turns, and that at which all is laid out first.
 const NARROW: u16 = 60;
 
-/// Prints how long in nanoseconds it takes, on a text of so many paragraphs of 80 characters: to lay out
-/// each paragraph; to fill each again at another width; to change the width of a session over a `list` or
-/// a `tree`, back and forth. The latter two are the least of some runs.
-pub fn change_width(rt: &HostRuntime, folder: &str, kind: &str, paragraphs: usize) -> Result<()> {
-    let (laying_out, filling) = fill(rt, folder, paragraphs)?;
+const WIDE: u16 = 80;
+
+/// Prints how long in nanoseconds it takes, on the text of a file: to lay out each paragraph; to fill each
+/// again at the narrow width, and at the wide one; to change the width of a session over a `list` or a
+/// `tree` to the narrow one, and back. All but the first are the least of some runs.
+pub fn change_width(rt: &HostRuntime, folder: &str, kind: &str, file: &str) -> Result<()> {
+    let text = fs::read_to_string(rt, file)?;
+    let (laying_out, filling) = fill(rt, folder, text.as_str())?;
     let changing = match kind {
-        "list" => change::<VecStore<Kept>>(rt, folder, paragraphs)?,
-        "tree" => change::<TreeStore<Kept>>(rt, folder, paragraphs)?,
+        "list" => change::<VecStore<Kept>>(rt, folder, text.as_str())?,
+        "tree" => change::<TreeStore<Kept>>(rt, folder, text.as_str())?,
         _ => bail!("a list or a tree?"),
     };
-    println!(rt; "{laying_out} {filling} {changing}")?;
+    println!(rt;
+        "{laying_out} {} {} {} {}",
+        filling.narrow, filling.wide, changing.narrow, changing.wide
+    )?;
     Ok(())
 }
 
-// The least time of some width changes.
+// The least times at both widths.
+#[derive(Clone, Copy)]
+struct Times {
+    narrow: u64,
+    wide: u64,
+}
+
+impl Times {
+    fn none() -> Times {
+        Times {
+            narrow: u64::MAX,
+            wide: u64::MAX,
+        }
+    }
+
+    fn or(self, narrow: u64, wide: u64) -> Times {
+        Times {
+            narrow: self.narrow.min(narrow),
+            wide: self.wide.min(wide),
+        }
+    }
+}
+
+// How long width changes take.
 fn change<S: ParagraphStore<Kept> + Drop>(
     rt: &HostRuntime,
     folder: &str,
-    paragraphs: usize,
-) -> Result<u64> {
-    let tables = tables(rt, folder)?;
-    let text = text_of(rt.alloc(), paragraphs)?;
-    let mut session: Session<S> = open(rt.alloc(), tables, text.as_str())?;
-    let mut least = u64::MAX;
-    for turn in 0..RUNS {
-        let width = if turn.is_multiple_of(2) { NARROW } else { 80 };
-        let start = Instant::now(rt)?;
-        let result = session.set_width(width);
-        least = least.min(nanoseconds(start.elapsed(rt)?));
-        if result.is_err() {
-            bail!("out of memory");
-        }
+    text: &str,
+) -> Result<Times> {
+    let mut session: Session<S> = open(rt.alloc(), tables(rt, folder)?, text)?;
+    let mut times = Times::none();
+    for _ in 0..RUNS {
+        let narrow = time_to_change(rt, &mut session, NARROW)?;
+        let wide = time_to_change(rt, &mut session, WIDE)?;
+        times = times.or(narrow, wide);
     }
-    Ok(least)
+    Ok(times)
+}
+
+fn time_to_change<S: ParagraphStore<Kept>>(
+    rt: &HostRuntime,
+    session: &mut Session<S>,
+    width: u16,
+) -> Result<u64> {
+    let start = Instant::now(rt)?;
+    let result = session.set_width(width);
+    let time = nanoseconds(start.elapsed(rt)?);
+    if result.is_err() {
+        bail!("out of memory");
+    }
+    Ok(time)
 }
 
 // How long it takes to lay out each paragraph, and to fill each again.
-fn fill(rt: &HostRuntime, folder: &str, paragraphs: usize) -> Result<(u64, u64)> {
+fn fill(rt: &HostRuntime, folder: &str, text: &str) -> Result<(u64, Times)> {
     let mut engine = Engine::new(tables(rt, folder)?, Options::default());
-    let text: Vec<char> = PARAGRAPH.chars().collect(rt.alloc())?;
+    let text: Vec<char> = text.chars().collect(rt.alloc())?;
     let start = Instant::now(rt)?;
-    let all = lay_out_all(rt, &mut engine, &text, paragraphs)?;
+    let all = lay_out_all(rt, &mut engine, &text)?;
     let laying_out = nanoseconds(start.elapsed(rt)?);
-    let mut least = u64::MAX;
+    let mut times = Times::none();
     for _ in 0..RUNS {
-        let start = Instant::now(rt)?;
-        let _ = refill_all(rt, &mut engine, &all)?;
-        least = least.min(nanoseconds(start.elapsed(rt)?));
+        let narrow = time_to_refill(rt, &mut engine, &all, NARROW)?;
+        let wide = time_to_refill(rt, &mut engine, &all, WIDE)?;
+        times = times.or(narrow, wide);
     }
-    Ok((laying_out, least))
+    Ok((laying_out, times))
 }
 
-// So many layouts of one paragraph.
-fn lay_out_all(
-    rt: &HostRuntime,
-    engine: &mut Engine,
-    text: &[char],
-    paragraphs: usize,
-) -> Result<Vec<Laid>>
+// The paragraphs of a text, laid out.
+fn lay_out_all(rt: &HostRuntime, engine: &mut Engine, text: &[char]) -> Result<Vec<Laid>>
     ensures laid { IfOk result (λ all. All (IsLaidOut (rules_of engine.old)) all.items) }
     ensures rules { SameRules engine.old engine.new }
 {
     let mut all = Vec::new(rt.alloc());
-    for _ in 0..paragraphs {
-        let text = Vec::from_slice(rt.alloc(), text)?;
-        all.push(lay_out(rt.alloc(), engine, text, 80)?)?;
+    let mut rest = text;
+    for _ in 0..text.len() {
+        if rest.is_empty() {
+            return Ok(all);
+        }
+        let len = engine.first_cut(rest).unwrap_or(rest.len());
+        let (piece, behind) = rest.split_at(len.min(rest.len()));
+        let piece = Vec::from_slice(rt.alloc(), piece)?;
+        all.push(lay_out(rt.alloc(), engine, piece, WIDE)?)?;
+        rest = behind;
     }
     Ok(all)
 }
 
-fn refill_all(rt: &HostRuntime, engine: &mut Engine, all: &[Laid]) -> Result<Vec<Fill>>
-    requires { All (IsLaidOut (rules_of engine.old)) all.now }
+fn time_to_refill(rt: &HostRuntime, engine: &mut Engine, all: &[Laid], width: u16) -> Result<u64>
+    requires laid { All (IsLaidOut (rules_of engine.old)) all.now }
+    requires width { 0 < width }
+    ensures { SameRules engine.old engine.new }
+{
+    let start = Instant::now(rt)?;
+    let _ = refill_all(rt, engine, all, width)?;
+    Ok(nanoseconds(start.elapsed(rt)?))
+}
+
+fn refill_all(rt: &HostRuntime, engine: &mut Engine, all: &[Laid], width: u16) -> Result<Vec<Fill>>
+    requires laid { All (IsLaidOut (rules_of engine.old)) all.now }
+    requires width { 0 < width }
     ensures { SameRules engine.old engine.new }
 {
     let mut fills = Vec::new(rt.alloc());
     for laid in all {
-        fills.push(engine.refill(rt.alloc(), laid, NARROW)?)?;
+        fills.push(engine.refill(rt.alloc(), laid, width)?)?;
     }
     Ok(fills)
 }

@@ -1,6 +1,7 @@
 -- The marks that a walk over the characters finds are those of the bases.
-use Rattle.std.proofs.Common.{◌≡◌, ℕ, Bool, true, false, ◌==◌, nat_lt, not, suc, ◌+◌, ◌<◌, ◌≤◌, length, get_or, take, drop, arith, List, [], ◌∷◌, ◌++◌, map, if◌then◌else◌, refl, sym, ap, ◌∙◌, append_assoc, append-nil, inl, inr}
+use Rattle.std.proofs.Common.{◌≡◌, ℕ, Bool, true, false, ◌==◌, nat_lt, not, suc, ◌+◌, ◌-◌, ◌<◌, ◌≤◌, Some, length, get_or, take, drop, arith, List, [], ◌∷◌, ◌++◌, map, if◌then◌else◌, refl, sym, ap, ◌∙◌, append_assoc, append-nil, inl, inr}
 use Rattle.std.proofs.Math.ListN.{set}
+use Rattle.std.specs.List.{slice_get}
 use Rattle.std.proofs.lemmas.Bool.{cases_Bool}
 use Rattle.std.proofs.lemmas.Bool.Decides.{nat_tests}
 use Rattle.std.proofs.lemmas.List.{at_drop_more, drop_all, length-map, length-set, take_all, take_more_set}
@@ -172,6 +173,23 @@ length-marks t whole_numbers [] = ap length (none_marked t whole_numbers [] refl
 length-marks t whole_numbers (c ∷ text) =
     ap length (sym (begins_walk t whole_numbers (c ∷ text) text c (character t c) [] refl refl refl))
     ∙ length-walk whole_numbers [] (alone (character t c)) (map (character t) text) ∙ ap suc (length-map text (character t))
+
+-- the last one of them is that of the end
+last-walk : (whole_numbers : Bool) (others : List Base) (last : Base) (text : List Character) → slice_get (walk whole_numbers others last text) (length text) ≡ Some Must
+last-walk whole_numbers others last [] = refl
+last-walk whole_numbers others last (c ∷ text) =
+    elim (cases_Bool (stays_with (end_of last) c)) [
+      | inl stays ↦ rw stays (last-walk whole_numbers others (with_attached last c) text)
+      | inr begins ↦ rw begins (last-walk whole_numbers (last ∷ others) (alone c) text)
+    ]
+
+pub last_mark : (t : Tables) (whole_numbers : Bool) (text : List ℕ) → 0 < length text → slice_get (marks_of t whole_numbers text) (length text - 1) ≡ Some Must
+last_mark t whole_numbers [] some = absurd (omega (arith, some))
+last_mark t whole_numbers (c ∷ text) some =
+    let place : length (c ∷ text) - 1 ≡ length (map (character t) text) = omega (arith, length-map text (character t)) in
+    ap (λ k. slice_get (marks_of t whole_numbers (c ∷ text)) k) place
+    ∙ ap (λ ms. slice_get ms (length (map (character t) text))) (sym (begins_walk t whole_numbers (c ∷ text) text c (character t c) [] refl refl refl))
+    ∙ last-walk whole_numbers [] (alone (character t c)) (map (character t) text)
 
 -- what is read of the properties is what is read of the characters
 pub read_once : (t : Tables) (text : List ℕ) → map character_by (map (properties_of t) text) ≡ map (character t) text

@@ -8,7 +8,7 @@ mod symbol;
 mod table;
 mod walk;
 
-pub use mark::{Mark, marks, marks_are_as_many, marks_into};
+pub use mark::{Mark, marks, marks_are_as_many, marks_into, paragraphs_end_at_must};
 
 #[cfg(test)]
 mod plain;

@@ -1,10 +1,12 @@
 //! The break marks of a paragraph.
-ghost use Rattle.std.specs.Prelude.{◌≡◌, ◌+◌, ◌<◌, ◌≤◌, drop, length, map, slice_index_or, IfOk, OnOk};
+ghost use Rattle.std.specs.Prelude.{◌≡◌, ◌+◌, ◌-◌, ◌<◌, ◌≤◌, ℕ, Bool, List, Some, drop, length, map};
+ghost use Rattle.std.specs.Prelude.{slice_get, slice_index_or, IfOk, OnOk};
 ghost use Rattle.ucd.specs.Properties.{properties_of};
 ghost use Rattle.breaks.specs.Bases.{character};
 ghost use Rattle.breaks.specs.Marks.{marks_of};
 ghost use Rattle.breaks.specs.Symbols.{character_by};
 ghost use Rattle.breaks.specs.Walk.{is_before_digit, mark_of};
+ghost use Rattle.breaks.specs.declared.mark.Mark.TheVariants.{Must};
 
 use crate::symbol::{ATTACHED, DIGIT, symbol_of};
 use crate::table::WAITS;
@@ -167,4 +169,11 @@ fn are_before_digit(properties: &[Properties], from: usize) -> bool
 /// A paragraph has as many marks as characters: a law, which takes no time.
 pub fn marks_are_as_many(tables: &Tables, text: &[char], whole_numbers: bool)
     ensures { length (marks_of tables.now whole_numbers text.now) ≡ length text.now }
+{}
+
+/// LB3: a paragraph ends at a position of the mark `Must`, by whatever tables, and whether numbers stay
+/// whole or not: a law, which takes no time.
+pub fn paragraphs_end_at_must()
+    ensures { (tables : Tables) (whole_numbers : Bool) (text : List ℕ) → 0 < length text
+        → slice_get (marks_of tables whole_numbers text) (length text - 1) ≡ Some Must }
 {}

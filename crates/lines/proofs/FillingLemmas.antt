@@ -158,7 +158,7 @@ greatest_more test fit k best here so_far =
     ]
 
 -- what is found stands within the range, and not in front of numbers that fail
-least_within : (p : ℕ → Bool) (low count n d k : ℕ) → low + count ≡ n → k ≤ d → d < n → ((m : ℕ) → low ≤ m → m < k → p m ≡ false)
+pub least_within : (p : ℕ → Bool) (low count n d k : ℕ) → low + count ≡ n → k ≤ d → d < n → ((m : ℕ) → low ≤ m → m < k → p m ≡ false)
     → (k ≤ unwrap_or (least p low count) d) × (unwrap_or (least p low count) d < n)
 least_within p low zero n d k e above below fails = (above, below)
 least_within p low (suc count) n d k e above below fails =

@@ -1,10 +1,10 @@
 -- The lines that are kept, one by one.
-use Rattle.std.proofs.Common.{◌≡◌, ℕ, zero, suc, ◌<◌, List, [], ◌∷◌, length, map, Some, slice_get, slice_index, slice_index_or, refl, ap, subst, arith}
+use Rattle.std.proofs.Common.{◌≡◌, ℕ, zero, suc, ◌<◌, false, List, [], ◌∷◌, length, map, Some, slice_get, slice_index, slice_index_or, refl, ap, subst, arith}
 use Rattle.std.proofs.lemmas.List.Elements.{All-get_or}
 use Rattle.std.proofs.lemmas.Option.{get_or_from_slice_get, slice_get_within}
 use Rattle.std.specs.List.{All}
 use Rattle.lines.specs.Kept.{line_in, lines_by}
-use Rattle.lines.specs.Layouts.{start_of}
+use Rattle.lines.specs.Layouts.{is_line_within, start_of}
 use Rattle.lines.specs.Visual.{Line}
 use Rattle.lines.specs.declared.visual.Shown.{Shown}
 
@@ -28,6 +28,15 @@ module _ (levels ltov vtol chars : List ℕ) where
   line_at (s ∷ starts) [] k d e within = absurd (omega (arith, e))
   line_at (s ∷ starts) (part ∷ shown) zero d e within = refl
   line_at (s ∷ starts) (part ∷ shown) (suc k) d e within = line_at starts shown k d (omega (arith, e)) (omega (arith, within))
+
+  -- more than one of them, or none, are not one that fits
+  pub not_one : (width : ℕ) (starts : List ℕ) (shown : List Shown) → length shown ≡ length starts → (length shown ≡ 1 → ⊥)
+      → false ≡ is_line_within width (lines_by levels ltov vtol chars starts shown)
+  not_one width [] shown e other = refl
+  not_one width (s ∷ starts) [] e other = absurd (omega (arith, e))
+  not_one width (s ∷ []) (part ∷ shown) e other = absurd (other e)
+  not_one width (s ∷ t ∷ starts) (part ∷ []) e other = absurd (omega (arith, e))
+  not_one width (s ∷ t ∷ starts) (part ∷ next ∷ shown) e other = refl
 
 -- what holds of each line
 pub holds_at : (P : Line → Type 0) (lines : List Line) (k : ℕ) (line : Line) → All P lines → slice_get lines k ≡ Some line → P line

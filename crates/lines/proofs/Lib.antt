@@ -15,6 +15,7 @@ pub mod PlaceLemmas
 mod ShowLemmas
 pub mod SkippedLemmas
 mod SpaceLemmas
+mod StayLemmas
 mod TogetherLemmas
 pub mod VisualLemmas
 mod WorkedBytes

@@ -1,5 +1,5 @@
 -- A paragraph of which no line is printed: the direction is all there is.
-use Rattle.std.proofs.Common.{◌≡◌, ◌∙◌, ℕ, suc, ◌+◌, ◌<◌, ◌==◌, Bool, true, false, ◌&&◌, not, List, [], ◌∷◌, ◌++◌, length, if◌then◌else◌, refl, sym, ap, arith}
+use Rattle.std.proofs.Common.{◌≡◌, ◌∙◌, ℕ, suc, ◌+◌, ◌<◌, ◌≤◌, ◌==◌, Bool, true, false, ◌&&◌, not, List, [], ◌∷◌, ◌++◌, length, if◌then◌else◌, refl, sym, ap, arith}
 use Rattle.std.specs.List.{enumerate_from, flat_map}
 use Rattle.std.proofs.lemmas.Bool.Decides.{nat_tests}
 use Rattle.std.proofs.lemmas.List.{append-nil}
@@ -70,7 +70,7 @@ module _ (width : ℕ) (print : Print) (skips : skips_lines print ≡ true) wher
 
 -- ---- a paragraph has a line
 
-length-places : (t : Tables) (text : List ℕ) (marks : List Mark) (clusters : List Bool) → length marks ≡ length text → length clusters ≡ length text
+pub length-places : (t : Tables) (text : List ℕ) (marks : List Mark) (clusters : List Bool) → length text ≤ length marks → length clusters ≡ length text
     → length (places t text marks clusters) ≡ length text
 length-places t [] marks clusters m c = refl
 length-places t (x ∷ text) [] clusters m c = absurd (omega (arith, m))
@@ -87,7 +87,7 @@ some_from tables options base text levels ps [] some = some
 some_from tables options base text levels ps (s ∷ []) some = omega arith
 some_from tables options base text levels ps (s ∷ t ∷ starts) some = omega arith
 
-some_text : (rules : Rules) (text : List ℕ) → IsParagraph rules text → 0 < length text
+pub some_text : (rules : Rules) (text : List ℕ) → IsParagraph rules text → 0 < length text
 some_text rules [] paragraph = let bad = paragraph.whole in cc
 some_text rules (x ∷ text) paragraph = omega arith
 
@@ -95,7 +95,7 @@ some_lines : (rules : Rules) (width : ℕ) (text : List ℕ) → IsParagraph rul
 unfolding places_of
 some_lines rules width text paragraph marks =
     let ps : List Place = places_of rules.tables rules.options.whole_numbers text in
-    let size = length-places rules.tables text (marks_of rules.tables rules.options.whole_numbers text) (cluster_ends text) marks (length-cluster_ends text) in
+    let size = length-places rules.tables text (marks_of rules.tables rules.options.whole_numbers text) (cluster_ends text) (omega (arith, marks)) (length-cluster_ends text) in
     let some : 0 < length ps = omega (arith, size, some_text rules text paragraph) in
     some_from rules.tables rules.options (base_of rules text) text (levels_of rules.tables text rules.options.base) ps (line_starts_of rules.options.nobreak width ps)
     (some_starts rules.options.nobreak width ps some)

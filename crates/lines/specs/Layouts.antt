@@ -1,5 +1,5 @@
 -- The layout of a paragraph, as what it consists of.
-use Rattle.std.specs.Prelude.{◌≡◌, ℕ, ◌+◌, ◌≤◌, Bool, List, [], ◌∷◌, length, map, All}
+use Rattle.std.specs.Prelude.{◌≡◌, ℕ, ◌+◌, ◌≤◌, nat_le, Bool, false, List, [], ◌∷◌, length, map, All}
 use Rattle.ucd.specs.Tables.{class_of}
 use Rattle.ucd.specs.declared.tables.Tables.{Tables}
 use Rattle.bidi.specs.Base.{base_level_of}
@@ -49,6 +49,11 @@ start_of line = line.start
 -- the shown part of each line stands in front of the n-th character
 abbrev pub AreWithin : ℕ → List Line → Type 0
 AreWithin n lines = All (λ line. line.start + length line.levels ≤ n) lines
+
+-- one line and no other, which takes at most a width
+abbrev pub is_line_within : ℕ → List Line → Bool
+is_line_within width (line ∷ []) = nat_le line.columns width
+is_line_within width lines = false
 
 -- where paragraphs are cut
 abbrev pub cut_by : Rules → ℕ → ℕ → Bool

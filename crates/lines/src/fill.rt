@@ -25,7 +25,7 @@ impl Fill {
     ghost use Rattle.std.specs.Prelude.{IfErr, IfOk, IfSome};
     ghost use Rattle.bidi.specs.Runs.{AreWithin};
     ghost use Rattle.lines.specs.Layouts;
-    ghost use Rattle.lines.specs.Layouts.{start_of};
+    ghost use Rattle.lines.specs.Layouts.{is_line_within, start_of};
     ghost use Rattle.lines.specs.Pages.{lines_bytes};
     ghost use Rattle.lines.specs.Parts.{line_of};
     ghost use Rattle.lines.specs.Visual.{visual_of};
@@ -36,6 +36,17 @@ impl Fill {
         ensures { result.now ≡ map start_of self.now }
     {
         &self.starts
+    }
+
+    /// Whether it is one line, which takes at most a width.
+    pub(crate) fn is_line_within(&self, width: u16) -> bool
+        ensures { result ≡ is_line_within width self.now }
+    {
+        let shown = self.shown.as_slice();
+        if shown.len() != 1 {
+            return false;
+        }
+        shown[0].columns <= u32::from(width)
     }
 
     /// A line, counted from 0.

@@ -1,12 +1,13 @@
 //! A paragraph that is laid out, and the lines that it has at another width.
-ghost use Rattle.std.specs.Prelude.{◌≡◌, ◌≤◌, length, map, option_map, slice_get, IfErr, IfOk, OnOk};
+ghost use Rattle.std.specs.Prelude.{◌≡◌, ◌≤◌, length, map, option_map, slice_get};
+ghost use Rattle.std.specs.Prelude.{IfErr, IfOk, IsTrue, OnOk};
 ghost use Rattle.device.specs.Device.{StoppedAt, Wrote};
 
 use crate::bytes::WriteFault;
 use crate::print::Print;
 use crate::visual::Fill;
 use crate::visual_line::VisualLine;
-use breaks::Mark;
+use breaks::{Mark, paragraphs_end_at_must};
 use device::Sink;
 use std::marker::Model;
 
@@ -39,7 +40,8 @@ impl Model for Laid {
 }
 
 impl Laid {
-    ghost use Rattle.lines.specs.Layouts.{AreLinesOf, Exchanges, IsLaidOut, Rules, start_of};
+    ghost use Rattle.lines.specs.Layouts.{is_line_within, lines_of, start_of};
+    ghost use Rattle.lines.specs.Layouts.{AreLinesOf, Exchanges, IsLaidOut, Rules};
     ghost use Rattle.lines.specs.Pages.{layout_bytes};
     ghost use Rattle.lines.specs.Visual.{visual_of};
     ghost use Rattle.lines.specs.Writing.{PassedOn, StoppedIn};
@@ -85,6 +87,18 @@ impl Laid {
         ensures { result ≡ length self.now.lines }
     {
         self.lines.starts().len()
+    }
+
+    /// Whether the paragraph has one line, which takes at most a width in columns. At that width it then
+    /// has this line and no other.
+    pub fn keeps_lines(&self, width: u16) -> bool
+        ensures value { result ≡ is_line_within width self.now.lines }
+        ensures lines { IsTrue result → (rules : Rules) → IsLaidOut rules self.now
+            → lines_of rules width self.now.text ≡ self.now.lines }
+    {
+        // The law by which a line that takes all characters may end there.
+        paragraphs_end_at_must();
+        self.lines.is_line_within(width)
     }
 
     /// A line, counted from 0.

@@ -1,10 +1,10 @@
 -- The lines of all paragraphs at another width.
-use Rattle.std.proofs.Common.{◌≡◌, ℕ, zero, suc, ◌+◌, ◌<◌, ◌≤◌, ◌^◌, ◌==◌, Bool, true, List, [], ◌∷◌, ◌++◌, length, map, take, get_or, sum_by, nat_le, Some, None, unwrap_or, refl, sym, ap, subst, ◌∙◌, arith}
-use Rattle.std.specs.List.{AllZip, slice_get}
+use Rattle.std.proofs.Common.{◌≡◌, ℕ, zero, suc, ◌+◌, ◌<◌, ◌≤◌, ◌^◌, ◌==◌, Bool, true, List, [], ◌∷◌, ◌++◌, length, map, take, get_or, sum_by, nat_le, Option, Some, None, unwrap_or, IfSome, refl, sym, ap, ap₂, subst, ◌∙◌, arith}
+use Rattle.std.specs.Borrow.{Bor}
+use Rattle.std.specs.List.{All, AllZip, slice_get, slice_index_or}
 use Rattle.std.proofs.lemmas.Bool.{and_parts, leb-true, cond-false, ne_eqb}
-use Rattle.std.proofs.lemmas.List.{append-nil, map_more, length-map}
+use Rattle.std.proofs.lemmas.List.{append-nil, get_or-map, length-map, take_all, take_more}
 use Rattle.std.proofs.lemmas.List.Sums.{sum_by_more, sum_by-take-le}
-use Rattle.std.proofs.lemmas.Option.{get_or_from_slice_get, slice_get_within}
 use Rattle.bidi.specs.Cuts.{paragraphs}
 use Rattle.bidi.specs.Pieces.{ArePieces, ParagraphsArePieces}
 use Rattle.lines.specs.Engine.{rules_of, analysed_of, filled_of, SameRules, FillsAtMost}
@@ -14,7 +14,7 @@ use Rattle.lines.specs.declared.engine.Engine.{Engine}
 use Rattle.store.specs.Exchanging.{pairwise}
 use Rattle.session.specs.Sessions.{IsWholeLayout, Refills, RefillsNot}
 use Rattle.session.specs.Changes.{are_within, paragraph_limit, text_refusal, width_refusal}
-use Rattle.session.specs.Kept.{text_of, layouts_of}
+use Rattle.session.specs.Kept.{text_of, layouts_of, put_into, BringsTo}
 use Rattle.session.specs.declared.edits.EditFault.TheVariants.{WidthOutOfRange, NoMemory}
 use Rattle.session.proofs.EdgeLemmas.{chars_of, lines_of as line_number, length-text, length-lines}
 use Rattle.session.proofs.EditLemmas.{LinesAreFew, few-laid, text-layouts, IsWholeLayout-same}
@@ -64,32 +64,57 @@ none_read [] i e within = omega arith
 none_read (x ∷ xs) zero e within = cc e
 none_read (x ∷ xs) (suc i) e within = none_read xs i e (omega arith)
 
--- the lines of paragraphs at a width
-abbrev pub fills_of : Rules → ℕ → List Layout → List (List Line)
-fills_of rules width kept = map (λ l. lines_of rules width l.text) kept
+pub all_each : {A : Type 0} (P : A → Type 0) (xs : List A) → Each P xs → All P xs
+all_each P [] h k d within = absurd (omega (arith, within))
+all_each P (x ∷ xs) h zero d within = h.0
+all_each P (x ∷ xs) h (suc k) d within = all_each P xs h.1 k d (omega (arith, within))
 
--- those of the first so many paragraphs are filled
-pub record AreFilled (start : Engine) (width : ℕ) (kept : List Layout) (n : ℕ) (fills : List (List Line)) (now : Engine) : Type 0 where
-  pub made : fills ≡ fills_of (rules_of start) width (take n kept)
+-- an item that is read of a list of references
+abbrev pub values : List (Bor Layout) → List Layout
+values list = map (λ k. k.now) list
+
+pub all_listed : (list : List (Bor Layout)) (n : ℕ) → length list ≤ n → length (values list) ≤ n
+all_listed list n last = omega (arith, last, length-map list (λ (k : Bor Layout). k.now))
+
+module _ (list : List (Bor Layout)) (n : ℕ) (x : Bor Layout) (l : Layout) (below : n < length list) (is : x ≡ slice_index_or list n x) (same : l ≡ x.now) where
+  pub read_here : n < length (values list)
+  read_here = omega (arith, below, length-map list (λ (k : Bor Layout). k.now))
+
+  pub read_item : get_or (values list) n l ≡ l
+  read_item = get_or-map (λ (k : Bor Layout). k.now) list n x l below ∙ ap (λ (k : Bor Layout). k.now) (sym is) ∙ sym same
+
+  pub read_laid : (start now : Engine) → SameRules start now → All (IsLaidOut (rules_of start)) (values list) → IsLaidOut (rules_of now) l
+  read_laid start now rules all = subst (λ r. IsLaidOut r l) (sym rules) (subst (IsLaidOut (rules_of start)) read_item (all n l read_here))
+
+-- two lists of one item more
+zip_push : {A B : Type 0} (R : A → B → Type 0) (xs : List A) (ys : List B) (x : A) (y : B) → AllZip R xs ys → R x y → AllZip R (xs ++ x ∷ []) (ys ++ y ∷ [])
+zip_push R [] [] x y all more = (more, tt)
+zip_push R [] (b ∷ ys) x y all more = absurd all
+zip_push R (a ∷ xs) [] x y all more = absurd all
+zip_push R (a ∷ xs) (b ∷ ys) x y all more = (all.0, zip_push R xs ys x y all.1 more)
+
+-- for each of the first so many paragraphs there are its lines, or none
+pub record AreFilled (start : Engine) (width : ℕ) (kept : List Layout) (n : ℕ) (fills : List (Option (List Line))) (now : Engine) : Type 0 where
+  pub made : AllZip (BringsTo (rules_of start) width) (take n kept) fills
   pub rules : SameRules start now
   pub analysed : analysed_of now ≡ analysed_of start
   pub least : filled_of start ≤ filled_of now
   pub most : filled_of now ≤ filled_of start + sum_by chars_of (take n kept)
 
-module _ (start now : Engine) (width : ℕ) (kept : List Layout) (n : ℕ) (fills : List (List Line)) (so_far : AreFilled start width kept n fills now) where
+pub none_filled : (start : Engine) (width : ℕ) (kept : List Layout) (fills : List (Option (List Line))) → fills ≡ [] → AreFilled start width kept 0 fills start
+none_filled start width kept fills e = rw e (record { made = tt; rules = refl; analysed = refl; least = omega arith; most = omega arith })
+
+module _ (start now : Engine) (width : ℕ) (kept : List Layout) (n : ℕ) (fills : List (Option (List Line))) (so_far : AreFilled start width kept n fills now) where
   pub FillsAtMost-so_far : FillsAtMost (length (text_of kept)) start now
   FillsAtMost-so_far = record {
     analysed = so_far.analysed;
     filled = record { least = so_far.least; most = omega (arith, so_far.most, sum_by-take-le chars_of kept n, length-text kept) };
   }
 
-  module _ (l : Layout) (read : Some l ≡ slice_get kept n) (next : Engine) (same : SameRules now next) (counts : FillsAtMost (length l.text) now next) where
-    here : n < length kept
-    here = slice_get_within kept n l (sym read)
+  pub all_filled : length kept ≤ n → AllZip (BringsTo (rules_of start) width) kept fills
+  all_filled last = subst (λ ks. AllZip (BringsTo (rules_of start) width) ks fills) (take_all n kept last) so_far.made
 
-    item : get_or kept n l ≡ l
-    item = get_or_from_slice_get kept n l l (sym read)
-
+  module _ (l : Layout) (here : n < length kept) (item : get_or kept n l ≡ l) (next : Engine) (same : SameRules now next) (counts : FillsAtMost (length l.text) now next) where
     size : sum_by chars_of (take (n + 1) kept) ≡ sum_by chars_of (take n kept) + length l.text
     size = sum_by_more chars_of kept n l here ∙ ap (λ x. sum_by chars_of (take n kept) + chars_of x) item
 
@@ -103,12 +128,10 @@ module _ (start now : Engine) (width : ℕ) (kept : List Layout) (n : ℕ) (fill
       filled = record { least = omega (arith, so_far.least, counts.filled.least); most = omega (arith, so_far.most, counts.filled.most, upto) };
     }
 
-    pub AreFilled-next : (fill : List Line) (more : List (List Line)) → fill ≡ lines_of (rules_of now) width l.text → more ≡ fills ++ fill ∷ [] → AreFilled start width kept (n + 1) more next
-    AreFilled-next fill more fill-is more-is = record {
-      made = more-is ∙ ap (λ f. fills ++ f ∷ []) (fill-is ∙ ap (λ r. lines_of r width l.text) so_far.rules)
-          ∙ ap (λ fs. fs ++ lines_of (rules_of start) width l.text ∷ []) so_far.made
-          ∙ ap (λ (x : Layout). fills_of (rules_of start) width (take n kept) ++ lines_of (rules_of start) width x.text ∷ []) (sym item)
-          ∙ sym (map_more (λ (x : Layout). lines_of (rules_of start) width x.text) kept n l here);
+    pub AreFilled-next : (part : Option (List Line)) (more : List (Option (List Line))) → BringsTo (rules_of now) width l part → more ≡ fills ++ part ∷ [] → AreFilled start width kept (n + 1) more next
+    AreFilled-next part more brings more-is = record {
+      made = rw (more-is, take_more kept n l here, item)
+          (zip_push (BringsTo (rules_of start) width) (take n kept) fills l part so_far.made (subst (λ r. BringsTo r width l part) so_far.rules brings));
       rules = same ∙ so_far.rules;
       analysed = counts.analysed ∙ so_far.analysed;
       least = omega (arith, so_far.least, counts.filled.least);
@@ -116,27 +139,49 @@ module _ (start now : Engine) (width : ℕ) (kept : List Layout) (n : ℕ) (fill
     }
 
 -- what an exchange asks, and what it makes
-abbrev pub fits_any : List Layout → List (List Line) → Type 0
-fits_any kept fills = AllZip (λ l f. (r : Rules) × IsLaidOut r l × AreLinesOf r l.text f) kept fills
+abbrev pub fits_any : List Layout → List (Option (List Line)) → Type 0
+fits_any kept parts = AllZip (λ l part. IfSome part (λ f. (r : Rules) × IsLaidOut r l × AreLinesOf r l.text f)) kept parts
 
-pub all_fit : (rules : Rules) (width : ℕ) (kept : List Layout) → Each (IsLaidOut rules) kept → fits_any kept (fills_of rules width kept)
-all_fit rules width [] h = tt
-all_fit rules width (l ∷ kept) h = ((rules, h.0, record { width = width; from_scratch = refl }), all_fit rules width kept h.1)
+one_fits : (rules : Rules) (width : ℕ) (l : Layout) (part : Option (List Line)) → IsLaidOut rules l → BringsTo rules width l part
+    → IfSome part (λ f. (r : Rules) × IsLaidOut r l × AreLinesOf r l.text f)
+one_fits rules width l None laid brings = tt
+one_fits rules width l (Some f) laid brings = (rules, laid, record { width = width; from_scratch = brings })
 
-abbrev pub refilled : List Layout → List (List Line) → List Layout
-refilled kept fills = pairwise {P = Layout} {Part = List Line} {A = Layout} (λ l f. record l { lines = f }) kept fills
+pub all_fit : (rules : Rules) (width : ℕ) (kept : List Layout) (parts : List (Option (List Line))) → Each (IsLaidOut rules) kept → AllZip (BringsTo rules width) kept parts → fits_any kept parts
+all_fit rules width [] [] h made = tt
+all_fit rules width [] (part ∷ parts) h made = absurd made
+all_fit rules width (l ∷ kept) [] h made = absurd made
+all_fit rules width (l ∷ kept) (part ∷ parts) h made = (one_fits rules width l part h.0 made.0, all_fit rules width kept parts h.1 made.1)
 
-refilled-pars : (rules : Rules) (old width : ℕ) (pars : List (List ℕ)) → refilled (map (layout_of rules old) pars) (fills_of rules width (map (layout_of rules old) pars)) ≡ map (layout_of rules width) pars
+abbrev pub refilled_one : Rules → ℕ → Layout → Layout
+refilled_one rules width l = record l { lines = lines_of rules width l.text }
+
+abbrev pub refilled : Rules → ℕ → List Layout → List Layout
+refilled rules width kept = map (refilled_one rules width) kept
+
+one_brought : (rules : Rules) (width : ℕ) (l : Layout) (part : Option (List Line)) → BringsTo rules width l part → put_into l part ≡ refilled_one rules width l
+one_brought rules width l None brings = ap (λ ls. record l { lines = ls }) brings
+one_brought rules width l (Some f) brings = ap (λ ls. record l { lines = ls }) brings
+
+pub all_brought : (rules : Rules) (width : ℕ) (kept : List Layout) (parts : List (Option (List Line))) → AllZip (BringsTo rules width) kept parts
+    → pairwise {P = Layout} {Part = Option (List Line)} {A = Layout} put_into kept parts ≡ refilled rules width kept
+all_brought rules width [] [] made = refl
+all_brought rules width [] (part ∷ parts) made = absurd made
+all_brought rules width (l ∷ kept) [] made = absurd made
+all_brought rules width (l ∷ kept) (part ∷ parts) made =
+    ap₂ (λ (x : Layout) (xs : List Layout). x ∷ xs) (one_brought rules width l part made.0) (all_brought rules width kept parts made.1)
+
+refilled-pars : (rules : Rules) (old width : ℕ) (pars : List (List ℕ)) → refilled rules width (map (layout_of rules old) pars) ≡ map (layout_of rules width) pars
 refilled-pars rules old width [] = refl
 refilled-pars rules old width (p ∷ pars) = ap (λ ks. layout_of rules width p ∷ ks) (refilled-pars rules old width pars)
 
 module _ (law : ParagraphsArePieces) (few : LinesAreFew) (engine : Engine) (old width : ℕ) (kept : List Layout) (whole : IsWholeLayout (record { engine = engine; width = old; kept = kept })) (some : width ≡ 0 → ⊥) where
   abbrev after : List Layout
-  after = refilled kept (fills_of (rules_of engine) width kept)
+  after = refilled (rules_of engine) width kept
 
   after_is : after ≡ layouts_of (rules_of engine) width (text_of kept)
   after_is =
-      ap (λ ks. refilled ks (fills_of (rules_of engine) width ks)) whole.kept
+      ap (refilled (rules_of engine) width) whole.kept
       ∙ refilled-pars (rules_of engine) old width (paragraphs (cut_by (rules_of engine)) (text_of kept))
 
   pub refilled_fit : sum_by line_number after < 2 ^ 64

@@ -7,8 +7,8 @@ use std::marker::Model;
 use store::{Exchange, Measured};
 
 /// A paragraph that is laid out, as an item of a store. Its part is its lines, which are exchanged for
-/// those at another width. It is two numbers and a place of the paragraph's own, so that a store that
-/// looks for another one doesn't read it.
+/// those at another width, or none where it keeps its own. It is two numbers and a place of the
+/// paragraph's own, so that a store that looks for another one doesn't read it.
 #[derive(Debug, Drop)]
 pub struct Kept {
     chars: usize,
@@ -63,22 +63,27 @@ impl Measured for Kept {
 }
 
 impl Exchange for Kept {
-    type Part = Fill;
+    type Part = Option<Fill>;
 
-    ghost use Rattle.std.specs.Prelude.{refl};
+    ghost use Rattle.std.specs.Prelude.{IfSome};
     ghost use Rattle.lines.specs.Layouts.{AreLinesOf, IsLaidOut, Rules};
+    ghost use Rattle.session.specs.Kept.{chars_stay, put_into, taken_from};
 
     // Lines of this paragraph, by the rules by which it is laid out.
-    ghost fits = { λ kept fill. (rules : Rules) × IsLaidOut rules kept × AreLinesOf rules kept.text fill };
+    ghost fits = { λ kept part. IfSome part (λ fill.
+        (rules : Rules) × IsLaidOut rules kept × AreLinesOf rules kept.text fill) };
 
-    ghost exchanged = { λ kept fill. record kept { lines = fill } };
+    ghost exchanged = { put_into };
 
-    ghost handed_out = { λ kept fill. kept.lines };
+    ghost handed_out = { taken_from };
 
-    ghost keeps_chars = { λ _ _ _. refl };
+    ghost keeps_chars = { λ kept part _. chars_stay kept part };
 
-    fn exchange(&mut self, part: &mut Fill) {
-        self.laid.exchange(part);
+    fn exchange(&mut self, part: &mut Option<Fill>) {
+        let Some(fill) = part else {
+            return;
+        };
+        self.laid.exchange(fill);
         self.lines = self.laid.line_count();
     }
 }

@@ -1,42 +1,78 @@
-//! A change of the width: all lines are filled anew before the first paragraph takes its own.
-ghost use Rattle.std.specs.Prelude.{◌≡◌, ◌<◌, ℕ, length, map, IfOk, IfErr};
+//! A change of the width: all lines that change are filled anew before the first paragraph takes its own.
+ghost use Rattle.std.specs.Prelude.{◌≡◌, ◌<◌, ℕ, is_none, length, map, IfOk, IfErr};
+ghost use Rattle.std.specs.List.{All, AllZip};
 ghost use Rattle.lines.specs.Engine.{rules_of, FillsAtMost, SameRules};
-ghost use Rattle.lines.specs.Layouts.{lines_of};
+ghost use Rattle.lines.specs.Layouts.{is_line_within, IsLaidOut};
 ghost use Rattle.session.specs.Sessions.{IsWholeLayout, Refills, RefillsNot};
-ghost use Rattle.session.specs.Kept.{text_of};
+ghost use Rattle.session.specs.Kept.{text_of, BringsTo};
 
 use crate::edits::{Damage, EditFault};
 use crate::kept::Kept;
 use bidi::paragraphs_are_pieces;
-use lines::{Engine, Fill, lines_are_few};
+use lines::{Engine, Fill, Laid, lines_are_few};
 use std::alloc::{AllocError, Global};
 use store::ParagraphStore;
 
-// The lines of each paragraph of a store at another width.
+// The lines of a paragraph at another width, or none where it keeps its own.
+fn fill_one(
+    alloc: Global,
+    engine: &mut Engine,
+    laid: &Laid,
+    width: u16,
+) -> Result<Option<Fill>, AllocError>
+    requires laid { IsLaidOut (rules_of engine.old) laid.now }
+    requires width { 0 < width }
+    ensures ok { IfOk result (BringsTo (rules_of engine.old) width laid.now) }
+    ensures kept { IfOk result (λ part. is_none part ≡ is_line_within width laid.now.lines) }
+    ensures rules { SameRules engine.old engine.new }
+    ensures counts { FillsAtMost (length laid.now.text) engine.old engine.new }
+{
+    if laid.keeps_lines(width) {
+        return Ok(None);
+    }
+    Ok(Some(engine.refill(alloc, laid, width)?))
+}
+
+// The same of each of some paragraphs.
+fn fill_each(
+    alloc: Global,
+    engine: &mut Engine,
+    list: &[&Kept],
+    width: u16,
+) -> Result<Vec<Option<Fill>>, AllocError>
+    requires laid { All (IsLaidOut (rules_of engine.old)) (map (λ kept. kept.now) list.now) }
+    requires width { 0 < width }
+    ensures ok { IfOk result (λ fills.
+        AllZip (BringsTo (rules_of engine.old) width) (map (λ kept. kept.now) list.now) fills.items) }
+    ensures rules { SameRules engine.old engine.new }
+    ensures counts { FillsAtMost (length (text_of (map (λ kept. kept.now) list.now))) engine.old engine.new }
+{
+    let mut fills = Vec::with_capacity(alloc, list.len())?;
+    for kept in list {
+        fills.push(fill_one(alloc, engine, kept.laid(), width)?)?;
+    }
+    Ok(fills)
+}
+
+// The same of each paragraph of a store.
 fn fill_all<S: ParagraphStore<Kept>>(
     alloc: Global,
     engine: &mut Engine,
     store: &S,
     width: u16,
-) -> Result<Vec<Fill>, AllocError>
+) -> Result<Vec<Option<Fill>>, AllocError>
     requires laid { (old : ℕ)
         × IsWholeLayout (record { engine = engine.old; width = old; kept = S.items store.now }) }
     requires width { 0 < width }
-    ensures ok { IfOk result (λ fills. fills.items
-        ≡ map (λ l. lines_of (rules_of engine.old) width l.text) (S.items store.now)) }
+    ensures ok { IfOk result (λ fills.
+        AllZip (BringsTo (rules_of engine.old) width) (S.items store.now) fills.items) }
     ensures rules { SameRules engine.old engine.new }
     ensures counts { FillsAtMost (length (text_of (S.items store.now))) engine.old engine.new }
 {
     // The law by which each paragraph is one.
     paragraphs_are_pieces();
-    let mut fills = Vec::new(alloc);
-    for index in 0..store.count() {
-        match store.get(index) {
-            Some(kept) => fills.push(engine.refill(alloc, kept.laid(), width)?)?,
-            None => unreachable!(),
-        }
-    }
-    Ok(fills)
+    let list = store.list(alloc)?;
+    fill_each(alloc, engine, &list, width)
 }
 
 /// Brings all lines to another width. What can fail is done before anything is changed.

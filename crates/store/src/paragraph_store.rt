@@ -1,6 +1,6 @@
 //! Stores of items: a list with its sums, whatever holds it.
 ghost use Rattle.std.specs.Prelude.{◌≡◌, ◌^◌, ◌<◌, ◌≤◌};
-ghost use Rattle.std.specs.Prelude.{ℕ, List, [], length, slice_get, slice_range, option_map, sum_by};
+ghost use Rattle.std.specs.Prelude.{ℕ, List, [], length, map, slice_get, slice_range, option_map, sum_by};
 ghost use Rattle.std.specs.Prelude.{IfOk, IfErr, OnOk, OnErr};
 ghost use Rattle.std.specs.List.{splice, AllZip};
 ghost use Rattle.store.specs.Exchanging.{pairwise};
@@ -11,8 +11,8 @@ use crate::measured::{Exchange, Measured};
 use std::alloc::{AllocError, Global};
 use std::ops::Range;
 
-/// A list of items, with the sums of their characters and of their lines. Only `replace` takes
-/// memory. No call drops or copies an item.
+/// A list of items, with the sums of their characters and of their lines. Only `replace` and `list`
+/// take memory. No call drops or copies an item.
 pub trait ParagraphStore<P: Exchange> {
     // The items in order.
     ghost items: { Self → List P };
@@ -36,6 +36,10 @@ pub trait ParagraphStore<P: Exchange> {
     /// An item, counted from 0.
     fn get(&self, index: usize) -> Option<&P>
         ensures { option_map (λ item. item.now) result ≡ slice_get (items self.now) index };
+
+    /// All items in order, found in one walk over the store.
+    fn list(&self, alloc: Global) -> Result<Vec<&P>, AllocError>
+        ensures { IfOk result (λ list. map (λ item. item.now) list.items ≡ items self.now) };
 
     /// The item in which a character stands, counted through all items from 0.
     fn find_char(&self, pos: usize) -> Found

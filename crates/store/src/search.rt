@@ -1,5 +1,6 @@
 //! Going down a tree to one of its items, and over all of them.
-ghost use Rattle.std.specs.Prelude.{◌≡◌, ℕ, ◌+◌, ◌^◌, ◌<◌, ◌≤◌, length, sum_by, option_map, slice_get};
+ghost use Rattle.std.specs.Prelude.{◌≡◌, ℕ, ◌+◌, ◌^◌, ◌<◌, ◌≤◌, ◌++◌};
+ghost use Rattle.std.specs.Prelude.{length, map, sum_by, option_map, slice_get, vec_capacity};
 ghost use Rattle.std.specs.List.{AllZip};
 ghost use Rattle.store.specs.Exchanging.{pairwise};
 ghost use Rattle.store.specs.Finding.{Finds, measure};
@@ -23,6 +24,22 @@ impl<P: Measured> Subtree<P> {
             return node.right.get(index - before - 1);
         }
         Some(&node.item)
+    }
+
+    /// Puts all items in order behind those of a list that has room for them.
+    pub(crate) fn list_into<'a>(&'a self, list: &mut Vec<&'a P>)
+        requires { length list.old.items + length (in_order self.now) ≤ vec_capacity list.old }
+        ensures items { map (λ item. item.now) list.new.items
+            ≡ map (λ item. item.now) list.old.items ++ in_order self.now }
+        ensures capacity { vec_capacity list.new ≡ vec_capacity list.old }
+    {
+        let Some(node) = &self.root else {
+            return;
+        };
+        let node: &Node<P> = node;
+        node.left.list_into(list);
+        list.push_reserved(&node.item);
+        node.right.list_into(list);
     }
 
     /// The item in which number `n` of the counted stands.

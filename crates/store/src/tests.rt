@@ -172,6 +172,31 @@ fn check_items<S: ParagraphStore<Item>, T: ParagraphStore<Item>>(
     assert_eq!(rt; left.get(left.count()), None);
 }
 
+// All items of a store, asked for twice.
+fn list_of<S: ParagraphStore<Item>>(alloc: Global, store: &S) -> Result<Vec<&Item>, AllocError> {
+    match store.list(alloc) {
+        Ok(list) => Ok(list),
+        Err(_) => store.list(alloc),
+    }
+}
+
+// The items that are found in one walk are those that are got one by one.
+fn check_lists<S: ParagraphStore<Item>, T: ParagraphStore<Item>>(
+    rt: &impl Abort,
+    alloc: Global,
+    left: &S,
+    right: &T,
+) -> Result<(), Fail> {
+    let list = list_of(alloc, left)?;
+    let other = list_of(alloc, right)?;
+    assert_eq!(rt; list.as_slice(), other.as_slice());
+    assert_eq!(rt; list.len(), left.count());
+    for (index, item) in list.iter().enumerate() {
+        assert_eq!(rt; left.get(index), Some(*item));
+    }
+    Ok(())
+}
+
 // The replacement once more, where memory was refused. The new items, which are named from one name on, came
 // back in order, and the store has as many items and lines as before.
 fn replace_again<S: ParagraphStore<Item>>(
@@ -220,6 +245,7 @@ fn replace_both<S: ParagraphStore<Item>, T: ParagraphStore<Item>>(
     assert_eq!(rt; old.as_slice(), other.as_slice());
     assert_eq!(rt; Some(old.len()), end.checked_sub(start));
     check_items(rt, left, right);
+    check_lists(rt, alloc, left, right)?;
     check_finds(rt, left, right);
     Ok(())
 }

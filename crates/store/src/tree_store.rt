@@ -110,6 +110,12 @@ impl<P: Exchange> ParagraphStore<P> for TreeStore<P> {
         self.root.get(index)
     }
 
+    fn list(&self, alloc: Global) -> Result<Vec<&P>, AllocError> {
+        let mut list = Vec::with_capacity(alloc, self.root.count())?;
+        self.root.list_into(&mut list);
+        Ok(list)
+    }
+
     /// It looks at the nodes from the root to the answered item.
     fn find_char(&self, pos: usize) -> Found
         requires { pos < sum_by P.chars (in_order self.now) }

@@ -166,6 +166,10 @@ impl<P: Exchange> ParagraphStore<P> for VecStore<P> {
         self.items.get(index)
     }
 
+    fn list(&self, alloc: Global) -> Result<Vec<&P>, AllocError> {
+        self.items.iter().collect(alloc)
+    }
+
     /// It looks at each item up to the answered one.
     fn find_char(&self, pos: usize) -> Found
         requires { pos < sum_by P.chars self.now }

@@ -35,7 +35,7 @@ fn check_row(rt: &impl Abort, pair: &mut Pair<TreeStore<Kept>>, row: &Row<'_>) -
 
 const HEBREW: &str = "\u{5d0}\nab";
 
-const ROWS: [Row<'_>; 17] = [
+const ROWS: [Row<'_>; 20] = [
     (
         "a\r",
         80,
@@ -164,6 +164,31 @@ const ROWS: [Row<'_>; 17] = [
         [0, 3, 3, 0, 1, 1],
         [0, 11],
         "abc def ghi",
+    ),
+    // A line that just fits is kept; one column less, and back.
+    (
+        "ab cd \nef",
+        80,
+        Edit::SetWidth(5),
+        [0, 2, 2, 0, 2, 2],
+        [0, 0],
+        "ab cd \nef",
+    ),
+    (
+        "ab cd \nef",
+        5,
+        Edit::SetWidth(4),
+        [0, 2, 3, 0, 2, 2],
+        [0, 7],
+        "ab cd \nef",
+    ),
+    (
+        "ab cd \nef",
+        4,
+        Edit::SetWidth(5),
+        [0, 3, 2, 0, 2, 2],
+        [0, 7],
+        "ab cd \nef",
     ),
 ];
 

@@ -1,22 +1,23 @@
-use Rattle.std.proofs.Common.{sym, ap, subst, ◌∙◌}
+use Rattle.std.proofs.Common.{◌∙◌}
 use Rattle.lines.specs.Engine.{rules_of}
-use Rattle.session.proofs.WidthLemmas.{each_laid_out, all_fit, fits_any, refilled, refilled_fit, Refills-after}
+use Rattle.session.proofs.WidthLemmas.{all_brought, all_fit, each_laid_out, refilled_fit, Refills-after}
 use Rattle.session.proofs.width.change_width.Goals as goal
 
 pub exchange_all-requires-clause-fit : goal.exchange_all-requires-clause-fit
 exchange_all-requires-clause-fit g c =
     let kept = g.S.ParagraphStore.items c.args.store.now in
-    subst (fits_any kept) (sym c.in-Ok.ensures.ok)
-    (all_fit (rules_of c.args.engine.now) c.args.new_width kept (each_laid_out c.paragraphs_are_pieces.ensures c.args.engine.now c.args.width.now kept c.requires))
+    all_fit (rules_of c.args.engine.now) c.args.new_width kept c.in-Ok.fills.items
+    (each_laid_out c.paragraphs_are_pieces.ensures c.args.engine.now c.args.width.now kept c.requires) c.in-Ok.ensures.ok
 
 pub exchange_all-requires-clause-lines_fit : goal.exchange_all-requires-clause-lines_fit
 exchange_all-requires-clause-lines_fit g c =
     let kept = g.S.ParagraphStore.items c.args.store.now in
-    rw c.in-Ok.ensures.ok (refilled_fit c.paragraphs_are_pieces.ensures c.lines_are_few.ensures c.args.engine.now c.args.width.now c.args.new_width kept c.requires c.if-new_width-eq0.false)
+    rw (all_brought (rules_of c.args.engine.now) c.args.new_width kept c.in-Ok.fills.items c.in-Ok.ensures.ok)
+    (refilled_fit c.paragraphs_are_pieces.ensures c.lines_are_few.ensures c.args.engine.now c.args.width.now c.args.new_width kept c.requires c.if-new_width-eq0.false)
 
 pub returns-clause-ok : goal.returns-clause-ok
 returns-clause-ok g c =
     let kept = g.S.ParagraphStore.items c.args.store.now in
-    let made = c.exchange_all.ensures.items ∙ ap (refilled kept) c.in-Ok.ensures.ok in
+    let made = c.exchange_all.ensures.items ∙ all_brought (rules_of c.args.engine.now) c.args.new_width kept c.in-Ok.fills.items c.in-Ok.ensures.ok in
     Refills-after c.paragraphs_are_pieces.ensures c.lines_are_few.ensures c.args.engine.now c.args.width.now c.args.new_width kept c.requires c.if-new_width-eq0.false
     c.fill_all.new.engine c.fill_all.ensures.rules c.fill_all.ensures.counts _ _ _ _ made c.count-count.ensures c.total_lines-old_lines.ensures c.total_lines.ensures
