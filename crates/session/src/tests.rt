@@ -45,11 +45,19 @@ fn session<S: ParagraphStore<Kept> + Drop>(
     text: &str,
     width: u16,
 ) -> Result<Session<S>, Fail> {
-    let engine = match Session::open(alloc, engine(alloc)?, text, width) {
-        Ok(session) => return Ok(session),
-        Err((engine, EditFault::NoMemory)) => engine,
-        Err((_, fault)) => return Err(Fail::from(fault)),
-    };
+    match Session::open(alloc, engine(alloc)?, text, width) {
+        Ok(session) => Ok(session),
+        Err((engine, EditFault::NoMemory)) => session_again(alloc, engine, text, width),
+        Err((_, fault)) => Err(Fail::from(fault)),
+    }
+}
+
+fn session_again<S: ParagraphStore<Kept> + Drop>(
+    alloc: Global,
+    engine: Engine,
+    text: &str,
+    width: u16,
+) -> Result<Session<S>, Fail> {
     match Session::open(alloc, engine, text, width) {
         Ok(session) => Ok(session),
         Err((_, fault)) => Err(Fail::from(fault)),
@@ -278,11 +286,10 @@ struct Pair<S: ParagraphStore<Kept>> {
 
 impl<S: ParagraphStore<Kept> + Drop> Pair<S> {
     fn new(alloc: Global) -> Result<Pair<S>, Fail> {
-        Ok(Pair {
-            edited: session(alloc, "", 20)?,
-            anew: session(alloc, "", 20)?,
-            room: room_for(alloc, 131_072)?,
-        })
+        let room = room_for(alloc, 131_072)?;
+        let anew = session(alloc, "", 20)?;
+        let edited = session(alloc, "", 20)?;
+        Ok(Pair { edited, anew, room })
     }
 
     // The session keeps what one does into which the text is put at once.

@@ -216,26 +216,45 @@ fn check_change<S: ParagraphStore<Kept> + Drop>(
     Ok(new)
 }
 
-fn check_changes<S: ParagraphStore<Kept> + Drop>(
+// Makes the next change, and answers the text behind it.
+fn check_next<S: ParagraphStore<Kept> + Drop>(
     rt: &impl Abort,
     alloc: Global,
-    seed: u64,
+    pair: &mut Pair<S>,
+    numbers: &mut Numbers,
+    text: String,
+) -> Result<String, Fail> {
+    let piece = match random_piece(alloc, numbers) {
+        Ok(piece) => piece,
+        Err(_) => random_piece(alloc, numbers)?,
+    };
+    let edit = random_edit(numbers, pair.edited.char_count(), piece.as_str());
+    check_change(rt, alloc, pair, text, edit)
+}
+
+fn check_each<S: ParagraphStore<Kept> + Drop>(
+    rt: &impl Abort,
+    alloc: Global,
+    pair: &mut Pair<S>,
+    numbers: &mut Numbers,
 ) -> Result<(), Fail> {
-    let mut numbers = Numbers(seed);
-    let mut pair: Pair<S> = Pair::new(alloc)?;
     let mut text = String::new(alloc);
     for turn in 0..2_000 {
-        let piece = match random_piece(alloc, &mut numbers) {
-            Ok(piece) => piece,
-            Err(_) => random_piece(alloc, &mut numbers)?,
-        };
-        let edit = random_edit(&mut numbers, pair.edited.char_count(), piece.as_str());
-        text = check_change(rt, alloc, &mut pair, text, edit)?;
+        text = check_next(rt, alloc, pair, numbers, text)?;
         if turn % 500 == 0 {
             pair.check_opened(rt, alloc, text.as_str())?;
         }
     }
     Ok(())
+}
+
+fn check_changes<S: ParagraphStore<Kept> + Drop>(
+    rt: &impl Abort,
+    alloc: Global,
+    seed: u64,
+) -> Result<(), Fail> {
+    let mut pair: Pair<S> = Pair::new(alloc)?;
+    check_each(rt, alloc, &mut pair, &mut Numbers(seed))
 }
 
 #[test]

@@ -18,11 +18,15 @@ fn check_refused(rt: &impl Abort, edited: &mut Session<TreeStore<Kept>>) {
 #[test]
 fn changes_that_are_refused(rt: HostRuntime) -> Result<(), Fail> {
     let mut pair = Pair::new(rt.alloc())?;
+    check_unchanged(&rt, &mut pair)
+}
+
+fn check_unchanged(rt: &impl Abort, pair: &mut Pair<TreeStore<Kept>>) -> Result<(), Fail> {
     renew(&mut pair.edited, "ab\ncd", 7)?;
     let before = (pair.edited.analysed(), pair.edited.filled());
-    check_refused(&rt, &mut pair.edited);
+    check_refused(rt, &mut pair.edited);
     assert_eq!(rt; (pair.edited.analysed(), pair.edited.filled()), before);
-    pair.check_same(&rt, "ab\ncd")
+    pair.check_same(rt, "ab\ncd")
 }
 
 fn letters(alloc: Global, count: usize) -> Result<Vec<u8>, AllocError> {
@@ -31,6 +35,20 @@ fn letters(alloc: Global, count: usize) -> Result<Vec<u8>, AllocError> {
 
 fn str_of(bytes: &[u8]) -> &str {
     std::str::from_utf8(bytes).unwrap_or("")
+}
+
+// Why no session is opened on a text.
+fn fault_of(alloc: Global, text: &str, width: u16) -> Result<Option<EditFault>, Fail> {
+    let opened: Result<Session<VecStore<Kept>>, (Engine, EditFault)> = Session::open(
+        alloc,
+        engine(alloc)?,
+        text,
+        width,
+    );
+    match opened {
+        Ok(_) => Ok(None),
+        Err((_, fault)) => Ok(Some(fault)),
+    }
 }
 
 // A text of so many letters, on which no session is opened.
@@ -44,16 +62,7 @@ fn check_open(
     let Ok(text) = letters(alloc, count) else {
         return Ok(());
     };
-    let opened: Result<Session<VecStore<Kept>>, (Engine, EditFault)> = Session::open(
-        alloc,
-        engine(alloc)?,
-        str_of(&text),
-        width,
-    );
-    let found = match opened {
-        Ok(_) => None,
-        Err((_, found)) => Some(found),
-    };
+    let found = fault_of(alloc, str_of(&text), width)?;
     assert_eq!(rt; found, Some(fault), "{count} letters");
     Ok(())
 }

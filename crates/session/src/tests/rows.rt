@@ -195,8 +195,16 @@ const ROWS: [Row<'_>; 20] = [
 #[test]
 fn changes_of_rows(rt: HostRuntime) -> Result<(), Fail> {
     let mut pair = Pair::new(rt.alloc())?;
-    for row in &ROWS {
-        check_row(&rt, &mut pair, row)?;
+    check_rows(&rt, &mut pair, &ROWS)
+}
+
+fn check_rows(
+    rt: &impl Abort,
+    pair: &mut Pair<TreeStore<Kept>>,
+    rows: &[Row<'_>],
+) -> Result<(), Fail> {
+    for row in rows {
+        check_row(rt, pair, row)?;
     }
     Ok(())
 }
@@ -295,15 +303,18 @@ fn changes_one_after_another(rt: HostRuntime) -> Result<(), Fail> {
 
 #[test]
 fn widths_there_and_back(rt: HostRuntime) -> Result<(), Fail> {
-    let text = "abc def ghi\n\u{5d0}\u{5d1} (1) x";
     let mut pair: Pair<TreeStore<Kept>> = Pair::new(rt.alloc())?;
+    check_widths(&rt, &mut pair, "abc def ghi\n\u{5d0}\u{5d1} (1) x")
+}
+
+fn check_widths(rt: &impl Abort, pair: &mut Pair<TreeStore<Kept>>, text: &str) -> Result<(), Fail> {
     renew(&mut pair.edited, text, 80)?;
     let analysed = pair.edited.analysed();
     for width in [3, 1, 65_535, 80] {
         if pair.edited.set_width(width) == Err(EditFault::NoMemory) {
             pair.edited.set_width(width)?;
         }
-        pair.check_same(&rt, text)?;
+        pair.check_same(rt, text)?;
     }
     assert_eq!(rt; pair.edited.analysed(), analysed);
     Ok(())
@@ -318,15 +329,23 @@ const CHANGES: [Edit<'_>; 6] = [
     Edit::Insert(3, "\ne"),
 ];
 
-// Where memory runs out some of the changes were made: then all follow on the first text again.
 #[test]
 fn runs_of_changes(rt: HostRuntime) -> Result<(), Fail> {
     let mut pair: Pair<TreeStore<Kept>> = Pair::new(rt.alloc())?;
+    check_run(&rt, &mut pair, &CHANGES)
+}
+
+// Where memory runs out some of the changes were made: then all follow on the first text again.
+fn check_run(
+    rt: &impl Abort,
+    pair: &mut Pair<TreeStore<Kept>>,
+    changes: &[Edit<'_>],
+) -> Result<(), Fail> {
     renew(&mut pair.edited, "ab\ncd", 80)?;
-    if pair.edited.run(&CHANGES).is_err() {
+    if pair.edited.run(changes).is_err() {
         renew(&mut pair.edited, "ab\ncd", 80)?;
-        pair.edited.run(&CHANGES)?;
+        pair.edited.run(changes)?;
     }
     assert_eq!(rt; pair.edited.width(), 2);
-    pair.check_same(&rt, "\u{5d0}cd\ne")
+    pair.check_same(rt, "\u{5d0}cd\ne")
 }
