@@ -2,21 +2,22 @@
 use Rattle.std.proofs.Common.{◌≡◌, ℕ, zero, suc, ◌+◌, ◌-◌, ◌<◌, ◌≤◌, List, [], ◌∷◌, ◌++◌, length, map, take, drop, get_or, refl, sym, ap, ap₂, subst, ◌∙◌, take-take, drop-drop, below_more, length-append, arith, inl, inr}
 use borrow.Rule.Slice.PartMut.{put_mid}
 use Rattle.std.proofs.lemmas.Bool.{cases_eq, cases_lt}
-use Rattle.std.proofs.lemmas.List.{length-drop, length-take-le}
+use Rattle.std.proofs.lemmas.List.{length-drop, length-take, length-take-le, take_more}
 use Rattle.std.proofs.Math.ListN.{get_or-append}
 use Rattle.std.proofs.Math.Seq.{get_or-append_seam}
 use Rattle.std.proofs.lemmas.Slice.{between_is, between-put_mid, drop-put_mid, take-put_mid_below}
-use Rattle.std.specs.List.{slice_range, All}
+use Rattle.std.specs.List.{slice_range, suffix_len, All}
 use Rattle.ucd.specs.Tables.{class_of}
 use Rattle.ucd.specs.declared.bidi_class.BidiClass.{BidiClass}
 use Rattle.ucd.specs.declared.tables.Tables.{Tables}
 use Rattle.bidi.specs.Runs.{AreWithin}
+use Rattle.lines.specs.Extents.{shown_between, shown_from}
 use Rattle.lines.specs.Filling.{columns, shown}
 use Rattle.lines.specs.Kept.{AreStarts, IsSound, line_in, lines_by, lines_in}
 use Rattle.lines.specs.Layouts.{AreWithin as LinesAreWithin}
 use Rattle.lines.specs.Mirroring.{visual_chars}
 use Rattle.lines.specs.Order.{ltov_of, vtol_of}
-use Rattle.lines.specs.Showing.{end_of, nothing_shown, AreShown, IsPlaced, IsShown}
+use Rattle.lines.specs.Showing.{end_of, line_showing, nothing_shown, AreShown, IsPlaced, IsShown}
 use Rattle.lines.specs.Spaces.{line_levels}
 use Rattle.lines.specs.Visual.{Line, line_between, lines_from}
 use Rattle.lines.specs.declared.options.Options.{Options}
@@ -64,6 +65,56 @@ ends_before n starts j (suc k) are h within =
           omega (arith, before, there)
     ]
 
+-- ---- how much of each line is shown
+
+pub length-shown_from : (n : ℕ) (places : List Place) (starts : List ℕ) → length (shown_from n places starts) ≡ length starts
+length-shown_from n places [] = refl
+length-shown_from n places (s ∷ []) = refl
+length-shown_from n places (s ∷ t ∷ starts) = ap suc (length-shown_from n places (t ∷ starts))
+
+pub shown_at : (n : ℕ) (places : List Place) (starts : List ℕ) (k : ℕ) (d : Shown) → k < length starts
+    → get_or (shown_from n places starts) k d ≡ shown_between places (get_or starts k 0) (end_of n starts k)
+shown_at n places [] k d h = absurd (omega (arith, h))
+shown_at n places (s ∷ []) zero d h = refl
+shown_at n places (s ∷ []) (suc k) d h = absurd (omega (arith, h))
+shown_at n places (s ∷ t ∷ starts) zero d h = refl
+shown_at n places (s ∷ t ∷ starts) (suc k) d h = shown_at n places (t ∷ starts) k d (omega (arith, h))
+
+-- of one line more
+pub shown_more : (n : ℕ) (places : List Place) (starts : List ℕ) (k e : ℕ) (part : Shown) (parts more : List Shown) → k < length starts → e ≡ end_of n starts k
+    → part.len ≡ length (shown (slice_range places (get_or starts k 0) e)) → part.columns ≡ columns (shown (slice_range places (get_or starts k 0) e))
+    → parts ≡ take k (shown_from n places starts) → more ≡ parts ++ part ∷ [] → more ≡ take (k + 1) (shown_from n places starts)
+shown_more n places starts k e part parts more below e_is len columns_are so_far is =
+    let here : k < length (shown_from n places starts) = omega (arith, below, length-shown_from n places starts) in
+    let this : part ≡ shown_between places (get_or starts k 0) e = rw (len, columns_are) refl in
+    let item : get_or (shown_from n places starts) k part ≡ part =
+    shown_at n places starts k part below ∙ ap (shown_between places (get_or starts k 0)) (sym e_is) ∙ sym this in
+    is ∙ ap (λ (ps : List Shown). ps ++ part ∷ []) so_far ∙ ap (λ (p : Shown). take k (shown_from n places starts) ++ p ∷ []) (sym item)
+    ∙ sym (take_more (shown_from n places starts) k part here)
+
+-- of a text that has as many characters, and of starts that are the same
+pub taken_shown : (n m : ℕ) (places : List Place) (starts seen : List ℕ) {parts : List Shown} → n ≡ m → seen ≡ starts → parts ≡ shown_from m places seen
+    → parts ≡ shown_from n places starts
+taken_shown n m places starts seen e same is = is ∙ ap₂ (λ (j : ℕ) (ss : List ℕ). shown_from j places ss) (sym e) same
+
+-- no more than there is
+shown_most : (places : List Place) (s e : ℕ) → (shown_between places s e).len ≤ e - s
+shown_most places s e =
+    let piece : List Place = slice_range places s e in
+    omega (
+      arith,
+      length-take (length piece - suffix_len (λ p. p.is_trailing) piece) piece,
+      length-take (e - s) (drop s places),
+    )
+
+pub shown_within : (n : ℕ) (places : List Place) (starts : List ℕ) (parts : List Shown) (k e : ℕ) (part d : Shown) → AreStarts n starts → k < length starts
+    → e ≡ end_of n starts k → parts ≡ shown_from n places starts → part ≡ get_or parts k d → get_or starts k 0 + part.len ≤ e
+shown_within n places starts parts k e part d are below e_is is this =
+    let w = end_within n starts k are below in
+    let here : part ≡ shown_between places (get_or starts k 0) (end_of n starts k) = this ∙ ap (λ (ps : List Shown). get_or ps k d) is ∙ shown_at n places starts k d below in
+    let len : part.len ≡ (shown_between places (get_or starts k 0) (end_of n starts k)).len = ap (λ (p : Shown). p.len) here in
+    omega (arith, e_is, len, w.0, shown_most places (get_or starts k 0) (end_of n starts k))
+
 -- ---- parts of a list, after a write to a part
 
 kept : (a k : ℕ) (xs ys : List ℕ) (i m : ℕ) → m ≤ a → a ≤ length xs → slice_range (put_mid a k xs ys) i m ≡ slice_range xs i m
@@ -78,17 +129,16 @@ written a k xs ys m within size below =
     let f : a + k - a ≡ k = omega arith in
     ap (λ j. take j (drop a zs)) e ∙ sym (take-take m k (drop a zs) below) ∙ ap (λ j. take m (take j (drop a zs))) (sym f) ∙ ap (take m) whole
 
-length_range : {X : Type 0} (xs : List X) (s e : ℕ) → s ≤ e → e ≤ length xs → length (slice_range xs s e) ≡ e - s
+pub length_range : {X : Type 0} (xs : List X) (s e : ℕ) → s ≤ e → e ≤ length xs → length (slice_range xs s e) ≡ e - s
 length_range xs s e order within = length-take-le (e - s) (drop s xs) (omega (arith, length-drop s xs, order, within))
 
 -- ---- one line more
 
 -- what is kept while the lines are written: the levels from the next line on are the old ones
-pub record Showing (tables : Tables) (options : Options) (base : ℕ) (text old : List ℕ) (places : List Place) (starts : List ℕ) (k : ℕ) (parts : List Shown)
+pub record Showing (tables : Tables) (options : Options) (base : ℕ) (text old : List ℕ) (starts : List ℕ) (k : ℕ) (parts : List Shown)
     (levels ltov vtol chars : List ℕ) : Type 0 where
-  pub so_far : AreShown tables options base text old places starts k parts levels ltov vtol chars
+  pub so_far : AreShown tables options base text old starts k parts levels ltov vtol chars
   pub k_within : k ≤ length starts
-  pub parts_len : length parts ≡ k
   pub levels_len : length levels ≡ length text
   pub ltov_len : length ltov ≡ length text
   pub vtol_len : length vtol ≡ length text
@@ -113,11 +163,11 @@ drop_later a b xs ys order same =
 same_line : (s c c2 : ℕ) (l t v h l2 t2 v2 h2 : List ℕ) → c ≡ c2 → l ≡ l2 → t ≡ t2 → v ≡ v2 → h ≡ h2 → line_of s c l t v h ≡ line_of s c2 l2 t2 v2 h2
 same_line s c c2 l t v h l2 t2 v2 h2 a b d e f = rw (a, b, d, e, f) refl
 
-module _ (tables : Tables) (options : Options) (base : ℕ) (text old : List ℕ) (places : List Place) where
+module _ (tables : Tables) (options : Options) (base : ℕ) (text old : List ℕ) where
   -- a line that ends where the write begins, or before
-  placed_still : (s e a k : ℕ) (part : Shown) (levels ltov vtol chars l t v h : List ℕ) → IsPlaced tables options base text old places s e part levels ltov vtol chars
+  placed_still : (s e a k : ℕ) (part : Shown) (levels ltov vtol chars l t v h : List ℕ) → IsPlaced tables options base text old s e part levels ltov vtol chars
       → e ≤ a → a ≤ length levels → a ≤ length ltov → a ≤ length vtol → a ≤ length chars
-      → IsPlaced tables options base text old places s e part (put_mid a k levels l) (put_mid a k ltov t) (put_mid a k vtol v) (put_mid a k chars h)
+      → IsPlaced tables options base text old s e part (put_mid a k levels l) (put_mid a k ltov t) (put_mid a k vtol v) (put_mid a k chars h)
   placed_still s e a k part levels ltov vtol chars l t v h is below wl wt wv wh =
       let m : ℕ = s + part.len in
       let before : m ≤ a = omega (arith, is.within, below) in
@@ -131,10 +181,10 @@ module _ (tables : Tables) (options : Options) (base : ℕ) (text old : List ℕ
 
   -- the line that is written
   placed_now : (s e : ℕ) (part : Shown) (levels ltov vtol chars l t v h : List ℕ)
-      → IsShown tables options base (slice_range text s e) (slice_range levels s e) (slice_range places s e) part l t v h
+      → IsShown tables options base (slice_range text s e) (slice_range levels s e) part l t v h
       → s < e → e ≤ length text → length levels ≡ length text → length ltov ≡ length text → length vtol ≡ length text → length chars ≡ length text
       → length l ≡ e - s → length t ≡ e - s → length v ≡ e - s → length h ≡ e - s → drop s levels ≡ drop s old
-      → IsPlaced tables options base text old places s e part (put_mid s (e - s) levels l) (put_mid s (e - s) ltov t) (put_mid s (e - s) vtol v) (put_mid s (e - s) chars h)
+      → IsPlaced tables options base text old s e part (put_mid s (e - s) levels l) (put_mid s (e - s) ltov t) (put_mid s (e - s) vtol v) (put_mid s (e - s) chars h)
   placed_now s e part levels ltov vtol chars l t v h is some within wl wt wv wh sl st sv sh rest =
       let m : ℕ = e - s in
       let n : ℕ = part.len in
@@ -143,32 +193,31 @@ module _ (tables : Tables) (options : Options) (base : ℕ) (text old : List ℕ
       let size : length line ≡ m = length_range text s e (omega (arith, some)) within in
       let below : n ≤ m = omega (arith, is.within, size) in
       let whole : ℕ → List ℕ → List ℕ = λ (j : ℕ) (xs : List ℕ). take j (line_levels base (map (class_of tables) line) xs) in
-      let amount : ℕ = length (shown (slice_range places s e)) in
-      let levels_here : take n l ≡ whole amount (slice_range old s e) = is.levels_are ∙ ap₂ whole is.len_is (ap (take m) rest) in
+      let levels_here : take n l ≡ whole n (slice_range old s e) = is.levels_are ∙ ap (whole n) (ap (take m) rest) in
       let vtol_here : slice_range (put_mid s m vtol v) s (s + n) ≡ take n v = written s m vtol v n (omega (arith, wv, within, some)) sv below in
       record {
-        line_is = same_line s part.columns (columns (shown (slice_range places s e))) _ _ _ _ _ _ _ _
-            is.columns_are
+        line_is = same_line s part.columns part.columns _ _ _ _ _ _ _ _
+            refl
             (written s m levels l n (omega (arith, wl, within, some)) sl below ∙ levels_here)
             (written s m ltov t n (omega (arith, wt, within, some)) st below ∙ is.ltov_is ∙ ap (ltov_of options.reordernsm classes) levels_here)
             (vtol_here ∙ is.vtol_is ∙ ap (vtol_of options.reordernsm classes) levels_here)
             (written s m chars h n (omega (arith, wh, within, some)) sh below ∙ is.chars_are
-            ∙ ap₂ (λ (xs ys : List ℕ). visual_chars tables xs ys (vtol_of options.reordernsm classes xs)) levels_here (ap (λ j. take j line) is.len_is));
+            ∙ ap (λ (xs : List ℕ). visual_chars tables xs (take n line) (vtol_of options.reordernsm classes xs)) levels_here);
         within = omega (arith, below, some);
         vtol_within = subst (λ (xs : List ℕ). AreWithin n xs) (sym vtol_here) is.vtol_within;
       }
 
   -- and all lines with it
-  pub show_more : (starts : List ℕ) (k e : ℕ) (part : Shown) (parts more : List Shown) (levels ltov vtol chars l t v h : List ℕ)
+  pub show_more : (starts : List ℕ) (k e : ℕ) (part : Shown) (parts : List Shown) (levels ltov vtol chars l t v h : List ℕ)
       → AreStarts (length text) starts → k < length starts → e ≡ end_of (length text) starts k
-      → Showing tables options base text old places starts k parts levels ltov vtol chars
-      → IsShown tables options base (slice_range text (get_or starts k 0) e) (slice_range levels (get_or starts k 0) e) (slice_range places (get_or starts k 0) e) part l t v h
+      → Showing tables options base text old starts k parts levels ltov vtol chars
+      → IsShown tables options base (slice_range text (get_or starts k 0) e) (slice_range levels (get_or starts k 0) e) part l t v h
       → length l ≡ e - get_or starts k 0 → length t ≡ e - get_or starts k 0 → length v ≡ e - get_or starts k 0 → length h ≡ e - get_or starts k 0
-      → more ≡ parts ++ part ∷ []
-      → Showing tables options base text old places starts (k + 1) more
+      → part ≡ get_or parts k nothing_shown
+      → Showing tables options base text old starts (k + 1) parts
       (put_mid (get_or starts k 0) (e - get_or starts k 0) levels l) (put_mid (get_or starts k 0) (e - get_or starts k 0) ltov t)
       (put_mid (get_or starts k 0) (e - get_or starts k 0) vtol v) (put_mid (get_or starts k 0) (e - get_or starts k 0) chars h)
-  show_more starts k e part parts more levels ltov vtol chars l t v h are below e_is kept_so is sl st sv sh more_is =
+  show_more starts k e part parts levels ltov vtol chars l t v h are below e_is kept_so is sl st sv sh last =
       let n : ℕ = length text in
       let s : ℕ = get_or starts k 0 in
       let m : ℕ = e - s in
@@ -180,24 +229,15 @@ module _ (tables : Tables) (options : Options) (base : ℕ) (text old : List ℕ
       let wv : s ≤ length vtol = omega (arith, kept_so.vtol_len, some, within) in
       let wh : s ≤ length chars = omega (arith, kept_so.chars_len, some, within) in
       let now = placed_now s e part levels ltov vtol chars l t v h is some within kept_so.levels_len kept_so.ltov_len kept_so.vtol_len kept_so.chars_len sl st sv sh (kept_so.rest below) in
-      let last : part ≡ get_or more k nothing_shown =
-      sym (ap (λ (ps : List Shown). get_or ps k nothing_shown) more_is
-      ∙ ap (λ j. get_or (parts ++ part ∷ []) j nothing_shown) (sym kept_so.parts_len) ∙ get_or-append_seam parts part [] nothing_shown) in
       record {
-        so_far = below_more (λ (j : ℕ). IsPlaced tables options base text old places (get_or starts j 0) (end_of n starts j) (get_or more j nothing_shown)
+        so_far = below_more (λ (j : ℕ). IsPlaced tables options base text old (get_or starts j 0) (end_of n starts j) (get_or parts j nothing_shown)
             (put_mid s m levels l) (put_mid s m ltov t) (put_mid s m vtol v) (put_mid s m chars h)) k
-            (λ j h2.
-            let same : get_or parts j nothing_shown ≡ get_or more j nothing_shown =
-            sym (ap (λ (ps : List Shown). get_or ps j nothing_shown) more_is ∙ get_or-append parts (part ∷ []) nothing_shown j (omega (arith, h2, kept_so.parts_len))) in
-            subst (λ (p : Shown). IsPlaced tables options base text old places (get_or starts j 0) (end_of n starts j) p
-            (put_mid s m levels l) (put_mid s m ltov t) (put_mid s m vtol v) (put_mid s m chars h)) same
-            (placed_still _ _ s m _ levels ltov vtol chars l t v h (kept_so.so_far j h2) (ends_before n starts j k are h2 below) wl wt wv wh))
-            (subst (λ (p : Shown). IsPlaced tables options base text old places s (end_of n starts k) p
+            (λ j h2. placed_still _ _ s m _ levels ltov vtol chars l t v h (kept_so.so_far j h2) (ends_before n starts j k are h2 below) wl wt wv wh)
+            (subst (λ (p : Shown). IsPlaced tables options base text old s (end_of n starts k) p
             (put_mid s m levels l) (put_mid s m ltov t) (put_mid s m vtol v) (put_mid s m chars h)) last
-            (subst (λ (x : ℕ). IsPlaced tables options base text old places s x part
+            (subst (λ (x : ℕ). IsPlaced tables options base text old s x part
             (put_mid s m levels l) (put_mid s m ltov t) (put_mid s m vtol v) (put_mid s m chars h)) e_is now));
         k_within = omega (arith, below);
-        parts_len = ap length more_is ∙ length-append parts (part ∷ []) ∙ ap (λ j. j + 1) kept_so.parts_len;
         levels_len = length_put s m levels l wl sl (omega (arith, kept_so.levels_len, some, within)) ∙ kept_so.levels_len;
         ltov_len = length_put s m ltov t wt st (omega (arith, kept_so.ltov_len, some, within)) ∙ kept_so.ltov_len;
         vtol_len = length_put s m vtol v wv sv (omega (arith, kept_so.vtol_len, some, within)) ∙ kept_so.vtol_len;
@@ -208,6 +248,16 @@ module _ (tables : Tables) (options : Options) (base : ℕ) (text old : List ℕ
             drop-put_mid s m levels l (get_or starts (k + 1) 0) whole wl sl
             ∙ drop_later s (get_or starts (k + 1) 0) levels old (omega (arith, next, some)) (kept_so.rest below);
       }
+
+-- what is shown of lists that are the same
+pub shown_as : (tables : Tables) (options : Options) (base : ℕ) (text old seen starts seen_starts : List ℕ) (parts seen_parts : List Shown) {levels ltov vtol chars : List ℕ}
+    → seen ≡ old → seen_starts ≡ starts → seen_parts ≡ parts
+    → AreShown tables options base text seen seen_starts (length seen_starts) seen_parts levels ltov vtol chars
+    → AreShown tables options base text old starts (length starts) parts levels ltov vtol chars
+shown_as tables options base text old seen starts seen_starts parts seen_parts {levels} {ltov} {vtol} {chars} e f g is =
+    subst (λ (ps : List Shown). AreShown tables options base text old starts (length starts) ps levels ltov vtol chars) g
+    (subst (λ (ss : List ℕ). AreShown tables options base text old ss (length ss) seen_parts levels ltov vtol chars) f
+    (subst (λ (xs : List ℕ). AreShown tables options base text xs seen_starts (length seen_starts) seen_parts levels ltov vtol chars) e is))
 
 -- ---- all lines
 
@@ -232,23 +282,25 @@ all_lines P levels ltov vtol chars starts parts h each = λ j d below.
     let within : j < length starts = omega (arith, below, length_lines levels ltov vtol chars starts parts h) in
     subst P (line_at levels ltov vtol chars starts parts j d h within) (each j within)
 
-module _ (tables : Tables) (options : Options) (base : ℕ) (text old : List ℕ) (places : List Place) where
+module _ (tables : Tables) (options : Options) (base : ℕ) (text old : List ℕ) where
   -- lines that are equal one by one
-  lines_are : (levels ltov vtol chars starts : List ℕ) (parts : List Shown) → length parts ≡ length starts
-      → ((j : ℕ) → j < length starts → line_in levels ltov vtol chars (get_or starts j 0) (get_or parts j nothing_shown)
-      ≡ line_between tables options base text old places (get_or starts j 0) (end_of (length text) starts j))
-      → lines_by levels ltov vtol chars starts parts ≡ lines_from tables options base text old places starts
-  lines_are levels ltov vtol chars [] parts h each = refl
-  lines_are levels ltov vtol chars (s ∷ starts) [] h each = absurd (omega (arith, h))
-  lines_are levels ltov vtol chars (s ∷ []) (p ∷ []) h each = ap (λ (line : Line). line ∷ []) (each zero (omega arith))
-  lines_are levels ltov vtol chars (s ∷ []) (p ∷ q ∷ parts) h each = absurd (omega (arith, h))
-  lines_are levels ltov vtol chars (s ∷ t ∷ starts) (p ∷ parts) h each =
-      ap₂ ◌∷◌ (each zero (omega arith)) (lines_are levels ltov vtol chars (t ∷ starts) parts (omega (arith, h)) (λ j below. each (suc j) (omega (arith, below))))
+  lines_are : (places : List Place) (levels ltov vtol chars starts : List ℕ)
+      → ((j : ℕ) → j < length starts
+      → line_in levels ltov vtol chars (get_or starts j 0) (get_or (shown_from (length text) places starts) j nothing_shown)
+      ≡ line_showing tables options base text old (get_or (shown_from (length text) places starts) j nothing_shown) (get_or starts j 0) (end_of (length text) starts j))
+      → lines_by levels ltov vtol chars starts (shown_from (length text) places starts) ≡ lines_from tables options base text old places starts
+  lines_are places levels ltov vtol chars [] each = refl
+  lines_are places levels ltov vtol chars (s ∷ []) each = ap (λ (line : Line). line ∷ []) (each zero (omega arith))
+  lines_are places levels ltov vtol chars (s ∷ t ∷ starts) each =
+      ap₂ ◌∷◌ (each zero (omega arith)) (lines_are places levels ltov vtol chars (t ∷ starts) (λ j below. each (suc j) (omega (arith, below))))
 
-  pub all_shown : (levels ltov vtol chars starts : List ℕ) (parts : List Shown) → length parts ≡ length starts
-      → AreShown tables options base text old places starts (length starts) parts levels ltov vtol chars
+  pub all_shown : (places : List Place) (levels ltov vtol chars starts : List ℕ) (parts : List Shown) → parts ≡ shown_from (length text) places starts
+      → AreShown tables options base text old starts (length starts) parts levels ltov vtol chars
       → lines_in starts parts levels ltov vtol chars ≡ lines_from tables options base text old places starts
-  all_shown levels ltov vtol chars starts parts h each = lines_are levels ltov vtol chars starts parts h (λ j below. (each j below).line_is)
+  all_shown places levels ltov vtol chars starts parts e each =
+      ap (λ (ps : List Shown). lines_in starts ps levels ltov vtol chars) e
+      ∙ lines_are places levels ltov vtol chars starts
+      (λ j below. (subst (λ (ps : List Shown). AreShown tables options base text old starts (length starts) ps levels ltov vtol chars) e each j below).line_is)
 
   -- the part of a line within the lists has the length of the line
   length_part : (levels : List ℕ) (part : Shown) (s e : ℕ) → e ≤ length levels → s + part.len ≤ e → length (slice_range levels s (s + part.len)) ≡ part.len
@@ -257,7 +309,7 @@ module _ (tables : Tables) (options : Options) (base : ℕ) (text old : List ℕ
 
   pub sound : (levels ltov vtol chars starts : List ℕ) (parts : List Shown) → AreStarts (length text) starts → length parts ≡ length starts
       → length levels ≡ length text → length ltov ≡ length text → length vtol ≡ length text → length chars ≡ length text
-      → AreShown tables options base text old places starts (length starts) parts levels ltov vtol chars
+      → AreShown tables options base text old starts (length starts) parts levels ltov vtol chars
       → IsSound starts parts levels ltov vtol chars
   sound levels ltov vtol chars starts parts are h wl wt wv wh each = record {
     all_shown = h;
@@ -277,7 +329,7 @@ module _ (tables : Tables) (options : Options) (base : ℕ) (text old : List ℕ
 
   pub all_within : (levels ltov vtol chars starts : List ℕ) (parts : List Shown) → AreStarts (length text) starts → length parts ≡ length starts
       → length levels ≡ length text
-      → AreShown tables options base text old places starts (length starts) parts levels ltov vtol chars
+      → AreShown tables options base text old starts (length starts) parts levels ltov vtol chars
       → LinesAreWithin (length text) (lines_in starts parts levels ltov vtol chars)
   all_within levels ltov vtol chars starts parts are h wl each =
       all_lines (λ line. line.start + length line.levels ≤ length text) levels ltov vtol chars starts parts h

@@ -3,6 +3,7 @@ pub mod BarePlaces
 pub mod Bytes
 pub mod Clusters
 pub mod Engine
+pub mod Extents
 pub mod Filling
 pub mod Groups
 pub mod Kept

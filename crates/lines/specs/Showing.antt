@@ -3,14 +3,12 @@ use Rattle.std.specs.Prelude.{◌≡◌, ℕ, zero, suc, ◌+◌, ◌<◌, ◌�
 use Rattle.ucd.specs.Tables.{class_of}
 use Rattle.ucd.specs.declared.tables.Tables.{Tables}
 use Rattle.bidi.specs.Runs.{AreWithin}
-use Rattle.lines.specs.Filling.{columns, shown}
 use Rattle.lines.specs.Kept.{line_in}
 use Rattle.lines.specs.Mirroring.{visual_chars}
 use Rattle.lines.specs.Order.{ltov_of, vtol_of}
 use Rattle.lines.specs.Spaces.{line_levels}
-use Rattle.lines.specs.Visual.{line_between}
+use Rattle.lines.specs.Visual.{Line}
 use Rattle.lines.specs.declared.options.Options.{Options}
-use Rattle.lines.specs.declared.places.Place.{Place}
 use Rattle.lines.specs.declared.visual.Shown.{Shown}
 
 -- where a line ends, of a paragraph of n characters
@@ -21,9 +19,7 @@ end_of n (s ∷ t ∷ starts) zero = t
 end_of n (s ∷ t ∷ starts) (suc k) = end_of n (t ∷ starts) k
 
 -- what is written of one line, of which `part` is shown
-pub record IsShown (tables : Tables) (options : Options) (base : ℕ) (line old : List ℕ) (places : List Place) (part : Shown) (levels ltov vtol chars : List ℕ) : Type 0 where
-  pub len_is : part.len ≡ length (shown places)
-  pub columns_are : part.columns ≡ columns (shown places)
+pub record IsShown (tables : Tables) (options : Options) (base : ℕ) (line old : List ℕ) (part : Shown) (levels ltov vtol chars : List ℕ) : Type 0 where
   pub within : part.len ≤ length line
   pub levels_are : take part.len levels ≡ take part.len (line_levels base (map (class_of tables) line) old)
   pub ltov_is : take part.len ltov ≡ ltov_of options.reordernsm (map (class_of tables) line) (take part.len levels)
@@ -35,14 +31,31 @@ pub record IsShown (tables : Tables) (options : Options) (base : ℕ) (line old 
 abbrev pub nothing_shown : Shown
 nothing_shown = record { len = 0; columns = 0 }
 
--- the shown part of the line from s up to e stands in the lists
-pub record IsPlaced (tables : Tables) (options : Options) (base : ℕ) (text old : List ℕ) (places : List Place) (s e : ℕ) (part : Shown) (levels ltov vtol chars : List ℕ) : Type 0 where
-  pub line_is : line_in levels ltov vtol chars s part ≡ line_between tables options base text old places s e
+-- the line from s up to e of which `part` is shown
+module _ (tables : Tables) (options : Options) (base : ℕ) (text levels : List ℕ) where
+  abbrev pub line_showing : Shown → ℕ → ℕ → Line
+  line_showing part s e =
+      let line = slice_range text s e in
+      let classes = map (class_of tables) line in
+      let part_levels = take part.len (line_levels base classes (slice_range levels s e)) in
+      let vtol = vtol_of options.reordernsm classes part_levels in
+      record {
+        start = s;
+        columns = part.columns;
+        levels = part_levels;
+        ltov = ltov_of options.reordernsm classes part_levels;
+        vtol = vtol;
+        chars = visual_chars tables part_levels (take part.len line) vtol;
+      }
+
+-- its shown part stands in the lists
+pub record IsPlaced (tables : Tables) (options : Options) (base : ℕ) (text old : List ℕ) (s e : ℕ) (part : Shown) (levels ltov vtol chars : List ℕ) : Type 0 where
+  pub line_is : line_in levels ltov vtol chars s part ≡ line_showing tables options base text old part s e
   pub within : s + part.len ≤ e
   pub vtol_within : AreWithin part.len (slice_range vtol s (s + part.len))
 
 -- so do those of the first k lines
-abbrev pub AreShown : Tables → Options → ℕ → List ℕ → List ℕ → List Place → List ℕ → ℕ → List Shown → List ℕ → List ℕ → List ℕ → List ℕ → Type 0
-AreShown tables options base text old places starts k parts levels ltov vtol chars =
+abbrev pub AreShown : Tables → Options → ℕ → List ℕ → List ℕ → List ℕ → ℕ → List Shown → List ℕ → List ℕ → List ℕ → List ℕ → Type 0
+AreShown tables options base text old starts k parts levels ltov vtol chars =
     (j : ℕ) → j < k
-    → IsPlaced tables options base text old places (slice_index starts j) (end_of (length text) starts j) (slice_index_or parts j nothing_shown) levels ltov vtol chars
+    → IsPlaced tables options base text old (slice_index starts j) (end_of (length text) starts j) (slice_index_or parts j nothing_shown) levels ltov vtol chars

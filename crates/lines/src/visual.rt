@@ -1,10 +1,11 @@
 //! The lines of a paragraph as they are shown, and one of them, which borrows from its paragraph.
-ghost use Rattle.std.specs.Prelude.{◌≡◌, ◌<◌, ◌≤◌, ℕ, true, false, length, map, take, slice_index, OnOk};
+ghost use Rattle.std.specs.Prelude.{◌≡◌, ◌<◌, ◌≤◌, ℕ, List, true, false, length, map, take, slice_index, OnOk};
 ghost use Rattle.std.specs.List.{range_with_len};
 ghost use Rattle.ucd.specs.Properties.{properties_of};
 ghost use Rattle.bidi.specs.Classes.{class_in};
 ghost use Rattle.lines.specs.Spaces.{line_levels};
 ghost use Rattle.bidi.specs.Runs.{AreWithin};
+ghost use Rattle.lines.specs.Extents.{shown_from};
 ghost use Rattle.lines.specs.Filling.{columns, shown};
 ghost use Rattle.lines.specs.Kept.{AreStarts};
 ghost use Rattle.lines.specs.Layouts;
@@ -13,6 +14,7 @@ ghost use Rattle.lines.specs.Mirroring.{visual_chars};
 ghost use Rattle.lines.specs.Order.{is_odd, ltov_of, vtol_of};
 ghost use Rattle.lines.specs.Showing.{end_of, AreShown, IsShown};
 ghost use Rattle.lines.specs.Visual.{lines_from};
+ghost use Rattle.lines.specs.declared.places.Place.{Place};
 
 use crate::mirror::visual_chars;
 use crate::options::Options;
@@ -26,11 +28,11 @@ use ucd::{Properties, Tables};
 
 /// How much of a line is shown.
 #[derive(Clone, Copy, Debug)]
-pub(crate) struct Shown {
+pub struct Shown {
     /// How many of its characters.
-    pub(crate) len: u32,
+    pub len: u32,
     /// In how many columns.
-    pub(crate) columns: u32,
+    pub columns: u32,
 }
 
 /// The lines of a paragraph at some width. What belongs to a line stands at the place of the line's
@@ -136,24 +138,24 @@ pub(crate) fn show_lines(
         ≡ lines_from tables.now options base text.now levels.now places.now lists.old.starts.items) }
     ensures within { OnOk result (Layouts.AreWithin (length text.now) (held_lines lists.new)) }
 {
+    take_shown(places, &lists.starts, &mut lists.shown)?;
     copy(levels, &mut lists.levels)?;
     make_numbers(&mut lists.ltov, text.len())?;
     make_numbers(&mut lists.vtol, text.len())?;
     make_characters(&mut lists.chars, text.len())?;
     show_each(
-        &mut lists.shown,
         tables,
         text,
         properties,
         options,
         base,
-        places,
         &lists.starts,
+        &lists.shown,
         &mut lists.levels,
         &mut lists.ltov,
         &mut lists.vtol,
         &mut lists.chars,
-    )?;
+    );
     Ok(())
 }
 
@@ -182,53 +184,71 @@ fn make_characters(list: &mut Vec<char>, len: usize) -> Result<(), AllocError>
     list.resize(len, '\0')
 }
 
-// Writes what belongs to each line to its place, over the levels before L1.
-fn show_each(
-    shown: &mut Vec<Shown>,
-    tables: &Tables,
-    text: &[char],
-    properties: &[Properties],
-    options: Options,
-    base: u8,
+/// How much of each line is shown, put in place of what a list has.
+pub(crate) fn take_shown(
     places: &[Place],
     starts: &[u32],
-    levels: &mut [u8],
-    ltov: &mut [u32],
-    vtol: &mut [u32],
-    chars: &mut [char],
+    shown: &mut Vec<Shown>,
 ) -> Result<(), AllocError>
-    requires properties { properties.now ≡ map (properties_of tables.now) text.now }
-    requires text { (length text.now ≡ length places.now) × (length text.now ≤ 1048576) }
-    requires starts { AreStarts (length text.now) starts.now }
-    requires levels { length levels.old ≡ length text.now }
-    requires ltov { length ltov.old ≡ length text.now }
-    requires vtol { length vtol.old ≡ length text.now }
-    requires chars { length chars.old ≡ length text.now }
-    ensures lines { OnOk result (AreShown tables.now options base text.now levels.old places.now
-        starts.now (length starts.now) shown.new.items levels.new ltov.new vtol.new chars.new) }
-    ensures len { OnOk result (length shown.new.items ≡ length starts.now) }
+    requires len { length places.now ≤ 1048576 }
+    requires starts { AreStarts (length places.now) starts.now }
+    ensures { OnOk result (shown.new.items ≡ shown_from (length places.now) places.now starts.now) }
 {
     shown.clear();
     make_room(shown, starts.len())?;
     let mut k = 0;
     while k < starts.len() {
         let start = starts[k] as usize;
+        let end = end_of(starts, k, places.len());
+        shown.push(shown_of(&places[start..end]))?;
+        k += 1;
+    }
+    Ok(())
+}
+
+// Writes what belongs to each line to its place, over the levels before L1.
+fn show_each(
+    tables: &Tables,
+    text: &[char],
+    properties: &[Properties],
+    options: Options,
+    base: u8,
+    starts: &[u32],
+    shown: &[Shown],
+    levels: &mut [u8],
+    ltov: &mut [u32],
+    vtol: &mut [u32],
+    chars: &mut [char],
+)
+    requires properties { properties.now ≡ map (properties_of tables.now) text.now }
+    requires text { length text.now ≤ 1048576 }
+    requires starts { AreStarts (length text.now) starts.now }
+    requires shown { (places : List Place) × (shown.now ≡ shown_from (length text.now) places starts.now) }
+    requires levels { length levels.old ≡ length text.now }
+    requires ltov { length ltov.old ≡ length text.now }
+    requires vtol { length vtol.old ≡ length text.now }
+    requires chars { length chars.old ≡ length text.now }
+    ensures { AreShown tables.now options base text.now levels.old starts.now (length starts.now)
+        shown.now levels.new ltov.new vtol.new chars.new }
+{
+    let mut k = 0;
+    while k < starts.len() {
+        let start = starts[k] as usize;
         let end = end_of(starts, k, text.len());
-        shown.push(show_line(
+        show_line(
             tables,
             &text[start..end],
             &properties[start..end],
             options,
             base,
-            &places[start..end],
+            shown[k],
             &mut levels[start..end],
             &mut ltov[start..end],
             &mut vtol[start..end],
             &mut chars[start..end],
-        ))?;
+        );
         k += 1;
     }
-    Ok(())
 }
 
 // Where a line ends: where the next one starts, the last one with the paragraph.
@@ -252,23 +272,23 @@ fn show_line(
     properties: &[Properties],
     options: Options,
     base: u8,
-    places: &[Place],
+    shown: Shown,
     levels: &mut [u8],
     ltov: &mut [u32],
     vtol: &mut [u32],
     chars: &mut [char],
-) -> Shown
+)
     requires properties { properties.now ≡ map (properties_of tables.now) line.now }
-    requires line { (length line.now ≡ length places.now) × (length line.now ≤ 1048576) }
+    requires line { length line.now ≤ 1048576 }
+    requires shown { shown.len ≤ length line.now }
     requires levels { length levels.old ≡ length line.now }
     requires ltov { length ltov.old ≡ length line.now }
     requires vtol { length vtol.old ≡ length line.now }
     requires chars { length chars.old ≡ length line.now }
-    ensures { IsShown tables.now options base line.now levels.old places.now
-        result levels.new ltov.new vtol.new chars.new }
+    ensures { IsShown tables.now options base line.now levels.old shown
+        levels.new ltov.new vtol.new chars.new }
 {
     let is_flat = reset_line(properties, base, levels);
-    let shown = shown_of(places);
     let n = shown.len as usize;
     show_part(
         tables,
@@ -281,7 +301,6 @@ fn show_line(
         &mut vtol[..n],
         &mut chars[..n],
     );
-    shown
 }
 
 // L1 on a line; true only where all levels are 0 then.
