@@ -1,7 +1,7 @@
 -- A layout from its parts, and what an exchange leaves.
-use Rattle.std.proofs.Common.{◌≡◌, ℕ, List, refl, ap, ap₂}
+use Rattle.std.proofs.Common.{◌≡◌, ℕ, List, length, refl, ap, ap₂}
 use Rattle.breaks.specs.declared.mark.Mark.{Mark}
-use Rattle.lines.specs.Layouts.{AreLinesOf, Exchanges, IsLaidOut, IsParagraph, Layout, Rules, layout_of, lines_of}
+use Rattle.lines.specs.Layouts.{fill_of, layout_of, AreLinesOf, Exchanges, Filled, IsLaidOut, IsParagraph, Layout, Rules}
 use Rattle.lines.specs.Visual.{Line}
 
 pub same_layout : (rules : Rules) (width : ℕ) (text seen : List ℕ) (base : ℕ) (levels : List ℕ) (marks : List Mark) (lines : List Line)
@@ -15,24 +15,33 @@ pub laid_out_by : (rules same : Rules) (width : ℕ) (text : List ℕ) (laid : L
 laid_out_by rules same width text laid e paragraph is =
     rw (e, is) (record { width = width; paragraph = paragraph; from_scratch = refl })
 
-pub lines_by : (rules same : Rules) (width : ℕ) (text : List ℕ) (lines : List Line) → same ≡ rules → lines ≡ lines_of rules width text → AreLinesOf same text lines
-lines_by rules same width text lines e is = rw (e, is) (record { width = width; from_scratch = refl })
+pub lines_by : (rules same : Rules) (width : ℕ) (text : List ℕ) (fill : Filled) → same ≡ rules → fill ≡ fill_of rules width text → AreLinesOf same text fill
+lines_by rules same width text fill e is = rw (e, is) (record { width = width; from_scratch = refl })
+
+-- lines of a length
+pub filled_as : (lines seen : List Line) (len size : ℕ) → lines ≡ seen → len ≡ size
+    → let here : Filled = record { lines = lines; len = len } in here ≡ record { lines = seen; len = size }
+filled_as lines seen len size e f = rw (e, f) refl
 
 -- what an exchange leaves
-pub exchanged : (old : Layout) (lines : List Line) → Exchanges old (record old { lines = lines }) lines old.lines
-exchanged old lines = record {
+abbrev left_of : Layout → Filled
+left_of l = record { lines = l.lines; len = length l.text }
+
+pub exchanged : (old : Layout) (fill : Filled) → Exchanges old (record old { lines = fill.lines }) fill (record { lines = old.lines; len = length old.text })
+exchanged old fill = record {
   put = refl;
   taken = refl;
-  widths = λ rules width other laid filled. (ap₂ (λ (l : Layout) (f : List Line). record l { lines = f }) laid filled, ap (λ (l : Layout). l.lines) laid);
+  widths = λ rules width other laid filled. (ap₂ (λ (l : Layout) (f : Filled). record l { lines = f.lines }) laid filled, ap (λ (l : Layout). left_of l) laid);
   stay = λ rules laid filled. (
     record {
       width = filled.width;
       paragraph = laid.paragraph;
-      from_scratch = ap₂ (λ (l : Layout) (f : List Line). record l { lines = f }) laid.from_scratch filled.from_scratch;
+      from_scratch = ap₂ (λ (l : Layout) (f : Filled). record l { lines = f.lines }) laid.from_scratch filled.from_scratch;
     },
-    record { width = laid.width; from_scratch = ap (λ (l : Layout). l.lines) laid.from_scratch },
+    record { width = laid.width; from_scratch = ap (λ (l : Layout). left_of l) laid.from_scratch },
   );
 }
 
-pub exchanged_by : (old new : Layout) (lines_old lines_new : List Line) → new ≡ record old { lines = lines_old } → lines_new ≡ old.lines → Exchanges old new lines_old lines_new
-exchanged_by old new lines_old lines_new put taken = rw (put, taken) (exchanged old lines_old)
+pub exchanged_by : (old new : Layout) (fill_old fill_new : Filled) → new ≡ record old { lines = fill_old.lines }
+    → fill_new ≡ record { lines = old.lines; len = length old.text } → Exchanges old new fill_old fill_new
+exchanged_by old new fill_old fill_new put taken = rw (put, taken) (exchanged old fill_old)

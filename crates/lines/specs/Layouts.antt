@@ -43,6 +43,14 @@ layout_of rules width text = record {
   lines = lines_of rules width text;
 }
 
+-- lines alone, and how many characters their paragraph has
+pub record Filled : Type 0 where
+  pub lines : List Line
+  pub len : ℕ
+
+abbrev pub fill_of : Rules → ℕ → List ℕ → Filled
+fill_of rules width text = record { lines = lines_of rules width text; len = length text }
+
 abbrev pub start_of : Line → ℕ
 start_of line = line.start
 
@@ -71,17 +79,17 @@ pub record IsLaidOut (rules : Rules) (layout : Layout) : Type 0 where
   pub from_scratch : layout ≡ layout_of rules width layout.text
 
 -- lines are those of a text at some width
-pub record AreLinesOf (rules : Rules) (text : List ℕ) (lines : List Line) : Type 0 where
+pub record AreLinesOf (rules : Rules) (text : List ℕ) (fill : Filled) : Type 0 where
   pub width : ℕ
-  pub from_scratch : lines ≡ lines_of rules width text
+  pub from_scratch : fill ≡ fill_of rules width text
 
 -- A paragraph and lines of it are exchanged. The paragraph is then laid out at the width of those lines, and they are its old ones.
-pub record Exchanges (old new : Layout) (lines_old lines_new : List Line) : Type 0 where
-  pub put : new ≡ record old { lines = lines_old }
-  pub taken : lines_new ≡ old.lines
-  pub widths : (rules : Rules) (width other : ℕ) → old ≡ layout_of rules width old.text → lines_old ≡ lines_of rules other old.text
-      → (new ≡ layout_of rules other old.text) × (lines_new ≡ lines_of rules width old.text)
-  pub stay : (rules : Rules) → IsLaidOut rules old → AreLinesOf rules old.text lines_old → IsLaidOut rules new × AreLinesOf rules new.text lines_new
+pub record Exchanges (old new : Layout) (fill_old fill_new : Filled) : Type 0 where
+  pub put : new ≡ record old { lines = fill_old.lines }
+  pub taken : fill_new ≡ record { lines = old.lines; len = length old.text }
+  pub widths : (rules : Rules) (width other : ℕ) → old ≡ layout_of rules width old.text → fill_old ≡ fill_of rules other old.text
+      → (new ≡ layout_of rules other old.text) × (fill_new ≡ fill_of rules width old.text)
+  pub stay : (rules : Rules) → IsLaidOut rules old → AreLinesOf rules old.text fill_old → IsLaidOut rules new × AreLinesOf rules new.text fill_new
 
 -- what an engine shows: the rules that it goes by, and how many characters it analysed and filled
 pub record State : Type 0 where

@@ -5,7 +5,7 @@ ghost use Rattle.device.specs.Device.{Wrote};
 ghost use Rattle.bidi.specs.Levels.{levels_of};
 ghost use Rattle.breaks.specs.Marks.{marks_of};
 ghost use Rattle.lines.specs.Bytes.{direction_line};
-ghost use Rattle.lines.specs.Layouts.{AreWithin, base_of, lines_of};
+ghost use Rattle.lines.specs.Layouts.{AreWithin, base_of};
 ghost use Rattle.lines.specs.Lists.{held_lines, AreSound};
 ghost use Rattle.lines.specs.Pages.{lines_bytes, paragraph_bytes};
 ghost use Rattle.lines.specs.Printing.{FailedAs, skips_lines};
@@ -55,7 +55,7 @@ impl Engine {
     ghost use Rattle.bidi.specs.Cuts.{first_cut, SplitsAt};
     ghost use Rattle.bidi.specs.Levels.{levels_of};
     ghost use Rattle.breaks.specs.Marks.{marks_of};
-    ghost use Rattle.lines.specs.Layouts.{base_of, cut_by, layout_of, lines_of};
+    ghost use Rattle.lines.specs.Layouts.{base_of, cut_by, fill_of, layout_of};
     ghost use Rattle.lines.specs.Layouts.{AreLinesOf, AreWithin, IsLaidOut, IsParagraph};
     ghost use Rattle.lines.specs.Engine.{rules_of, analysed_of, filled_of, SameRules};
     ghost use Rattle.lines.specs.Engine.{Fills, FillsAtMost, LaysOut, LaysOutAtMost, Prints};
@@ -141,7 +141,7 @@ impl Engine {
     pub fn refill(&mut self, alloc: Global, laid: &Laid, width: u16) -> Result<Fill, AllocError>
         requires laid { IsLaidOut (rules_of self.old) laid.now }
         requires width { 0 < width }
-        ensures ok { IfOk result (λ fill. fill ≡ lines_of (rules_of self.old) width laid.now.text) }
+        ensures ok { IfOk result (λ fill. fill ≡ fill_of (rules_of self.old) width laid.now.text) }
         ensures lines { IfOk result (AreLinesOf (rules_of self.new) laid.now.text) }
         ensures counts { IfOk result (λ fill. Fills (length laid.now.text) self.old self.new) }
         ensures at_most { FillsAtMost (length laid.now.text) self.old self.new }
@@ -245,9 +245,9 @@ impl Engine {
         ensures marks { IfOk result (λ parts.
             parts.marks.items ≡ (layout_of (rules_of self.old) width text.now).marks) }
         ensures lines { IfOk result (λ parts.
-            parts.lines ≡ (layout_of (rules_of self.old) width text.now).lines) }
+            parts.lines ≡ fill_of (rules_of self.old) width text.now) }
         ensures len { IfOk result (λ parts. length parts.levels.items ≡ length text.now) }
-        ensures within { IfOk result (λ parts. AreWithin (length text.now) parts.lines) }
+        ensures within { IfOk result (λ parts. AreWithin (length text.now) parts.lines.lines) }
         ensures same { self.new ≡ self.old }
     {
         let work = self.work.get_or_insert_with(|| Work::new(alloc));
@@ -278,8 +278,8 @@ impl Engine {
         requires marks { marks.now ≡ marks_of (rules_of self.old).tables
             (rules_of self.old).options.whole_numbers text.now }
         requires within { length text.now ≤ 1048576 }
-        ensures lines { IfOk result (λ lines. lines ≡ lines_of (rules_of self.old) width text.now) }
-        ensures within { IfOk result (AreWithin (length text.now)) }
+        ensures lines { IfOk result (λ fill. fill ≡ fill_of (rules_of self.old) width text.now) }
+        ensures within { IfOk result (λ fill. AreWithin (length text.now) fill.lines) }
         ensures same { self.new ≡ self.old }
     {
         let work = self.work.get_or_insert_with(|| Work::new(alloc));

@@ -33,14 +33,14 @@ impl Fill {
 
     /// Where each line starts.
     pub(crate) fn starts(&self) -> &[u32]
-        ensures { result.now ≡ map start_of self.now }
+        ensures { result.now ≡ map start_of self.now.lines }
     {
         &self.starts
     }
 
     /// Whether it is one line, which takes at most a width.
     pub(crate) fn is_line_within(&self, width: u16) -> bool
-        ensures { result ≡ is_line_within width self.now }
+        ensures { result ≡ is_line_within width self.now.lines }
     {
         let shown = self.shown.as_slice();
         if shown.len() != 1 {
@@ -51,7 +51,7 @@ impl Fill {
 
     /// A line, counted from 0.
     pub(crate) fn part(&self, n: usize) -> Option<Part<'_>>
-        ensures line { option_map line_of result ≡ slice_get self.now n }
+        ensures line { option_map line_of result ≡ slice_get self.now.lines n }
         ensures within { IfSome result (λ part. AreWithin (length part.levels.now) part.vtol.now) }
     {
         if n >= self.starts.len() {
@@ -69,8 +69,8 @@ impl Fill {
 
     /// A line of the paragraph of this text and base level, counted from 0.
     pub(crate) fn line<'a>(&'a self, text: &'a [char], base: u8, n: usize) -> Option<VisualLine<'a>>
-        requires { Layouts.AreWithin (length text.now) self.now }
-        ensures { result ≡ option_map (visual_of base text.now n) (slice_get self.now n) }
+        requires { Layouts.AreWithin (length text.now) self.now.lines }
+        ensures { result ≡ option_map (visual_of base text.now n) (slice_get self.now.lines n) }
     {
         let part = self.part(n)?;
         let start = part.start as usize;
@@ -97,12 +97,12 @@ impl Fill {
         width: u16,
         print: &Print,
     ) -> Result<u64, WriteFault>
-        requires within { Layouts.AreWithin (length text.now) self.now }
+        requires within { Layouts.AreWithin (length text.now) self.now.lines }
         requires done { done ≤ (W.state writer.old).passed }
-        ensures ok { IfOk result (λ n. PassedOn (lines_bytes width print.now base text.now self.now) done
+        ensures ok { IfOk result (λ n. PassedOn (lines_bytes width print.now base text.now self.now.lines) done
             (W.state writer.old) (W.state writer.new) n) }
         ensures err { IfErr result (λ fault.
-            StoppedIn (lines_bytes width print.now base text.now self.now) done
+            StoppedIn (lines_bytes width print.now base text.now self.now.lines) done
             (W.state writer.old) (W.state writer.new) fault.written) }
         ensures counted { IfOk result (λ n. n ≤ (W.state writer.new).passed) }
     {

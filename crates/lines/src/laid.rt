@@ -32,11 +32,12 @@ impl Model for Laid {
       base = l.base;
       levels = l.levels.items;
       marks = l.marks.items;
-      lines = l.lines;
+      lines = l.lines.lines;
     } };
 
     ghost invariant = { λ l.
-        (length l.levels.items ≡ length l.text.items) × AreWithin (length l.text.items) l.lines };
+        (length l.levels.items ≡ length l.text.items)
+        × (l.lines.len ≡ length l.text.items) × AreWithin (length l.text.items) l.lines.lines };
 }
 
 impl Laid {

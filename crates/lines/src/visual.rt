@@ -48,26 +48,28 @@ pub struct Fill {
 }
 
 impl Model for Fill {
-    ghost use Rattle.std.specs.Prelude.{List};
+    ghost use Rattle.std.specs.Prelude.{length};
     ghost use Rattle.lines.specs.Kept.{IsSound, lines_in};
-    ghost use Rattle.lines.specs.Visual.{Line};
+    ghost use Rattle.lines.specs.Layouts.{Filled};
 
-    ghost Value = { List Line };
+    ghost Value = { Filled };
 
-    ghost view = { λ f.
-        lines_in f.starts.items f.shown.items f.levels.items f.ltov.items f.vtol.items f.chars.items };
+    ghost view = { λ f. record {
+      lines = lines_in f.starts.items f.shown.items f.levels.items f.ltov.items f.vtol.items f.chars.items;
+      len = length f.levels.items;
+    } };
 
     ghost invariant = { λ f.
         IsSound f.starts.items f.shown.items f.levels.items f.ltov.items f.vtol.items f.chars.items };
 }
 
 impl Fill {
-    ghost use Rattle.lines.specs.Lists.{held_lines, AreSound};
+    ghost use Rattle.lines.specs.Lists.{held_in, AreSound};
 
     /// The lines that some lists hold.
     pub(crate) fn of(lists: Lists) -> Fill
         requires { AreSound lists }
-        ensures { result ≡ held_lines lists }
+        ensures { result ≡ held_in lists }
     {
         Fill {
             starts: lists.starts,
@@ -137,6 +139,7 @@ pub(crate) fn show_lines(
     ensures lines { OnOk result (held_lines lists.new
         ≡ lines_from tables.now options base text.now levels.now places.now lists.old.starts.items) }
     ensures within { OnOk result (Layouts.AreWithin (length text.now) (held_lines lists.new)) }
+    ensures lines_len { OnOk result (length lists.new.levels.items ≡ length text.now) }
 {
     take_shown(places, &lists.starts, &mut lists.shown)?;
     copy(levels, &mut lists.levels)?;

@@ -63,7 +63,7 @@ impl Work {
     ghost use Rattle.ucd.specs.Properties.{properties_of};
     ghost use Rattle.bidi.specs.Levels.{levels_of};
     ghost use Rattle.breaks.specs.Marks.{marks_of};
-    ghost use Rattle.lines.specs.Layouts.{AreWithin, base_of, layout_of, lines_of};
+    ghost use Rattle.lines.specs.Layouts.{AreWithin, base_of, fill_of, layout_of};
     ghost use Rattle.lines.specs.Lists.{held_lines, AreSound};
 
     /// Empty lists, which take no memory.
@@ -97,6 +97,7 @@ impl Work {
         ensures len { OnOk result (length kept.new.levels.items ≡ length text.now) }
         ensures sound { OnOk result (AreSound kept.new.lines) }
         ensures within { OnOk result (AreWithin (length text.now) (held_lines kept.new.lines)) }
+        ensures lines_len { OnOk result (length kept.new.lines.levels.items ≡ length text.now) }
     {
         take_properties(tables, text, &mut self.properties)?;
         let properties = self.properties.as_slice();
@@ -147,9 +148,9 @@ impl Work {
         requires len { length levels.now ≡ length text.now }
         requires marks { marks.now ≡ marks_of tables.now options.whole_numbers text.now }
         requires within { length text.now ≤ 1048576 }
-        ensures lines { IfOk result (λ lines. lines
-            ≡ lines_of (record { tables = tables.now; options = options }) width text.now) }
-        ensures within { IfOk result (AreWithin (length text.now)) }
+        ensures lines { IfOk result (λ fill. fill
+            ≡ fill_of (record { tables = tables.now; options = options }) width text.now) }
+        ensures within { IfOk result (λ fill. AreWithin (length text.now) fill.lines) }
     {
         take_properties(tables, text, &mut self.properties)?;
         let properties = self.properties.as_slice();
@@ -204,6 +205,7 @@ fn put_lines(
         ≡ lines_of (record { tables = tables.now; options = options }) width text.now) }
     ensures sound { OnOk result (AreSound lists.new) }
     ensures within { OnOk result (AreWithin (length text.now) (held_lines lists.new)) }
+    ensures lines_len { OnOk result (length lists.new.levels.items ≡ length text.now) }
 {
     let whole_numbers = options.whole_numbers;
     take_places(tables, text, properties, whole_numbers, marks, places)?;
@@ -235,6 +237,7 @@ fn put_lines_of_places(
         (line_starts_of options.nobreak width (places_of tables.now options.whole_numbers text.now))) }
     ensures sound { OnOk result (AreSound lists.new) }
     ensures within { OnOk result (AreWithin (length text.now) (held_lines lists.new)) }
+    ensures lines_len { OnOk result (length lists.new.levels.items ≡ length text.now) }
 {
     line_starts(
         alloc,

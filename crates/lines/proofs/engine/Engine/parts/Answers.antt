@@ -2,6 +2,7 @@ use Rattle.std.proofs.Common.{◌≡◌, ◌∙◌, ap, subst}
 use Rattle.lines.specs.Engine.{rules_of}
 use Rattle.lines.specs.Layouts.{Rules, layout_of}
 use Rattle.lines.specs.Lists.{held_lines}
+use Rattle.lines.proofs.LayoutLemmas.{filled_as}
 use Rattle.lines.proofs.engine.Engine.parts.Goals as goal
 
 pub returns-clause-base : goal.returns-clause-base
@@ -14,4 +15,5 @@ returns-clause-levels c =
 
 pub returns-clause-lines : goal.returns-clause-lines
 returns-clause-lines c =
-    c.of.ensures ∙ subst (λ (rules : Rules). held_lines c.lay_out.new.kept.lines ≡ (layout_of rules c.args.width c.args.text.now).lines) (ap rules_of c.self.view_is) c.in_ok-base.ensures.lines
+    let lines = subst (λ (rules : Rules). held_lines c.lay_out.new.kept.lines ≡ (layout_of rules c.args.width c.args.text.now).lines) (ap rules_of c.self.view_is) c.in_ok-base.ensures.lines in
+    c.of.ensures ∙ filled_as _ _ _ _ lines c.in_ok-base.ensures.lines_len

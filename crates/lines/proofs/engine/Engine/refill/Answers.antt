@@ -1,6 +1,6 @@
 use Rattle.std.proofs.Common.{◌∙◌, ap, sym}
 use Rattle.bidi.specs.Levels.{levels_of}
-use Rattle.lines.specs.Layouts.{Layout, lines_of}
+use Rattle.lines.specs.Layouts.{fill_of, Layout}
 use Rattle.lines.specs.Engine.{rules_of}
 use Rattle.lines.proofs.LayoutLemmas.{lines_by}
 use Rattle.lines.proofs.engine.Engine.refill.Goals as goal
@@ -11,7 +11,7 @@ fill-requires-clause-levels c =
     ∙ ap (λ text. levels_of (rules_of c.args.self.now).tables text (rules_of c.args.self.now).options.base) (sym c.text-text.ensures)
 
 pub returns-clause-ok : goal.returns-clause-ok
-returns-clause-ok c = c.in_ok-fill.ensures.lines ∙ ap (lines_of (rules_of c.args.self.now) c.args.width) c.text-text.ensures
+returns-clause-ok c = c.in_ok-fill.ensures.lines ∙ ap (fill_of (rules_of c.args.self.now) c.args.width) c.text-text.ensures
 
 pub returns-clause-lines : goal.returns-clause-lines
 returns-clause-lines c =

@@ -1,6 +1,5 @@
-use Rattle.std.proofs.Common.{rules, ◌≡◌, ◌∙◌, ap, length, subst, sym, List, ℕ}
-use Rattle.lines.specs.Layouts.{AreWithin, Layout}
-use Rattle.lines.specs.Visual.{Line}
+use Rattle.std.proofs.Common.{rules, ◌≡◌, ◌∙◌, ap, length, subst, sym, ℕ}
+use Rattle.lines.specs.Layouts.{AreWithin, Filled, Layout}
 use Rattle.lines.proofs.LayoutLemmas.{exchanged_by}
 use Rattle.lines.proofs.VisualLemmas.{lines_within}
 use Rattle.lines.proofs.laid.Laid.exchange.Goals as goal
@@ -11,8 +10,9 @@ invariant_of-self c =
     let text : c.args.self.now.text ≡ c.self.inside.text.items = sym (ap (λ (l : Layout). l.text) c.self.view_is) in
     let new : c.swap.new.x ≡ c.args.fill.now = c.swap.ensures.x_after in (
       c.self.invariant.0,
-      subst (λ (n : ℕ). AreWithin n c.swap.new.x) (ap length text)
-          (subst (λ (lines : List Line). AreWithin (length c.args.self.now.text) lines) (sym (new ∙ filled.from_scratch))
+      ap (λ (f : Filled). f.len) (new ∙ filled.from_scratch) ∙ ap length text,
+      subst (λ (n : ℕ). AreWithin n c.swap.new.x.lines) (ap length text)
+          (subst (λ (f : Filled). AreWithin (length c.args.self.now.text) f.lines) (sym (new ∙ filled.from_scratch))
           (lines_within c.requires.0 filled.width c.args.self.now.text)),
     )
 

@@ -9,7 +9,7 @@ use Rattle.lines.proofs.visual.Fill.write_behind.Goals as goal
 -- one line more
 pub loop-n-preserved : goal.loop-n-preserved
 loop-n-preserved g c =
-    let lines = c.args.self.now in
+    let lines = c.args.self.now.lines in
     let n = c.loop-n.n in
     let count : length c.starts-n-end.result.now ≡ length lines = ap length c.starts-n-end.ensures ∙ length-map lines start_of in
     let within : n < length lines = omega (arith, count, c.loop-n-test.true) in
@@ -21,7 +21,7 @@ loop-n-preserved g c =
 
 pub returns-in_err-written-clause-err : goal.returns-in_err-written-clause-err
 returns-in_err-written-clause-err g c =
-    let lines = c.args.self.now in
+    let lines = c.args.self.now.lines in
     let n = c.loop-n.n in
     let count : length c.starts-n-end.result.now ≡ length lines = ap length c.starts-n-end.ensures ∙ length-map lines start_of in
     let within : n < length lines = omega (arith, count, c.loop-n-test.true) in
@@ -33,7 +33,7 @@ returns-in_err-written-clause-err g c =
 -- all of them
 pub returns-clause-ok : goal.returns-clause-ok
 returns-clause-ok g c =
-    let lines = c.args.self.now in
+    let lines = c.args.self.now.lines in
     let count : length c.starts-n-end.result.now ≡ length lines = ap length c.starts-n-end.ensures ∙ length-map lines start_of in
     let all = pieces_all c.args.width c.args.print.now c.args.base c.args.text.now lines c.loop-n.n (omega (arith, count, c.loop-n-test.false)) in
     rw (sym all) c.loop-n.invariant.passed
