@@ -9,11 +9,13 @@ use Rattle.bidi.specs.Least.{least}
 use Rattle.breaks.specs.declared.mark.Mark.{Mark}
 use Rattle.lines.specs.Bare.{bare, AreAlike, with_ends}
 use Rattle.lines.specs.BarePlaces.{bare_places}
+use Rattle.lines.specs.Extents.{shown_between, shown_from}
 use Rattle.lines.specs.Filling.{by_break, columns, fits_to, is_break, is_must, line_len, may_end, must_end, nothing, place_at, shown, stop}
 use Rattle.lines.specs.Places.{place, places}
 use Rattle.lines.specs.Visual.{Line, line_between, lines_from}
 use Rattle.lines.specs.declared.options.Options.{Options}
 use Rattle.lines.specs.declared.places.Place.{Place}
+use Rattle.lines.specs.declared.visual.Shown.{Shown}
 
 -- ---- lists
 
@@ -189,3 +191,20 @@ module _ (tables : Tables) (options : Options) (base : ℕ) (text levels : List 
 
   pub same_lines : (xs ys : List Place) (starts : List ℕ) → AreAlike xs ys → lines_from tables options base text levels xs starts ≡ lines_from tables options base text levels ys starts
   same_lines xs ys starts alike = sym (lines_bare xs starts) ∙ ap (λ zs. lines_from tables options base text levels zs starts) alike ∙ lines_bare ys starts
+
+-- ---- how much of each line is shown
+
+between_bare : (xs : List Place) (s e : ℕ) → shown_between (map bare xs) s e ≡ shown_between xs s e
+between_bare xs s e =
+    let part = slice_range xs s e in
+    let amount : length (shown (slice_range (map bare xs) s e)) ≡ length (shown part) = ap (λ ys. length (shown ys)) (range_bare xs s e) ∙ shown_length_bare part in
+    let sum : columns (shown (slice_range (map bare xs) s e)) ≡ columns (shown part) = ap (λ ys. columns (shown ys)) (range_bare xs s e) ∙ shown_columns_bare part in
+    rw (amount, sum) refl
+
+parts_bare : (n : ℕ) (xs : List Place) (starts : List ℕ) → shown_from n (map bare xs) starts ≡ shown_from n xs starts
+parts_bare n xs [] = refl
+parts_bare n xs (s ∷ []) = ap (λ (p : Shown). p ∷ []) (between_bare xs s n)
+parts_bare n xs (s ∷ t ∷ starts) = ap₂ (λ (p : Shown) (ps : List Shown). p ∷ ps) (between_bare xs s t) (parts_bare n xs (t ∷ starts))
+
+pub same_shown : (n : ℕ) (xs ys : List Place) (starts : List ℕ) → AreAlike xs ys → shown_from n xs starts ≡ shown_from n ys starts
+same_shown n xs ys starts alike = sym (parts_bare n xs starts) ∙ ap (λ zs. shown_from n zs starts) alike ∙ parts_bare n ys starts

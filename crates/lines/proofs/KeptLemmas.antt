@@ -1,12 +1,14 @@
 -- The lines that are kept, one by one.
-use Rattle.std.proofs.Common.{◌≡◌, ℕ, zero, suc, ◌<◌, false, List, [], ◌∷◌, length, map, Some, slice_get, slice_index, slice_index_or, refl, ap, subst, arith}
+use Rattle.std.proofs.Common.{◌≡◌, ℕ, zero, suc, ◌+◌, ◌<◌, ◌≤◌, false, List, [], ◌∷◌, length, map, Some, slice_get, slice_index, slice_index_or, slice_range, refl, ap, ap₂, subst, ◌∙◌, arith}
 use Rattle.std.proofs.lemmas.List.Elements.{All-get_or}
 use Rattle.std.proofs.lemmas.Option.{get_or_from_slice_get, slice_get_within}
 use Rattle.std.specs.List.{All}
+use Rattle.lines.specs.Extents.{shown_in}
 use Rattle.lines.specs.Kept.{line_in, lines_by}
 use Rattle.lines.specs.Layouts.{is_line_within, start_of}
 use Rattle.lines.specs.Visual.{Line}
 use Rattle.lines.specs.declared.visual.Shown.{Shown}
+use Rattle.lines.proofs.ShowLemmas.{length_range}
 
 module _ (levels ltov vtol chars : List ℕ) where
   -- they start where it is said
@@ -15,7 +17,20 @@ module _ (levels ltov vtol chars : List ℕ) where
   starts_of_lines (s ∷ starts) [] e = absurd (omega (arith, e))
   starts_of_lines (s ∷ starts) (part ∷ shown) e = ap (λ xs. s ∷ xs) (starts_of_lines starts shown (omega (arith, e)))
 
-  -- and are as many
+  -- and each shows so much of itself
+  pub shown_of_lines : (starts : List ℕ) (shown : List Shown) (d : Shown) → length shown ≡ length starts
+      → ((k : ℕ) → k < length starts → slice_index starts k + (slice_index_or shown k d).len ≤ length levels)
+      → map shown_in (lines_by levels ltov vtol chars starts shown) ≡ shown
+  shown_of_lines [] [] d e within = refl
+  shown_of_lines [] (part ∷ shown) d e within = absurd (omega (arith, e))
+  shown_of_lines (s ∷ starts) [] d e within = absurd (omega (arith, e))
+  shown_of_lines (s ∷ starts) (part ∷ shown) d e within =
+      let fits : s + part.len ≤ length levels = within zero (omega arith) in
+      let len : length (slice_range levels s (s + part.len)) ≡ part.len = length_range levels s (s + part.len) (omega arith) fits ∙ omega arith in
+      ap₂ (λ (n : ℕ) (ps : List Shown). record { len = n; columns = part.columns } ∷ ps) len
+      (shown_of_lines starts shown d (omega (arith, e)) (λ k below. within (suc k) (omega (arith, below))))
+
+  -- they are as many
   pub length-lines : (starts : List ℕ) (shown : List Shown) → length shown ≡ length starts → length (lines_by levels ltov vtol chars starts shown) ≡ length starts
   length-lines [] shown e = refl
   length-lines (s ∷ starts) [] e = absurd (omega (arith, e))

@@ -1,6 +1,7 @@
 mod AloneLemmas
 mod BareLemmas
 pub mod ClusterLemmas
+mod ExtentLemmas
 mod FewLines
 mod GroupLemmas
 pub mod FillingLemmas

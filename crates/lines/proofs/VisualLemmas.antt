@@ -1,5 +1,5 @@
 -- Each line's shown part stands in the paragraph.
-use Rattle.std.proofs.Common.{◌≡◌, ℕ, zero, suc, ◌+◌, ◌-◌, ◌<◌, ◌≤◌, Bool, List, [], ◌∷◌, length, map, take, drop, slice_range, refl, arith}
+use Rattle.std.proofs.Common.{◌≡◌, ℕ, zero, suc, ◌+◌, ◌-◌, ◌<◌, ◌≤◌, Bool, List, [], ◌∷◌, length, map, take, drop, slice_index, slice_range, subst, refl, arith}
 use Rattle.std.proofs.lemmas.List.{length-take}
 use Rattle.std.proofs.lemmas.List.Elements.{All-cons, All-nil}
 use Rattle.std.specs.List.{suffix_len}
@@ -9,7 +9,9 @@ use Rattle.ucd.specs.declared.tables.Tables.{Tables}
 use Rattle.breaks.specs.Marks.{marks_of}
 use Rattle.breaks.specs.declared.mark.Mark.{Mark}
 use Rattle.lines.specs.Clusters.{cluster_ends}
+use Rattle.lines.specs.Extents.{extents_of}
 use Rattle.lines.specs.Filling.{line_len, line_starts_of, shown, starts}
+use Rattle.lines.specs.Kept.{AreStarts}
 use Rattle.lines.specs.Layouts.{AreWithin, Rules, base_of, lines_of}
 use Rattle.lines.specs.Places.{places, places_of}
 use Rattle.lines.specs.Spaces.{line_levels}
@@ -83,3 +85,29 @@ lines_within rules width text =
     from_within rules.tables rules.options (base_of rules text) text (levels_of rules.tables text rules.options.base) ps 0 (length text) (line_starts_of rules.options.nobreak width ps) refl
     (rise_to 0 (length ps) (length text) (line_starts_of rules.options.nobreak width ps) (length-places rules.tables text (marks_of rules.tables rules.options.whole_numbers text) (cluster_ends text))
     (starts_rise rules.options.nobreak width 0 0 (length ps) ps (omega arith)))
+
+-- numbers that rise so are starts
+rise_below : (low n : ℕ) (xs : List ℕ) (k : ℕ) → Rise low n xs → k < length xs → slice_index xs k < n
+rise_below low n [] k rise below = absurd (omega (arith, below))
+rise_below low n (x ∷ xs) zero rise below = rise.1
+rise_below low n (x ∷ xs) (suc k) rise below = rise_below (suc x) n xs k rise.2 (omega (arith, below))
+
+rise_rising : (low n : ℕ) (xs : List ℕ) (k : ℕ) → Rise low n xs → k + 1 < length xs → slice_index xs k < slice_index xs (k + 1)
+rise_rising low n [] k rise below = absurd (omega (arith, below))
+rise_rising low n (x ∷ []) k rise below = absurd (omega (arith, below))
+rise_rising low n (x ∷ y ∷ xs) zero rise below = omega (arith, rise.2.0)
+rise_rising low n (x ∷ y ∷ xs) (suc k) rise below =
+    let e : suc (k + 1) ≡ suc k + 1 = omega arith in
+    subst (λ j. slice_index (y ∷ xs) k < slice_index (x ∷ y ∷ xs) j) e (rise_rising (suc x) n (y ∷ xs) k rise.2 (omega (arith, below)))
+
+-- so are those of a paragraph at a width
+pub starts_within : (rules : Rules) (width : ℕ) (text : List ℕ) → AreStarts (length text) (extents_of rules width text).starts
+unfolding line_starts_of places_of
+starts_within rules width text =
+    let ps : List Place = places_of rules.tables rules.options.whole_numbers text in
+    let rise = rise_to 0 (length ps) (length text) (line_starts_of rules.options.nobreak width ps) (length-places rules.tables text (marks_of rules.tables rules.options.whole_numbers text) (cluster_ends text))
+    (starts_rise rules.options.nobreak width 0 0 (length ps) ps (omega arith)) in
+    record {
+      below = λ k h. rise_below 0 (length text) (line_starts_of rules.options.nobreak width ps) k rise h;
+      rising = λ k h. rise_rising 0 (length text) (line_starts_of rules.options.nobreak width ps) k rise h;
+    }

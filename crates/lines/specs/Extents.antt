@@ -1,4 +1,4 @@
--- Where the lines of a paragraph start, and how much of each is shown: all that a width decides of them.
+-- Where the lines of a paragraph start, and how much of each is shown: what a width decides of them.
 use Rattle.std.specs.Prelude.{ℕ, List, [], ◌∷◌, length, map, slice_range}
 use Rattle.lines.specs.Filling.{columns, line_starts_of, shown}
 use Rattle.lines.specs.Layouts.{Layout, Rules, start_of}
@@ -7,7 +7,7 @@ use Rattle.lines.specs.Visual.{Line, lines_from}
 use Rattle.lines.specs.declared.places.Place.{Place}
 use Rattle.lines.specs.declared.visual.Shown.{Shown}
 
-pub record Extents : Type 0 where
+pub record Spans : Type 0 where
   pub starts : List ℕ
   pub shown : List Shown
 
@@ -24,7 +24,7 @@ shown_from n places (s ∷ []) = shown_between places s n ∷ []
 shown_from n places (s ∷ t ∷ starts) = shown_between places s t ∷ shown_from n places (t ∷ starts)
 
 -- those of a paragraph at a width
-abbrev pub extents_of : Rules → ℕ → List ℕ → Extents
+abbrev pub extents_of : Rules → ℕ → List ℕ → Spans
 extents_of rules width text =
     let places = places_of rules.tables rules.options.whole_numbers text in
     let starts = line_starts_of rules.options.nobreak width places in
@@ -34,11 +34,11 @@ extents_of rules width text =
 abbrev pub shown_in : Line → Shown
 shown_in line = record { len = length line.levels; columns = line.columns }
 
-abbrev pub extents_in : List Line → Extents
+abbrev pub extents_in : List Line → Spans
 extents_in lines = record { starts = map start_of lines; shown = map shown_in lines }
 
 -- a paragraph with the lines that start there in place of its own
-abbrev pub relaid : Rules → Layout → Extents → Layout
-relaid rules l extents =
+abbrev pub reflowed : Rules → Layout → Spans → Layout
+reflowed rules l extents =
     let places = places_of rules.tables rules.options.whole_numbers l.text in
     record l { lines = lines_from rules.tables rules.options l.base l.text l.levels places extents.starts }

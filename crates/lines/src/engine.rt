@@ -1,5 +1,6 @@
 //! What lays paragraphs out: the tables and options, and how much was analysed and filled.
-ghost use Rattle.std.specs.Prelude.{◌≡◌, ◌<◌, ◌≤◌, [], true, false, length, map, IfOk, IfErr, IsErrOf, OnOk};
+ghost use Rattle.std.specs.Prelude.{◌≡◌, ◌<◌, ◌≤◌, ℕ, [], true, false, length, map};
+ghost use Rattle.std.specs.Prelude.{IfOk, IfErr, IsErrOf, OnOk};
 ghost use Rattle.std.specs.Prelude.{if◌then◌else◌};
 ghost use Rattle.device.specs.Device.{Wrote};
 ghost use Rattle.bidi.specs.Levels.{levels_of};
@@ -11,6 +12,7 @@ ghost use Rattle.lines.specs.Pages.{lines_bytes, paragraph_bytes};
 ghost use Rattle.lines.specs.Printing.{FailedAs, skips_lines};
 
 use crate::bytes::write_base;
+use crate::extents::{Extents, Room};
 use crate::laid::Laid;
 use crate::options::Options;
 use crate::print::{Print, PrintFault};
@@ -55,6 +57,7 @@ impl Engine {
     ghost use Rattle.bidi.specs.Cuts.{first_cut, SplitsAt};
     ghost use Rattle.bidi.specs.Levels.{levels_of};
     ghost use Rattle.breaks.specs.Marks.{marks_of};
+    ghost use Rattle.lines.specs.Extents.{extents_in, extents_of, reflowed};
     ghost use Rattle.lines.specs.Layouts.{base_of, cut_by, fill_of, layout_of};
     ghost use Rattle.lines.specs.Layouts.{AreLinesOf, AreWithin, IsLaidOut, IsParagraph};
     ghost use Rattle.lines.specs.Engine.{rules_of, analysed_of, filled_of, SameRules};
@@ -188,6 +191,45 @@ impl Engine {
         self.write_lines(alloc, text, width, print, writer)
     }
 
+    /// Where the lines of a paragraph start at another width, which is not 0, and how much of each is shown.
+    /// The paragraph is laid out by this engine's rules.
+    pub fn extents(&mut self, alloc: Global, laid: &Laid, width: u16) -> Result<Extents, AllocError>
+        requires laid { IsLaidOut (rules_of self.old) laid.now }
+        requires width { 0 < width }
+        ensures ok { IfOk result (λ extents. extents
+            ≡ extents_of (rules_of self.old) width laid.now.text) }
+        ensures counts { IfOk result (λ extents. Fills (length laid.now.text) self.old self.new) }
+        ensures at_most { FillsAtMost (length laid.now.text) self.old self.new }
+        ensures rules { SameRules self.old self.new }
+    {
+        let text = laid.text();
+        let extents = self.find_extents(alloc, text, laid.marks(), width)?;
+        self.filled = self.filled.saturating_add(text.len() as u64);
+        Ok(extents)
+    }
+
+    /// Room in which the lines of any paragraph of at most so many characters can be written.
+    pub fn room(&self, alloc: Global, len: usize) -> Result<Room, AllocError>
+        ensures { IfOk result (λ room. room ≡ len) }
+    {
+        Room::new(alloc, &self.tables, len)
+    }
+
+    /// Writes the lines of a paragraph at another width over those that it has: by their extents at that width,
+    /// which are handed out as those of the old lines. The paragraph is laid out by this engine's rules, and
+    /// there is room for it. No memory is taken.
+    pub fn reflow(&self, laid: &mut Laid, extents: &mut Extents, room: &mut Room)
+        requires laid { IsLaidOut (rules_of self.now) laid.old }
+        requires extents { (width : ℕ)
+            × (extents.old ≡ extents_of (rules_of self.now) width laid.old.text) }
+        requires room { length laid.old.text ≤ room.old }
+        ensures laid { laid.new ≡ reflowed (rules_of self.now) laid.old extents.old }
+        ensures extents { extents.new ≡ extents_in laid.old.lines }
+        ensures room { room.new ≡ room.old }
+    {
+        laid.reflow(&self.tables, self.options, extents, room);
+    }
+
     // Writes the lines of a paragraph.
     fn write_lines<W: Sink>(
         &mut self,
@@ -259,6 +301,25 @@ impl Engine {
             marks: kept.marks,
             lines: Fill::of(kept.lines),
         })
+    }
+
+    // The extents of a paragraph's lines.
+    fn find_extents(
+        &mut self,
+        alloc: Global,
+        text: &[char],
+        marks: &[Mark],
+        width: u16,
+    ) -> Result<Extents, AllocError>
+        requires marks { marks.now ≡ marks_of (rules_of self.old).tables
+            (rules_of self.old).options.whole_numbers text.now }
+        requires within { length text.now ≤ 1048576 }
+        ensures extents { IfOk result (λ extents. extents
+            ≡ extents_of (rules_of self.old) width text.now) }
+        ensures same { self.new ≡ self.old }
+    {
+        let work = self.work.get_or_insert_with(|| Work::new(alloc));
+        work.extents(alloc, &self.tables, self.options, text, marks, width)
     }
 
     // The lines of a paragraph, of which all else is known.

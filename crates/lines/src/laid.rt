@@ -1,15 +1,18 @@
 //! A paragraph that is laid out, and the lines that it has at another width.
-ghost use Rattle.std.specs.Prelude.{◌≡◌, ◌≤◌, length, map, option_map, slice_get};
+ghost use Rattle.std.specs.Prelude.{◌≡◌, ◌≤◌, ℕ, length, map, option_map, slice_get};
 ghost use Rattle.std.specs.Prelude.{IfErr, IfOk, IsTrue, OnOk};
 ghost use Rattle.device.specs.Device.{StoppedAt, Wrote};
 
 use crate::bytes::WriteFault;
+use crate::extents::{Extents, Room, look_up};
+use crate::options::Options;
 use crate::print::Print;
 use crate::visual::Fill;
 use crate::visual_line::VisualLine;
 use breaks::{Mark, paragraphs_end_at_must};
 use device::Sink;
 use std::marker::Model;
+use ucd::Tables;
 
 /// A paragraph that is laid out: its text, base level, levels, break marks and lines.
 #[derive(Debug, Drop)]
@@ -41,6 +44,7 @@ impl Model for Laid {
 }
 
 impl Laid {
+    ghost use Rattle.lines.specs.Extents.{extents_in, extents_of, reflowed};
     ghost use Rattle.lines.specs.Layouts.{is_line_within, lines_of, start_of};
     ghost use Rattle.lines.specs.Layouts.{AreLinesOf, Exchanges, IsLaidOut, Rules};
     ghost use Rattle.lines.specs.Pages.{layout_bytes};
@@ -144,6 +148,37 @@ impl Laid {
     {
         self.lines
             .write_behind(&self.text, self.base, writer, done, width, print)
+    }
+
+    // Writes the lines at another width over those that it has, by their extents.
+    pub(crate) fn reflow(
+        &mut self,
+        tables: &Tables,
+        options: Options,
+        extents: &mut Extents,
+        room: &mut Room,
+    )
+        requires laid { IsLaidOut (record { tables = tables.now; options = options }) self.old }
+        requires extents { (width : ℕ) × (extents.old
+            ≡ extents_of (record { tables = tables.now; options = options }) width self.old.text) }
+        requires room { length self.old.text ≤ room.old }
+        ensures laid { self.new
+            ≡ reflowed (record { tables = tables.now; options = options }) self.old extents.old }
+        ensures extents { extents.new ≡ extents_in self.old.lines }
+        ensures room { room.new ≡ room.old }
+    {
+        let text = self.text.as_slice();
+        let properties = &mut room.properties[..text.len()];
+        look_up(tables, text, properties);
+        self.lines.reflow(
+            tables,
+            text,
+            properties,
+            options,
+            self.base,
+            &self.levels,
+            extents,
+        );
     }
 
     /// Puts the lines of this paragraph at another width in, and hands the old ones out. Both are

@@ -4,6 +4,7 @@
 mod bytes;
 mod clusters;
 mod engine;
+mod extents;
 mod fill;
 mod filling;
 mod laid;
@@ -21,6 +22,7 @@ mod work;
 
 pub use bytes::WriteFault;
 pub use engine::{Engine, PARAGRAPH_LIMIT};
+pub use extents::{Extents, Room};
 pub use laid::Laid;
 pub use laws::lines_are_few;
 pub use options::Options;

@@ -5,7 +5,7 @@ ghost use Rattle.ucd.specs.Properties.{properties_of};
 ghost use Rattle.bidi.specs.Classes.{class_in};
 ghost use Rattle.lines.specs.Spaces.{line_levels};
 ghost use Rattle.bidi.specs.Runs.{AreWithin};
-ghost use Rattle.lines.specs.Extents.{shown_from};
+ghost use Rattle.lines.specs.Extents.{extents_in, shown_from};
 ghost use Rattle.lines.specs.Filling.{columns, shown};
 ghost use Rattle.lines.specs.Kept.{AreStarts};
 ghost use Rattle.lines.specs.Layouts;
@@ -16,6 +16,7 @@ ghost use Rattle.lines.specs.Showing.{end_of, AreShown, IsShown};
 ghost use Rattle.lines.specs.Visual.{lines_from};
 ghost use Rattle.lines.specs.declared.places.Place.{Place};
 
+use crate::extents::Extents;
 use crate::mirror::visual_chars;
 use crate::options::Options;
 use crate::order::{identity, order};
@@ -79,6 +80,51 @@ impl Fill {
             vtol: lists.vtol,
             chars: lists.chars,
         }
+    }
+
+    /// Writes other lines of the paragraph over these: L1 on each line, and L2 and L4 on its shown part. Their
+    /// extents are exchanged for those of the old lines.
+    pub(crate) fn reflow(
+        &mut self,
+        tables: &Tables,
+        text: &[char],
+        properties: &[Properties],
+        options: Options,
+        base: u8,
+        levels: &[u8],
+        extents: &mut Extents,
+    )
+        requires len { self.old.len ≡ length text.now }
+        requires properties { properties.now ≡ map (properties_of tables.now) text.now }
+        requires text { length text.now ≤ 1048576 }
+        requires levels { length levels.now ≡ length text.now }
+        requires starts { AreStarts (length text.now) extents.old.starts }
+        requires shown { (places : List Place)
+            × (extents.old.shown ≡ shown_from (length text.now) places extents.old.starts) }
+        ensures lines { (places : List Place)
+            → extents.old.shown ≡ shown_from (length text.now) places extents.old.starts
+            → self.new.lines ≡ lines_from tables.now options base text.now levels.now places
+            extents.old.starts }
+        ensures len { self.new.len ≡ length text.now }
+        ensures within { Layouts.AreWithin (length text.now) self.new.lines }
+        ensures extents { extents.new ≡ extents_in self.old.lines }
+    {
+        std::mem::swap(&mut self.starts, &mut extents.starts);
+        std::mem::swap(&mut self.shown, &mut extents.shown);
+        self.levels.copy_from_slice(levels);
+        show_each(
+            tables,
+            text,
+            properties,
+            options,
+            base,
+            &self.starts,
+            &self.shown,
+            &mut self.levels,
+            &mut self.ltov,
+            &mut self.vtol,
+            &mut self.chars,
+        );
     }
 
     /// The lists alone, of lines that are done with.

@@ -5,17 +5,19 @@ ghost use Rattle.bidi.specs.Levels.{levels_of};
 ghost use Rattle.breaks.specs.Marks.{marks_of};
 ghost use Rattle.lines.specs.Bare.{with_ends};
 ghost use Rattle.lines.specs.Clusters.{cluster_ends};
+ghost use Rattle.lines.specs.Extents.{shown_from};
 ghost use Rattle.lines.specs.Filling.{line_starts_of};
 ghost use Rattle.lines.specs.Layouts.{AreWithin, base_of, lines_of};
 ghost use Rattle.lines.specs.Lists.{held_lines, AreSound};
 ghost use Rattle.lines.specs.Places.{places_of};
 ghost use Rattle.lines.specs.Visual.{lines_from};
 
+use crate::extents::Extents;
 use crate::filling::line_starts;
 use crate::options::Options;
 use crate::places::{Place, take_places};
 use crate::room::make_room;
-use crate::visual::{Fill, Lists, show_lines};
+use crate::visual::{Fill, Lists, show_lines, take_shown};
 use bidi::Resolver;
 use breaks::{Mark, marks_into};
 use std::alloc::{AllocError, Global};
@@ -63,6 +65,7 @@ impl Work {
     ghost use Rattle.ucd.specs.Properties.{properties_of};
     ghost use Rattle.bidi.specs.Levels.{levels_of};
     ghost use Rattle.breaks.specs.Marks.{marks_of};
+    ghost use Rattle.lines.specs.Extents.{extents_of};
     ghost use Rattle.lines.specs.Layouts.{AreWithin, base_of, fill_of, layout_of};
     ghost use Rattle.lines.specs.Lists.{held_lines, AreSound};
 
@@ -130,6 +133,28 @@ impl Work {
         Ok(base)
     }
 
+    /// The extents of the lines of a paragraph whose marks are known.
+    pub(crate) fn extents(
+        &mut self,
+        alloc: Global,
+        tables: &Tables,
+        options: Options,
+        text: &[char],
+        marks: &[Mark],
+        width: u16,
+    ) -> Result<Extents, AllocError>
+        requires marks { marks.now ≡ marks_of tables.now options.whole_numbers text.now }
+        requires within { length text.now ≤ 1048576 }
+        ensures { IfOk result (λ extents. extents
+            ≡ extents_of (record { tables = tables.now; options = options }) width text.now) }
+    {
+        take_properties(tables, text, &mut self.properties)?;
+        let whole_numbers = options.whole_numbers;
+        let places = &mut self.places;
+        take_places(tables, text, &self.properties, whole_numbers, marks, places)?;
+        extents_of_places(alloc, text, places, width, options.nobreak)
+    }
+
     /// The lines of a paragraph that is laid out.
     pub(crate) fn fill(
         &mut self,
@@ -178,6 +203,28 @@ fn take_properties(
         properties.push(tables.properties(*c))?;
     }
     Ok(())
+}
+
+// The extents of the lines of a paragraph by its places, of which it isn't known where clusters end.
+fn extents_of_places(
+    alloc: Global,
+    text: &[char],
+    places: &mut [Place],
+    width: u16,
+    nobreak: bool,
+) -> Result<Extents, AllocError>
+    requires len { length places.old ≡ length text.now }
+    requires within { length text.now ≤ 1048576 }
+    ensures starts { IfOk result (λ extents. extents.starts
+        ≡ line_starts_of nobreak width (with_ends places.old (cluster_ends text.now))) }
+    ensures shown { IfOk result (λ extents. extents.shown
+        ≡ shown_from (length text.now) (with_ends places.old (cluster_ends text.now)) extents.starts) }
+{
+    let mut starts = Vec::new(alloc);
+    line_starts(alloc, text, places, width, nobreak, &mut starts)?;
+    let mut shown = Vec::new(alloc);
+    take_shown(places, &starts, &mut shown)?;
+    Ok(Extents { starts, shown })
 }
 
 // Puts the lines of a paragraph, of which all else is known, into some lists.

@@ -1,0 +1,61 @@
+//! What there is to find of the lines of a paragraph at a width before they are written, and the room in which
+//! they can be written without memory.
+ghost use Rattle.std.specs.Prelude.{◌≡◌, length, map, IfOk};
+ghost use Rattle.ucd.specs.Properties.{properties_of};
+
+use crate::visual::Shown;
+use std::alloc::{AllocError, Global};
+use std::marker::Model;
+use ucd::{Properties, Tables};
+
+/// Where the lines of a paragraph start at some width, and how much of each is shown: from these and what is
+/// known of the paragraph its lines can be written.
+#[derive(Debug, Drop)]
+pub struct Extents {
+    pub(crate) starts: Vec<u32>,
+    pub(crate) shown: Vec<Shown>,
+}
+
+impl Model for Extents {
+    ghost use Rattle.lines.specs.Extents.{Spans};
+
+    ghost Value = { Spans };
+
+    ghost view = { λ e. record { starts = e.starts.items; shown = e.shown.items } };
+}
+
+/// Room for what the tables say of each character of a paragraph.
+#[derive(Debug, Drop)]
+pub struct Room {
+    pub(crate) properties: Vec<Properties>,
+}
+
+impl Model for Room {
+    ghost use Rattle.std.specs.Prelude.{ℕ, length};
+
+    ghost Value = { ℕ };
+
+    // For how many characters.
+    ghost view = { λ r. length r.properties.items };
+}
+
+impl Room {
+    /// Room for so many characters.
+    pub(crate) fn new(alloc: Global, tables: &Tables, len: usize) -> Result<Room, AllocError>
+        ensures { IfOk result (λ room. room ≡ len) }
+    {
+        let mut properties = Vec::new(alloc);
+        properties.resize(len, tables.properties('\0'))?;
+        Ok(Room { properties })
+    }
+}
+
+/// Writes what the tables say of each character over what a list has.
+pub(crate) fn look_up(tables: &Tables, text: &[char], properties: &mut [Properties])
+    requires { length properties.old ≡ length text.now }
+    ensures { properties.new ≡ map (properties_of tables.now) text.now }
+{
+    for (k, c) in text.iter().enumerate() {
+        properties[k] = tables.properties(*c);
+    }
+}
