@@ -3,8 +3,6 @@ use Rattle.std.proofs.Common.{◌≡◌, ℕ, zero, suc, ◌+◌, ◌-◌, ◌<�
 use borrow.Rule.Slice.PartMut.{put_mid}
 use Rattle.std.proofs.lemmas.Bool.{cases_eq, cases_lt}
 use Rattle.std.proofs.lemmas.List.{length-drop, length-take, length-take-le, take_more}
-use Rattle.std.proofs.Math.ListN.{get_or-append}
-use Rattle.std.proofs.Math.Seq.{get_or-append_seam}
 use Rattle.std.proofs.lemmas.Slice.{between_is, between-put_mid, drop-put_mid, take-put_mid_below}
 use Rattle.std.specs.List.{slice_range, suffix_len, All}
 use Rattle.ucd.specs.Tables.{class_of}
@@ -19,7 +17,7 @@ use Rattle.lines.specs.Mirroring.{visual_chars}
 use Rattle.lines.specs.Order.{ltov_of, vtol_of}
 use Rattle.lines.specs.Showing.{end_of, line_showing, nothing_shown, AreShown, IsPlaced, IsShown}
 use Rattle.lines.specs.Spaces.{line_levels}
-use Rattle.lines.specs.Visual.{Line, line_between, lines_from}
+use Rattle.lines.specs.Visual.{Line, lines_from}
 use Rattle.lines.specs.declared.options.Options.{Options}
 use Rattle.lines.specs.declared.places.Place.{Place}
 use Rattle.lines.specs.declared.visual.Shown.{Shown}

@@ -8,13 +8,13 @@ use Rattle.std.proofs.lemmas.List.Sums.{sum_by_more, sum_by-take-le}
 use Rattle.bidi.specs.Cuts.{paragraphs}
 use Rattle.bidi.specs.Pieces.{ArePieces, ParagraphsArePieces}
 use Rattle.lines.specs.Engine.{rules_of, analysed_of, filled_of, SameRules, FillsAtMost}
-use Rattle.lines.specs.Layouts.{Layout, Rules, AreLinesOf, IsLaidOut, IsParagraph, cut_by, layout_of, lines_of}
-use Rattle.lines.specs.Visual.{Line}
+use Rattle.lines.specs.Extents.{extents_of, reflowed, Spans}
+use Rattle.lines.specs.Layouts.{Layout, Rules, IsLaidOut, IsParagraph, cut_by, layout_of, lines_of}
 use Rattle.lines.specs.declared.engine.Engine.{Engine}
 use Rattle.store.specs.Exchanging.{pairwise}
 use Rattle.session.specs.Sessions.{IsWholeLayout, Refills, RefillsNot}
 use Rattle.session.specs.Changes.{are_within, paragraph_limit, text_refusal, width_refusal}
-use Rattle.session.specs.Kept.{text_of, layouts_of, put_into, BringsTo}
+use Rattle.session.specs.Kept.{text_of, layouts_of, put_into, BringsTo, CanBePut, Writer}
 use Rattle.session.specs.declared.edits.EditFault.TheVariants.{WidthOutOfRange, NoMemory}
 use Rattle.session.proofs.EdgeLemmas.{chars_of, lines_of as line_number, length-text, length-lines}
 use Rattle.session.proofs.EditLemmas.{LinesAreFew, few-laid, text-layouts, IsWholeLayout-same}
@@ -93,18 +93,18 @@ zip_push R [] (b ∷ ys) x y all more = absurd all
 zip_push R (a ∷ xs) [] x y all more = absurd all
 zip_push R (a ∷ xs) (b ∷ ys) x y all more = (all.0, zip_push R xs ys x y all.1 more)
 
--- for each of the first so many paragraphs there are its lines, or none
-pub record AreFilled (start : Engine) (width : ℕ) (kept : List Layout) (n : ℕ) (fills : List (Option (List Line))) (now : Engine) : Type 0 where
+-- for each of the first so many paragraphs there are the extents of its lines, or none
+pub record AreFilled (start : Engine) (width : ℕ) (kept : List Layout) (n : ℕ) (fills : List (Option Spans)) (now : Engine) : Type 0 where
   pub made : AllZip (BringsTo (rules_of start) width) (take n kept) fills
   pub rules : SameRules start now
   pub analysed : analysed_of now ≡ analysed_of start
   pub least : filled_of start ≤ filled_of now
   pub most : filled_of now ≤ filled_of start + sum_by chars_of (take n kept)
 
-pub none_filled : (start : Engine) (width : ℕ) (kept : List Layout) (fills : List (Option (List Line))) → fills ≡ [] → AreFilled start width kept 0 fills start
+pub none_filled : (start : Engine) (width : ℕ) (kept : List Layout) (fills : List (Option Spans)) → fills ≡ [] → AreFilled start width kept 0 fills start
 none_filled start width kept fills e = rw e (record { made = tt; rules = refl; analysed = refl; least = omega arith; most = omega arith })
 
-module _ (start now : Engine) (width : ℕ) (kept : List Layout) (n : ℕ) (fills : List (Option (List Line))) (so_far : AreFilled start width kept n fills now) where
+module _ (start now : Engine) (width : ℕ) (kept : List Layout) (n : ℕ) (fills : List (Option Spans)) (so_far : AreFilled start width kept n fills now) where
   pub FillsAtMost-so_far : FillsAtMost (length (text_of kept)) start now
   FillsAtMost-so_far = record {
     analysed = so_far.analysed;
@@ -128,7 +128,7 @@ module _ (start now : Engine) (width : ℕ) (kept : List Layout) (n : ℕ) (fill
       filled = record { least = omega (arith, so_far.least, counts.filled.least); most = omega (arith, so_far.most, counts.filled.most, upto) };
     }
 
-    pub AreFilled-next : (part : Option (List Line)) (more : List (Option (List Line))) → BringsTo (rules_of now) width l part → more ≡ fills ++ part ∷ [] → AreFilled start width kept (n + 1) more next
+    pub AreFilled-next : (part : Option Spans) (more : List (Option Spans)) → BringsTo (rules_of now) width l part → more ≡ fills ++ part ∷ [] → AreFilled start width kept (n + 1) more next
     AreFilled-next part more brings more-is = record {
       made = rw (more-is, take_more kept n l here, item)
           (zip_push (BringsTo (rules_of start) width) (take n kept) fills l part so_far.made (subst (λ r. BringsTo r width l part) so_far.rules brings));
@@ -139,19 +139,32 @@ module _ (start now : Engine) (width : ℕ) (kept : List Layout) (n : ℕ) (fill
     }
 
 -- what an exchange asks, and what it makes
-abbrev pub fits_any : List Layout → List (Option (List Line)) → Type 0
-fits_any kept parts = AllZip (λ l part. IfSome part (λ f. (r : Rules) × IsLaidOut r l × AreLinesOf r l.text f)) kept parts
+abbrev pub fits_any : Writer → List Layout → List (Option Spans) → Type 0
+fits_any writer kept parts = AllZip (λ l part. IfSome part (CanBePut writer l)) kept parts
 
-one_fits : (rules : Rules) (width : ℕ) (l : Layout) (part : Option (List Line)) → IsLaidOut rules l → BringsTo rules width l part
-    → IfSome part (λ f. (r : Rules) × IsLaidOut r l × AreLinesOf r l.text f)
-one_fits rules width l None laid brings = tt
-one_fits rules width l (Some f) laid brings = (rules, laid, record { width = width; from_scratch = brings })
+abbrev pub HasRoom : ℕ → Layout → Type 0
+HasRoom room l = length l.text ≤ room
 
-pub all_fit : (rules : Rules) (width : ℕ) (kept : List Layout) (parts : List (Option (List Line))) → Each (IsLaidOut rules) kept → AllZip (BringsTo rules width) kept parts → fits_any kept parts
-all_fit rules width [] [] h made = tt
-all_fit rules width [] (part ∷ parts) h made = absurd made
-all_fit rules width (l ∷ kept) [] h made = absurd made
-all_fit rules width (l ∷ kept) (part ∷ parts) h made = (one_fits rules width l part h.0 made.0, all_fit rules width kept parts h.1 made.1)
+each_all : {A : Type 0} (P : A → Type 0) (xs : List A) → All P xs → Each P xs
+each_all P [] h = tt
+each_all P (x ∷ xs) h = (h 0 x (omega arith), each_all P xs (λ k d within. h (suc k) d (omega (arith, within))))
+
+one_fits : (rules : Rules) (width room : ℕ) (l : Layout) (part : Option Spans) → IsLaidOut rules l → HasRoom room l → BringsTo rules width l part
+    → IfSome part (CanBePut (record { rules = rules; room = room }) l)
+one_fits rules width room l None laid has brings = tt
+one_fits rules width room l (Some extents) laid has brings = record { laid_out = laid; at_width = (width, brings); room = has }
+
+each_fit : (rules : Rules) (width room : ℕ) (kept : List Layout) (parts : List (Option Spans)) → Each (IsLaidOut rules) kept → Each (HasRoom room) kept
+    → AllZip (BringsTo rules width) kept parts → fits_any (record { rules = rules; room = room }) kept parts
+each_fit rules width room [] [] laid has made = tt
+each_fit rules width room [] (part ∷ parts) laid has made = absurd made
+each_fit rules width room (l ∷ kept) [] laid has made = absurd made
+each_fit rules width room (l ∷ kept) (part ∷ parts) laid has made =
+    (one_fits rules width room l part laid.0 has.0 made.0, each_fit rules width room kept parts laid.1 has.1 made.1)
+
+pub all_fit : (rules : Rules) (width room : ℕ) (kept : List Layout) (parts : List (Option Spans)) → Each (IsLaidOut rules) kept → All (HasRoom room) kept
+    → AllZip (BringsTo rules width) kept parts → fits_any (record { rules = rules; room = room }) kept parts
+all_fit rules width room kept parts laid has made = each_fit rules width room kept parts laid (each_all (HasRoom room) kept has) made
 
 abbrev pub refilled_one : Rules → ℕ → Layout → Layout
 refilled_one rules width l = record l { lines = lines_of rules width l.text }
@@ -159,17 +172,20 @@ refilled_one rules width l = record l { lines = lines_of rules width l.text }
 abbrev pub refilled : Rules → ℕ → List Layout → List Layout
 refilled rules width kept = map (refilled_one rules width) kept
 
-one_brought : (rules : Rules) (width : ℕ) (l : Layout) (part : Option (List Line)) → BringsTo rules width l part → put_into l part ≡ refilled_one rules width l
-one_brought rules width l None brings = ap (λ ls. record l { lines = ls }) brings
-one_brought rules width l (Some f) brings = ap (λ ls. record l { lines = ls }) brings
+one_brought : (rules : Rules) (width room : ℕ) (l : Layout) (part : Option Spans) → IsLaidOut rules l → BringsTo rules width l part
+    → put_into (record { rules = rules; room = room }) l part ≡ refilled_one rules width l
+one_brought rules width room l None laid brings = ap (λ ls. record l { lines = ls }) brings
+one_brought rules width room l (Some extents) laid brings =
+    ap (reflowed rules l) brings
+    ∙ subst (λ (m : Layout). reflowed rules m (extents_of rules width m.text) ≡ refilled_one rules width m) (sym laid.from_scratch) refl
 
-pub all_brought : (rules : Rules) (width : ℕ) (kept : List Layout) (parts : List (Option (List Line))) → AllZip (BringsTo rules width) kept parts
-    → pairwise {P = Layout} {Part = Option (List Line)} {A = Layout} put_into kept parts ≡ refilled rules width kept
-all_brought rules width [] [] made = refl
-all_brought rules width [] (part ∷ parts) made = absurd made
-all_brought rules width (l ∷ kept) [] made = absurd made
-all_brought rules width (l ∷ kept) (part ∷ parts) made =
-    ap₂ (λ (x : Layout) (xs : List Layout). x ∷ xs) (one_brought rules width l part made.0) (all_brought rules width kept parts made.1)
+pub all_brought : (rules : Rules) (width room : ℕ) (kept : List Layout) (parts : List (Option Spans)) → Each (IsLaidOut rules) kept → AllZip (BringsTo rules width) kept parts
+    → pairwise {P = Layout} {Part = Option Spans} {A = Layout} (put_into (record { rules = rules; room = room })) kept parts ≡ refilled rules width kept
+all_brought rules width room [] [] laid made = refl
+all_brought rules width room [] (part ∷ parts) laid made = absurd made
+all_brought rules width room (l ∷ kept) [] laid made = absurd made
+all_brought rules width room (l ∷ kept) (part ∷ parts) laid made =
+    ap₂ (λ (x : Layout) (xs : List Layout). x ∷ xs) (one_brought rules width room l part laid.0 made.0) (all_brought rules width room kept parts laid.1 made.1)
 
 refilled-pars : (rules : Rules) (old width : ℕ) (pars : List (List ℕ)) → refilled rules width (map (layout_of rules old) pars) ≡ map (layout_of rules width) pars
 refilled-pars rules old width [] = refl

@@ -1,9 +1,10 @@
 -- What is kept of a text: the layouts of its paragraphs, made anew from the text alone.
-use Rattle.std.specs.Prelude.{◌≡◌, ℕ, List, length, map, Option, Some, None, refl}
+use Rattle.std.specs.Prelude.{◌≡◌, ℕ, ◌≤◌, List, length, map, Option, Some, None, refl}
 use Rattle.std.specs.List.{concat, enumerate_from, flat_map}
 use Rattle.bidi.specs.Cuts.{paragraphs}
-use Rattle.lines.specs.Layouts.{Layout, Rules, cut_by, layout_of, lines_of}
-use Rattle.lines.specs.Visual.{Line, Visual, visual_of}
+use Rattle.lines.specs.Extents.{extents_in, extents_of, reflowed, Spans}
+use Rattle.lines.specs.Layouts.{Layout, Rules, IsLaidOut, cut_by, layout_of, lines_of}
+use Rattle.lines.specs.Visual.{Visual, visual_of}
 
 -- the paragraphs of layouts, the text that they make, and their lines as they are shown.
 abbrev pub pars_of : List Layout → List (List ℕ)
@@ -22,19 +23,31 @@ lines_in kept = flat_map visuals kept
 abbrev pub layouts_of : Rules → ℕ → List ℕ → List Layout
 layouts_of rules width text = map (layout_of rules width) (paragraphs (cut_by rules) text)
 
--- A layout with other lines put in, where there are some, and those that come out then. Its characters stay.
-abbrev pub put_into : Layout → Option (List Line) → Layout
-put_into kept None = kept
-put_into kept (Some lines) = record kept { lines = lines }
+-- what the lines of paragraphs are written by: the rules, and room for so many characters
+pub record Writer : Type 0 where
+  pub rules : Rules
+  pub room : ℕ
 
-abbrev pub taken_from : Layout → Option (List Line) → Option (List Line)
+-- A layout with its lines written anew by their extents, where there are some, and the extents that come out then. Its characters stay.
+abbrev pub put_into : Writer → Layout → Option Spans → Layout
+put_into writer kept None = kept
+put_into writer kept (Some extents) = reflowed writer.rules kept extents
+
+abbrev pub taken_from : Layout → Option Spans → Option Spans
 taken_from kept None = None
-taken_from kept (Some lines) = Some kept.lines
+taken_from kept (Some extents) = Some (extents_in kept.lines)
 
-pub chars_stay : (kept : Layout) (part : Option (List Line)) → length (put_into kept part).text ≡ length kept.text
-chars_stay kept None = refl
-chars_stay kept (Some lines) = refl
+pub chars_stay : (writer : Writer) (kept : Layout) (part : Option Spans) → length (put_into writer kept part).text ≡ length kept.text
+chars_stay writer kept None = refl
+chars_stay writer kept (Some extents) = refl
+
+-- extents are those of a layout at some width, and there is room for it
+pub record CanBePut (writer : Writer) (kept : Layout) (extents : Spans) : Type 0 where
+  pub laid_out : IsLaidOut writer.rules kept
+  pub at_width : (width : ℕ) × (extents ≡ extents_of writer.rules width kept.text)
+  pub room : length kept.text ≤ writer.room
 
 -- with them a layout has the lines of its text at a width
-abbrev pub BringsTo : Rules → ℕ → Layout → Option (List Line) → Type 0
-BringsTo rules width kept part = (put_into kept part).lines ≡ lines_of rules width kept.text
+abbrev pub BringsTo : Rules → ℕ → Layout → Option Spans → Type 0
+BringsTo rules width kept None = kept.lines ≡ lines_of rules width kept.text
+BringsTo rules width kept (Some extents) = extents ≡ extents_of rules width kept.text

@@ -1,14 +1,16 @@
 //! A paragraph as a session keeps it in a store.
-ghost use Rattle.std.specs.Prelude.{◌≡◌, length, IfOk};
+ghost use Rattle.std.specs.Prelude.{◌≡◌, ◌≤◌, ℕ, length, IfOk};
+ghost use Rattle.lines.specs.Engine.{rules_of};
+ghost use Rattle.lines.specs.Extents.{extents_in, extents_of, reflowed};
+ghost use Rattle.lines.specs.Layouts.{IsLaidOut};
 
-use lines::{Fill, Laid};
+use lines::{Engine, Extents, Laid, Room};
 use std::alloc::{AllocError, Global};
 use std::marker::Model;
-use store::{Exchange, Measured};
+use store::{Exchanger, Measured};
 
-/// A paragraph that is laid out, as an item of a store. Its part is its lines, which are exchanged for
-/// those at another width, or none where it keeps its own. It is two numbers and a place of the
-/// paragraph's own, so that a store that looks for another one doesn't read it.
+/// A paragraph that is laid out, as an item of a store. It is two numbers and a place of the paragraph's
+/// own, so that a store that looks for another one doesn't read it.
 #[derive(Debug, Drop)]
 pub struct Kept {
     chars: usize,
@@ -46,6 +48,20 @@ impl Kept {
     {
         &self.laid
     }
+
+    // Writes its lines at another width over those that it has.
+    fn reflow(&mut self, engine: &Engine, extents: &mut Extents, room: &mut Room)
+        requires laid { IsLaidOut (rules_of engine.now) self.old }
+        requires extents { (width : ℕ)
+            × (extents.old ≡ extents_of (rules_of engine.now) width self.old.text) }
+        requires room { length self.old.text ≤ room.old }
+        ensures kept { self.new ≡ reflowed (rules_of engine.now) self.old extents.old }
+        ensures extents { extents.new ≡ extents_in self.old.lines }
+        ensures room { room.new ≡ room.old }
+    {
+        engine.reflow(&mut self.laid, extents, room);
+        self.lines = self.laid.line_count();
+    }
 }
 
 impl Measured for Kept {
@@ -62,28 +78,43 @@ impl Measured for Kept {
     }
 }
 
-impl Exchange for Kept {
-    type Part = Option<Fill>;
+/// Writes the lines of paragraphs at another width over those that they have, by an engine's tables and
+/// options. The part of a paragraph is the extents of its lines, or none where it keeps its own.
+#[derive(Drop)]
+pub struct Reflow<'a> {
+    pub engine: &'a Engine,
+    /// For the longest of the paragraphs.
+    pub room: Room,
+}
+
+impl<'a> Model for Reflow<'a> {
+    ghost use Rattle.lines.specs.Engine.{rules_of};
+    ghost use Rattle.session.specs.Kept.{Writer};
+
+    ghost Value = { Writer };
+
+    ghost view = { λ r. record { rules = rules_of r.engine.now; room = r.room } };
+}
+
+impl<'a> Exchanger<Kept> for Reflow<'a> {
+    type Part = Option<Extents>;
 
     ghost use Rattle.std.specs.Prelude.{IfSome};
-    ghost use Rattle.lines.specs.Layouts.{AreLinesOf, IsLaidOut, Rules};
-    ghost use Rattle.session.specs.Kept.{chars_stay, put_into, taken_from};
+    ghost use Rattle.session.specs.Kept.{chars_stay, put_into, taken_from, CanBePut};
 
-    // Lines of this paragraph, by the rules by which it is laid out.
-    ghost fits = { λ kept part. IfSome part (λ fill.
-        (rules : Rules) × IsLaidOut rules kept × AreLinesOf rules kept.text fill) };
+    // Extents of this paragraph, for which there is room.
+    ghost fits = { λ by kept part. IfSome part (CanBePut by kept) };
 
     ghost exchanged = { put_into };
 
-    ghost handed_out = { taken_from };
+    ghost handed_out = { λ _. taken_from };
 
-    ghost keeps_chars = { λ kept part _. chars_stay kept part };
+    ghost keeps_chars = { λ by kept part _. chars_stay by kept part };
 
-    fn exchange(&mut self, part: &mut Option<Fill>) {
-        let Some(fill) = part else {
+    fn exchange(&mut self, item: &mut Kept, part: &mut Option<Extents>) {
+        let Some(extents) = part else {
             return;
         };
-        self.laid.exchange(fill);
-        self.lines = self.laid.line_count();
+        item.reflow(self.engine, extents, &mut self.room);
     }
 }

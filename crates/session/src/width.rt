@@ -1,5 +1,6 @@
-//! A change of the width: all lines that change are filled anew before the first paragraph takes its own.
-ghost use Rattle.std.specs.Prelude.{◌≡◌, ◌<◌, ℕ, is_none, length, map, IfOk, IfErr};
+//! A change of the width: it is known of all lines that change where they start and how much of each is shown,
+//! before the first of them is written over those at the old width.
+ghost use Rattle.std.specs.Prelude.{◌≡◌, ◌<◌, ◌≤◌, ℕ, is_none, length, map, IfOk, IfErr};
 ghost use Rattle.std.specs.List.{All, AllZip};
 ghost use Rattle.lines.specs.Engine.{rules_of, FillsAtMost, SameRules};
 ghost use Rattle.lines.specs.Layouts.{is_line_within, IsLaidOut};
@@ -7,19 +8,19 @@ ghost use Rattle.session.specs.Sessions.{IsWholeLayout, Refills, RefillsNot};
 ghost use Rattle.session.specs.Kept.{text_of, BringsTo};
 
 use crate::edits::{Damage, EditFault};
-use crate::kept::Kept;
+use crate::kept::{Kept, Reflow};
 use bidi::paragraphs_are_pieces;
-use lines::{Engine, Fill, Laid, lines_are_few};
+use lines::{Engine, Extents, Laid, Room, lines_are_few};
 use std::alloc::{AllocError, Global};
 use store::ParagraphStore;
 
-// The lines of a paragraph at another width, or none where it keeps its own.
-fn fill_one(
+// The extents of the lines of a paragraph at another width, or none where it keeps its own.
+fn find_one(
     alloc: Global,
     engine: &mut Engine,
     laid: &Laid,
     width: u16,
-) -> Result<Option<Fill>, AllocError>
+) -> Result<Option<Extents>, AllocError>
     requires laid { IsLaidOut (rules_of engine.old) laid.now }
     requires width { 0 < width }
     ensures ok { IfOk result (BringsTo (rules_of engine.old) width laid.now) }
@@ -30,49 +31,63 @@ fn fill_one(
     if laid.keeps_lines(width) {
         return Ok(None);
     }
-    Ok(Some(engine.refill(alloc, laid, width)?))
+    Ok(Some(engine.extents(alloc, laid, width)?))
 }
 
 // The same of each of some paragraphs.
-fn fill_each(
+fn find_each(
     alloc: Global,
     engine: &mut Engine,
     list: &[&Kept],
     width: u16,
-) -> Result<Vec<Option<Fill>>, AllocError>
+) -> Result<Vec<Option<Extents>>, AllocError>
     requires laid { All (IsLaidOut (rules_of engine.old)) (map (λ kept. kept.now) list.now) }
     requires width { 0 < width }
-    ensures ok { IfOk result (λ fills.
-        AllZip (BringsTo (rules_of engine.old) width) (map (λ kept. kept.now) list.now) fills.items) }
+    ensures ok { IfOk result (λ parts.
+        AllZip (BringsTo (rules_of engine.old) width) (map (λ kept. kept.now) list.now) parts.items) }
     ensures rules { SameRules engine.old engine.new }
     ensures counts { FillsAtMost (length (text_of (map (λ kept. kept.now) list.now))) engine.old engine.new }
 {
-    let mut fills = Vec::with_capacity(alloc, list.len())?;
+    let mut parts = Vec::with_capacity(alloc, list.len())?;
     for kept in list {
-        fills.push(fill_one(alloc, engine, kept.laid(), width)?)?;
+        parts.push(find_one(alloc, engine, kept.laid(), width)?)?;
     }
-    Ok(fills)
+    Ok(parts)
 }
 
-// The same of each paragraph of a store.
-fn fill_all<S: ParagraphStore<Kept>>(
+// The most characters that one of some paragraphs has.
+fn longest(list: &[&Kept]) -> usize
+    ensures { All (λ kept. length kept.text ≤ result) (map (λ kept. kept.now) list.now) }
+{
+    let mut most = 0;
+    for kept in list {
+        most = most.max(kept.chars());
+    }
+    most
+}
+
+// The extents of all lines of a store at another width that change, and room to write them in.
+fn find_all<S: ParagraphStore<Kept>>(
     alloc: Global,
     engine: &mut Engine,
     store: &S,
     width: u16,
-) -> Result<Vec<Option<Fill>>, AllocError>
+) -> Result<(Vec<Option<Extents>>, Room), AllocError>
     requires laid { (old : ℕ)
         × IsWholeLayout (record { engine = engine.old; width = old; kept = S.items store.now }) }
     requires width { 0 < width }
-    ensures ok { IfOk result (λ fills.
-        AllZip (BringsTo (rules_of engine.old) width) (S.items store.now) fills.items) }
+    ensures ok { IfOk result (λ found.
+        AllZip (BringsTo (rules_of engine.old) width) (S.items store.now) found.0.items) }
+    ensures room { IfOk result (λ found. All (λ kept. length kept.text ≤ found.1) (S.items store.now)) }
     ensures rules { SameRules engine.old engine.new }
     ensures counts { FillsAtMost (length (text_of (S.items store.now))) engine.old engine.new }
 {
     // The law by which each paragraph is one.
     paragraphs_are_pieces();
     let list = store.list(alloc)?;
-    fill_each(alloc, engine, &list, width)
+    let room = engine.room(alloc, longest(&list))?;
+    let parts = find_each(alloc, engine, &list, width)?;
+    Ok((parts, room))
 }
 
 /// Brings all lines to another width. What can fail is done before anything is changed.
@@ -97,11 +112,11 @@ pub fn change_width<S: ParagraphStore<Kept>>(
     // The laws by which the new lines belong to the paragraphs, and their sum fits.
     paragraphs_are_pieces();
     lines_are_few();
-    let Ok(mut fills) = fill_all(alloc, engine, store, new_width) else {
+    let Ok((mut parts, room)) = find_all(alloc, engine, store, new_width) else {
         return Err(EditFault::NoMemory);
     };
     let (count, old_lines) = (store.count(), store.total_lines());
-    store.exchange_all(&mut fills);
+    store.exchange_all(&mut Reflow { engine, room }, &mut parts);
     *width = new_width;
     Ok(Damage {
         first_line: 0,

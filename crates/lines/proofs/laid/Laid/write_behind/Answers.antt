@@ -6,13 +6,13 @@ use Rattle.lines.proofs.laid.Laid.write_behind.Goals as goal
 pub returns-clause-ok : goal.returns-clause-ok
 returns-clause-ok g c =
     let l = c.self.inside in
-    let same : lines_bytes c.args.width c.args.print.now l.base c.deref.result.now l.lines ≡ layout_bytes c.args.width c.args.print.now c.args.self.now =
-    ap (λ xs. lines_bytes c.args.width c.args.print.now l.base xs l.lines) c.deref.ensures.value ∙ ap (layout_bytes c.args.width c.args.print.now) c.self.view_is in
+    let same : lines_bytes c.args.width c.args.print.now l.base c.deref.result.now l.lines.lines ≡ layout_bytes c.args.width c.args.print.now c.args.self.now =
+    ap (λ xs. lines_bytes c.args.width c.args.print.now l.base xs l.lines.lines) c.deref.ensures.value ∙ ap (layout_bytes c.args.width c.args.print.now) c.self.view_is in
     subst (λ bytes. IfOk c.write_behind.result (λ n. PassedOn bytes c.args.done (g.W.Sink.state c.args.writer.now) (g.W.Sink.state c.write_behind.new.writer) n)) same c.write_behind.ensures.ok
 
 pub returns-clause-err : goal.returns-clause-err
 returns-clause-err g c =
     let l = c.self.inside in
-    let same : lines_bytes c.args.width c.args.print.now l.base c.deref.result.now l.lines ≡ layout_bytes c.args.width c.args.print.now c.args.self.now =
-    ap (λ xs. lines_bytes c.args.width c.args.print.now l.base xs l.lines) c.deref.ensures.value ∙ ap (layout_bytes c.args.width c.args.print.now) c.self.view_is in
+    let same : lines_bytes c.args.width c.args.print.now l.base c.deref.result.now l.lines.lines ≡ layout_bytes c.args.width c.args.print.now c.args.self.now =
+    ap (λ xs. lines_bytes c.args.width c.args.print.now l.base xs l.lines.lines) c.deref.ensures.value ∙ ap (layout_bytes c.args.width c.args.print.now) c.self.view_is in
     subst (λ bytes. IfErr c.write_behind.result (λ fault. StoppedIn bytes c.args.done (g.W.Sink.state c.args.writer.now) (g.W.Sink.state c.write_behind.new.writer) fault.written)) same c.write_behind.ensures.err

@@ -1,6 +1,0 @@
-use Rattle.session.proofs.WidthLemmas.{AreFilled, values}
-use Rattle.session.proofs.width.fill_each.Given as goal
-
--- the lines of the paragraphs so far
-abbrev pub invariant-loop-kept : goal.invariant-loop-kept
-invariant-loop-kept l = AreFilled l.fn.engine l.width (values l.list) l.kept-index l.fills.items l.engine
