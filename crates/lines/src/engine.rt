@@ -224,6 +224,7 @@ impl Engine {
             × (extents.old ≡ extents_of (rules_of self.now) width laid.old.text) }
         requires room { length laid.old.text ≤ room.old }
         ensures laid { laid.new ≡ reflowed (rules_of self.now) laid.old extents.old }
+        ensures laid_out { IsLaidOut (rules_of self.now) laid.new }
         ensures extents { extents.new ≡ extents_in laid.old.lines }
         ensures room { room.new ≡ room.old }
     {

@@ -1,13 +1,14 @@
 //! Worked rows. The tests pass too where one allocation is refused, whichever it is.
-ghost use Rattle.std.specs.Prelude.{◌<◌, IfOk};
+ghost use Rattle.std.specs.Prelude.{◌≡◌, ◌<◌, IfOk, OnOk};
 ghost use Rattle.lines.specs.Engine.{rules_of, SameRules};
+ghost use Rattle.lines.specs.Extents.{extents_of};
 ghost use Rattle.lines.specs.Layouts.{AreLinesOf, IsLaidOut};
 
 mod marks;
 mod printed;
 mod written;
 
-use crate::{Engine, Fill, Laid, Options, PARAGRAPH_LIMIT, VisualLine};
+use crate::{Engine, Extents, Fill, Laid, Options, PARAGRAPH_LIMIT, VisualLine};
 use bidi::Base;
 use breaks::Mark;
 use std::alloc::Global;
@@ -193,6 +194,57 @@ fn paragraph_at_two_widths(rt: HostRuntime) -> Result<(), Fail> {
     assert!(rt; counts(&engine, 8, 16) && starts_at(&laid, &[0, 4]));
     laid.exchange(&mut fill);
     assert!(rt; counts(&engine, 8, 16) && starts_at(&laid, &[0, 3, 6]));
+    Ok(())
+}
+
+// The extents of its lines.
+fn extents(
+    alloc: Global,
+    engine: &mut Engine,
+    laid: &Laid,
+    width: u16,
+) -> Result<Extents, Fail>
+    requires laid { IsLaidOut (rules_of engine.old) laid.now }
+    requires width { 0 < width }
+    ensures extents { IfOk result (λ extents.
+        extents ≡ extents_of (rules_of engine.old) width laid.now.text) }
+    ensures rules { SameRules engine.old engine.new }
+{
+    match engine.extents(alloc, laid, width) {
+        Ok(extents) => Ok(extents),
+        Err(_) => Ok(engine.extents(alloc, laid, width)?),
+    }
+}
+
+// Writes its lines at another width over those that it has.
+fn reflow(alloc: Global, engine: &mut Engine, laid: &mut Laid, width: u16) -> Result<(), Fail>
+    requires laid { IsLaidOut (rules_of engine.old) laid.old }
+    requires width { 0 < width }
+    ensures laid { OnOk result (IsLaidOut (rules_of engine.new) laid.new) }
+    ensures rules { SameRules engine.old engine.new }
+{
+    let mut extents = extents(alloc, engine, laid, width)?;
+    let len = laid.text().len();
+    let mut room = match engine.room(alloc, len) {
+        Ok(room) => room,
+        Err(_) => engine.room(alloc, len)?,
+    };
+    engine.reflow(laid, &mut extents, &mut room);
+    Ok(())
+}
+
+#[test]
+fn paragraph_reflowed(rt: HostRuntime) -> Result<(), Fail> {
+    let alloc = rt.alloc();
+    let mut engine = engine(alloc, false)?;
+    let mut laid = lay_out(alloc, &mut engine, "\u{5D0}1 (\u{5D1}", 80)?;
+    assert!(rt; counts(&engine, 5, 5) && starts_at(&laid, &[0]));
+    reflow(alloc, &mut engine, &mut laid, 2)?;
+    assert!(rt; starts_at(&laid, &[0, 3]) && shows_lines(&laid, &SHOWN));
+    reflow(alloc, &mut engine, &mut laid, 1)?;
+    assert!(rt; starts_at(&laid, &[0, 1, 3, 4]));
+    reflow(alloc, &mut engine, &mut laid, 2)?;
+    assert!(rt; counts(&engine, 5, 20) && shows_lines(&laid, &SHOWN));
     Ok(())
 }
 
