@@ -69,6 +69,26 @@ all_each P [] h k d within = absurd (omega (arith, within))
 all_each P (x ∷ xs) h zero d within = h.0
 all_each P (x ∷ xs) h (suc k) d within = all_each P xs h.1 k d (omega (arith, within))
 
+each_push : {A : Type 0} (P : A → Type 0) (xs : List A) (x : A) → Each P xs → P x → Each P (xs ++ x ∷ [])
+each_push P [] x h this = (this, tt)
+each_push P (y ∷ xs) x h this = (h.0, each_push P xs x h.1 this)
+
+-- there is room for the characters of a paragraph
+abbrev pub HasRoom : ℕ → Layout → Type 0
+HasRoom room l = length l.text ≤ room
+
+more_room : (most more : ℕ) (kept : List Layout) → most ≤ more → Each (HasRoom most) kept → Each (HasRoom more) kept
+more_room most more [] order h = tt
+more_room most more (l ∷ kept) order h = (omega (arith, order, h.0), more_room most more kept order h.1)
+
+pub roomy_more : (kept : List Layout) (n most more : ℕ) (l : Layout) → n < length kept → get_or kept n l ≡ l → most ≤ more → length l.text ≤ more
+    → Each (HasRoom most) (take n kept) → Each (HasRoom more) (take (n + 1) kept)
+roomy_more kept n most more l below item order this so_far =
+    rw (take_more kept n l below, item) (each_push (HasRoom more) (take n kept) l (more_room most more (take n kept) order so_far) this)
+
+pub all_roomy : (kept : List Layout) (n most : ℕ) → length kept ≤ n → Each (HasRoom most) (take n kept) → All (HasRoom most) kept
+all_roomy kept n most last so_far = all_each (HasRoom most) kept (subst (Each (HasRoom most)) (take_all n kept last) so_far)
+
 -- an item that is read of a list of references
 abbrev pub values : List (Bor Layout) → List Layout
 values list = map (λ k. k.now) list
@@ -142,9 +162,6 @@ module _ (start now : Engine) (width : ℕ) (kept : List Layout) (n : ℕ) (fill
 abbrev pub fits_any : Writer → List Layout → List (Option Spans) → Type 0
 fits_any writer kept parts = AllZip (λ l part. IfSome part (CanBePut writer l)) kept parts
 
-abbrev pub HasRoom : ℕ → Layout → Type 0
-HasRoom room l = length l.text ≤ room
-
 each_all : {A : Type 0} (P : A → Type 0) (xs : List A) → All P xs → Each P xs
 each_all P [] h = tt
 each_all P (x ∷ xs) h = (h 0 x (omega arith), each_all P xs (λ k d within. h (suc k) d (omega (arith, within))))
@@ -162,9 +179,11 @@ each_fit rules width room (l ∷ kept) [] laid has made = absurd made
 each_fit rules width room (l ∷ kept) (part ∷ parts) laid has made =
     (one_fits rules width room l part laid.0 has.0 made.0, each_fit rules width room kept parts laid.1 has.1 made.1)
 
-pub all_fit : (rules : Rules) (width room : ℕ) (kept : List Layout) (parts : List (Option Spans)) → Each (IsLaidOut rules) kept → All (HasRoom room) kept
-    → AllZip (BringsTo rules width) kept parts → fits_any (record { rules = rules; room = room }) kept parts
-all_fit rules width room kept parts laid has made = each_fit rules width room kept parts laid (each_all (HasRoom room) kept has) made
+pub all_fit : (rules same : Rules) (width room : ℕ) (kept : List Layout) (parts : List (Option Spans)) → same ≡ rules → Each (IsLaidOut rules) kept → All (HasRoom room) kept
+    → AllZip (BringsTo rules width) kept parts → fits_any (record { rules = same; room = room }) kept parts
+all_fit rules same width room kept parts e laid has made =
+    subst (λ (r : Rules). fits_any (record { rules = r; room = room }) kept parts) (sym e)
+    (each_fit rules width room kept parts laid (each_all (HasRoom room) kept has) made)
 
 abbrev pub refilled_one : Rules → ℕ → Layout → Layout
 refilled_one rules width l = record l { lines = lines_of rules width l.text }
@@ -179,13 +198,20 @@ one_brought rules width room l (Some extents) laid brings =
     ap (reflowed rules l) brings
     ∙ subst (λ (m : Layout). reflowed rules m (extents_of rules width m.text) ≡ refilled_one rules width m) (sym laid.from_scratch) refl
 
-pub all_brought : (rules : Rules) (width room : ℕ) (kept : List Layout) (parts : List (Option Spans)) → Each (IsLaidOut rules) kept → AllZip (BringsTo rules width) kept parts
+each_brought : (rules : Rules) (width room : ℕ) (kept : List Layout) (parts : List (Option Spans)) → Each (IsLaidOut rules) kept → AllZip (BringsTo rules width) kept parts
     → pairwise {P = Layout} {Part = Option Spans} {A = Layout} (put_into (record { rules = rules; room = room })) kept parts ≡ refilled rules width kept
-all_brought rules width room [] [] laid made = refl
-all_brought rules width room [] (part ∷ parts) laid made = absurd made
-all_brought rules width room (l ∷ kept) [] laid made = absurd made
-all_brought rules width room (l ∷ kept) (part ∷ parts) laid made =
-    ap₂ (λ (x : Layout) (xs : List Layout). x ∷ xs) (one_brought rules width room l part laid.0 made.0) (all_brought rules width room kept parts laid.1 made.1)
+each_brought rules width room [] [] laid made = refl
+each_brought rules width room [] (part ∷ parts) laid made = absurd made
+each_brought rules width room (l ∷ kept) [] laid made = absurd made
+each_brought rules width room (l ∷ kept) (part ∷ parts) laid made =
+    ap₂ (λ (x : Layout) (xs : List Layout). x ∷ xs) (one_brought rules width room l part laid.0 made.0) (each_brought rules width room kept parts laid.1 made.1)
+
+pub all_brought : (rules same : Rules) (width room : ℕ) (kept : List Layout) (parts : List (Option Spans)) → same ≡ rules → Each (IsLaidOut rules) kept
+    → AllZip (BringsTo rules width) kept parts
+    → pairwise {P = Layout} {Part = Option Spans} {A = Layout} (put_into (record { rules = same; room = room })) kept parts ≡ refilled rules width kept
+all_brought rules same width room kept parts e laid made =
+    ap (λ (r : Rules). pairwise {P = Layout} {Part = Option Spans} {A = Layout} (put_into (record { rules = r; room = room })) kept parts) e
+    ∙ each_brought rules width room kept parts laid made
 
 refilled-pars : (rules : Rules) (old width : ℕ) (pars : List (List ℕ)) → refilled rules width (map (layout_of rules old) pars) ≡ map (layout_of rules width) pars
 refilled-pars rules old width [] = refl

@@ -12,7 +12,7 @@ use crate::kept::{Kept, Reflow};
 use bidi::paragraphs_are_pieces;
 use lines::{Engine, Extents, Laid, Room, lines_are_few};
 use std::alloc::{AllocError, Global};
-use store::ParagraphStore;
+use store::{Measured, ParagraphStore};
 
 // The extents of the lines of a paragraph at another width, or none where it keeps its own.
 fn find_one(

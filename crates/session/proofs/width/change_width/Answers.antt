@@ -6,18 +6,22 @@ use Rattle.session.proofs.width.change_width.Goals as goal
 pub exchange_all-requires-clause-fit : goal.exchange_all-requires-clause-fit
 exchange_all-requires-clause-fit g c =
     let kept = g.S.ParagraphStore.items c.args.store.now in
-    all_fit (rules_of c.args.engine.now) c.args.new_width kept c.in-Ok.fills.items
-    (each_laid_out c.paragraphs_are_pieces.ensures c.args.engine.now c.args.width.now kept c.requires) c.in-Ok.ensures.ok
+    let laid = each_laid_out c.paragraphs_are_pieces.ensures c.args.engine.now c.args.width.now kept c.requires in
+    all_fit (rules_of c.args.engine.now) (rules_of c.find_all.new.engine) c.args.new_width c.in-Ok.room kept c.in-Ok.parts.items c.find_all.ensures.rules laid
+    c.in-Ok.ensures.room c.in-Ok.ensures.ok
 
 pub exchange_all-requires-clause-lines_fit : goal.exchange_all-requires-clause-lines_fit
 exchange_all-requires-clause-lines_fit g c =
     let kept = g.S.ParagraphStore.items c.args.store.now in
-    rw (all_brought (rules_of c.args.engine.now) c.args.new_width kept c.in-Ok.fills.items c.in-Ok.ensures.ok)
+    let laid = each_laid_out c.paragraphs_are_pieces.ensures c.args.engine.now c.args.width.now kept c.requires in
+    rw (all_brought (rules_of c.args.engine.now) (rules_of c.find_all.new.engine) c.args.new_width c.in-Ok.room kept c.in-Ok.parts.items c.find_all.ensures.rules laid c.in-Ok.ensures.ok)
     (refilled_fit c.paragraphs_are_pieces.ensures c.lines_are_few.ensures c.args.engine.now c.args.width.now c.args.new_width kept c.requires c.if-new_width-eq0.false)
 
 pub returns-clause-ok : goal.returns-clause-ok
 returns-clause-ok g c =
     let kept = g.S.ParagraphStore.items c.args.store.now in
-    let made = c.exchange_all.ensures.items ∙ all_brought (rules_of c.args.engine.now) c.args.new_width kept c.in-Ok.fills.items c.in-Ok.ensures.ok in
+    let laid = each_laid_out c.paragraphs_are_pieces.ensures c.args.engine.now c.args.width.now kept c.requires in
+    let made = c.exchange_all.ensures.items
+    ∙ all_brought (rules_of c.args.engine.now) (rules_of c.find_all.new.engine) c.args.new_width c.in-Ok.room kept c.in-Ok.parts.items c.find_all.ensures.rules laid c.in-Ok.ensures.ok in
     Refills-after c.paragraphs_are_pieces.ensures c.lines_are_few.ensures c.args.engine.now c.args.width.now c.args.new_width kept c.requires c.if-new_width-eq0.false
-    c.fill_all.new.engine c.fill_all.ensures.rules c.fill_all.ensures.counts _ _ _ _ made c.count-count.ensures c.total_lines-old_lines.ensures c.total_lines.ensures
+    c.find_all.new.engine c.find_all.ensures.rules c.find_all.ensures.counts _ _ _ _ made c.count-count.ensures c.total_lines-old_lines.ensures c.total_lines.ensures

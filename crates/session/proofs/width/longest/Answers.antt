@@ -1,0 +1,16 @@
+use Rattle.std.proofs.Common.{◌≤◌, length, refl, arith}
+use Rattle.std.proofs.lemmas.Bool.Decides.{nat_tests}
+use Rattle.session.proofs.WidthLemmas.{all_listed, all_roomy, read_here, read_item, roomy_more, values}
+use Rattle.session.proofs.width.longest.Goals as goal
+
+pub loop-kept-preserved : goal.loop-kept-preserved
+loop-kept-preserved c =
+    let kept = c.kept-item.result in
+    let here = read_here c.args.list.now c.loop-kept.kept-index kept kept.now c.loop-kept-test.true c.kept-item.is refl in
+    let item = read_item c.args.list.now c.loop-kept.kept-index kept kept.now c.loop-kept-test.true c.kept-item.is refl in
+    let order : c.loop-kept.most ≤ c.max-most.result = grind (arith, nat_tests) in
+    let this : length kept.now.text ≤ c.max-most.result = grind (arith, nat_tests) in
+    roomy_more (values c.args.list.now) c.loop-kept.kept-index c.loop-kept.most c.max-most.result kept.now here item order this c.loop-kept.invariant
+
+pub returns : goal.returns
+returns c = all_roomy (values c.args.list.now) c.loop-kept.kept-index c.loop-kept.most (all_listed c.args.list.now c.loop-kept.kept-index c.loop-kept-test.false) c.loop-kept.invariant
