@@ -16,26 +16,27 @@ pub trait Measured {
         ensures { result ≡ lines self.now };
 }
 
-/// An item that exchanges a part of itself for another one.
-pub trait Exchange: Measured {
+/// What exchanges parts of items for others.
+pub trait Exchanger<P: Measured> {
     /// What is put in, and what is handed out.
     type Part;
 
     // Whether a part may be put in.
-    ghost fits: { Self → Self.Part → Type 0 };
+    ghost fits: { Self → P → Self.Part → Type 0 };
 
     // The item with the part in it, and the part that comes out.
-    ghost exchanged: { Self → Self.Part → Self };
+    ghost exchanged: { Self → P → Self.Part → P };
 
-    ghost handed_out: { Self → Self.Part → Self.Part };
+    ghost handed_out: { Self → P → Self.Part → Self.Part };
 
-    /// Puts a part that fits in, and hands the old one out.
-    fn exchange(&mut self, part: &mut Self::Part)
-        requires { fits self.old part.old }
-        ensures item { self.new ≡ exchanged self.old part.old }
-        ensures part { part.new ≡ handed_out self.old part.old };
+    /// Puts a part that fits into an item, and hands the old one out. It stays as it is itself.
+    fn exchange(&mut self, item: &mut P, part: &mut Self::Part)
+        requires { fits self.old item.old part.old }
+        ensures item { item.new ≡ exchanged self.old item.old part.old }
+        ensures part { part.new ≡ handed_out self.old item.old part.old }
+        ensures same { self.new ≡ self.old };
 
     // The number of characters stays.
-    ghost keeps_chars: { (item : Self) (part : Self.Part) → fits item part
-        → Self.chars (exchanged item part) ≡ Self.chars item };
+    ghost keeps_chars: { (by : Self) (item : P) (part : Self.Part) → fits by item part
+        → P.chars (exchanged by item part) ≡ P.chars item };
 }

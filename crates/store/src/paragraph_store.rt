@@ -7,13 +7,13 @@ ghost use Rattle.store.specs.Exchanging.{pairwise};
 ghost use Rattle.store.specs.Finding.{Finds};
 
 use crate::found::Found;
-use crate::measured::{Exchange, Measured};
+use crate::measured::{Exchanger, Measured};
 use std::alloc::{AllocError, Global};
 use std::ops::Range;
 
 /// A list of items, with the sums of their characters and of their lines. Only `replace` and `list`
 /// take memory. No call drops or copies an item.
-pub trait ParagraphStore<P: Exchange> {
+pub trait ParagraphStore<P: Measured> {
     // The items in order.
     ghost items: { Self → List P };
 
@@ -71,11 +71,13 @@ pub trait ParagraphStore<P: Exchange> {
         ensures back { IfErr result (λ e. e.0.items ≡ new_items.items) };
 
     /// Each item exchanges with its part, in order. There are as many parts as items, each fits its
-    /// item, and the new sum of lines fits a `usize`.
-    fn exchange_all(&mut self, parts: &mut Vec<P::Part>)
-        requires fit { AllZip P.fits (items self.old) parts.old.items }
-        requires lines_fit { sum_by P.lines (pairwise P.exchanged (items self.old) parts.old.items) < 2 ^ 64 }
-        ensures items { items self.new ≡ pairwise P.exchanged (items self.old) parts.old.items }
-        ensures parts { parts.new.items ≡ pairwise P.handed_out (items self.old) parts.old.items }
+    /// item, and the new sum of lines fits a `usize`. It takes no memory.
+    fn exchange_all<E: Exchanger<P>>(&mut self, by: &mut E, parts: &mut Vec<E::Part>)
+        requires fit { AllZip (E.fits by.old) (items self.old) parts.old.items }
+        requires lines_fit { sum_by P.lines
+            (pairwise (E.exchanged by.old) (items self.old) parts.old.items) < 2 ^ 64 }
+        ensures items { items self.new ≡ pairwise (E.exchanged by.old) (items self.old) parts.old.items }
+        ensures parts { parts.new.items ≡ pairwise (E.handed_out by.old) (items self.old) parts.old.items }
+        ensures same { by.new ≡ by.old }
         ensures chars { sum_by P.chars (items self.new) ≡ sum_by P.chars (items self.old) };
 }

@@ -7,7 +7,7 @@ ghost use Rattle.store.specs.Finding.{Finds, measure};
 ghost use Rattle.store.specs.Trees.{height, in_order, IsBalanced, nodes_to};
 
 use crate::found::{Found, Unit};
-use crate::measured::{Exchange, Measured};
+use crate::measured::{Exchanger, Measured};
 use crate::subtree::{Node, Subtree};
 
 impl<P: Measured> Subtree<P> {
@@ -82,15 +82,15 @@ impl<P: Measured> Subtree<P> {
             visits: found.visits + 1,
         }
     }
-}
 
-impl<P: Exchange> Subtree<P> {
     /// Each item exchanges with its part, in order.
-    pub(crate) fn exchange_all(&mut self, parts: &mut [P::Part])
-        requires fit { AllZip P.fits (in_order self.old) parts.old }
-        requires lines_fit { sum_by P.lines (pairwise P.exchanged (in_order self.old) parts.old) < 2 ^ 64 }
-        ensures items { in_order self.new ≡ pairwise P.exchanged (in_order self.old) parts.old }
-        ensures parts { parts.new ≡ pairwise P.handed_out (in_order self.old) parts.old }
+    pub(crate) fn exchange_all<E: Exchanger<P>>(&mut self, by: &mut E, parts: &mut [E::Part])
+        requires fit { AllZip (E.fits by.old) (in_order self.old) parts.old }
+        requires lines_fit { sum_by P.lines
+            (pairwise (E.exchanged by.old) (in_order self.old) parts.old) < 2 ^ 64 }
+        ensures items { in_order self.new ≡ pairwise (E.exchanged by.old) (in_order self.old) parts.old }
+        ensures parts { parts.new ≡ pairwise (E.handed_out by.old) (in_order self.old) parts.old }
+        ensures same { by.new ≡ by.old }
         ensures count { length (in_order self.new) ≡ length (in_order self.old) }
         ensures chars { sum_by P.chars (in_order self.new) ≡ sum_by P.chars (in_order self.old) }
         ensures height { height self.new ≡ height self.old }
@@ -103,9 +103,9 @@ impl<P: Exchange> Subtree<P> {
         let before = node.left.count();
         let (first, rest) = parts.split_at_mut(before);
         let (part, last) = rest.split_at_mut(1);
-        node.left.exchange_all(first);
-        node.item.exchange(&mut part[0]);
-        node.right.exchange_all(last);
+        node.left.exchange_all(by, first);
+        by.exchange(&mut node.item, &mut part[0]);
+        node.right.exchange_all(by, last);
         node.lines = node.left.lines() + node.item.lines() + node.right.lines();
     }
 }

@@ -1,14 +1,14 @@
 //! Both stores beside one another. The tests pass too where one allocation is refused, whichever it is: a
 //! `replace` that is refused leaves all as it was, and is made when it is asked for again.
-ghost use Rattle.std.specs.Prelude.{◌≡◌, ◌-◌, ◌^◌, ◌<◌, sum_by};
+ghost use Rattle.std.specs.Prelude.{◌≡◌, ◌+◌, ◌-◌, ◌^◌, ◌<◌, sum_by};
 
-use crate::{Exchange, Found, Measured, ParagraphStore, TreeStore, VecStore};
+use crate::{Exchanger, Found, Measured, ParagraphStore, TreeStore, VecStore};
 use std::alloc::{AllocError, Global};
 use std::ops::Range;
 use std::process::Abort;
 use std::test::Fail;
 
-// An item that is told by its name. Its part is a number of lines.
+// An item that is told by its name.
 #[derive(Clone, Copy, Debug, PartialEq, Eq)]
 struct Item {
     name: u32,
@@ -30,21 +30,28 @@ impl Measured for Item {
     }
 }
 
-impl Exchange for Item {
+// What gives an item a number of lines and some more.
+#[derive(Drop)]
+struct Adder {
+    more: usize,
+}
+
+impl Exchanger<Item> for Adder {
     type Part = usize;
 
     ghost use Rattle.std.specs.Prelude.{refl};
 
-    ghost fits = { λ _ _. Unit {0} };
+    ghost fits = { λ by _ lines. lines + by.more < 2 ^ 64 };
 
-    ghost exchanged = { λ item lines. record item { lines = lines } };
+    ghost exchanged = { λ by item lines. record item { lines = lines + by.more } };
 
-    ghost handed_out = { λ item _. item.lines };
+    ghost handed_out = { λ _ item _. item.lines };
 
-    ghost keeps_chars = { λ _ _ _. refl };
+    ghost keeps_chars = { λ _ _ _ _. refl };
 
-    fn exchange(&mut self, part: &mut usize) {
-        std::mem::swap(&mut self.lines, part);
+    fn exchange(&mut self, item: &mut Item, part: &mut usize) {
+        *part += self.more;
+        std::mem::swap(&mut item.lines, part);
     }
 }
 
@@ -83,23 +90,27 @@ fn replace<S: ParagraphStore<Item>>(
     store.replace(range, new_items)
 }
 
-// What each item gives by a part is small.
-fn sum(parts: &[usize]) -> usize
-    ensures { result < 2 ^ 64 - 1 → result ≡ sum_by (λ lines. lines) parts.now }
+// The sum of the lines that parts give with some more for each, as far as it fits.
+fn sum(parts: &[usize], more: usize) -> usize
+    ensures { result < 2 ^ 64 - 1 → result ≡ sum_by (λ lines. lines + more) parts.now }
 {
     let mut sum: usize = 0;
     for lines in parts {
-        sum = sum.saturating_add(*lines);
+        sum = sum.saturating_add(lines.saturating_add(more));
     }
     sum
 }
 
-#[tactic(auto, using(crate::proofs::TestLemmas::all_fit, crate::proofs::TestLemmas::sum_of_parts))]
 // The exchange, where there are as many parts as items and the new sum is small.
-fn exchange_all<S: ParagraphStore<Item>>(rt: &impl Abort, store: &mut S, parts: &mut Vec<usize>) {
-    assert!(rt; sum(parts) < LIMIT);
+fn exchange_all<S: ParagraphStore<Item>>(
+    rt: &impl Abort,
+    store: &mut S,
+    by: &mut Adder,
+    parts: &mut Vec<usize>,
+) {
+    assert!(rt; sum(parts, by.more) < LIMIT);
     assert_eq!(rt; parts.len(), store.count());
-    store.exchange_all(parts);
+    store.exchange_all(by, parts);
 }
 
 // A list with room, asked for twice.
@@ -328,12 +339,13 @@ fn exchanges_in_order(rt: HostRuntime) -> Result<(), Fail> {
         parts.push(index)?;
         others.push(index)?;
     }
-    exchange_all(&rt, &mut tree, &mut parts);
-    exchange_all(&rt, &mut list, &mut others);
+    let mut by = Adder { more: 7 };
+    exchange_all(&rt, &mut tree, &mut by, &mut parts);
+    exchange_all(&rt, &mut list, &mut by, &mut others);
     check_items(&rt, &tree, &list);
     check_finds(&rt, &tree, &list);
     for (index, lines) in others.iter().enumerate() {
-        assert_eq!(rt; tree.get(index).map(|item| item.lines), Some(index));
+        assert_eq!(rt; tree.get(index).map(|item| item.lines), Some(index + 7));
         assert_eq!(rt; *lines, (index + 1) % 3);
     }
     assert_eq!(rt; parts.as_slice(), others.as_slice());

@@ -10,7 +10,7 @@ ghost use Rattle.store.specs.Trees.{fewest_nodes, height, in_order, IsBalanced, 
 
 use crate::found::{Found, Unit};
 use crate::joining::{append, build, move_items, split};
-use crate::measured::{Exchange, Measured};
+use crate::measured::{Exchanger, Measured};
 use crate::paragraph_store::ParagraphStore;
 use crate::subtree::{Spare, Subtree};
 use std::alloc::{AllocError, Global};
@@ -84,7 +84,7 @@ fn take_down<P: Measured>(spares: Vec<Spare<P>>, items: &mut Vec<P>)
     spares.destroy_empty();
 }
 
-impl<P: Exchange> ParagraphStore<P> for TreeStore<P> {
+impl<P: Measured> ParagraphStore<P> for TreeStore<P> {
     ghost items = { in_order };
 
     fn new(alloc: Global) -> Self {
@@ -181,7 +181,7 @@ impl<P: Exchange> ParagraphStore<P> for TreeStore<P> {
         Ok(old)
     }
 
-    fn exchange_all(&mut self, parts: &mut Vec<P::Part>) {
-        self.root.exchange_all(parts);
+    fn exchange_all<E: Exchanger<P>>(&mut self, by: &mut E, parts: &mut Vec<E::Part>) {
+        self.root.exchange_all(by, parts);
     }
 }

@@ -8,7 +8,7 @@ ghost use Rattle.store.specs.Exchanging.{pairwise};
 ghost use Rattle.store.specs.Finding.{Finds, measure};
 
 use crate::found::{Found, Unit};
-use crate::measured::{Exchange, Measured};
+use crate::measured::{Exchanger, Measured};
 use crate::paragraph_store::ParagraphStore;
 use std::alloc::{AllocError, Global};
 use std::marker::Model;
@@ -127,18 +127,19 @@ fn put_in<P>(
 }
 
 // Each item exchanges with its part.
-fn exchange_each<P: Exchange>(items: &mut [P], parts: &mut [P::Part])
-    requires { AllZip P.fits items.old parts.old }
-    ensures items { items.new ≡ pairwise P.exchanged items.old parts.old }
-    ensures parts { parts.new ≡ pairwise P.handed_out items.old parts.old }
+fn exchange_each<P: Measured, E: Exchanger<P>>(by: &mut E, items: &mut [P], parts: &mut [E::Part])
+    requires { AllZip (E.fits by.old) items.old parts.old }
+    ensures items { items.new ≡ pairwise (E.exchanged by.old) items.old parts.old }
+    ensures parts { parts.new ≡ pairwise (E.handed_out by.old) items.old parts.old }
+    ensures same { by.new ≡ by.old }
     ensures chars { sum_by P.chars items.new ≡ sum_by P.chars items.old }
 {
     for index in 0..items.len() {
-        items[index].exchange(&mut parts[index]);
+        by.exchange(&mut items[index], &mut parts[index]);
     }
 }
 
-impl<P: Exchange> ParagraphStore<P> for VecStore<P> {
+impl<P: Measured> ParagraphStore<P> for VecStore<P> {
     ghost items = { λ s. s };
 
     fn new(alloc: Global) -> Self {
@@ -232,8 +233,8 @@ impl<P: Exchange> ParagraphStore<P> for VecStore<P> {
         Ok(old)
     }
 
-    fn exchange_all(&mut self, parts: &mut Vec<P::Part>) {
-        exchange_each(&mut self.items, parts);
+    fn exchange_all<E: Exchanger<P>>(&mut self, by: &mut E, parts: &mut Vec<E::Part>) {
+        exchange_each(by, &mut self.items, parts);
         let (_, lines) = sums(&self.items);
         self.lines = lines;
     }

@@ -1,4 +1,4 @@
-use Rattle.std.proofs.Common.{◌≡◌, ◌+◌, ◌<◌, ◌++◌, ◌∷◌, length, sum_by, refl, sym, ap, ◌∙◌, subst, arith, length-append, ◌^◌}
+use Rattle.std.proofs.Common.{◌≡◌, ◌+◌, ◌<◌, ◌++◌, ◌∷◌, length, get_or, sum_by, refl, sym, ap, ◌∙◌, subst, arith, length-append, ◌^◌}
 use Rattle.std.specs.List.{AllZip}
 use Rattle.store.specs.Exchanging.{pairwise}
 use Rattle.store.specs.Subtrees.{tree_of, tree_of_node, IsSummed, IsSound}
@@ -12,37 +12,39 @@ pub split_at_mut-first-requires : goal.split_at_mut-first-requires
 split_at_mut-first-requires g t c =
     let n = c.deref_mut-node.result.now in
     let tree_is = sym c.self.view_is ∙ ap tree_of c.in-Some.is ∙ ap tree_of_node (sym c.deref_mut-node.ensures.value) in
-    omega (arith, as_many g.P.Exchange.fits (in_order c.args.self.now) c.args.parts.now c.requires.fit, ap (λ tree. length (in_order tree)) tree_is, length-append (in_order n.left) (n.item ∷ in_order n.right), c.count-before.ensures)
+    omega (arith, as_many (g.E.Exchanger.fits c.args.by.now) (in_order c.args.self.now) c.args.parts.now c.requires.fit, ap (λ tree. length (in_order tree)) tree_is, length-append (in_order n.left) (n.item ∷ in_order n.right), c.count-before.ensures)
 
 pub split_at_mut-part-requires : goal.split_at_mut-part-requires
 split_at_mut-part-requires g t c =
     let n = c.deref_mut-node.result.now in
     let tree_is = sym c.self.view_is ∙ ap tree_of c.in-Some.is ∙ ap tree_of_node (sym c.deref_mut-node.ensures.value) in
-    omega (arith, as_many g.P.Exchange.fits (in_order c.args.self.now) c.args.parts.now c.requires.fit, ap (λ tree. length (in_order tree)) tree_is, length-append (in_order n.left) (n.item ∷ in_order n.right), c.count-before.ensures, c.split_at_mut-first.ensures.front_len, c.split_at_mut-first.ensures.back_len)
+    omega (arith, as_many (g.E.Exchanger.fits c.args.by.now) (in_order c.args.self.now) c.args.parts.now c.requires.fit, ap (λ tree. length (in_order tree)) tree_is, length-append (in_order n.left) (n.item ∷ in_order n.right), c.count-before.ensures, c.split_at_mut-first.ensures.front_len, c.split_at_mut-first.ensures.back_len)
 
 pub exchange_all-requires : goal.exchange_all-requires
 exchange_all-requires g t c =
+    let by = c.args.by.now in
     let n = c.deref_mut-node.result.now in
     let xs = in_order n.left in
     let ys = n.item ∷ in_order n.right in
     let qs = c.split_at_mut-first.result.0.now in
     let rs = c.split_at_mut-first.result.1.now in
     let tree_is = sym c.self.view_is ∙ ap tree_of c.in-Some.is ∙ ap tree_of_node (sym c.deref_mut-node.ensures.value) in
-    let whole = subst (λ zs. AllZip g.P.Exchange.fits zs c.args.parts.now) (ap in_order tree_is) c.requires.fit in
-    let parted = subst (λ ps. AllZip g.P.Exchange.fits (xs ++ ys) ps) c.split_at_mut-first.ensures.value whole in
+    let whole = subst (λ zs. AllZip (g.E.Exchanger.fits by) zs c.args.parts.now) (ap in_order tree_is) c.requires.fit in
+    let parted = subst (λ ps. AllZip (g.E.Exchanger.fits by) (xs ++ ys) ps) c.split_at_mut-first.ensures.value whole in
     let l : length qs ≡ length xs = omega (arith, c.split_at_mut-first.ensures.front_len, c.count-before.ensures) in
     let falls : length xs < t = omega (arith, c.decreases, ap (λ tree. length (in_order tree)) tree_is, length-append xs ys) in
-    let sum_is : sum_by g.P.Measured.lines (pairwise g.P.Exchange.exchanged (in_order c.args.self.now) c.args.parts.now)
-    ≡ sum_by g.P.Measured.lines (pairwise g.P.Exchange.exchanged xs qs) + sum_by g.P.Measured.lines (pairwise g.P.Exchange.exchanged ys rs) =
-    ap (λ zs. sum_by g.P.Measured.lines (pairwise g.P.Exchange.exchanged zs c.args.parts.now)) (ap in_order tree_is)
-    ∙ ap (λ zs. sum_by g.P.Measured.lines (pairwise g.P.Exchange.exchanged (xs ++ ys) zs)) c.split_at_mut-first.ensures.value
-    ∙ ap (sum_by g.P.Measured.lines) (pairwise-append g.P.Exchange.exchanged xs ys qs rs l)
-    ∙ sum_by-append g.P.Measured.lines (pairwise g.P.Exchange.exchanged xs qs) (pairwise g.P.Exchange.exchanged ys rs) in
-    let lines : sum_by g.P.Measured.lines (pairwise g.P.Exchange.exchanged xs qs) < 2 ^ 64 = omega (arith, sum_is, c.requires.lines_fit) in
-    λ κs h. (falls, (h.0, (h.1, (fit_front g.P.Exchange.fits xs ys qs rs l parted, lines))))
+    let sum_is : sum_by g.P.Measured.lines (pairwise (g.E.Exchanger.exchanged by) (in_order c.args.self.now) c.args.parts.now)
+    ≡ sum_by g.P.Measured.lines (pairwise (g.E.Exchanger.exchanged by) xs qs) + sum_by g.P.Measured.lines (pairwise (g.E.Exchanger.exchanged by) ys rs) =
+    ap (λ zs. sum_by g.P.Measured.lines (pairwise (g.E.Exchanger.exchanged by) zs c.args.parts.now)) (ap in_order tree_is)
+    ∙ ap (λ zs. sum_by g.P.Measured.lines (pairwise (g.E.Exchanger.exchanged by) (xs ++ ys) zs)) c.split_at_mut-first.ensures.value
+    ∙ ap (sum_by g.P.Measured.lines) (pairwise-append (g.E.Exchanger.exchanged by) xs ys qs rs l)
+    ∙ sum_by-append g.P.Measured.lines (pairwise (g.E.Exchanger.exchanged by) xs qs) (pairwise (g.E.Exchanger.exchanged by) ys rs) in
+    let lines : sum_by g.P.Measured.lines (pairwise (g.E.Exchanger.exchanged by) xs qs) < 2 ^ 64 = omega (arith, sum_is, c.requires.lines_fit) in
+    λ κs h. (falls, (h.0, (h.1.0, (h.1.1, (fit_front (g.E.Exchanger.fits by) xs ys qs rs l parted, lines)))))
 
 pub exchange-requires : goal.exchange-requires
 exchange-requires g t c =
+    let by = c.args.by.now in
     let n = c.deref_mut-node.result.now in
     let xs = in_order n.left in
     let ps = c.split_at_mut-first.result.0.now in
@@ -50,17 +52,20 @@ exchange-requires g t c =
     let one = c.split_at_mut-part.result.0.now in
     let qs = c.split_at_mut-part.result.1.now in
     let tree_is = sym c.self.view_is ∙ ap tree_of c.in-Some.is ∙ ap tree_of_node (sym c.deref_mut-node.ensures.value) in
-    let whole = subst (λ zs. AllZip g.P.Exchange.fits zs c.args.parts.now) (ap in_order tree_is) c.requires.fit in
-    let parted : AreParted g.P.Exchange.fits xs n.item (in_order n.right) ps rest one qs c.args.parts.now = record {
+    let whole = subst (λ zs. AllZip (g.E.Exchanger.fits by) zs c.args.parts.now) (ap in_order tree_is) c.requires.fit in
+    let parted : AreParted (g.E.Exchanger.fits by) xs n.item (in_order n.right) ps rest one qs c.args.parts.now = record {
       all_is = c.split_at_mut-first.ensures.value;
       rest_is = c.split_at_mut-part.ensures.value;
       front_len = c.split_at_mut-first.ensures.front_len ∙ c.count-before.ensures;
       one_len = c.split_at_mut-part.ensures.front_len;
     } in
-    fit_item g.P.Exchange.fits xs n.item (in_order n.right) ps rest one qs c.index-part-0.result parted whole
+    let d = c.index-part-0.result in
+    subst (λ other. g.E.Exchanger.fits other n.item (get_or one 0 d)) (sym c.exchange_all.ensures.same)
+    (fit_item (g.E.Exchanger.fits by) xs n.item (in_order n.right) ps rest one qs d parted whole)
 
 pub exchange_all-requires-2 : goal.exchange_all-requires-2
 exchange_all-requires-2 g t c =
+    let by = c.args.by.now in
     let n = c.deref_mut-node.result.now in
     let xs = in_order n.left in
     let ps = c.split_at_mut-first.result.0.now in
@@ -69,8 +74,8 @@ exchange_all-requires-2 g t c =
     let qs = c.split_at_mut-part.result.1.now in
     let d = c.index-part-0.result in
     let tree_is = sym c.self.view_is ∙ ap tree_of c.in-Some.is ∙ ap tree_of_node (sym c.deref_mut-node.ensures.value) in
-    let whole = subst (λ zs. AllZip g.P.Exchange.fits zs c.args.parts.now) (ap in_order tree_is) c.requires.fit in
-    let parted : AreParted g.P.Exchange.fits xs n.item (in_order n.right) ps rest one qs c.args.parts.now = record {
+    let whole = subst (λ zs. AllZip (g.E.Exchanger.fits by) zs c.args.parts.now) (ap in_order tree_is) c.requires.fit in
+    let parted : AreParted (g.E.Exchanger.fits by) xs n.item (in_order n.right) ps rest one qs c.args.parts.now = record {
       all_is = c.split_at_mut-first.ensures.value;
       rest_is = c.split_at_mut-part.ensures.value;
       front_len = c.split_at_mut-first.ensures.front_len ∙ c.count-before.ensures;
@@ -78,13 +83,18 @@ exchange_all-requires-2 g t c =
     } in
     let falls : length (in_order n.right) < t =
     omega (arith, c.decreases, ap (λ tree. length (in_order tree)) tree_is, length-append xs (n.item ∷ in_order n.right)) in
-    let sum_is = ap (λ zs. sum_by g.P.Measured.lines (pairwise g.P.Exchange.exchanged zs c.args.parts.now)) (ap in_order tree_is)
-    ∙ sum_parts g.P.Exchange.fits xs n.item (in_order n.right) ps rest one qs g.P.Measured.lines g.P.Exchange.exchanged d parted in
-    let lines : sum_by g.P.Measured.lines (pairwise g.P.Exchange.exchanged (in_order n.right) qs) < 2 ^ 64 = omega (arith, sum_is, c.requires.lines_fit) in
-    λ κs h. (falls, (h.0, (h.1, (fit_right g.P.Exchange.fits xs n.item (in_order n.right) ps rest one qs parted whole, lines))))
+    let sum_is = ap (λ zs. sum_by g.P.Measured.lines (pairwise (g.E.Exchanger.exchanged by) zs c.args.parts.now)) (ap in_order tree_is)
+    ∙ sum_parts (g.E.Exchanger.fits by) xs n.item (in_order n.right) ps rest one qs g.P.Measured.lines (g.E.Exchanger.exchanged by) d parted in
+    let lines : sum_by g.P.Measured.lines (pairwise (g.E.Exchanger.exchanged by) (in_order n.right) qs) < 2 ^ 64 = omega (arith, sum_is, c.requires.lines_fit) in
+    let fit = fit_right (g.E.Exchanger.fits by) xs n.item (in_order n.right) ps rest one qs parted whole in
+    let by_is = sym (c.exchange.ensures.same ∙ c.exchange_all.ensures.same) in
+    let fit_by = subst (λ other. AllZip (g.E.Exchanger.fits other) (in_order n.right) qs) by_is fit in
+    let lines_by = subst (λ other. sum_by g.P.Measured.lines (pairwise (g.E.Exchanger.exchanged other) (in_order n.right) qs) < 2 ^ 64) by_is lines in
+    λ κs h. (falls, (h.0, (h.1.0, (h.1.1, (fit_by, lines_by)))))
 
 pub returns-clause-items : goal.returns-clause-items
 returns-clause-items g t c =
+    let by = c.args.by.now in
     let n = c.deref_mut-node.result.now in
     let xs = in_order n.left in
     let ys = in_order n.right in
@@ -94,21 +104,22 @@ returns-clause-items g t c =
     let qs = c.split_at_mut-part.result.1.now in
     let d = c.index-part-0.result in
     let tree_is = sym c.self.view_is ∙ ap tree_of c.in-Some.is ∙ ap tree_of_node (sym c.deref_mut-node.ensures.value) in
-    let parted : AreParted g.P.Exchange.fits xs n.item ys ps rest one qs c.args.parts.now = record {
+    let parted : AreParted (g.E.Exchanger.fits by) xs n.item ys ps rest one qs c.args.parts.now = record {
       all_is = c.split_at_mut-first.ensures.value;
       rest_is = c.split_at_mut-part.ensures.value;
       front_len = c.split_at_mut-first.ensures.front_len ∙ c.count-before.ensures;
       one_len = c.split_at_mut-part.ensures.front_len;
     } in
-    let made = ap (λ zs. pairwise g.P.Exchange.exchanged zs c.args.parts.now) (ap in_order tree_is)
-    ∙ pairwise_parts g.P.Exchange.fits xs n.item ys ps rest one qs g.P.Exchange.exchanged d parted in
-    let items : in_order c.exchange_all.new.self ++ c.exchange.new.self ∷ in_order c.exchange_all-2.new.self
-    ≡ pairwise g.P.Exchange.exchanged (in_order c.args.self.now) c.args.parts.now =
-    rw (made, c.exchange_all.ensures.items, c.exchange.ensures.item, c.exchange_all-2.ensures.items) refl in
+    let made = ap (λ zs. pairwise (g.E.Exchanger.exchanged by) zs c.args.parts.now) (ap in_order tree_is)
+    ∙ pairwise_parts (g.E.Exchanger.fits by) xs n.item ys ps rest one qs (g.E.Exchanger.exchanged by) d parted in
+    let items : in_order c.exchange_all.new.self ++ c.exchange.new.item ∷ in_order c.exchange_all-2.new.self
+    ≡ pairwise (g.E.Exchanger.exchanged by) (in_order c.args.self.now) c.args.parts.now =
+    rw (made, c.exchange_all.ensures.items, c.exchange.ensures.item, c.exchange_all-2.ensures.items, c.exchange.ensures.same, c.exchange_all.ensures.same) refl in
     items
 
 pub returns-clause-parts : goal.returns-clause-parts
 returns-clause-parts g t c =
+    let by = c.args.by.now in
     let n = c.deref_mut-node.result.now in
     let xs = in_order n.left in
     let ys = in_order n.right in
@@ -118,23 +129,25 @@ returns-clause-parts g t c =
     let qs = c.split_at_mut-part.result.1.now in
     let d = c.index-part-0.result in
     let tree_is = sym c.self.view_is ∙ ap tree_of c.in-Some.is ∙ ap tree_of_node (sym c.deref_mut-node.ensures.value) in
-    let parted : AreParted g.P.Exchange.fits xs n.item ys ps rest one qs c.args.parts.now = record {
+    let parted : AreParted (g.E.Exchanger.fits by) xs n.item ys ps rest one qs c.args.parts.now = record {
       all_is = c.split_at_mut-first.ensures.value;
       rest_is = c.split_at_mut-part.ensures.value;
       front_len = c.split_at_mut-first.ensures.front_len ∙ c.count-before.ensures;
       one_len = c.split_at_mut-part.ensures.front_len;
     } in
-    let made = ap (λ zs. pairwise g.P.Exchange.handed_out zs c.args.parts.now) (ap in_order tree_is)
-    ∙ pairwise_parts g.P.Exchange.fits xs n.item ys ps rest one qs g.P.Exchange.handed_out d parted in
-    rw (made, set_one one c.exchange.new.part parted.one_len, c.exchange_all.ensures.parts, c.exchange.ensures.part, c.exchange_all-2.ensures.parts) refl
+    let made = ap (λ zs. pairwise (g.E.Exchanger.handed_out by) zs c.args.parts.now) (ap in_order tree_is)
+    ∙ pairwise_parts (g.E.Exchanger.fits by) xs n.item ys ps rest one qs (g.E.Exchanger.handed_out by) d parted in
+    rw (made, set_one one c.exchange.new.part parted.one_len, c.exchange_all.ensures.parts, c.exchange.ensures.part, c.exchange_all-2.ensures.parts, c.exchange.ensures.same, c.exchange_all.ensures.same) refl
 
 pub returns-clause-chars : goal.returns-clause-chars
 returns-clause-chars g t c =
+    let by = c.args.by.now in
     ap (sum_by g.P.Measured.chars) (returns-clause-items g t c)
-    ∙ same_sum g.P.Exchange.fits g.P.Measured.chars g.P.Exchange.exchanged g.met.P.Exchange.keeps_chars (in_order c.args.self.now) c.args.parts.now c.requires.fit
+    ∙ same_sum (g.E.Exchanger.fits by) g.P.Measured.chars (g.E.Exchanger.exchanged by) (g.met.E.Exchanger.keeps_chars by) (in_order c.args.self.now) c.args.parts.now c.requires.fit
 
 pub overflow_add-node : goal.overflow_add-node
 overflow_add-node g t c =
+    let by = c.args.by.now in
     let n = c.deref_mut-node.result.now in
     let xs = in_order n.left in
     let ys = in_order n.right in
@@ -144,29 +157,30 @@ overflow_add-node g t c =
     let qs = c.split_at_mut-part.result.1.now in
     let d = c.index-part-0.result in
     let tree_is = sym c.self.view_is ∙ ap tree_of c.in-Some.is ∙ ap tree_of_node (sym c.deref_mut-node.ensures.value) in
-    let parted : AreParted g.P.Exchange.fits xs n.item ys ps rest one qs c.args.parts.now = record {
+    let parted : AreParted (g.E.Exchanger.fits by) xs n.item ys ps rest one qs c.args.parts.now = record {
       all_is = c.split_at_mut-first.ensures.value;
       rest_is = c.split_at_mut-part.ensures.value;
       front_len = c.split_at_mut-first.ensures.front_len ∙ c.count-before.ensures;
       one_len = c.split_at_mut-part.ensures.front_len;
     } in
-    let made = ap (λ zs. pairwise g.P.Exchange.exchanged zs c.args.parts.now) (ap in_order tree_is)
-    ∙ pairwise_parts g.P.Exchange.fits xs n.item ys ps rest one qs g.P.Exchange.exchanged d parted in
-    let items : in_order c.exchange_all.new.self ++ c.exchange.new.self ∷ in_order c.exchange_all-2.new.self
-    ≡ pairwise g.P.Exchange.exchanged (in_order c.args.self.now) c.args.parts.now =
-    rw (made, c.exchange_all.ensures.items, c.exchange.ensures.item, c.exchange_all-2.ensures.items) refl in
-    let sum_is : sum_by g.P.Measured.lines (in_order c.exchange_all.new.self) + (g.P.Measured.lines c.exchange.new.self + sum_by g.P.Measured.lines (in_order c.exchange_all-2.new.self))
-    ≡ sum_by g.P.Measured.lines (pairwise g.P.Exchange.exchanged (in_order c.args.self.now) c.args.parts.now) =
+    let made = ap (λ zs. pairwise (g.E.Exchanger.exchanged by) zs c.args.parts.now) (ap in_order tree_is)
+    ∙ pairwise_parts (g.E.Exchanger.fits by) xs n.item ys ps rest one qs (g.E.Exchanger.exchanged by) d parted in
+    let items : in_order c.exchange_all.new.self ++ c.exchange.new.item ∷ in_order c.exchange_all-2.new.self
+    ≡ pairwise (g.E.Exchanger.exchanged by) (in_order c.args.self.now) c.args.parts.now =
+    rw (made, c.exchange_all.ensures.items, c.exchange.ensures.item, c.exchange_all-2.ensures.items, c.exchange.ensures.same, c.exchange_all.ensures.same) refl in
+    let sum_is : sum_by g.P.Measured.lines (in_order c.exchange_all.new.self) + (g.P.Measured.lines c.exchange.new.item + sum_by g.P.Measured.lines (in_order c.exchange_all-2.new.self))
+    ≡ sum_by g.P.Measured.lines (pairwise (g.E.Exchanger.exchanged by) (in_order c.args.self.now) c.args.parts.now) =
     omega (
       arith,
       ap (sum_by g.P.Measured.lines) items,
-      sum_by-append g.P.Measured.lines (in_order c.exchange_all.new.self) (c.exchange.new.self ∷ in_order c.exchange_all-2.new.self),
-      sum_by-cons g.P.Measured.lines c.exchange.new.self (in_order c.exchange_all-2.new.self),
+      sum_by-append g.P.Measured.lines (in_order c.exchange_all.new.self) (c.exchange.new.item ∷ in_order c.exchange_all-2.new.self),
+      sum_by-cons g.P.Measured.lines c.exchange.new.item (in_order c.exchange_all-2.new.self),
     ) in
     omega (arith, sum_is, c.requires.lines_fit, c.lines.ensures, c.lines-2.ensures)
 
 pub overflow_add-node-2 : goal.overflow_add-node-2
 overflow_add-node-2 g t c =
+    let by = c.args.by.now in
     let n = c.deref_mut-node.result.now in
     let xs = in_order n.left in
     let ys = in_order n.right in
@@ -176,29 +190,30 @@ overflow_add-node-2 g t c =
     let qs = c.split_at_mut-part.result.1.now in
     let d = c.index-part-0.result in
     let tree_is = sym c.self.view_is ∙ ap tree_of c.in-Some.is ∙ ap tree_of_node (sym c.deref_mut-node.ensures.value) in
-    let parted : AreParted g.P.Exchange.fits xs n.item ys ps rest one qs c.args.parts.now = record {
+    let parted : AreParted (g.E.Exchanger.fits by) xs n.item ys ps rest one qs c.args.parts.now = record {
       all_is = c.split_at_mut-first.ensures.value;
       rest_is = c.split_at_mut-part.ensures.value;
       front_len = c.split_at_mut-first.ensures.front_len ∙ c.count-before.ensures;
       one_len = c.split_at_mut-part.ensures.front_len;
     } in
-    let made = ap (λ zs. pairwise g.P.Exchange.exchanged zs c.args.parts.now) (ap in_order tree_is)
-    ∙ pairwise_parts g.P.Exchange.fits xs n.item ys ps rest one qs g.P.Exchange.exchanged d parted in
-    let items : in_order c.exchange_all.new.self ++ c.exchange.new.self ∷ in_order c.exchange_all-2.new.self
-    ≡ pairwise g.P.Exchange.exchanged (in_order c.args.self.now) c.args.parts.now =
-    rw (made, c.exchange_all.ensures.items, c.exchange.ensures.item, c.exchange_all-2.ensures.items) refl in
-    let sum_is : sum_by g.P.Measured.lines (in_order c.exchange_all.new.self) + (g.P.Measured.lines c.exchange.new.self + sum_by g.P.Measured.lines (in_order c.exchange_all-2.new.self))
-    ≡ sum_by g.P.Measured.lines (pairwise g.P.Exchange.exchanged (in_order c.args.self.now) c.args.parts.now) =
+    let made = ap (λ zs. pairwise (g.E.Exchanger.exchanged by) zs c.args.parts.now) (ap in_order tree_is)
+    ∙ pairwise_parts (g.E.Exchanger.fits by) xs n.item ys ps rest one qs (g.E.Exchanger.exchanged by) d parted in
+    let items : in_order c.exchange_all.new.self ++ c.exchange.new.item ∷ in_order c.exchange_all-2.new.self
+    ≡ pairwise (g.E.Exchanger.exchanged by) (in_order c.args.self.now) c.args.parts.now =
+    rw (made, c.exchange_all.ensures.items, c.exchange.ensures.item, c.exchange_all-2.ensures.items, c.exchange.ensures.same, c.exchange_all.ensures.same) refl in
+    let sum_is : sum_by g.P.Measured.lines (in_order c.exchange_all.new.self) + (g.P.Measured.lines c.exchange.new.item + sum_by g.P.Measured.lines (in_order c.exchange_all-2.new.self))
+    ≡ sum_by g.P.Measured.lines (pairwise (g.E.Exchanger.exchanged by) (in_order c.args.self.now) c.args.parts.now) =
     omega (
       arith,
       ap (sum_by g.P.Measured.lines) items,
-      sum_by-append g.P.Measured.lines (in_order c.exchange_all.new.self) (c.exchange.new.self ∷ in_order c.exchange_all-2.new.self),
-      sum_by-cons g.P.Measured.lines c.exchange.new.self (in_order c.exchange_all-2.new.self),
+      sum_by-append g.P.Measured.lines (in_order c.exchange_all.new.self) (c.exchange.new.item ∷ in_order c.exchange_all-2.new.self),
+      sum_by-cons g.P.Measured.lines c.exchange.new.item (in_order c.exchange_all-2.new.self),
     ) in
     omega (arith, sum_is, c.requires.lines_fit, c.lines.ensures, c.lines-2.ensures, c.lines-3.ensures)
 
 pub invariant_of-self-2 : goal.invariant_of-self-2
 invariant_of-self-2 g t c =
+    let by = c.args.by.now in
     let n = c.deref_mut-node.result.now in
     let xs = in_order n.left in
     let ys = in_order n.right in
@@ -208,13 +223,13 @@ invariant_of-self-2 g t c =
     let qs = c.split_at_mut-part.result.1.now in
     let d = c.index-part-0.result in
     let tree_is = sym c.self.view_is ∙ ap tree_of c.in-Some.is ∙ ap tree_of_node (sym c.deref_mut-node.ensures.value) in
-    let parted : AreParted g.P.Exchange.fits xs n.item ys ps rest one qs c.args.parts.now = record {
+    let parted : AreParted (g.E.Exchanger.fits by) xs n.item ys ps rest one qs c.args.parts.now = record {
       all_is = c.split_at_mut-first.ensures.value;
       rest_is = c.split_at_mut-part.ensures.value;
       front_len = c.split_at_mut-first.ensures.front_len ∙ c.count-before.ensures;
       one_len = c.split_at_mut-part.ensures.front_len;
     } in
-    let whole = subst (λ zs. AllZip g.P.Exchange.fits zs c.args.parts.now) (ap in_order tree_is) c.requires.fit in
+    let whole = subst (λ zs. AllZip (g.E.Exchanger.fits by) zs c.args.parts.now) (ap in_order tree_is) c.requires.fit in
     let summed : IsSummed g.P.Measured.chars g.P.Measured.lines n =
     subst (IsSummed g.P.Measured.chars g.P.Measured.lines) (sym c.deref_mut-node.ensures.value) (subst (IsSound g.P.Measured.chars g.P.Measured.lines) c.in-Some.is c.self.invariant) in
     let l : IsLike g.P.Measured.chars n.left c.exchange_all.new.self = record {
@@ -229,5 +244,7 @@ invariant_of-self-2 g t c =
       count_is = c.exchange_all-2.ensures.count;
       chars_is = c.exchange_all-2.ensures.chars;
     } in
-    let item_is = ap g.P.Measured.chars c.exchange.ensures.item ∙ g.met.P.Exchange.keeps_chars n.item _ (fit_item g.P.Exchange.fits xs n.item ys ps rest one qs d parted whole) in
+    let item_is = ap g.P.Measured.chars c.exchange.ensures.item
+    ∙ ap (λ other. g.P.Measured.chars (g.E.Exchanger.exchanged other n.item (get_or one 0 d))) c.exchange_all.ensures.same
+    ∙ g.met.E.Exchanger.keeps_chars by n.item _ (fit_item (g.E.Exchanger.fits by) xs n.item ys ps rest one qs d parted whole) in
     summed_again g.P.Measured.chars g.P.Measured.lines n _ summed l r item_is refl refl refl (omega (arith, c.lines.ensures, c.lines-2.ensures, c.lines-3.ensures))
