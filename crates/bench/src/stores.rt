@@ -7,7 +7,7 @@ use anyhow::{Result, bail};
 use std::alloc::{AllocError, Global};
 use std::ops::Range;
 use std::time::Instant;
-use store::{Exchange, Measured, ParagraphStore, TreeStore, VecStore};
+use store::{Measured, ParagraphStore, TreeStore, VecStore};
 
 // A paragraph of at most one character and line, with some room.
 #[derive(Clone, Copy)]
@@ -28,22 +28,6 @@ impl Measured for Small {
     fn lines(&self) -> usize {
         if self.has_text { 1 } else { 0 }
     }
-}
-
-impl Exchange for Small {
-    type Part = ();
-
-    ghost use Rattle.std.specs.Prelude.{refl};
-
-    ghost fits = { λ _ _. Unit {0} };
-
-    ghost exchanged = { λ item _. item };
-
-    ghost handed_out = { λ _ part. part };
-
-    ghost keeps_chars = { λ _ _ _. refl };
-
-    fn exchange(&mut self, _part: &mut ()) {}
 }
 
 // No store has more paragraphs.
