@@ -84,10 +84,14 @@ const WIDE: u16 = 80;
 /// `tree` to the narrow one, and back. All but the first are the least of some runs.
 pub fn change_width(rt: &HostRuntime, folder: &str, kind: &str, file: &str) -> Result<()> {
     let text = fs::read_to_string(rt, file)?;
-    let (laying_out, filling) = lay_out_and_fill(rt, folder, text.as_str())?;
+    change_width_of(rt, folder, kind, text.as_str())
+}
+
+fn change_width_of(rt: &HostRuntime, folder: &str, kind: &str, text: &str) -> Result<()> {
+    let (laying_out, filling) = lay_out_and_fill(rt, folder, text)?;
     let changing = match kind {
-        "list" => change::<VecStore<Kept>>(rt, folder, text.as_str())?,
-        "tree" => change::<TreeStore<Kept>>(rt, folder, text.as_str())?,
+        "list" => change::<VecStore<Kept>>(rt, folder, text)?,
+        "tree" => change::<TreeStore<Kept>>(rt, folder, text)?,
         _ => bail!("a list or a tree?"),
     };
     println!(rt;
