@@ -7,20 +7,34 @@ use lines::{Engine, Laid, Options};
 use std::alloc::Global;
 use std::io;
 use std::io::{BufRead, BufReader, BufWriter, Write};
+use ucd::Tables;
 
 /// Prints the marks of the positions of each paragraph, one behind each of its characters: `x` where no line
 /// ends, `/` where one may and `!` where one must.
 pub fn marks_of(rt: &HostRuntime, folder: &str) -> Result<()> {
     let tables = tables(rt, folder)?;
     let mut output = BufWriter::new(rt.alloc(), io::writer(rt))?;
+    write_all_marks(rt, &tables, &mut output)
+}
+
+fn write_all_marks<W: Write>(rt: &HostRuntime, tables: &Tables, output: &mut W) -> Result<()> {
     for line in BufReader::new(rt.alloc(), rt.reader())?.lines(rt.alloc()) {
-        let text = characters(rt.alloc(), line?.as_str())?;
-        for mark in &marks(rt.alloc(), &tables, &text, true)? {
-            write!(output, "{}", sign(*mark))?;
-        }
-        writeln!(output)?;
+        write_marks(rt.alloc(), tables, line?.as_str(), output)?;
     }
     Ok(output.flush()?)
+}
+
+fn write_marks<W: Write>(alloc: Global, tables: &Tables, line: &str, output: &mut W) -> Result<()> {
+    let text = characters(alloc, line)?;
+    let marks = marks(alloc, tables, &text, true)?;
+    write_signs(output, &marks)
+}
+
+fn write_signs<W: Write>(output: &mut W, marks: &[Mark]) -> Result<()> {
+    for mark in marks {
+        write!(output, "{}", sign(*mark))?;
+    }
+    Ok(writeln!(output)?)
 }
 
 fn sign(mark: Mark) -> char {
@@ -37,12 +51,25 @@ fn sign(mark: Mark) -> char {
 pub fn lines_of(rt: &HostRuntime, folder: &str, direction: &str) -> Result<()> {
     let mut engine = engine(rt, folder, direction)?;
     let mut output = BufWriter::new(rt.alloc(), io::writer(rt))?;
+    write_lines(rt, &mut engine, &mut output)
+}
+
+fn write_lines<W: Write>(rt: &HostRuntime, engine: &mut Engine, output: &mut W) -> Result<()> {
     for line in BufReader::new(rt.alloc(), rt.reader())?.lines(rt.alloc()) {
-        let text = characters(rt.alloc(), line?.as_str())?;
-        let laid = lay_out(rt.alloc(), &mut engine, text, u16::MAX)?;
-        write_line(&mut output, &laid)?;
+        write_laid(rt.alloc(), engine, line?.as_str(), output)?;
     }
     Ok(output.flush()?)
+}
+
+fn write_laid<W: Write>(
+    alloc: Global,
+    engine: &mut Engine,
+    line: &str,
+    output: &mut W,
+) -> Result<()> {
+    let text = characters(alloc, line)?;
+    let laid = lay_out(alloc, engine, text, u16::MAX)?;
+    write_line(output, &laid)
 }
 
 fn engine(rt: &HostRuntime, folder: &str, direction: &str) -> Result<Engine> {
@@ -65,13 +92,17 @@ fn engine(rt: &HostRuntime, folder: &str, direction: &str) -> Result<Engine> {
 fn characters(alloc: Global, line: &str) -> Result<Vec<char>> {
     let mut text = Vec::new(alloc);
     for word in line.split_whitespace() {
-        let code = u32::from_str_radix(word, 16)?;
-        let Some(c) = char::from_u32(code) else {
-            bail!("{word} is no character");
-        };
-        text.push(c)?;
+        text.push(character(word)?)?;
     }
     Ok(text)
+}
+
+fn character(word: &str) -> Result<char> {
+    let code = u32::from_str_radix(word, 16)?;
+    match char::from_u32(code) {
+        Some(c) => Ok(c),
+        None => bail!("{word} is no character"),
+    }
 }
 
 fn write_line<W: Write>(output: &mut W, laid: &Laid) -> Result<()> {
@@ -82,11 +113,19 @@ fn write_line<W: Write>(output: &mut W, laid: &Laid) -> Result<()> {
         bail!("that is more than one line");
     }
     write!(output, "{};", line.base())?;
-    for level in line.levels() {
+    write_levels(output, line.levels())?;
+    write_places(output, line.vtol())
+}
+
+fn write_levels<W: Write>(output: &mut W, levels: &[u8]) -> Result<()> {
+    for level in levels {
         write!(output, " {level}")?;
     }
-    write!(output, ";")?;
-    for place in line.vtol() {
+    Ok(write!(output, ";")?)
+}
+
+fn write_places<W: Write>(output: &mut W, places: &[u32]) -> Result<()> {
+    for place in places {
         write!(output, " {place}")?;
     }
     Ok(writeln!(output)?)

@@ -35,10 +35,18 @@ fn show<S: ParagraphStore<Kept> + Drop>(
     paragraphs: usize,
     edits: usize,
 ) -> Result<()> {
-    let tables = Tables::read(rt.alloc(), &FILES)?;
-    let text = text_of(rt.alloc(), paragraphs)?;
-    let mut session: Session<S> = open(rt.alloc(), tables, text.as_str())?;
+    let mut session: Session<S> = open_on(rt.alloc(), paragraphs)?;
     make_edits(&mut session, edits);
+    show_counts(rt, &session)
+}
+
+fn open_on<S: ParagraphStore<Kept> + Drop>(alloc: Global, paragraphs: usize) -> Result<Session<S>> {
+    let text = text_of(alloc, paragraphs)?;
+    let tables = Tables::read(alloc, &FILES)?;
+    open(alloc, tables, text.as_str())
+}
+
+fn show_counts<S: ParagraphStore<Kept>>(rt: &HostRuntime, session: &Session<S>) -> Result<()> {
     println!(rt;
         "{} paragraphs, {} lines, {} characters, {} analysed",
         session.paragraph_count(),
@@ -75,12 +83,15 @@ pub fn open<S: ParagraphStore<Kept> + Drop>(
 pub fn make_edits<S: ParagraphStore<Kept>>(session: &mut Session<S>, edits: usize) {
     let mut numbers = Numbers::new();
     for _ in 0..edits {
-        let number = numbers.next();
-        let pos = (number >> 33) as usize % session.char_count().max(1);
-        let _ = match (number >> 20) % 80 {
-            0 => session.insert(pos, "a\n"),
-            1..=39 => session.insert(pos, "ab"),
-            _ => session.delete(pos, 2),
-        };
+        make_edit(session, numbers.next());
     }
+}
+
+fn make_edit<S: ParagraphStore<Kept>>(session: &mut Session<S>, number: u64) {
+    let pos = (number >> 33) as usize % session.char_count().max(1);
+    let _ = match (number >> 20) % 80 {
+        0 => session.insert(pos, "a\n"),
+        1..=39 => session.insert(pos, "ab"),
+        _ => session.delete(pos, 2),
+    };
 }

@@ -89,12 +89,29 @@ const CASES: [Case; 12] = [
 /// nanoseconds, laid out and filled again, how many lines it has, the width, and its name.
 pub fn run(rt: &HostRuntime, folder: &str, characters: usize) -> Result<()> {
     let mut engine = Engine::new(tables(rt, folder)?, Options::default());
-    for case in &CASES {
-        let (time, laid) = lay_out(rt, &mut engine, case.words, case.width, characters)?;
-        let again = refill(rt, &mut engine, &laid, case.width)?;
-        let lines = laid.line_count();
-        println!(rt; "{time} {again} {lines} {} {}", case.width, case.name)?;
+    show_cases(rt, &mut engine, &CASES, characters)
+}
+
+fn show_cases(
+    rt: &HostRuntime,
+    engine: &mut Engine,
+    cases: &[Case],
+    characters: usize,
+) -> Result<()> {
+    for case in cases {
+        show_case(rt, engine, case, characters)?;
     }
+    Ok(())
+}
+
+fn show_case(rt: &HostRuntime, engine: &mut Engine, case: &Case, characters: usize) -> Result<()> {
+    let (time, laid) = lay_out(rt, engine, case.words, case.width, characters)?;
+    let again = refill(rt, engine, &laid, case.width)?;
+    show(rt, time, again, laid.line_count(), case)
+}
+
+fn show(rt: &HostRuntime, time: u64, again: u64, lines: usize, case: &Case) -> Result<()> {
+    println!(rt; "{time} {again} {lines} {} {}", case.width, case.name)?;
     Ok(())
 }
 
@@ -128,6 +145,17 @@ fn lay_out_once(
     ensures { IfOk result (λ r. IsLaidOut (rules_of engine.new) r.1) }
 {
     let text = text_of(rt.alloc(), words, characters)?;
+    lay_out_text(rt, engine, text, width)
+}
+
+fn lay_out_text(
+    rt: &HostRuntime,
+    engine: &mut Engine,
+    text: Vec<char>,
+    width: u16,
+) -> Result<(u64, Laid)>
+    ensures { IfOk result (λ r. IsLaidOut (rules_of engine.new) r.1) }
+{
     let is_long = text.len() > PARAGRAPH_LIMIT;
     if text.is_empty() || is_long || width == 0 || engine.first_cut(&text).is_some() {
         bail!("that is no paragraph");

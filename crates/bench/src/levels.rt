@@ -119,9 +119,32 @@ pub fn run(rt: &HostRuntime, folder: &str, characters: usize) -> Result<()> {
 /// time in nanoseconds, how many lines it has, and its name.
 pub fn lay_out_each(rt: &HostRuntime, folder: &str, characters: usize) -> Result<()> {
     let mut engine = Engine::new(tables(rt, folder)?, Options::default());
-    for kind in &KINDS {
-        let (time, laid) = lay_out(rt, &mut engine, kind.words, 80, characters)?;
-        println!(rt; "{time} {} {}", laid.line_count(), kind.name)?;
+    show_layouts(rt, &mut engine, &KINDS, characters)
+}
+
+fn show_layouts(
+    rt: &HostRuntime,
+    engine: &mut Engine,
+    kinds: &[Kind],
+    characters: usize,
+) -> Result<()> {
+    for kind in kinds {
+        show_layout(rt, engine, kind, characters)?;
     }
+    Ok(())
+}
+
+fn show_layout(
+    rt: &HostRuntime,
+    engine: &mut Engine,
+    kind: &Kind,
+    characters: usize,
+) -> Result<()> {
+    let (time, laid) = lay_out(rt, engine, kind.words, 80, characters)?;
+    show(rt, time, laid.line_count(), kind.name)
+}
+
+fn show(rt: &HostRuntime, time: u64, lines: usize, name: &str) -> Result<()> {
+    println!(rt; "{time} {lines} {name}")?;
     Ok(())
 }

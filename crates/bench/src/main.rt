@@ -30,6 +30,7 @@ mod stores;
 
 use anyhow::{Result, bail};
 use std::env;
+use std::env::Args;
 
 fn main(rt: HostRuntime) -> Result<()> {
     let mut words = env::args(&rt)?;
@@ -37,70 +38,81 @@ fn main(rt: HostRuntime) -> Result<()> {
     let Some(subject) = words.next() else {
         bail!("what is to be measured?");
     };
-    match subject.as_str() {
-        "edits" => {
-            let Some(kind) = words.next() else {
-                bail!("a list or a tree?");
-            };
-            let paragraphs = number(words.next());
-            let edits = number(words.next());
-            edits::run(&rt, kind.as_str(), paragraphs, edits)
-        }
-        "store" => {
-            let Some(kind) = words.next() else {
-                bail!("a list or a tree?");
-            };
-            let paragraphs = number(words.next());
-            let times = number(words.next());
-            stores::run(&rt, kind.as_str(), paragraphs, times)
-        }
-        "session" => {
-            let Some(folder) = words.next() else {
-                bail!("where are the table files?");
-            };
-            let Some(kind) = words.next() else {
-                bail!("a list or a tree?");
-            };
-            let paragraphs = number(words.next());
-            let edits = number(words.next());
-            sessions::run(&rt, folder.as_str(), kind.as_str(), paragraphs, edits)
-        }
-        "width" => {
-            let Some(folder) = words.next() else {
-                bail!("where are the table files?");
-            };
-            match (words.next(), words.next()) {
-                (Some(kind), Some(file)) => {
-                    sessions::change_width(&rt, folder.as_str(), kind.as_str(), file.as_str())
-                }
-                _ => bail!("a list or a tree, of which text?"),
-            }
-        }
-        "marks-of" | "lines-of" => {
-            let Some(folder) = words.next() else {
-                bail!("where are the table files?");
-            };
-            match (subject.as_str(), words.next()) {
-                ("lines-of", Some(direction)) => {
-                    conformance::lines_of(&rt, folder.as_str(), direction.as_str())
-                }
-                ("lines-of", None) => bail!("in which direction?"),
-                _ => conformance::marks_of(&rt, folder.as_str()),
-            }
-        }
-        "levels" | "layouts" | "marks" | "fill" => {
-            let Some(folder) = words.next() else {
-                bail!("where are the table files?");
-            };
-            let characters = number(words.next());
-            match subject.as_str() {
-                "levels" => levels::run(&rt, folder.as_str(), characters),
-                "layouts" => levels::lay_out_each(&rt, folder.as_str(), characters),
-                "marks" => marks::run(&rt, folder.as_str(), characters),
-                _ => fill::run(&rt, folder.as_str(), characters),
-            }
-        }
+    run(&rt, subject.as_str(), &mut words)
+}
+
+// What the words behind the subject ask for. Functions here hold little where one of many calls may fail,
+// since all that is held there makes the proof longer.
+fn run(rt: &HostRuntime, subject: &str, words: &mut Args) -> Result<()> {
+    match subject {
+        "edits" | "store" => run_kind(rt, subject, words),
+        "session" => run_sessions(rt, words),
+        "width" => run_width(rt, words),
+        "marks-of" | "lines-of" => run_conformance(rt, subject, words),
+        "levels" | "layouts" | "marks" | "fill" => run_characters(rt, subject, words),
         _ => bail!("that can't be measured"),
+    }
+}
+
+fn run_kind(rt: &HostRuntime, subject: &str, words: &mut Args) -> Result<()> {
+    let Some(kind) = words.next() else {
+        bail!("a list or a tree?");
+    };
+    let paragraphs = number(words.next());
+    let count = number(words.next());
+    if subject == "edits" {
+        edits::run(rt, kind.as_str(), paragraphs, count)
+    } else {
+        stores::run(rt, kind.as_str(), paragraphs, count)
+    }
+}
+
+fn folder(words: &mut Args) -> Result<String> {
+    match words.next() {
+        Some(folder) => Ok(folder),
+        None => bail!("where are the table files?"),
+    }
+}
+
+fn run_sessions(rt: &HostRuntime, words: &mut Args) -> Result<()> {
+    let folder = folder(words)?;
+    let Some(kind) = words.next() else {
+        bail!("a list or a tree?");
+    };
+    let paragraphs = number(words.next());
+    let edits = number(words.next());
+    sessions::run(rt, folder.as_str(), kind.as_str(), paragraphs, edits)
+}
+
+fn run_width(rt: &HostRuntime, words: &mut Args) -> Result<()> {
+    let folder = folder(words)?;
+    match (words.next(), words.next()) {
+        (Some(kind), Some(file)) => {
+            sessions::change_width(rt, folder.as_str(), kind.as_str(), file.as_str())
+        }
+        _ => bail!("a list or a tree, of which text?"),
+    }
+}
+
+fn run_conformance(rt: &HostRuntime, subject: &str, words: &mut Args) -> Result<()> {
+    let folder = folder(words)?;
+    match (subject, words.next()) {
+        ("lines-of", Some(direction)) => {
+            conformance::lines_of(rt, folder.as_str(), direction.as_str())
+        }
+        ("lines-of", None) => bail!("in which direction?"),
+        _ => conformance::marks_of(rt, folder.as_str()),
+    }
+}
+
+fn run_characters(rt: &HostRuntime, subject: &str, words: &mut Args) -> Result<()> {
+    let folder = folder(words)?;
+    let characters = number(words.next());
+    match subject {
+        "levels" => levels::run(rt, folder.as_str(), characters),
+        "layouts" => levels::lay_out_each(rt, folder.as_str(), characters),
+        "marks" => marks::run(rt, folder.as_str(), characters),
+        _ => fill::run(rt, folder.as_str(), characters),
     }
 }
 

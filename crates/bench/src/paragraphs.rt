@@ -39,11 +39,32 @@ pub fn measure_all(
     characters: usize,
 ) -> Result<()> {
     let tables = tables(rt, folder)?;
+    measure_kinds(rt, subject, &tables, kinds, characters)
+}
+
+fn measure_kinds(
+    rt: &HostRuntime,
+    subject: Subject,
+    tables: &Tables,
+    kinds: &[Kind],
+    characters: usize,
+) -> Result<()> {
     for kind in kinds {
         let text = text_of(rt.alloc(), kind.words, characters)?;
-        let (time, found) = measure(rt, subject, &tables, &text)?;
-        println!(rt; "{time} {found} {}", kind.name)?;
+        show(rt, subject, tables, &text, kind.name)?;
     }
+    Ok(())
+}
+
+fn show(
+    rt: &HostRuntime,
+    subject: Subject,
+    tables: &Tables,
+    text: &[char],
+    name: &str,
+) -> Result<()> {
+    let (time, found) = measure(rt, subject, tables, text)?;
+    println!(rt; "{time} {found} {name}")?;
     Ok(())
 }
 
@@ -54,23 +75,37 @@ fn table_file(rt: &HostRuntime, folder: &str, name: &str) -> Result<Vec<u8>> {
 
 /// The tables of the files of a folder.
 pub fn tables(rt: &HostRuntime, folder: &str) -> Result<Tables> {
-    let bidi_class = table_file(rt, folder, FILE_NAMES[0])?;
-    let bidi_brackets = table_file(rt, folder, FILE_NAMES[1])?;
-    let bidi_mirroring = table_file(rt, folder, FILE_NAMES[2])?;
-    let line_break = table_file(rt, folder, FILE_NAMES[3])?;
-    let general_category = table_file(rt, folder, FILE_NAMES[4])?;
-    let east_asian_width = table_file(rt, folder, FILE_NAMES[5])?;
-    let emoji_data = table_file(rt, folder, FILE_NAMES[6])?;
-    let files = UcdFiles {
-        bidi_class: &bidi_class,
-        bidi_brackets: &bidi_brackets,
-        bidi_mirroring: &bidi_mirroring,
-        line_break: &line_break,
-        general_category: &general_category,
-        east_asian_width: &east_asian_width,
-        emoji_data: &emoji_data,
+    let mut files = Vec::new(rt.alloc());
+    for name in &FILE_NAMES {
+        files.push(table_file(rt, folder, name)?)?;
+    }
+    read_tables(rt.alloc(), &files)
+}
+
+// The tables of the files in the order of their names.
+fn read_tables(alloc: Global, files: &[Vec<u8>]) -> Result<Tables> {
+    let [
+        bidi_class,
+        bidi_brackets,
+        bidi_mirroring,
+        line_break,
+        general_category,
+        east_asian_width,
+        emoji_data,
+    ] = files
+    else {
+        bail!("there are seven table files");
     };
-    Ok(Tables::read(rt.alloc(), &files)?)
+    let files = UcdFiles {
+        bidi_class,
+        bidi_brackets,
+        bidi_mirroring,
+        line_break,
+        general_category,
+        east_asian_width,
+        emoji_data,
+    };
+    Ok(Tables::read(alloc, &files)?)
 }
 
 /// So many characters of these words.

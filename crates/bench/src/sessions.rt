@@ -12,6 +12,7 @@ use session::{Kept, Session};
 use std::fs;
 use std::time::{Duration, Instant};
 use store::{ParagraphStore, TreeStore, VecStore};
+use ucd::Tables;
 
 /// Prints how long in nanoseconds a session over a `list` or a `tree` takes, on a text of so many
 /// paragraphs of 80 characters: to be opened, and for an edit at a place that looks random, on average.
@@ -35,14 +36,36 @@ fn measure<S: ParagraphStore<Kept> + Drop>(
     paragraphs: usize,
     edits: usize,
 ) -> Result<()> {
-    let tables = tables(rt, folder)?;
     let text = text_of(rt.alloc(), paragraphs)?;
+    measure_on::<S>(rt, tables(rt, folder)?, text.as_str(), edits)
+}
+
+fn measure_on<S: ParagraphStore<Kept> + Drop>(
+    rt: &HostRuntime,
+    tables: Tables,
+    text: &str,
+    edits: usize,
+) -> Result<()> {
     let start = Instant::now(rt)?;
-    let mut session: Session<S> = open(rt.alloc(), tables, text.as_str())?;
+    let mut session: Session<S> = open(rt.alloc(), tables, text)?;
+    measure_edits(rt, &mut session, start, edits)
+}
+
+// The session's opening began at `start` and has just ended.
+fn measure_edits<S: ParagraphStore<Kept>>(
+    rt: &HostRuntime,
+    session: &mut Session<S>,
+    start: Instant,
+    edits: usize,
+) -> Result<()> {
     let opening = nanoseconds(start.elapsed(rt)?);
     let start = Instant::now(rt)?;
-    make_edits(&mut session, edits);
+    make_edits(session, edits);
     let editing = nanoseconds(start.elapsed(rt)?) / edits.max(1) as u64;
+    show(rt, opening, editing)
+}
+
+fn show(rt: &HostRuntime, opening: u64, editing: u64) -> Result<()> {
     println!(rt; "{opening} {editing}")?;
     Ok(())
 }
@@ -61,10 +84,14 @@ const WIDE: u16 = 80;
 /// `tree` to the narrow one, and back. All but the first are the least of some runs.
 pub fn change_width(rt: &HostRuntime, folder: &str, kind: &str, file: &str) -> Result<()> {
     let text = fs::read_to_string(rt, file)?;
-    let (laying_out, filling) = fill(rt, folder, text.as_str())?;
+    change_width_of(rt, folder, kind, text.as_str())
+}
+
+fn change_width_of(rt: &HostRuntime, folder: &str, kind: &str, text: &str) -> Result<()> {
+    let (laying_out, filling) = lay_out_and_fill(rt, folder, text)?;
     let changing = match kind {
-        "list" => change::<VecStore<Kept>>(rt, folder, text.as_str())?,
-        "tree" => change::<TreeStore<Kept>>(rt, folder, text.as_str())?,
+        "list" => change::<VecStore<Kept>>(rt, folder, text)?,
+        "tree" => change::<TreeStore<Kept>>(rt, folder, text)?,
         _ => bail!("a list or a tree?"),
     };
     println!(rt;
@@ -104,10 +131,17 @@ fn change<S: ParagraphStore<Kept> + Drop>(
     text: &str,
 ) -> Result<Times> {
     let mut session: Session<S> = open(rt.alloc(), tables(rt, folder)?, text)?;
+    times_to_change(rt, &mut session)
+}
+
+fn times_to_change<S: ParagraphStore<Kept>>(
+    rt: &HostRuntime,
+    session: &mut Session<S>,
+) -> Result<Times> {
     let mut times = Times::none();
     for _ in 0..RUNS {
-        let narrow = time_to_change(rt, &mut session, NARROW)?;
-        let wide = time_to_change(rt, &mut session, WIDE)?;
+        let narrow = time_to_change(rt, session, NARROW)?;
+        let wide = time_to_change(rt, session, WIDE)?;
         times = times.or(narrow, wide);
     }
     Ok(times)
@@ -128,19 +162,34 @@ fn time_to_change<S: ParagraphStore<Kept>>(
 }
 
 // How long it takes to lay out each paragraph, and to fill each again.
-fn fill(rt: &HostRuntime, folder: &str, text: &str) -> Result<(u64, Times)> {
-    let mut engine = Engine::new(tables(rt, folder)?, Options::default());
+fn lay_out_and_fill(rt: &HostRuntime, folder: &str, text: &str) -> Result<(u64, Times)> {
     let text: Vec<char> = text.chars().collect(rt.alloc())?;
+    let mut engine = Engine::new(tables(rt, folder)?, Options::default());
+    lay_out_and_fill_by(rt, &mut engine, &text)
+}
+
+fn lay_out_and_fill_by(
+    rt: &HostRuntime,
+    engine: &mut Engine,
+    text: &[char],
+) -> Result<(u64, Times)> {
     let start = Instant::now(rt)?;
-    let all = lay_out_all(rt, &mut engine, &text)?;
+    let all = lay_out_all(rt, engine, text)?;
     let laying_out = nanoseconds(start.elapsed(rt)?);
+    Ok((laying_out, fill(rt, engine, all)?))
+}
+
+// How long it takes to fill each paragraph again.
+fn fill(rt: &HostRuntime, engine: &mut Engine, all: Vec<Laid>) -> Result<Times>
+    requires { All (IsLaidOut (rules_of engine.old)) all.items }
+{
     let mut times = Times::none();
     for _ in 0..RUNS {
-        let narrow = time_to_refill(rt, &mut engine, &all, NARROW)?;
-        let wide = time_to_refill(rt, &mut engine, &all, WIDE)?;
+        let narrow = time_to_refill(rt, engine, &all, NARROW)?;
+        let wide = time_to_refill(rt, engine, &all, WIDE)?;
         times = times.or(narrow, wide);
     }
-    Ok((laying_out, times))
+    Ok(times)
 }
 
 // The paragraphs of a text, laid out.

@@ -52,32 +52,65 @@ fn measure<S: ParagraphStore<Small> + Drop>(
     times: usize,
 ) -> Result<()> {
     let mut store = store;
-    let new_items = paragraphs(rt.alloc(), count)?;
-    let start = Instant::now(rt)?;
-    replace(&mut store, 0..0, new_items)?;
-    let making = start.elapsed(rt)?.as_nanos();
+    measure_in(rt, &mut store, count, times)
+}
+
+fn measure_in<S: ParagraphStore<Small>>(
+    rt: &HostRuntime,
+    store: &mut S,
+    count: usize,
+    times: usize,
+) -> Result<()> {
+    let making = time_to_make(rt, store, count)?;
     let mut numbers = Numbers::new();
     let start = Instant::now(rt)?;
-    for _ in 0..times {
-        let place = place(&mut numbers, store.count());
-        replace(&mut store, place..place + 1, paragraphs(rt.alloc(), 1)?)?;
-    }
+    replace_some(rt.alloc(), store, &mut numbers, times)?;
     let replacing = start.elapsed(rt)?.as_nanos() / times.max(1) as u128;
     let start = Instant::now(rt)?;
-    let mut visits: u64 = 0;
-    for _ in 0..times {
-        let total = store.total_chars();
-        let pos = place(&mut numbers, total);
-        if pos < total {
-            visits = visits.wrapping_add(store.find_char(pos).visits as u64);
-        }
-    }
+    let visits = search_some(store, &mut numbers, times);
     let searching = start.elapsed(rt)?.as_nanos() / times.max(1) as u128;
     println!(rt;
         "{making} {replacing} {searching} {}",
         visits / times.max(1) as u64
     )?;
     Ok(())
+}
+
+fn time_to_make<S: ParagraphStore<Small>>(
+    rt: &HostRuntime,
+    store: &mut S,
+    count: usize,
+) -> Result<u128> {
+    let new_items = paragraphs(rt.alloc(), count)?;
+    let start = Instant::now(rt)?;
+    replace(store, 0..0, new_items)?;
+    Ok(start.elapsed(rt)?.as_nanos())
+}
+
+fn replace_some<S: ParagraphStore<Small>>(
+    alloc: Global,
+    store: &mut S,
+    numbers: &mut Numbers,
+    times: usize,
+) -> Result<()> {
+    for _ in 0..times {
+        let place = place(numbers, store.count());
+        replace(store, place..place + 1, paragraphs(alloc, 1)?)?;
+    }
+    Ok(())
+}
+
+// How many nodes the searches visit.
+fn search_some<S: ParagraphStore<Small>>(store: &S, numbers: &mut Numbers, times: usize) -> u64 {
+    let mut visits: u64 = 0;
+    for _ in 0..times {
+        let total = store.total_chars();
+        let pos = place(numbers, total);
+        if pos < total {
+            visits = visits.wrapping_add(store.find_char(pos).visits as u64);
+        }
+    }
+    visits
 }
 
 // A place that looks random.

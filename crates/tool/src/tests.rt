@@ -1,12 +1,14 @@
 //! Worked rows: texts and what is written for them.
-ghost use Rattle.std.specs.Prelude.{◌≡◌, IfOk};
+mod devices;
 
 use crate::{RunFault, run_text, settings};
 use device::{FromRead, ToWrite};
+use devices::Endless;
+pub use devices::{Pieces, STOPS, Short, Stopping};
 use lines::{Engine, Print};
 use std::alloc::{AllocError, Global};
-use std::io;
-use std::io::{ErrorKind, Read, Write};
+use std::fmt::Display;
+use std::io::{ErrorKind, Read};
 use std::process::Abort;
 use std::test::Fail;
 use ucd::{Tables, UcdFiles};
@@ -21,110 +23,6 @@ pub const FILES: UcdFiles<'_> = UcdFiles {
     east_asian_width: excerpt::EAST_ASIAN_WIDTH,
     emoji_data: excerpt::EMOJI_DATA,
 };
-
-// Gives so many bytes a call.
-#[derive(Drop)]
-pub struct Pieces<'a> {
-    pub bytes: &'a [u8],
-    pub size: usize,
-}
-
-impl Read for Pieces<'_> {
-    fn read(&mut self, buf: &mut [u8]) -> io::Result<usize> {
-        let len = self.size.min(self.bytes.len()).min(buf.len());
-        let (front, rest) = self.bytes.split_at(len);
-        buf[..len].copy_from_slice(front);
-        self.bytes = rest;
-        Ok(len)
-    }
-}
-
-// How a device stops: it fails so, or no byte passes.
-pub const STOPS: [Option<ErrorKind>; 3] = [
-    Some(ErrorKind::Other),
-    Some(ErrorKind::Interrupted),
-    None,
-];
-
-fn stopped(stop: Option<ErrorKind>) -> io::Result<usize>
-    ensures { IfOk result (λ n. n ≡ 0) }
-{
-    match stop {
-        Some(kind) => Err(io::Error::from(kind)),
-        None => Ok(0),
-    }
-}
-
-// Gives so many bytes a call, stops once behind the last of them, and would then give others.
-#[derive(Drop)]
-pub struct Stopping<'a> {
-    pub bytes: &'a [u8],
-    pub size: usize,
-    pub stop: Option<ErrorKind>,
-    pub behind: &'a [u8],
-    // How many calls came from the stop on.
-    pub calls: &'a mut usize,
-}
-
-impl Read for Stopping<'_> {
-    fn read(&mut self, buf: &mut [u8]) -> io::Result<usize> {
-        if *self.calls > 0 || self.bytes.is_empty() {
-            *self.calls = self.calls.saturating_add(1);
-        }
-        if *self.calls == 1 {
-            self.bytes = self.behind;
-            return stopped(self.stop);
-        }
-        let len = self.size.min(self.bytes.len()).min(buf.len());
-        let (front, rest) = self.bytes.split_at(len);
-        buf[..len].copy_from_slice(front);
-        self.bytes = rest;
-        Ok(len)
-    }
-}
-
-// Takes so many bytes in all, stops once, and would then take all others.
-#[derive(Drop)]
-pub struct Short<'a> {
-    pub taken: &'a mut Vec<u8>,
-    pub room: usize,
-    pub stop: Option<ErrorKind>,
-}
-
-impl Write for Short<'_> {
-    fn write(&mut self, buf: &[u8]) -> io::Result<usize> {
-        if self.room == 0 {
-            self.room = usize::MAX;
-            return stopped(self.stop);
-        }
-        let len = self.room.min(buf.len());
-        self.taken.extend_from_slice(&buf[..len])?;
-        self.room -= len;
-        Ok(len)
-    }
-
-    fn flush(&mut self) -> io::Result<()> {
-        Ok(())
-    }
-}
-
-// Gives a letter and a line feed in turns, and never ends.
-#[derive(Drop)]
-struct Endless<'a> {
-    given: &'a mut usize,
-}
-
-impl Read for Endless<'_> {
-    fn read(&mut self, buf: &mut [u8]) -> io::Result<usize> {
-        let mut is_letter = self.given.is_multiple_of(2);
-        for byte in buf.iter_mut() {
-            *byte = if is_letter { b'a' } else { b'\n' };
-            is_letter = !is_letter;
-        }
-        *self.given = self.given.saturating_add(buf.len());
-        Ok(buf.len())
-    }
-}
 
 pub const LINES: Print = Print {
     novisual: false,
@@ -325,6 +223,43 @@ type Case<'a> = (&'a str, &'a [u8], &'a [u8], Result<(), RunFault>);
 // Room for all that is written.
 const ROOM: usize = 2_000_000;
 
+fn check_result(
+    rt: &impl Abort,
+    found: Result<(), RunFault>,
+    end: Result<(), RunFault>,
+    place: &impl Display,
+) {
+    assert_eq!(rt; found, end, "{place}");
+}
+
+fn check_bytes(rt: &impl Abort, taken: &[u8], lines: &[u8], place: &impl Display) {
+    assert_eq!(rt; taken, lines, "{place}");
+}
+
+// What was written, and how the run ended.
+fn check_written(
+    rt: &impl Abort,
+    written: &Written,
+    lines: &[u8],
+    end: Result<(), RunFault>,
+    place: &impl Display,
+) {
+    check_bytes(rt, &written.0, lines, place);
+    check_result(rt, written.1, end, place);
+}
+
+// The same of so many bytes that a message doesn't show them.
+fn check_long_written(
+    rt: &impl Abort,
+    written: &Written,
+    lines: &[u8],
+    end: Result<(), RunFault>,
+    place: &impl Display,
+) {
+    assert!(rt; written.0.as_slice() == lines, "{place}");
+    check_result(rt, written.1, end, place);
+}
+
 // A reader that gives so many bytes at a time.
 fn check_size(
     rt: &impl Abort,
@@ -334,13 +269,10 @@ fn check_size(
     size: usize,
 ) -> Result<(), Fail> {
     let (options, bytes, lines, end) = *case;
-    let (taken, result) = lines_of(alloc, asked, Pieces { bytes, size }, ROOM, None)?;
+    let written = lines_of(alloc, asked, Pieces { bytes, size }, ROOM, None)?;
     let len = bytes.len();
-    assert!(rt;
-        taken.as_slice() == lines,
-        "{options}, {len} bytes by {size}"
-    );
-    assert_eq!(rt; result, end, "{options}, {len} bytes by {size}");
+    let place = format_args!("{options}, {len} bytes by {size}");
+    check_long_written(rt, &written, lines, end, &place);
     Ok(())
 }
 
@@ -355,12 +287,25 @@ fn check_room(
 ) -> Result<(), Fail> {
     let (options, bytes, lines, _) = *case;
     let size = 65_536;
-    let (taken, result) = lines_of(alloc, asked, Pieces { bytes, size }, room, stop)?;
+    let written = lines_of(alloc, asked, Pieces { bytes, size }, room, stop)?;
     let front = lines.get(..room).unwrap_or_default();
-    assert_eq!(rt; taken.as_slice(), front, "{options} {bytes:?} up to {room}");
     let fault = RunFault::Write(room as u64);
-    assert_eq!(rt; result, Err(fault), "{options} {bytes:?} up to {room}");
+    let place = format_args!("{options} {bytes:?} up to {room}");
+    check_written(rt, &written, front, Err(fault), &place);
     Ok(())
+}
+
+// What was written is a front of the lines, and a reader that stopped was asked no more.
+fn check_front(
+    rt: &impl Abort,
+    written: &Written,
+    calls: usize,
+    lines: &[u8],
+    end: Result<(), RunFault>,
+    place: &impl Display,
+) {
+    check_result(rt, written.1, end, place);
+    assert!(rt; lines.starts_with(&written.0) && calls < 2, "{place}");
 }
 
 // A reader that fails behind so many bytes. Where these are no text it may be asked for no more.
@@ -382,18 +327,29 @@ fn check_failure(
         behind,
         calls: &mut calls,
     };
-    let (taken, result) = lines_of(alloc, asked, reader, ROOM, None)?;
+    let written = lines_of(alloc, asked, reader, ROOM, None)?;
     let fault = if calls == 0 && end.is_err() {
         end
     } else {
         Err(RunFault::Read)
     };
-    assert_eq!(rt; result, fault, "{options} {bytes:?} behind {at}");
-    assert!(rt;
-        lines.starts_with(&taken) && calls < 2,
-        "{options} {bytes:?} behind {at}"
-    );
+    let place = format_args!("{options} {bytes:?} behind {at}");
+    check_front(rt, &written, calls, lines, fault, &place);
     Ok(())
+}
+
+// The runs wrote the same and ended so too, and a reader that stopped was asked no more.
+fn check_same(
+    rt: &impl Abort,
+    left: &Written,
+    right: &Written,
+    calls: usize,
+    place: &impl Display,
+) {
+    assert!(rt;
+        left.0 == right.0 && left.1 == right.1 && calls < 2,
+        "{place}"
+    );
 }
 
 // A reader that gives none behind so many bytes, where the text ends then.
@@ -415,29 +371,66 @@ fn check_end(
         behind,
         calls: &mut calls,
     };
-    let (taken, result) = lines_of(alloc, asked, reader, ROOM, None)?;
-    let (lines, end) = lines_of(alloc, asked, Pieces { bytes, size }, ROOM, None)?;
-    assert!(rt;
-        taken == lines && result == end && calls < 2,
-        "{options} {bytes:?}"
-    );
+    let stopped = lines_of(alloc, asked, reader, ROOM, None)?;
+    let whole = lines_of(alloc, asked, Pieces { bytes, size }, ROOM, None)?;
+    let place = format_args!("{options} {bytes:?}");
+    check_same(rt, &stopped, &whole, calls, &place);
     Ok(())
 }
 
 fn check_devices(rt: &impl Abort, alloc: Global, case: &Case<'_>) -> Result<(), Fail> {
     let mut asked = ask(alloc, case.0)?;
-    for size in [1, 2, 3, 65_536] {
-        check_size(rt, alloc, &mut asked, case, size)?;
-    }
+    check_devices_of(rt, alloc, &mut asked, case)
+}
+
+fn check_devices_of(
+    rt: &impl Abort,
+    alloc: Global,
+    asked: &mut Asked,
+    case: &Case<'_>,
+) -> Result<(), Fail> {
+    check_sizes(rt, alloc, asked, case)?;
     for stop in STOPS {
-        for room in 0..case.2.len() {
-            check_room(rt, alloc, &mut asked, case, room, stop)?;
-        }
+        check_rooms(rt, alloc, asked, case, stop)?;
     }
+    check_readers(rt, alloc, asked, case)
+}
+
+fn check_sizes(
+    rt: &impl Abort,
+    alloc: Global,
+    asked: &mut Asked,
+    case: &Case<'_>,
+) -> Result<(), Fail> {
+    for size in [1, 2, 3, 65_536] {
+        check_size(rt, alloc, asked, case, size)?;
+    }
+    Ok(())
+}
+
+fn check_rooms(
+    rt: &impl Abort,
+    alloc: Global,
+    asked: &mut Asked,
+    case: &Case<'_>,
+    stop: Option<ErrorKind>,
+) -> Result<(), Fail> {
+    for room in 0..case.2.len() {
+        check_room(rt, alloc, asked, case, room, stop)?;
+    }
+    Ok(())
+}
+
+fn check_readers(
+    rt: &impl Abort,
+    alloc: Global,
+    asked: &mut Asked,
+    case: &Case<'_>,
+) -> Result<(), Fail> {
     for at in 0..=case.1.len() {
-        check_failure(rt, alloc, &mut asked, case, at, ErrorKind::Other)?;
-        check_failure(rt, alloc, &mut asked, case, at, ErrorKind::Interrupted)?;
-        check_end(rt, alloc, &mut asked, case, at)?;
+        check_failure(rt, alloc, asked, case, at, ErrorKind::Other)?;
+        check_failure(rt, alloc, asked, case, at, ErrorKind::Interrupted)?;
+        check_end(rt, alloc, asked, case, at)?;
     }
     Ok(())
 }
@@ -542,10 +535,14 @@ fn levels_down(alloc: Global) -> Result<String, AllocError> {
     let mut levels = String::new(alloc);
     levels.push_str("0 ")?;
     for half in 0..62u32 {
-        let level = format!(in alloc; "{} ", 2 * half + 1)?;
-        levels.push_str(level.as_str())?;
+        push_level(alloc, &mut levels, 2 * half + 1)?;
     }
     Ok(levels)
+}
+
+fn push_level(alloc: Global, levels: &mut String, level: u32) -> Result<(), AllocError> {
+    let level = format!(in alloc; "{level} ")?;
+    levels.push_str(level.as_str())
 }
 
 // Isolates down to the greatest depth, and more, which open nothing.
@@ -559,7 +556,23 @@ fn levels_of_deep_isolates(rt: HostRuntime) -> Result<(), Fail> {
     check_case(&rt, alloc, &(options, &text, &lines, Ok(())), 65_536)
 }
 
-// Brackets inside one another between `x` and `a`, and the line with its levels.
+// Brackets inside one another between `x` and `a`.
+fn brackets(alloc: Global, depth: usize) -> Result<Vec<u8>, AllocError> {
+    let front = repeated(alloc, b"x", b"(", depth, b"a")?;
+    repeated(alloc, &front, b")", depth, b"")
+}
+
+// Their line, and its levels.
+fn bracket_lines(
+    alloc: Global,
+    depth: usize,
+    line: &[u8],
+    closer_level: &[u8],
+) -> Result<Vec<u8>, AllocError> {
+    let front = repeated(alloc, line, b"2 ", depth, b"2 2")?;
+    repeated(alloc, &front, closer_level, depth, b"\n")
+}
+
 fn check_brackets(
     rt: &impl Abort,
     alloc: Global,
@@ -567,10 +580,8 @@ fn check_brackets(
     line: &[u8],
     closer_level: &[u8],
 ) -> Result<(), Fail> {
-    let front = repeated(alloc, b"x", b"(", depth, b"a")?;
-    let text = repeated(alloc, &front, b")", depth, b"")?;
-    let front = repeated(alloc, line, b"2 ", depth, b"2 2")?;
-    let lines = repeated(alloc, &front, closer_level, depth, b"\n")?;
+    let text = brackets(alloc, depth)?;
+    let lines = bracket_lines(alloc, depth, line, closer_level)?;
     let options = "--ucd D --rtl --nopad --width 200 --levels";
     check_case(rt, alloc, &(options, &text, &lines, Ok(())), 65_536)
 }
@@ -612,14 +623,27 @@ fn check_failing_read(
         behind,
         calls: &mut calls,
     };
-    let (taken, result) = lines_of(alloc, asked, reader, ROOM, None)?;
-    assert_eq!(rt; taken.as_slice(), lines, "behind {at} by {size}");
+    let written = lines_of(alloc, asked, reader, ROOM, None)?;
     let end = if at == 9 {
         RunFault::NotUtf8(8)
     } else {
         RunFault::Read
     };
-    assert_eq!(rt; result, Err(end), "behind {at} by {size}");
+    let place = format_args!("behind {at} by {size}");
+    check_written(rt, &written, lines, Err(end), &place);
+    Ok(())
+}
+
+fn check_failing_reads(
+    rt: &impl Abort,
+    alloc: Global,
+    asked: &mut Asked,
+    size: usize,
+    rows: &[&[u8]],
+) -> Result<(), Fail> {
+    for (at, lines) in rows.iter().enumerate() {
+        check_failing_read(rt, alloc, asked, size, at, lines)?;
+    }
     Ok(())
 }
 
@@ -639,12 +663,18 @@ const BEFORE_FAILURES: [&[u8]; 10] = [
 
 #[test]
 fn reads_that_fail(rt: HostRuntime) -> Result<(), Fail> {
-    let alloc = rt.alloc();
-    let mut asked = ask(alloc, "--ucd D")?;
+    let mut asked = ask(rt.alloc(), "--ucd D")?;
+    check_failing_sizes(&rt, rt.alloc(), &mut asked, &BEFORE_FAILURES)
+}
+
+fn check_failing_sizes(
+    rt: &impl Abort,
+    alloc: Global,
+    asked: &mut Asked,
+    rows: &[&[u8]],
+) -> Result<(), Fail> {
     for size in [1, 2, 3, 65_536] {
-        for (at, lines) in BEFORE_FAILURES.iter().enumerate() {
-            check_failing_read(&rt, alloc, &mut asked, size, at, lines)?;
-        }
+        check_failing_reads(rt, alloc, asked, size, rows)?;
     }
     Ok(())
 }
@@ -684,13 +714,20 @@ fn letters_up_to_a_late_cut(rt: HostRuntime) -> Result<(), Fail> {
 
 #[test]
 fn reading_stops_where_writing_does(rt: HostRuntime) -> Result<(), Fail> {
-    let alloc = rt.alloc();
+    let mut asked = ask(rt.alloc(), "--ucd D")?;
+    check_endless(&rt, rt.alloc(), &mut asked)
+}
+
+fn check_endless(rt: &impl Abort, alloc: Global, asked: &mut Asked) -> Result<(), Fail> {
     let mut given = 0;
     let endless = Endless { given: &mut given };
-    let mut asked = ask(alloc, "--ucd D")?;
-    let (taken, result) = lines_of(alloc, &mut asked, endless, 1000, None)?;
-    assert_eq!(rt; result, Err(RunFault::Write(1000)));
-    assert_eq!(rt; taken.len(), 1000);
+    let written = lines_of(alloc, asked, endless, 1000, None)?;
+    check_stopped(rt, &written);
     assert!(rt; given <= 1000 + 4_259_844);
     Ok(())
+}
+
+fn check_stopped(rt: &impl Abort, written: &Written) {
+    assert_eq!(rt; written.1, Err(RunFault::Write(1000)));
+    assert_eq!(rt; written.0.len(), 1000);
 }
