@@ -4,7 +4,7 @@ ghost use Rattle.std.specs.Prelude.{◌^◌, ◌<◌};
 use crate::Wrong;
 use std::alloc::{AllocError, Global};
 use std::ops::Range;
-use store::{Exchange, Measured, ParagraphStore};
+use store::{Measured, ParagraphStore};
 
 // An item of one character and one line, told by its name.
 #[derive(Clone, Copy, Debug, PartialEq, Eq)]
@@ -24,22 +24,6 @@ impl Measured for Item {
     fn lines(&self) -> usize {
         1
     }
-}
-
-impl Exchange for Item {
-    type Part = ();
-
-    ghost use Rattle.std.specs.Prelude.{refl};
-
-    ghost fits = { λ _ _. Unit {0} };
-
-    ghost exchanged = { λ item _. item };
-
-    ghost handed_out = { λ _ part. part };
-
-    ghost keeps_chars = { λ _ _ _. refl };
-
-    fn exchange(&mut self, _part: &mut ()) {}
 }
 
 // No store here has more items.
