@@ -215,9 +215,9 @@ impl Engine {
         Room::new(alloc, &self.tables, len)
     }
 
-    /// Writes the lines of a paragraph at another width over those that it has: by their extents at that width,
-    /// which are handed out as those of the old lines. The paragraph is laid out by this engine's rules, and
-    /// there is room for it. No memory is taken.
+    /// Writes the lines of a paragraph at another width over those that it has: by their extents at that
+    /// width, which are handed out as those of the old lines. The paragraph is laid out by this engine's
+    /// rules, and there is room for it. No memory is taken.
     pub fn reflow(&self, laid: &mut Laid, extents: &mut Extents, room: &mut Room)
         requires laid { IsLaidOut (rules_of self.now) laid.old }
         requires extents { (width : ℕ)

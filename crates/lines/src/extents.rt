@@ -1,5 +1,5 @@
-//! What there is to find of the lines of a paragraph at a width before they are written, and the room in which
-//! they can be written without memory.
+//! What there is to find of the lines of a paragraph at a width before they are written, and the room in
+//! which they can be written without memory.
 ghost use Rattle.std.specs.Prelude.{◌≡◌, length, map, IfOk};
 ghost use Rattle.ucd.specs.Properties.{properties_of};
 

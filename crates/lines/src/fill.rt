@@ -99,7 +99,8 @@ impl Fill {
     ) -> Result<u64, WriteFault>
         requires within { Layouts.AreWithin (length text.now) self.now.lines }
         requires done { done ≤ (W.state writer.old).passed }
-        ensures ok { IfOk result (λ n. PassedOn (lines_bytes width print.now base text.now self.now.lines) done
+        ensures ok { IfOk result (λ n.
+            PassedOn (lines_bytes width print.now base text.now self.now.lines) done
             (W.state writer.old) (W.state writer.new) n) }
         ensures err { IfErr result (λ fault.
             StoppedIn (lines_bytes width print.now base text.now self.now.lines) done

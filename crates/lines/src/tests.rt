@@ -198,12 +198,7 @@ fn paragraph_at_two_widths(rt: HostRuntime) -> Result<(), Fail> {
 }
 
 // The extents of its lines.
-fn extents(
-    alloc: Global,
-    engine: &mut Engine,
-    laid: &Laid,
-    width: u16,
-) -> Result<Extents, Fail>
+fn extents(alloc: Global, engine: &mut Engine, laid: &Laid, width: u16) -> Result<Extents, Fail>
     requires laid { IsLaidOut (rules_of engine.old) laid.now }
     requires width { 0 < width }
     ensures extents { IfOk result (λ extents.

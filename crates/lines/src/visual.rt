@@ -1,5 +1,6 @@
 //! The lines of a paragraph as they are shown, and one of them, which borrows from its paragraph.
-ghost use Rattle.std.specs.Prelude.{◌≡◌, ◌<◌, ◌≤◌, ℕ, List, true, false, length, map, take, slice_index, OnOk};
+ghost use Rattle.std.specs.Prelude.{◌≡◌, ◌<◌, ◌≤◌, ℕ, List, true, false, OnOk};
+ghost use Rattle.std.specs.Prelude.{length, map, take, slice_index};
 ghost use Rattle.std.specs.List.{range_with_len};
 ghost use Rattle.ucd.specs.Properties.{properties_of};
 ghost use Rattle.bidi.specs.Classes.{class_in};
@@ -82,8 +83,8 @@ impl Fill {
         }
     }
 
-    /// Writes other lines of the paragraph over these: L1 on each line, and L2 and L4 on its shown part. Their
-    /// extents are exchanged for those of the old lines.
+    /// Writes other lines of the paragraph over these: L1 on each line, and L2 and L4 on its shown part.
+    /// Their extents are exchanged for those of the old lines.
     pub(crate) fn reflow(
         &mut self,
         tables: &Tables,

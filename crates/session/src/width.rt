@@ -1,5 +1,5 @@
-//! A change of the width: it is known of all lines that change where they start and how much of each is shown,
-//! before the first of them is written over those at the old width.
+//! A change of the width: of all lines that change it is known where they start and how much of each is
+//! shown, before the first of them is written over those at the old width.
 ghost use Rattle.std.specs.Prelude.{◌≡◌, ◌<◌, ◌≤◌, ℕ, is_none, length, map, IfOk, IfErr};
 ghost use Rattle.std.specs.List.{All, AllZip};
 ghost use Rattle.lines.specs.Engine.{rules_of, FillsAtMost, SameRules};
