@@ -8,10 +8,11 @@ mod marks;
 mod printed;
 mod written;
 
-use crate::{Engine, Extents, Fill, Laid, Options, PARAGRAPH_LIMIT, VisualLine};
+use crate::{Engine, Extents, Fill, Laid, Options, PARAGRAPH_LIMIT, Room, VisualLine};
 use bidi::Base;
 use breaks::Mark;
 use std::alloc::Global;
+use std::process::Abort;
 use std::test::Fail;
 use ucd::{Cause, Tables, UcdFiles};
 
@@ -211,6 +212,16 @@ fn extents(alloc: Global, engine: &mut Engine, laid: &Laid, width: u16) -> Resul
     }
 }
 
+// Room for so many characters.
+fn room(alloc: Global, engine: &Engine, len: usize) -> Result<Room, Fail>
+    ensures { IfOk result (λ room. room ≡ len) }
+{
+    match engine.room(alloc, len) {
+        Ok(room) => Ok(room),
+        Err(_) => Ok(engine.room(alloc, len)?),
+    }
+}
+
 // Writes its lines at another width over those that it has.
 fn reflow(alloc: Global, engine: &mut Engine, laid: &mut Laid, width: u16) -> Result<(), Fail>
     requires laid { IsLaidOut (rules_of engine.old) laid.old }
@@ -218,13 +229,27 @@ fn reflow(alloc: Global, engine: &mut Engine, laid: &mut Laid, width: u16) -> Re
     ensures laid { OnOk result (IsLaidOut (rules_of engine.new) laid.new) }
     ensures rules { SameRules engine.old engine.new }
 {
+    let mut room = room(alloc, engine, laid.text().len())?;
     let mut extents = extents(alloc, engine, laid, width)?;
-    let len = laid.text().len();
-    let mut room = match engine.room(alloc, len) {
-        Ok(room) => room,
-        Err(_) => engine.room(alloc, len)?,
-    };
     engine.reflow(laid, &mut extents, &mut room);
+    Ok(())
+}
+
+// The paragraph of these lines at three widths, one after another.
+fn check_reflowed(
+    rt: &impl Abort,
+    alloc: Global,
+    engine: &mut Engine,
+    laid: &mut Laid,
+) -> Result<(), Fail>
+    requires laid { IsLaidOut (rules_of engine.old) laid.old }
+{
+    reflow(alloc, engine, laid, 2)?;
+    assert!(rt; starts_at(laid, &[0, 3]) && shows_lines(laid, &SHOWN));
+    reflow(alloc, engine, laid, 1)?;
+    assert!(rt; starts_at(laid, &[0, 1, 3, 4]));
+    reflow(alloc, engine, laid, 2)?;
+    assert!(rt; counts(engine, 5, 20) && shows_lines(laid, &SHOWN));
     Ok(())
 }
 
@@ -234,13 +259,7 @@ fn paragraph_reflowed(rt: HostRuntime) -> Result<(), Fail> {
     let mut engine = engine(alloc, false)?;
     let mut laid = lay_out(alloc, &mut engine, "\u{5D0}1 (\u{5D1}", 80)?;
     assert!(rt; counts(&engine, 5, 5) && starts_at(&laid, &[0]));
-    reflow(alloc, &mut engine, &mut laid, 2)?;
-    assert!(rt; starts_at(&laid, &[0, 3]) && shows_lines(&laid, &SHOWN));
-    reflow(alloc, &mut engine, &mut laid, 1)?;
-    assert!(rt; starts_at(&laid, &[0, 1, 3, 4]));
-    reflow(alloc, &mut engine, &mut laid, 2)?;
-    assert!(rt; counts(&engine, 5, 20) && shows_lines(&laid, &SHOWN));
-    Ok(())
+    check_reflowed(&rt, alloc, &mut engine, &mut laid)
 }
 
 // Whether a paragraph has this text and base level.
