@@ -1,24 +1,32 @@
-# make        the proved program, as bin/fribidi
+# make demo   the command on the sample texts, compiled and not yet proved: two minutes. A text of one's own:
+#             make demo TEXT=FILE OPTIONS="--width 60 --basedir"
+# make        proves and builds the program, as bin/fribidi
 # make ucd    the seven table files of Unicode 15.0, from Debian's package unicode-data, into ucd/
-# make demo   both, and the command on the sample text, and on an edit script over it
-# make test   the gate: every proof from nothing, the must-fail edits, the tests and the stored run; then each allocation
-#             refused in turn, and each call of a device failing
+# make check  what to run before each commit, once make has built: the cases, the calls that fail, Unicode's conformance
+#             tests, the libraries' tests, the stored runs and the format
+# make test   the gate: every proof from nothing, the must-fail edits, the tests and the stored runs; then the cases, each
+#             allocation refused in turn, and each call of a device failing
+# make attack the other wrong bodies, many at a time, over what make has built: make attack CRATES="lines session"
 # make conformance  Unicode 15.0's three conformance tests, of the same package, over what the proved library finds
 # make bench  the time of the command beside that of Debian's fribidi and of ICU, edits a second of a session and lines a
 #             second of a script, and the time of levels, of break marks and of filling by what a text is made of, of stores,
 #             of a long text, and of hostile ones
 
 UNICODE = /usr/share/unicode
+JOBS := $(shell nproc)
+TABLES = DerivedBidiClass BidiBrackets BidiMirroring LineBreak DerivedGeneralCategory EastAsianWidth emoji-data
+OPTIONS = --width 44 --basedir
 
-.PHONY: all program ucd demo test bench-program conformance bench
+.PHONY: all program ucd demo check test attack bench-program conformance bench
 
-all: program
+all: program bench-program
+	cd crates/refused && rt run > /dev/null
 
-# rt proves and builds the crates where they have changed, those that don't stand on one another side by side, and runs
-# the program, which stays in out/.
+# rt proves the crates where they have changed, those that don't stand on one another side by side, and runs the program,
+# which stays in out/. A check by several jobs takes less than a build by one, which then finds what is proved.
 program:
-	$(MAKE) --no-print-directory --jobs=3 lib-tool
-	cd crates/fribidi && rt run -- --help > /dev/null
+	$(MAKE) --no-print-directory --jobs=2 lib-tool
+	cd crates/fribidi && rt check --jobs $(JOBS) > /dev/null && rt run -- --help > /dev/null
 	mkdir -p bin
 	cp crates/fribidi/out/fribidi bin/fribidi
 
@@ -28,32 +36,39 @@ lib-session: lib-lines lib-store
 lib-tool: lib-session
 
 lib-%:
-	cd crates/$* && rt lib > /dev/null
+	cd crates/$* && rt check --jobs $(JOBS) > /dev/null && rt lib > /dev/null
 
 ucd:
 	@[ -f $(UNICODE)/extracted/DerivedBidiClass.txt ] || { apt-get update -q && apt-get install -qy unicode-data; }
-	mkdir -p ucd
-	cd $(UNICODE) && cp extracted/DerivedBidiClass.txt BidiBrackets.txt BidiMirroring.txt LineBreak.txt \
+	@mkdir -p ucd
+	@cd $(UNICODE) && cp extracted/DerivedBidiClass.txt BidiBrackets.txt BidiMirroring.txt LineBreak.txt \
 		extracted/DerivedGeneralCategory.txt EastAsianWidth.txt emoji/emoji-data.txt $(CURDIR)/ucd/
 	@for file in ucd/*.txt; do head -n 12 $$file | grep -q '15\.0' \
 		|| { echo "$$file is not of Unicode 15.0"; exit 1; }; done
 
-demo: program ucd
-	@cat demo/sample.txt
-	@echo
-	bin/fribidi --ucd ucd --width 44 --basedir demo/sample.txt
-	@echo
-	bin/fribidi --ucd ucd --width 22 demo/sample.txt
-	@echo
-	@cat demo/edits.txt
-	@echo
-	bin/fribidi --ucd ucd --width 44 --script demo/edits.txt demo/sample.txt
+# The program runs in a new folder, with copies of the files that are handed in: for each text of demo/, with its words.
+try = cd crates/fribidi && rt try $(foreach table,$(TABLES),--data ucd/$(table).txt=$(CURDIR)/ucd/$(table).txt)
+
+demo: ucd
+	@echo "Compiled, and not proved yet: make proves and builds bin/fribidi, make test proves and tests everything."
+ifdef TEXT
+	@$(try) --data text=$(abspath $(TEXT)) -- --ucd ucd $(OPTIONS) text
+else
+	@tail -n +1 demo/*.txt
+	@$(try) --data sample.txt=$(CURDIR)/demo/sample.txt --cases $(CURDIR)/demo -- --ucd ucd
+endif
+
+check: ucd
+	.ci/check
 
 test:
-	@log=$$(mktemp) && bash -o pipefail -c "rt ci | tee $$log" && faults/run $$log; status=$$?; rm -f $$log; exit $$status
+	@log=$$(mktemp) && bash -o pipefail -c "rt ci | tee $$log && cases/run $$log | tee -a $$log && faults/run $$log"; status=$$?; rm -f $$log; exit $$status
+
+attack:
+	attack/run $(CRATES)
 
 bench-program: program
-	cd crates/bench && rt run -- edits tree 1 1 > /dev/null
+	cd crates/bench && rt check --jobs $(JOBS) > /dev/null && rt run -- edits tree 1 1 > /dev/null
 	cp crates/bench/out/bench bin/bench
 
 conformance: bench-program ucd

@@ -3,7 +3,7 @@
  * FAULT_AT    which one of these calls it is, counted from 1
  * FAULT_AS    the error, as a number; with 0 the call passes no byte; with -1 it passes one byte alone
  * FAULT_MOST  how many bytes a read or a write passes at most, but of files named .txt
- * FAULT_COUNT a file that is told how many such calls there were
+ * FAULT_COUNT a file that is told how many such calls there were, and how many bytes were asked of malloc and realloc
  * Of writes those to the standard output count. */
 #define _GNU_SOURCE
 #include <dlfcn.h>
@@ -16,6 +16,7 @@
 #include <unistd.h>
 
 static long calls, at;
+static size_t asked;
 static const char *call;
 static int as, is_ready;
 static size_t most = (size_t)-1;
@@ -48,6 +49,7 @@ void *malloc(size_t size) {
     static void *(*real)(size_t);
     if (!real)
         real = next("malloc");
+    asked += size;
     return fails("malloc") ? without_memory() : real(size);
 }
 
@@ -55,6 +57,7 @@ void *realloc(void *old, size_t size) {
     static void *(*real)(void *, size_t);
     if (!real)
         real = next("realloc");
+    asked += size;
     return fails("malloc") ? without_memory() : real(old, size);
 }
 
@@ -116,7 +119,7 @@ __attribute__((destructor)) static void end(void) {
         return;
     FILE *file = fopen(path, "w");
     if (file) {
-        fprintf(file, "%ld\n", calls);
+        fprintf(file, "%ld %zu\n", calls, asked);
         fclose(file);
     }
 }

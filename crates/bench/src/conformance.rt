@@ -1,5 +1,5 @@
 //! What is found of the paragraphs that standard input names, one a line, for Unicode's conformance tests.
-use crate::paragraphs::{lay_out, tables};
+use crate::paragraphs::{lay_out, let_go, tables};
 use anyhow::{Result, bail};
 use bidi::Base;
 use breaks::{Mark, marks};
@@ -13,8 +13,12 @@ use ucd::Tables;
 /// ends, `/` where one may and `!` where one must.
 pub fn marks_of(rt: &HostRuntime, folder: &str) -> Result<()> {
     let tables = tables(rt, folder)?;
+    write_marks_of(rt, &tables)
+}
+
+fn write_marks_of(rt: &HostRuntime, tables: &Tables) -> Result<()> {
     let mut output = BufWriter::new(rt.alloc(), io::writer(rt))?;
-    write_all_marks(rt, &tables, &mut output)
+    write_all_marks(rt, tables, &mut output)
 }
 
 fn write_all_marks<W: Write>(rt: &HostRuntime, tables: &Tables, output: &mut W) -> Result<()> {
@@ -50,8 +54,14 @@ fn sign(mark: Mark) -> char {
 /// as the command's options have them.
 pub fn lines_of(rt: &HostRuntime, folder: &str, direction: &str) -> Result<()> {
     let mut engine = engine(rt, folder, direction)?;
+    let answer = write_lines_of(rt, &mut engine);
+    let_go(engine);
+    answer
+}
+
+fn write_lines_of(rt: &HostRuntime, engine: &mut Engine) -> Result<()> {
     let mut output = BufWriter::new(rt.alloc(), io::writer(rt))?;
-    write_lines(rt, &mut engine, &mut output)
+    write_lines(rt, engine, &mut output)
 }
 
 fn write_lines<W: Write>(rt: &HostRuntime, engine: &mut Engine, output: &mut W) -> Result<()> {
@@ -72,16 +82,25 @@ fn write_laid<W: Write>(
     write_line(output, &laid)
 }
 
+const DIRECTIONS: [(&str, Base); 4] = [
+    ("ltr", Base::Ltr),
+    ("rtl", Base::Rtl),
+    ("wltr", Base::WeakLtr),
+    ("wrtl", Base::WeakRtl),
+];
+
+fn base(direction: &str) -> Result<Base> {
+    for (name, base) in &DIRECTIONS {
+        if direction == *name {
+            return Ok(*base);
+        }
+    }
+    bail!("in which direction?")
+}
+
 fn engine(rt: &HostRuntime, folder: &str, direction: &str) -> Result<Engine> {
-    let base = match direction {
-        "ltr" => Base::Ltr,
-        "rtl" => Base::Rtl,
-        "wltr" => Base::WeakLtr,
-        "wrtl" => Base::WeakRtl,
-        _ => bail!("in which direction?"),
-    };
     let options = Options {
-        base,
+        base: base(direction)?,
         nobreak: true,
         ..Options::default()
     };

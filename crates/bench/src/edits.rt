@@ -1,8 +1,9 @@
 //! Edits at places that look random, in a text of many paragraphs that a session keeps.
 use crate::numbers::Numbers;
-use anyhow::{Result, bail};
+use crate::paragraphs::let_go;
+use anyhow::Result;
 use lines::{Engine, Options};
-use session::{Kept, Session};
+use session::{EditFault, Kept, Session};
 use std::alloc::{AllocError, Global};
 use store::{ParagraphStore, TreeStore, VecStore};
 use ucd::{Tables, UcdFiles};
@@ -21,12 +22,18 @@ const FILES: UcdFiles<'_> = UcdFiles {
 const PARAGRAPH: &str =
     "the quick brown fox jumps over שלום עולם and (then) runs away before a dog wake\n";
 
-/// Makes the edits in a session over a `list` or a `tree`, and prints what it keeps in the end.
-pub fn run(rt: &HostRuntime, kind: &str, paragraphs: usize, edits: usize) -> Result<()> {
+/// In what a session keeps its paragraphs.
+#[derive(Clone, Copy)]
+pub enum StoreKind {
+    List,
+    Tree,
+}
+
+/// Makes the edits in a session over a list or a tree, and prints what it keeps in the end.
+pub fn run(rt: &HostRuntime, kind: StoreKind, paragraphs: usize, edits: usize) -> Result<()> {
     match kind {
-        "list" => show::<VecStore<Kept>>(rt, paragraphs, edits),
-        "tree" => show::<TreeStore<Kept>>(rt, paragraphs, edits),
-        _ => bail!("a list or a tree?"),
+        StoreKind::List => show::<VecStore<Kept>>(rt, paragraphs, edits),
+        StoreKind::Tree => show::<TreeStore<Kept>>(rt, paragraphs, edits),
     }
 }
 
@@ -37,13 +44,19 @@ fn show<S: ParagraphStore<Kept> + Drop>(
 ) -> Result<()> {
     let mut session: Session<S> = open_on(rt.alloc(), paragraphs)?;
     make_edits(&mut session, edits);
-    show_counts(rt, &session)
+    let answer = show_counts(rt, &session);
+    close(session);
+    answer
 }
 
 fn open_on<S: ParagraphStore<Kept> + Drop>(alloc: Global, paragraphs: usize) -> Result<Session<S>> {
     let text = text_of(alloc, paragraphs)?;
+    open_on_text(alloc, text.as_str())
+}
+
+fn open_on_text<S: ParagraphStore<Kept> + Drop>(alloc: Global, text: &str) -> Result<Session<S>> {
     let tables = Tables::read(alloc, &FILES)?;
-    open(alloc, tables, text.as_str())
+    Ok(open(alloc, Engine::new(tables, Options::default()), text)?)
 }
 
 fn show_counts<S: ParagraphStore<Kept>>(rt: &HostRuntime, session: &Session<S>) -> Result<()> {
@@ -69,14 +82,20 @@ pub fn text_of(alloc: Global, paragraphs: usize) -> Result<String, AllocError> {
 /// A session on a text, 80 columns wide.
 pub fn open<S: ParagraphStore<Kept> + Drop>(
     alloc: Global,
-    tables: Tables,
+    engine: Engine,
     text: &str,
-) -> Result<Session<S>> {
-    match Session::open(alloc, Engine::new(tables, Options::default()), text, 80) {
+) -> Result<Session<S>, EditFault> {
+    match Session::open(alloc, engine, text, 80) {
         Ok(session) => Ok(session),
-        Err((_, fault)) => bail!("{fault}"),
+        Err((engine, fault)) => {
+            let_go(engine);
+            Err(fault)
+        }
     }
 }
+
+/// Lets go of a session, as `let_go` does of an engine.
+pub fn close<S: ParagraphStore<Kept> + Drop>(_session: Session<S>) {}
 
 /// Edits of two characters, as many put in as taken out. Paragraphs are split about as often as joined, so
 /// that they stay as many and as long.
@@ -89,9 +108,10 @@ pub fn make_edits<S: ParagraphStore<Kept>>(session: &mut Session<S>, edits: usiz
 
 fn make_edit<S: ParagraphStore<Kept>>(session: &mut Session<S>, number: u64) {
     let pos = (number >> 33) as usize % session.char_count().max(1);
-    let _ = match (number >> 20) % 80 {
-        0 => session.insert(pos, "a\n"),
-        1..=39 => session.insert(pos, "ab"),
-        _ => session.delete(pos, 2),
+    let choice = (number >> 20) % 80;
+    let _ = if choice >= 40 {
+        session.delete(pos, 2)
+    } else {
+        session.insert(pos, if choice == 0 { "a\n" } else { "ab" })
     };
 }

@@ -1,12 +1,13 @@
 //! How long one paragraph takes to be laid out, and to be filled again, by what it is made of and by
 //! the width.
 ghost use Rattle.std.specs.Prelude.{◌<◌, IfOk};
-ghost use Rattle.lines.specs.Engine.{rules_of};
+ghost use Rattle.lines.specs.Engine.{rules_of, SameRules};
 ghost use Rattle.lines.specs.Layouts.{IsLaidOut};
 
-use crate::paragraphs::{RUNS, tables, text_of};
+use crate::paragraphs::{RUNS, engine, let_go, text_of};
+use crate::rows::{show, since};
 use anyhow::{Result, bail};
-use lines::{Engine, Laid, Options, PARAGRAPH_LIMIT};
+use lines::{Engine, Laid, PARAGRAPH_LIMIT};
 use std::time::Instant;
 
 // A paragraph of these words, in an order that looks random, and a width in columns.
@@ -88,8 +89,10 @@ const CASES: [Case; 12] = [
 /// Prints a line for each case, with a paragraph of so many characters: its least times in
 /// nanoseconds, laid out and filled again, how many lines it has, the width, and its name.
 pub fn run(rt: &HostRuntime, folder: &str, characters: usize) -> Result<()> {
-    let mut engine = Engine::new(tables(rt, folder)?, Options::default());
-    show_cases(rt, &mut engine, &CASES, characters)
+    let mut engine = engine(rt, folder)?;
+    let answer = show_cases(rt, &mut engine, &CASES, characters);
+    let_go(engine);
+    answer
 }
 
 fn show_cases(
@@ -106,13 +109,21 @@ fn show_cases(
 
 fn show_case(rt: &HostRuntime, engine: &mut Engine, case: &Case, characters: usize) -> Result<()> {
     let (time, laid) = lay_out(rt, engine, case.words, case.width, characters)?;
-    let again = refill(rt, engine, &laid, case.width)?;
-    show(rt, time, again, laid.line_count(), case)
+    show_filled(rt, engine, case, time, &laid)
 }
 
-fn show(rt: &HostRuntime, time: u64, again: u64, lines: usize, case: &Case) -> Result<()> {
-    println!(rt; "{time} {again} {lines} {} {}", case.width, case.name)?;
-    Ok(())
+fn show_filled(
+    rt: &HostRuntime,
+    engine: &mut Engine,
+    case: &Case,
+    time: u64,
+    laid: &Laid,
+) -> Result<()>
+    requires { IsLaidOut (rules_of engine.old) laid.now }
+{
+    let again = refill(rt, engine, laid, case.width)?;
+    let numbers = [time, again, laid.line_count() as u64, u64::from(case.width)];
+    show(rt, &numbers, case.name)
 }
 
 /// The least time in nanoseconds in which a paragraph of so many characters of these words is laid out, and
@@ -164,8 +175,7 @@ fn lay_out_text(
     let Ok(laid) = engine.lay_out(rt.alloc(), text, width) else {
         bail!("out of memory");
     };
-    let time = start.elapsed(rt)?.as_nanos();
-    Ok((u64::try_from(time).unwrap_or(u64::MAX), laid))
+    Ok((since(rt, start)?, laid))
 }
 
 // The least time of some runs.
@@ -177,10 +187,17 @@ fn refill(rt: &HostRuntime, engine: &mut Engine, laid: &Laid, width: u16) -> Res
         bail!("a width of 0");
     }
     for _ in 0..RUNS {
-        let start = Instant::now(rt)?;
-        let _ = engine.refill(rt.alloc(), laid, width)?;
-        let time = start.elapsed(rt)?.as_nanos();
-        least = least.min(u64::try_from(time).unwrap_or(u64::MAX));
+        least = least.min(time_to_refill(rt, engine, laid, width)?);
     }
     Ok(least)
+}
+
+fn time_to_refill(rt: &HostRuntime, engine: &mut Engine, laid: &Laid, width: u16) -> Result<u64>
+    requires laid { IsLaidOut (rules_of engine.old) laid.now }
+    requires width { 0 < width }
+    ensures { SameRules engine.old engine.new }
+{
+    let start = Instant::now(rt)?;
+    let _ = engine.refill(rt.alloc(), laid, width)?;
+    since(rt, start)
 }

@@ -1,8 +1,9 @@
 //! How long the levels of one paragraph take, and its whole layout, by what the paragraph is made of.
 use crate::fill::lay_out;
-use crate::paragraphs::{Kind, Subject, measure_all, tables};
+use crate::paragraphs::{Kind, Subject, engine, let_go, measure_all};
+use crate::rows::show;
 use anyhow::Result;
-use lines::{Engine, Options};
+use lines::Engine;
 
 // As many openers as are held, and a closer for each.
 const DEEP: &str = "(((((((((((((((((((((((((((((((((((((((((((((((((((((((((((((((\
@@ -118,8 +119,10 @@ pub fn run(rt: &HostRuntime, folder: &str, characters: usize) -> Result<()> {
 /// Prints a line for each kind of paragraph of so many characters that is laid out at 80 columns: its least
 /// time in nanoseconds, how many lines it has, and its name.
 pub fn lay_out_each(rt: &HostRuntime, folder: &str, characters: usize) -> Result<()> {
-    let mut engine = Engine::new(tables(rt, folder)?, Options::default());
-    show_layouts(rt, &mut engine, &KINDS, characters)
+    let mut engine = engine(rt, folder)?;
+    let answer = show_layouts(rt, &mut engine, &KINDS, characters);
+    let_go(engine);
+    answer
 }
 
 fn show_layouts(
@@ -141,10 +144,5 @@ fn show_layout(
     characters: usize,
 ) -> Result<()> {
     let (time, laid) = lay_out(rt, engine, kind.words, 80, characters)?;
-    show(rt, time, laid.line_count(), kind.name)
-}
-
-fn show(rt: &HostRuntime, time: u64, lines: usize, name: &str) -> Result<()> {
-    println!(rt; "{time} {lines} {name}")?;
-    Ok(())
+    show(rt, &[time, laid.line_count() as u64], kind.name)
 }

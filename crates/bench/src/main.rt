@@ -25,99 +25,118 @@ mod levels;
 mod marks;
 mod numbers;
 mod paragraphs;
+mod rows;
 mod sessions;
 mod stores;
 
 use anyhow::{Result, bail};
+use edits::StoreKind;
 use std::env;
-use std::env::Args;
 
 fn main(rt: HostRuntime) -> Result<()> {
-    let mut words = env::args(&rt)?;
-    let _ = words.next();
-    let Some(subject) = words.next() else {
-        bail!("what is to be measured?");
-    };
-    run(&rt, subject.as_str(), &mut words)
+    let words: Vec<String> = env::args(&rt)?.collect(rt.alloc())?;
+    run(&rt, &words)
 }
 
-// What the words behind the subject ask for. Functions here hold little where one of many calls may fail,
-// since all that is held there makes the proof longer.
-fn run(rt: &HostRuntime, subject: &str, words: &mut Args) -> Result<()> {
-    match subject {
-        "edits" | "store" => run_kind(rt, subject, words),
-        "session" => run_sessions(rt, words),
-        "width" => run_width(rt, words),
-        "marks-of" | "lines-of" => run_conformance(rt, subject, words),
-        "levels" | "layouts" | "marks" | "fill" => run_characters(rt, subject, words),
-        _ => bail!("that can't be measured"),
-    }
+#[derive(Clone, Copy)]
+enum Subject {
+    Edits,
+    Session,
+    Width,
+    Levels,
+    Layouts,
+    Marks,
+    Fill,
+    Store,
+    MarksOf,
+    LinesOf,
 }
 
-fn run_kind(rt: &HostRuntime, subject: &str, words: &mut Args) -> Result<()> {
-    let Some(kind) = words.next() else {
-        bail!("a list or a tree?");
-    };
-    let paragraphs = number(words.next());
-    let count = number(words.next());
-    if subject == "edits" {
-        edits::run(rt, kind.as_str(), paragraphs, count)
-    } else {
-        stores::run(rt, kind.as_str(), paragraphs, count)
-    }
-}
+const SUBJECTS: [(&str, Subject); 10] = [
+    ("edits", Subject::Edits),
+    ("session", Subject::Session),
+    ("width", Subject::Width),
+    ("levels", Subject::Levels),
+    ("layouts", Subject::Layouts),
+    ("marks", Subject::Marks),
+    ("fill", Subject::Fill),
+    ("store", Subject::Store),
+    ("marks-of", Subject::MarksOf),
+    ("lines-of", Subject::LinesOf),
+];
 
-fn folder(words: &mut Args) -> Result<String> {
-    match words.next() {
-        Some(folder) => Ok(folder),
-        None => bail!("where are the table files?"),
-    }
-}
-
-fn run_sessions(rt: &HostRuntime, words: &mut Args) -> Result<()> {
-    let folder = folder(words)?;
-    let Some(kind) = words.next() else {
-        bail!("a list or a tree?");
-    };
-    let paragraphs = number(words.next());
-    let edits = number(words.next());
-    sessions::run(rt, folder.as_str(), kind.as_str(), paragraphs, edits)
-}
-
-fn run_width(rt: &HostRuntime, words: &mut Args) -> Result<()> {
-    let folder = folder(words)?;
-    match (words.next(), words.next()) {
-        (Some(kind), Some(file)) => {
-            sessions::change_width(rt, folder.as_str(), kind.as_str(), file.as_str())
+// What is asked for. Functions here hold little where one of many calls may fail, since all that is held there
+// makes the proof longer, and names are found in tables, since a `match` has a path for each of their bytes.
+fn run(rt: &HostRuntime, words: &[String]) -> Result<()> {
+    let name = word(words, 1);
+    for (known, subject) in &SUBJECTS {
+        if name == *known {
+            return run_subject(rt, *subject, words);
         }
-        _ => bail!("a list or a tree, of which text?"),
     }
+    bail!("that can't be measured")
 }
 
-fn run_conformance(rt: &HostRuntime, subject: &str, words: &mut Args) -> Result<()> {
-    let folder = folder(words)?;
-    match (subject, words.next()) {
-        ("lines-of", Some(direction)) => {
-            conformance::lines_of(rt, folder.as_str(), direction.as_str())
-        }
-        ("lines-of", None) => bail!("in which direction?"),
-        _ => conformance::marks_of(rt, folder.as_str()),
-    }
-}
-
-fn run_characters(rt: &HostRuntime, subject: &str, words: &mut Args) -> Result<()> {
-    let folder = folder(words)?;
-    let characters = number(words.next());
+fn run_subject(rt: &HostRuntime, subject: Subject, words: &[String]) -> Result<()> {
     match subject {
-        "levels" => levels::run(rt, folder.as_str(), characters),
-        "layouts" => levels::lay_out_each(rt, folder.as_str(), characters),
-        "marks" => marks::run(rt, folder.as_str(), characters),
-        _ => fill::run(rt, folder.as_str(), characters),
+        Subject::Edits => edits::run(rt, kind(words, 2)?, number(words, 3), number(words, 4)),
+        Subject::Store => stores::run(rt, kind(words, 2)?, number(words, 3), number(words, 4)),
+        _ => run_on_tables(rt, subject, folder(words)?, words),
     }
+}
+
+fn run_on_tables(rt: &HostRuntime, subject: Subject, folder: &str, words: &[String]) -> Result<()> {
+    match subject {
+        Subject::Session => {
+            sessions::run(
+                rt,
+                folder,
+                kind(words, 3)?,
+                number(words, 4),
+                number(words, 5),
+            )
+        }
+        Subject::Width => sessions::change_width(rt, folder, kind(words, 3)?, word(words, 4)),
+        Subject::Levels => levels::run(rt, folder, number(words, 3)),
+        Subject::Layouts => levels::lay_out_each(rt, folder, number(words, 3)),
+        Subject::Marks => marks::run(rt, folder, number(words, 3)),
+        Subject::MarksOf => conformance::marks_of(rt, folder),
+        Subject::LinesOf => conformance::lines_of(rt, folder, word(words, 3)),
+        _ => fill::run(rt, folder, number(words, 3)),
+    }
+}
+
+// The word at a place, where the first is the name of the program. One that is missing is empty.
+fn word(words: &[String], place: usize) -> &str {
+    match words.get(place) {
+        Some(word) => word.as_str(),
+        None => "",
+    }
+}
+
+fn folder(words: &[String]) -> Result<&str> {
+    let folder = word(words, 2);
+    if folder.is_empty() {
+        bail!("where are the table files?");
+    }
+    Ok(folder)
+}
+
+fn kind(words: &[String], place: usize) -> Result<StoreKind> {
+    let kind = word(words, place);
+    if kind == "list" {
+        return Ok(StoreKind::List);
+    }
+    if kind == "tree" {
+        return Ok(StoreKind::Tree);
+    }
+    bail!("a list or a tree?")
 }
 
 // The number that a word is, and 0 for any other and where it is missing.
-fn number(word: Option<String>) -> usize {
-    word.and_then(|word| word.as_str().parse().ok())
-        .unwrap_or(0)
+fn number(words: &[String], place: usize) -> usize {
+    match word(words, place).parse() {
+        Ok(number) => number,
+        Err(_) => 0,
+    }
 }

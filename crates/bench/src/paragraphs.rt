@@ -4,10 +4,11 @@ ghost use Rattle.lines.specs.Engine.{rules_of, SameRules};
 ghost use Rattle.lines.specs.Layouts.{IsLaidOut};
 
 use crate::numbers::Numbers;
+use crate::rows::{show, since};
 use anyhow::{Result, bail};
 use bidi::{Base, resolve};
 use breaks::{Mark, marks};
-use lines::{Engine, Laid, PARAGRAPH_LIMIT};
+use lines::{Engine, Laid, Options, PARAGRAPH_LIMIT};
 use std::alloc::{AllocError, Global};
 use std::fs;
 use std::time::Instant;
@@ -20,7 +21,7 @@ pub struct Kind {
 }
 
 /// What is found of a paragraph.
-#[derive(Clone, Copy, Debug, PartialEq, Eq)]
+#[derive(Clone, Copy)]
 pub enum Subject {
     Levels,
     Marks,
@@ -50,28 +51,35 @@ fn measure_kinds(
     characters: usize,
 ) -> Result<()> {
     for kind in kinds {
-        let text = text_of(rt.alloc(), kind.words, characters)?;
-        show(rt, subject, tables, &text, kind.name)?;
+        measure_kind(rt, subject, tables, kind, characters)?;
     }
     Ok(())
 }
 
-fn show(
+fn measure_kind(
     rt: &HostRuntime,
     subject: Subject,
     tables: &Tables,
-    text: &[char],
-    name: &str,
+    kind: &Kind,
+    characters: usize,
 ) -> Result<()> {
-    let (time, found) = measure(rt, subject, tables, text)?;
-    println!(rt; "{time} {found} {name}")?;
-    Ok(())
+    let text = text_of(rt.alloc(), kind.words, characters)?;
+    measure(rt, subject, tables, &text, kind.name)
 }
 
 fn table_file(rt: &HostRuntime, folder: &str, name: &str) -> Result<Vec<u8>> {
     let path = format!(in rt.alloc(); "{folder}/{name}")?;
     Ok(fs::read(rt, path.as_str())?)
 }
+
+/// An engine with the tables of the files of a folder.
+pub fn engine(rt: &HostRuntime, folder: &str) -> Result<Engine> {
+    Ok(Engine::new(tables(rt, folder)?, Options::default()))
+}
+
+/// Lets go of an engine. Only this function does, since the proof of each that does walks through all the
+/// lists that an engine has.
+pub fn let_go(_engine: Engine) {}
 
 /// The tables of the files of a folder.
 pub fn tables(rt: &HostRuntime, folder: &str) -> Result<Tables> {
@@ -140,22 +148,22 @@ pub fn lay_out(alloc: Global, engine: &mut Engine, text: Vec<char>, width: u16) 
     }
 }
 
-// The least time in nanoseconds, and what was found.
+// Prints the least time in nanoseconds, what was found and the name.
 fn measure(
     rt: &HostRuntime,
     subject: Subject,
     tables: &Tables,
     text: &[char],
-) -> Result<(u64, usize)> {
+    name: &str,
+) -> Result<()> {
     let mut least = u64::MAX;
     let mut found = 0;
     for _ in 0..RUNS {
         let start = Instant::now(rt)?;
         found = analyse(rt.alloc(), subject, tables, text)?;
-        let time = start.elapsed(rt)?.as_nanos();
-        least = least.min(u64::try_from(time).unwrap_or(u64::MAX));
+        least = least.min(since(rt, start)?);
     }
-    Ok((least, found))
+    show(rt, &[least, found as u64], name)
 }
 
 // The highest level, or at how many positions a line may end.
@@ -166,13 +174,27 @@ fn analyse(
     text: &[char],
 ) -> Result<usize, AllocError> {
     match subject {
-        Subject::Levels => {
-            let levels = resolve(alloc, tables, text, Base::WeakLtr)?;
-            Ok(usize::from(levels.iter().copied().max().unwrap_or(0)))
-        }
-        Subject::Marks => {
-            let marks = marks(alloc, tables, text, false)?;
-            Ok(marks.iter().filter(|mark| **mark != Mark::Never).count())
+        Subject::Levels => highest_level(alloc, tables, text),
+        Subject::Marks => ends(alloc, tables, text),
+    }
+}
+
+fn highest_level(alloc: Global, tables: &Tables, text: &[char]) -> Result<usize, AllocError> {
+    let levels = resolve(alloc, tables, text, Base::WeakLtr)?;
+    let mut highest = 0;
+    for level in &levels {
+        highest = highest.max(*level);
+    }
+    Ok(usize::from(highest))
+}
+
+fn ends(alloc: Global, tables: &Tables, text: &[char]) -> Result<usize, AllocError> {
+    let marks = marks(alloc, tables, text, false)?;
+    let mut count: usize = 0;
+    for mark in &marks {
+        if *mark != Mark::Never {
+            count = count.wrapping_add(1);
         }
     }
+    Ok(count)
 }

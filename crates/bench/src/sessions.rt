@@ -4,51 +4,60 @@ ghost use Rattle.std.specs.List.{All};
 ghost use Rattle.lines.specs.Engine.{rules_of, SameRules};
 ghost use Rattle.lines.specs.Layouts.{IsLaidOut};
 
-use crate::edits::{make_edits, open, text_of};
-use crate::paragraphs::{RUNS, lay_out, tables};
-use anyhow::{Result, bail};
-use lines::{Engine, Fill, Laid, Options};
+use crate::edits::{StoreKind, close, make_edits, open, text_of};
+use crate::paragraphs::{RUNS, engine, lay_out, let_go};
+use crate::rows::{show_numbers, since};
+use anyhow::Result;
+use lines::{Engine, Fill, Laid};
 use session::{Kept, Session};
 use std::fs;
-use std::time::{Duration, Instant};
+use std::time::Instant;
 use store::{ParagraphStore, TreeStore, VecStore};
-use ucd::Tables;
 
-/// Prints how long in nanoseconds a session over a `list` or a `tree` takes, on a text of so many
-/// paragraphs of 80 characters: to be opened, and for an edit at a place that looks random, on average.
+/// Prints how long in nanoseconds a session over a list or a tree takes, on a text of so many paragraphs of
+/// 80 characters: to be opened, and for an edit at a place that looks random, on average.
 pub fn run(
     rt: &HostRuntime,
     folder: &str,
-    kind: &str,
-    paragraphs: usize,
-    edits: usize,
-) -> Result<()> {
-    match kind {
-        "list" => measure::<VecStore<Kept>>(rt, folder, paragraphs, edits),
-        "tree" => measure::<TreeStore<Kept>>(rt, folder, paragraphs, edits),
-        _ => bail!("a list or a tree?"),
-    }
-}
-
-fn measure<S: ParagraphStore<Kept> + Drop>(
-    rt: &HostRuntime,
-    folder: &str,
+    kind: StoreKind,
     paragraphs: usize,
     edits: usize,
 ) -> Result<()> {
     let text = text_of(rt.alloc(), paragraphs)?;
-    measure_on::<S>(rt, tables(rt, folder)?, text.as_str(), edits)
+    measure(rt, folder, kind, text.as_str(), edits)
+}
+
+fn measure(
+    rt: &HostRuntime,
+    folder: &str,
+    kind: StoreKind,
+    text: &str,
+    edits: usize,
+) -> Result<()> {
+    let engine = engine(rt, folder)?;
+    match kind {
+        StoreKind::List => measure_on::<VecStore<Kept>>(rt, engine, text, edits),
+        StoreKind::Tree => measure_on::<TreeStore<Kept>>(rt, engine, text, edits),
+    }
 }
 
 fn measure_on<S: ParagraphStore<Kept> + Drop>(
     rt: &HostRuntime,
-    tables: Tables,
+    engine: Engine,
     text: &str,
     edits: usize,
 ) -> Result<()> {
-    let start = Instant::now(rt)?;
-    let mut session: Session<S> = open(rt.alloc(), tables, text)?;
-    measure_edits(rt, &mut session, start, edits)
+    let start = match Instant::now(rt) {
+        Ok(start) => start,
+        Err(error) => {
+            let_go(engine);
+            return Err(error.into());
+        }
+    };
+    let mut session: Session<S> = open(rt.alloc(), engine, text)?;
+    let answer = measure_edits(rt, &mut session, start, edits);
+    close(session);
+    answer
 }
 
 // The session's opening began at `start` and has just ended.
@@ -58,20 +67,11 @@ fn measure_edits<S: ParagraphStore<Kept>>(
     start: Instant,
     edits: usize,
 ) -> Result<()> {
-    let opening = nanoseconds(start.elapsed(rt)?);
+    let opening = since(rt, start)?;
     let start = Instant::now(rt)?;
     make_edits(session, edits);
-    let editing = nanoseconds(start.elapsed(rt)?) / edits.max(1) as u64;
-    show(rt, opening, editing)
-}
-
-fn show(rt: &HostRuntime, opening: u64, editing: u64) -> Result<()> {
-    println!(rt; "{opening} {editing}")?;
-    Ok(())
-}
-
-fn nanoseconds(time: Duration) -> u64 {
-    u64::try_from(time.as_nanos()).unwrap_or(u64::MAX)
+    let editing = since(rt, start)? / edits.max(1) as u64;
+    show_numbers(rt, &[opening, editing])
 }
 
 // The widths that are changed to, in turns, and that at which all is laid out first.
@@ -80,25 +80,30 @@ const NARROW: u16 = 60;
 const WIDE: u16 = 80;
 
 /// Prints how long in nanoseconds it takes, on the text of a file: to lay out each paragraph; to fill each
-/// again at the narrow width, and at the wide one; to change the width of a session over a `list` or a
-/// `tree` to the narrow one, and back. All but the first are the least of some runs.
-pub fn change_width(rt: &HostRuntime, folder: &str, kind: &str, file: &str) -> Result<()> {
+/// again at the narrow width, and at the wide one; to change the width of a session over a list or a tree to
+/// the narrow one, and back. All but the first are the least of some runs.
+pub fn change_width(rt: &HostRuntime, folder: &str, kind: StoreKind, file: &str) -> Result<()> {
     let text = fs::read_to_string(rt, file)?;
     change_width_of(rt, folder, kind, text.as_str())
 }
 
-fn change_width_of(rt: &HostRuntime, folder: &str, kind: &str, text: &str) -> Result<()> {
+fn change_width_of(rt: &HostRuntime, folder: &str, kind: StoreKind, text: &str) -> Result<()> {
     let (laying_out, filling) = lay_out_and_fill(rt, folder, text)?;
+    let engine = engine(rt, folder)?;
     let changing = match kind {
-        "list" => change::<VecStore<Kept>>(rt, folder, text)?,
-        "tree" => change::<TreeStore<Kept>>(rt, folder, text)?,
-        _ => bail!("a list or a tree?"),
+        StoreKind::List => change::<VecStore<Kept>>(rt, engine, text)?,
+        StoreKind::Tree => change::<TreeStore<Kept>>(rt, engine, text)?,
     };
-    println!(rt;
-        "{laying_out} {} {} {} {}",
-        filling.narrow, filling.wide, changing.narrow, changing.wide
-    )?;
-    Ok(())
+    show_numbers(
+        rt,
+        &[
+            laying_out,
+            filling.narrow,
+            filling.wide,
+            changing.narrow,
+            changing.wide,
+        ],
+    )
 }
 
 // The least times at both widths.
@@ -127,11 +132,13 @@ impl Times {
 // How long width changes take.
 fn change<S: ParagraphStore<Kept> + Drop>(
     rt: &HostRuntime,
-    folder: &str,
+    engine: Engine,
     text: &str,
 ) -> Result<Times> {
-    let mut session: Session<S> = open(rt.alloc(), tables(rt, folder)?, text)?;
-    times_to_change(rt, &mut session)
+    let mut session: Session<S> = open(rt.alloc(), engine, text)?;
+    let times = times_to_change(rt, &mut session);
+    close(session);
+    times
 }
 
 fn times_to_change<S: ParagraphStore<Kept>>(
@@ -153,19 +160,25 @@ fn time_to_change<S: ParagraphStore<Kept>>(
     width: u16,
 ) -> Result<u64> {
     let start = Instant::now(rt)?;
-    let result = session.set_width(width);
-    let time = nanoseconds(start.elapsed(rt)?);
-    if result.is_err() {
-        bail!("out of memory");
-    }
-    Ok(time)
+    session.set_width(width)?;
+    since(rt, start)
 }
 
 // How long it takes to lay out each paragraph, and to fill each again.
 fn lay_out_and_fill(rt: &HostRuntime, folder: &str, text: &str) -> Result<(u64, Times)> {
+    let mut engine = engine(rt, folder)?;
+    let answer = lay_out_and_fill_text(rt, &mut engine, text);
+    let_go(engine);
+    answer
+}
+
+fn lay_out_and_fill_text(
+    rt: &HostRuntime,
+    engine: &mut Engine,
+    text: &str,
+) -> Result<(u64, Times)> {
     let text: Vec<char> = text.chars().collect(rt.alloc())?;
-    let mut engine = Engine::new(tables(rt, folder)?, Options::default());
-    lay_out_and_fill_by(rt, &mut engine, &text)
+    lay_out_and_fill_by(rt, engine, &text)
 }
 
 fn lay_out_and_fill_by(
@@ -175,18 +188,17 @@ fn lay_out_and_fill_by(
 ) -> Result<(u64, Times)> {
     let start = Instant::now(rt)?;
     let all = lay_out_all(rt, engine, text)?;
-    let laying_out = nanoseconds(start.elapsed(rt)?);
-    Ok((laying_out, fill(rt, engine, all)?))
+    Ok((since(rt, start)?, fill(rt, engine, &all)?))
 }
 
 // How long it takes to fill each paragraph again.
-fn fill(rt: &HostRuntime, engine: &mut Engine, all: Vec<Laid>) -> Result<Times>
-    requires { All (IsLaidOut (rules_of engine.old)) all.items }
+fn fill(rt: &HostRuntime, engine: &mut Engine, all: &[Laid]) -> Result<Times>
+    requires { All (IsLaidOut (rules_of engine.old)) all.now }
 {
     let mut times = Times::none();
     for _ in 0..RUNS {
-        let narrow = time_to_refill(rt, engine, &all, NARROW)?;
-        let wide = time_to_refill(rt, engine, &all, WIDE)?;
+        let narrow = time_to_refill(rt, engine, all, NARROW)?;
+        let wide = time_to_refill(rt, engine, all, WIDE)?;
         times = times.or(narrow, wide);
     }
     Ok(times)
@@ -205,11 +217,18 @@ fn lay_out_all(rt: &HostRuntime, engine: &mut Engine, text: &[char]) -> Result<V
         }
         let len = engine.first_cut(rest).unwrap_or(rest.len());
         let (piece, behind) = rest.split_at(len.min(rest.len()));
-        let piece = Vec::from_slice(rt.alloc(), piece)?;
-        all.push(lay_out(rt.alloc(), engine, piece, WIDE)?)?;
+        all.push(lay_out_piece(rt, engine, piece)?)?;
         rest = behind;
     }
     Ok(all)
+}
+
+fn lay_out_piece(rt: &HostRuntime, engine: &mut Engine, piece: &[char]) -> Result<Laid>
+    ensures laid { IfOk result (IsLaidOut (rules_of engine.old)) }
+    ensures rules { SameRules engine.old engine.new }
+{
+    let text = Vec::from_slice(rt.alloc(), piece)?;
+    lay_out(rt.alloc(), engine, text, WIDE)
 }
 
 fn time_to_refill(rt: &HostRuntime, engine: &mut Engine, all: &[Laid], width: u16) -> Result<u64>
@@ -219,7 +238,7 @@ fn time_to_refill(rt: &HostRuntime, engine: &mut Engine, all: &[Laid], width: u1
 {
     let start = Instant::now(rt)?;
     let _ = refill_all(rt, engine, all, width)?;
-    Ok(nanoseconds(start.elapsed(rt)?))
+    since(rt, start)
 }
 
 fn refill_all(rt: &HostRuntime, engine: &mut Engine, all: &[Laid], width: u16) -> Result<Vec<Fill>>

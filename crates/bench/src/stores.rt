@@ -2,7 +2,9 @@
 //! and to search for a character.
 ghost use Rattle.std.specs.Prelude.{◌^◌, ◌<◌, if◌then◌else◌};
 
+use crate::edits::StoreKind;
 use crate::numbers::Numbers;
+use crate::rows::{show_numbers, since};
 use anyhow::{Result, bail};
 use std::alloc::{AllocError, Global};
 use std::ops::Range;
@@ -37,54 +39,60 @@ const LIMIT: usize = 1 << 40;
 /// and then so many replacements of one paragraph and as many searches. It prints the times in
 /// nanoseconds: of the making, and of a replacement and of a search on average; and how many nodes a
 /// search visits on average.
-pub fn run(rt: &HostRuntime, kind: &str, count: usize, times: usize) -> Result<()> {
+pub fn run(rt: &HostRuntime, kind: StoreKind, count: usize, times: usize) -> Result<()> {
     match kind {
-        "list" => measure(rt, VecStore::new(rt.alloc()), count, times),
-        "tree" => measure(rt, TreeStore::new(rt.alloc()), count, times),
-        _ => bail!("a list or a tree?"),
+        StoreKind::List => measure(rt, &mut VecStore::new(rt.alloc()), count, times),
+        StoreKind::Tree => measure(rt, &mut TreeStore::new(rt.alloc()), count, times),
     }
 }
 
-fn measure<S: ParagraphStore<Small> + Drop>(
-    rt: &HostRuntime,
-    store: S,
-    count: usize,
-    times: usize,
-) -> Result<()> {
-    let mut store = store;
-    measure_in(rt, &mut store, count, times)
-}
-
-fn measure_in<S: ParagraphStore<Small>>(
+fn measure<S: ParagraphStore<Small>>(
     rt: &HostRuntime,
     store: &mut S,
     count: usize,
     times: usize,
 ) -> Result<()> {
-    let making = time_to_make(rt, store, count)?;
     let mut numbers = Numbers::new();
-    let start = Instant::now(rt)?;
-    replace_some(rt.alloc(), store, &mut numbers, times)?;
-    let replacing = start.elapsed(rt)?.as_nanos() / times.max(1) as u128;
+    let per = times.max(1) as u64;
+    let making = time_to_make(rt, store, count)?;
+    let replacing = time_to_replace(rt, store, &mut numbers, times)?;
     let start = Instant::now(rt)?;
     let visits = search_some(store, &mut numbers, times);
-    let searching = start.elapsed(rt)?.as_nanos() / times.max(1) as u128;
-    println!(rt;
-        "{making} {replacing} {searching} {}",
-        visits / times.max(1) as u64
-    )?;
-    Ok(())
+    let searching = since(rt, start)?;
+    show_numbers(
+        rt,
+        &[making, replacing / per, searching / per, visits / per],
+    )
 }
 
 fn time_to_make<S: ParagraphStore<Small>>(
     rt: &HostRuntime,
     store: &mut S,
     count: usize,
-) -> Result<u128> {
+) -> Result<u64> {
     let new_items = paragraphs(rt.alloc(), count)?;
+    time_to_fill(rt, store, new_items)
+}
+
+fn time_to_fill<S: ParagraphStore<Small>>(
+    rt: &HostRuntime,
+    store: &mut S,
+    new_items: Vec<Small>,
+) -> Result<u64> {
     let start = Instant::now(rt)?;
     replace(store, 0..0, new_items)?;
-    Ok(start.elapsed(rt)?.as_nanos())
+    since(rt, start)
+}
+
+fn time_to_replace<S: ParagraphStore<Small>>(
+    rt: &HostRuntime,
+    store: &mut S,
+    numbers: &mut Numbers,
+    times: usize,
+) -> Result<u64> {
+    let start = Instant::now(rt)?;
+    replace_some(rt.alloc(), store, numbers, times)?;
+    since(rt, start)
 }
 
 fn replace_some<S: ParagraphStore<Small>>(

@@ -11,8 +11,6 @@ mod fill;
 mod isolates;
 mod levels;
 mod neutral;
-#[cfg(test)]
-mod passes;
 mod resolver;
 mod sequences;
 mod weak;
@@ -20,6 +18,3 @@ mod weak;
 pub use base::{Base, base_level, base_level_by};
 pub use cuts::{first_cut, is_cut, paragraphs_are_pieces};
 pub use resolver::{Resolver, resolve};
-
-#[cfg(test)]
-mod tests;

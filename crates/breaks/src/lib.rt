@@ -9,8 +9,3 @@ mod table;
 mod walk;
 
 pub use mark::{Mark, marks, marks_are_as_many, marks_into, paragraphs_end_at_must};
-
-#[cfg(test)]
-mod plain;
-#[cfg(test)]
-mod tests;

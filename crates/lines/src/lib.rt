@@ -30,6 +30,3 @@ pub use order::{groups_stand_together, maps_are_inverse, others_stay};
 pub use print::{Print, PrintFault};
 pub use visual::Fill;
 pub use visual_line::VisualLine;
-
-#[cfg(test)]
-mod tests;

@@ -28,41 +28,51 @@ fn main(rt: HostRuntime) -> ExitCode {
     }
 }
 
+// What is tried.
+#[derive(Clone, Copy)]
+enum Trial {
+    Tables,
+    Paragraph,
+    List,
+    Tree,
+    ListSession,
+    TreeSession,
+    Text,
+    ListScript,
+    TreeScript,
+}
+
+const TRIALS: [(&str, Trial); 9] = [
+    ("the tables", Trial::Tables),
+    ("a paragraph", Trial::Paragraph),
+    ("a list", Trial::List),
+    ("a tree", Trial::Tree),
+    ("a session over a list", Trial::ListSession),
+    ("a session over a tree", Trial::TreeSession),
+    ("a text", Trial::Text),
+    ("a script over a list", Trial::ListScript),
+    ("a script over a tree", Trial::TreeScript),
+];
+
 fn print_all(rt: &HostRuntime) -> io::Result<()> {
-    let alloc = rt.alloc();
-    print(rt, "the tables", tables::try_read(alloc))?;
-    print(rt, "a paragraph", paragraphs::try_calls(alloc))?;
-    print(
-        rt,
-        "a list",
-        stores::try_replace(&mut VecStore::new(alloc), alloc),
-    )?;
-    print(
-        rt,
-        "a tree",
-        stores::try_replace(&mut TreeStore::new(alloc), alloc),
-    )?;
-    print(
-        rt,
-        "a session over a list",
-        sessions::try_calls::<VecStore<Kept>>(alloc),
-    )?;
-    print(
-        rt,
-        "a session over a tree",
-        sessions::try_calls::<TreeStore<Kept>>(alloc),
-    )?;
-    print(rt, "a text", runs::try_text(alloc))?;
-    print(
-        rt,
-        "a script over a list",
-        runs::try_script::<VecStore<Kept>>(alloc),
-    )?;
-    print(
-        rt,
-        "a script over a tree",
-        runs::try_script::<TreeStore<Kept>>(alloc),
-    )
+    for (subject, trial) in &TRIALS {
+        print(rt, *subject, answer(rt.alloc(), *trial))?;
+    }
+    Ok(())
+}
+
+fn answer(alloc: Global, trial: Trial) -> Result<(), Wrong> {
+    match trial {
+        Trial::Tables => tables::try_read(alloc),
+        Trial::Paragraph => paragraphs::try_calls(alloc),
+        Trial::List => stores::try_replace(&mut VecStore::new(alloc), alloc),
+        Trial::Tree => stores::try_replace(&mut TreeStore::new(alloc), alloc),
+        Trial::ListSession => sessions::try_calls::<VecStore<Kept>>(alloc),
+        Trial::TreeSession => sessions::try_calls::<TreeStore<Kept>>(alloc),
+        Trial::Text => runs::try_text(alloc),
+        Trial::ListScript => runs::try_script::<VecStore<Kept>>(alloc),
+        Trial::TreeScript => runs::try_script::<TreeStore<Kept>>(alloc),
+    }
 }
 
 fn print(rt: &HostRuntime, subject: &str, answer: Result<(), Wrong>) -> io::Result<()> {

@@ -6,7 +6,7 @@ use std::io::Write;
 const ROOM: usize = 512;
 
 /// What was written.
-#[derive(Drop)]
+#[derive(Clone, Copy)]
 pub struct Page {
     room: [u8; ROOM],
     len: usize,

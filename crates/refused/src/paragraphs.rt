@@ -4,9 +4,9 @@ ghost use Rattle.lines.specs.Engine.{rules_of};
 ghost use Rattle.lines.specs.Layouts.{IsLaidOut};
 
 use crate::Wrong;
-use crate::tables::engine;
+use crate::tables::{engine, let_go};
 use lines::{Engine, Laid, PARAGRAPH_LIMIT};
-use std::alloc::{AllocError, Global};
+use std::alloc::Global;
 
 // One paragraph, with a letter for each of its lines at width 1.
 const TEXT: &str = "a\u{5d0}(1)";
@@ -14,19 +14,27 @@ const TEXT: &str = "a\u{5d0}(1)";
 /// Lays a paragraph out, and fills it again.
 pub fn try_calls(alloc: Global) -> Result<(), Wrong> {
     let mut engine = engine(alloc)?;
-    let laid = lay_out(alloc, &mut engine)?;
+    let answer = try_calls_by(alloc, &mut engine);
+    let_go(engine);
+    answer
+}
+
+fn try_calls_by(alloc: Global, engine: &mut Engine) -> Result<(), Wrong> {
+    let laid = lay_out(alloc, engine)?;
     if laid.line_starts() != [0].as_slice() {
         return Err("other lines");
     }
-    refill(alloc, &mut engine, &laid)
+    refill(alloc, engine, &laid)
 }
 
 // The characters of the text, asked for twice.
 fn characters(alloc: Global) -> Result<Vec<char>, Wrong> {
-    let text: Result<Vec<char>, AllocError> = TEXT.chars().collect(alloc);
-    match text {
+    if let Ok(text) = TEXT.chars().collect(alloc) {
+        return Ok(text);
+    }
+    match TEXT.chars().collect(alloc) {
         Ok(text) => Ok(text),
-        Err(_) => TEXT.chars().collect(alloc).map_err(|_| "refused twice"),
+        Err(_) => Err("refused twice"),
     }
 }
 
@@ -34,21 +42,47 @@ fn characters(alloc: Global) -> Result<Vec<char>, Wrong> {
 fn lay_out(alloc: Global, engine: &mut Engine) -> Result<Laid, Wrong>
     ensures { IfOk result (IsLaidOut (rules_of engine.new)) }
 {
-    let text = characters(alloc)?;
+    match lay_out_text(alloc, engine, characters(alloc)?)? {
+        Ok(laid) => Ok(laid),
+        Err(text) => lay_out_again(alloc, engine, text),
+    }
+}
+
+fn lay_out_again(alloc: Global, engine: &mut Engine, text: Vec<char>) -> Result<Laid, Wrong>
+    ensures { IfOk result (IsLaidOut (rules_of engine.new)) }
+{
+    check_refusal(engine, &text)?;
+    match lay_out_text(alloc, engine, text)? {
+        Ok(laid) => Ok(laid),
+        Err(_) => Err("refused twice"),
+    }
+}
+
+// The text comes back where memory was wanting.
+fn lay_out_text(
+    alloc: Global,
+    engine: &mut Engine,
+    text: Vec<char>,
+) -> Result<Result<Laid, Vec<char>>, Wrong>
+    ensures { IfOk result (λ laid. IfOk laid (IsLaidOut (rules_of engine.new))) }
+{
     if text.is_empty() || text.len() > PARAGRAPH_LIMIT || engine.first_cut(&text).is_some() {
         return Err("no paragraph");
     }
-    let text = match engine.lay_out(alloc, text, 80) {
-        Ok(laid) => return Ok(laid),
-        Err((text, _)) => text,
-    };
+    match engine.lay_out(alloc, text, 80) {
+        Ok(laid) => Ok(Ok(laid)),
+        Err((text, _)) => Ok(Err(text)),
+    }
+}
+
+fn check_refusal(engine: &Engine, text: &[char]) -> Result<(), Wrong> {
     if !text.iter().copied().eq(TEXT.chars()) {
         return Err("another text came back");
     }
     if engine.analysed() > 5 || engine.filled() > 5 {
         return Err("counted more than the text");
     }
-    engine.lay_out(alloc, text, 80).map_err(|_| "refused twice")
+    Ok(())
 }
 
 fn refill(alloc: Global, engine: &mut Engine, laid: &Laid) -> Result<(), Wrong>

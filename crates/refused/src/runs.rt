@@ -3,7 +3,7 @@
 use crate::Wrong;
 use crate::page::{Page, Writer};
 use crate::sessions::{ALL, open};
-use crate::tables::engine;
+use crate::tables::{engine, let_go};
 use device::{FromRead, ToWrite};
 use lines::{Engine, Print};
 use session::{Kept, Session};
@@ -22,13 +22,19 @@ const LINES: Print = Print {
 /// Writes the lines of a text of two paragraphs.
 pub fn try_text(alloc: Global) -> Result<(), Wrong> {
     let mut engine = engine(alloc)?;
+    let answer = try_text_by(alloc, &mut engine);
+    let_go(engine);
+    answer
+}
+
+fn try_text_by(alloc: Global, engine: &mut Engine) -> Result<(), Wrong> {
     let mut page = Page::new();
-    if write_text(alloc, &mut engine, &mut page) == Err(RunFault::Memory) {
+    if is_refused(write_text(alloc, engine, &mut page)) {
         if !page.is_one_of(&[b"", b"a\n"]) {
             return Err("written in part");
         }
         page = Page::new();
-        if write_text(alloc, &mut engine, &mut page).is_err() {
+        if write_text(alloc, engine, &mut page).is_err() {
             return Err("refused twice");
         }
     }
@@ -36,6 +42,10 @@ pub fn try_text(alloc: Global) -> Result<(), Wrong> {
         return Err("another text");
     }
     Ok(())
+}
+
+fn is_refused(answer: Result<(), RunFault>) -> bool {
+    answer == Err(RunFault::Memory)
 }
 
 fn write_text(alloc: Global, engine: &mut Engine, page: &mut Page) -> Result<(), RunFault> {
@@ -55,7 +65,7 @@ const UNFINISHED: [&[u8]; 3] = [b"", b"@ 1 1 2\n", b"@ 1 1 2\n@ 0 3 1\n"];
 /// Obeys a script.
 pub fn try_script<S: ParagraphStore<Kept> + Drop>(alloc: Global) -> Result<(), Wrong> {
     let mut page = Page::new();
-    if obey::<S>(alloc, &mut page)? == Err(RunFault::Memory) {
+    if is_refused(obey::<S>(alloc, &mut page)?) {
         if !page.is_one_of(&UNFINISHED) {
             return Err("answered in part");
         }
@@ -75,7 +85,15 @@ fn obey<S: ParagraphStore<Kept> + Drop>(
     page: &mut Page,
 ) -> Result<Result<(), RunFault>, Wrong> {
     let session: Session<S> = open(alloc)?;
+    Ok(obey_in(alloc, session, page))
+}
+
+fn obey_in<S: ParagraphStore<Kept> + Drop>(
+    alloc: Global,
+    session: Session<S>,
+    page: &mut Page,
+) -> Result<(), RunFault> {
     let mut reader = FromRead::new(SCRIPT);
     let mut writer = ToWrite::new(Writer { page });
-    Ok(run_script(alloc, &mut reader, &mut writer, session, &LINES))
+    run_script(alloc, &mut reader, &mut writer, session, &LINES)
 }

@@ -1,9 +1,9 @@
 //! The calls of a session: each is made in a session of its own, beside one in which nothing was asked for.
 use crate::Wrong;
 use crate::page::{Page, Writer};
-use crate::tables::engine;
+use crate::tables::{engine, let_go};
 use device::ToWrite;
-use lines::{Laid, Print, VisualLine};
+use lines::{Engine, Laid, Print, VisualLine};
 use session::{Damage, Edit, EditFault, Kept, Session};
 use std::alloc::Global;
 use store::ParagraphStore;
@@ -13,58 +13,151 @@ pub const TEXT: &str = "ab\ncd\nef";
 
 // A change; where its lines begin, how many there were and how many there are; and by how much it may raise
 // both counts.
-const CHANGES: [(Edit<'_>, [usize; 3], [u64; 2]); 3] = [
-    (Edit::Insert(4, "x\ny"), [1, 1, 2], [6, 6]),
-    (Edit::Delete(2, 4), [0, 3, 1], [4, 4]),
-    (Edit::SetWidth(1), [0, 3, 6], [0, 8]),
+struct Change {
+    edit: Edit<'static>,
+    lines: [usize; 3],
+    most: [u64; 2],
+}
+
+const CHANGES: [Change; 3] = [
+    Change {
+        edit: Edit::Insert(4, "x\ny"),
+        lines: [1, 1, 2],
+        most: [6, 6],
+    },
+    Change {
+        edit: Edit::Delete(2, 4),
+        lines: [0, 3, 1],
+        most: [4, 4],
+    },
+    Change {
+        edit: Edit::SetWidth(1),
+        lines: [0, 3, 6],
+        most: [0, 8],
+    },
 ];
 
 /// Opens a session, and once more, by the engine that comes back, where it was refused.
 pub fn open<S: ParagraphStore<Kept> + Drop>(alloc: Global) -> Result<Session<S>, Wrong> {
-    match Session::open(alloc, engine(alloc)?, TEXT, 80) {
+    open_by(alloc, engine(alloc)?)
+}
+
+fn open_by<S: ParagraphStore<Kept> + Drop>(
+    alloc: Global,
+    engine: Engine,
+) -> Result<Session<S>, Wrong> {
+    match Session::open(alloc, engine, TEXT, 80) {
         Ok(session) => Ok(session),
-        Err((engine, EditFault::NoMemory)) => {
-            if engine.analysed() > 8 || engine.filled() > 8 {
-                return Err("counted more than the text");
-            }
-            Session::open(alloc, engine, TEXT, 80).map_err(
-                |_| "not opened by the engine that came back",
-            )
-        }
-        Err(_) => Err("not opened"),
+        Err((engine, fault)) => open_again(alloc, engine, fault),
     }
+}
+
+fn open_again<S: ParagraphStore<Kept> + Drop>(
+    alloc: Global,
+    engine: Engine,
+    fault: EditFault,
+) -> Result<Session<S>, Wrong> {
+    if let Err(wrong) = check_refusal(&engine, fault) {
+        let_go(engine);
+        return Err(wrong);
+    }
+    match Session::open(alloc, engine, TEXT, 80) {
+        Ok(session) => Ok(session),
+        Err((engine, _)) => {
+            let_go(engine);
+            Err("not opened by the engine that came back")
+        }
+    }
+}
+
+fn check_refusal(engine: &Engine, fault: EditFault) -> Result<(), Wrong> {
+    if fault != EditFault::NoMemory {
+        return Err("not opened");
+    }
+    if engine.analysed() > 8 || engine.filled() > 8 {
+        return Err("counted more than the text");
+    }
+    Ok(())
 }
 
 /// Makes each change, and compares what a refused one leaves with what was there. The calls that show it take
 /// no memory, so they are made where nothing was refused as well.
 pub fn try_calls<S: ParagraphStore<Kept> + Drop>(alloc: Global) -> Result<(), Wrong> {
     let untouched: Session<S> = open(alloc)?;
-    for (edit, lines, most) in CHANGES {
-        let mut session: Session<S> = open(alloc)?;
-        if !is_same(&session, &untouched) {
-            return Err("two sessions on one text differ");
-        }
-        let before = (session.analysed(), session.filled());
-        let damage = match make(&mut session, edit) {
-            Err(EditFault::NoMemory) => {
-                if !is_same(&session, &untouched) {
-                    return Err("changed by a refused call");
-                }
-                if session.analysed().saturating_sub(before.0) > most[0]
-                    || session.filled().saturating_sub(before.1) > most[1]
-                {
-                    return Err("counted more than the change could raise");
-                }
-                make(&mut session, edit)
-            }
-            result => result,
-        };
-        let Ok(damage) = damage else {
-            return Err("refused twice");
-        };
-        if [damage.first_line, damage.old_lines, damage.new_lines] != lines {
-            return Err("another damage");
-        }
+    let answer = try_changes(alloc, &untouched);
+    close(untouched);
+    answer
+}
+
+// Lets go of a session, as `let_go` does of an engine.
+fn close<S: ParagraphStore<Kept> + Drop>(_session: Session<S>) {}
+
+// Each function here holds one session at most, since all that is held where a call may fail makes the proof
+// longer.
+fn try_changes<S: ParagraphStore<Kept> + Drop>(
+    alloc: Global,
+    untouched: &Session<S>,
+) -> Result<(), Wrong> {
+    for change in &CHANGES {
+        try_change(alloc, untouched, change)?;
+    }
+    Ok(())
+}
+
+fn try_change<S: ParagraphStore<Kept> + Drop>(
+    alloc: Global,
+    untouched: &Session<S>,
+    change: &Change,
+) -> Result<(), Wrong> {
+    let mut session: Session<S> = open(alloc)?;
+    let answer = try_change_in(&mut session, untouched, change);
+    close(session);
+    answer
+}
+
+fn try_change_in<S: ParagraphStore<Kept>>(
+    session: &mut Session<S>,
+    untouched: &Session<S>,
+    change: &Change,
+) -> Result<(), Wrong> {
+    if !is_same(session, untouched) {
+        return Err("two sessions on one text differ");
+    }
+    let damage = make_twice(session, untouched, change)?;
+    if [damage.first_line, damage.old_lines, damage.new_lines] != change.lines {
+        return Err("another damage");
+    }
+    Ok(())
+}
+
+// Makes a change, and once more where it was refused.
+fn make_twice<S: ParagraphStore<Kept>>(
+    session: &mut Session<S>,
+    untouched: &Session<S>,
+    change: &Change,
+) -> Result<Damage, Wrong> {
+    let before = [session.analysed(), session.filled()];
+    let result = make(session, change.edit);
+    if result == Err(EditFault::NoMemory) {
+        check_unchanged(session, untouched, before, change.most)?;
+        return make(session, change.edit).map_err(|_| "refused twice");
+    }
+    result.map_err(|_| "refused twice")
+}
+
+fn check_unchanged<S: ParagraphStore<Kept>>(
+    session: &Session<S>,
+    untouched: &Session<S>,
+    before: [u64; 2],
+    most: [u64; 2],
+) -> Result<(), Wrong> {
+    if !is_same(session, untouched) {
+        return Err("changed by a refused call");
+    }
+    if session.analysed().saturating_sub(before[0]) > most[0]
+        || session.filled().saturating_sub(before[1]) > most[1]
+    {
+        return Err("counted more than the change could raise");
     }
     Ok(())
 }
@@ -97,32 +190,37 @@ fn is_same<S: ParagraphStore<Kept>>(left: &Session<S>, right: &Session<S>) -> bo
 
 fn is_same_paragraph(left: Option<&Laid>, right: Option<&Laid>) -> bool {
     match (left, right) {
-        (Some(left), Some(right)) => {
-            left.text() == right.text()
-                && left.base() == right.base()
-                && left.levels() == right.levels()
-                && left.marks() == right.marks()
-                && left.line_starts() == right.line_starts()
-        }
+        (Some(left), Some(right)) => is_same_laid(left, right),
         (None, None) => true,
         _ => false,
     }
 }
 
+// All parts are compared, by `&`, which has fewer paths than `&&`.
+fn is_same_laid(left: &Laid, right: &Laid) -> bool {
+    (left.text() == right.text())
+        & (left.base() == right.base())
+        & (left.levels() == right.levels())
+        & (left.marks() == right.marks())
+        & (left.line_starts() == right.line_starts())
+}
+
 fn is_same_line(left: Option<VisualLine<'_>>, right: Option<VisualLine<'_>>) -> bool {
     match (left, right) {
-        (Some(left), Some(right)) => {
-            left.is_first() == right.is_first()
-                && left.base() == right.base()
-                && left.chars() == right.chars()
-                && left.levels() == right.levels()
-                && left.ltov() == right.ltov()
-                && left.vtol() == right.vtol()
-                && left.columns() == right.columns()
-        }
+        (Some(left), Some(right)) => is_same_visual(&left, &right),
         (None, None) => true,
         _ => false,
     }
+}
+
+fn is_same_visual(left: &VisualLine<'_>, right: &VisualLine<'_>) -> bool {
+    (left.is_first() == right.is_first())
+        & (left.base() == right.base())
+        & (left.chars() == right.chars())
+        & (left.levels() == right.levels())
+        & (left.ltov() == right.ltov())
+        & (left.vtol() == right.vtol())
+        & (left.columns() == right.columns())
 }
 
 /// All that can be printed of a line.

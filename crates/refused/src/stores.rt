@@ -29,51 +29,106 @@ impl Measured for Item {
 // No store here has more items.
 const LIMIT: usize = 100;
 
-const BEFORE: [u8; 8] = [1, 2, 3, 4, 5, 6, 7, 8];
+// A replacement: from which item on and up to which, the names of those that are put in, of those that the
+// store holds before, and of those that are taken out.
+struct Replacement {
+    start: usize,
+    end: usize,
+    names: &'static [u8],
+    held: &'static [u8],
+    taken: &'static [u8],
+}
+
+const REPLACEMENTS: [Replacement; 2] = [
+    Replacement {
+        start: 0,
+        end: 0,
+        names: &[1, 2, 3, 4, 5, 6, 7, 8],
+        held: &[],
+        taken: &[],
+    },
+    Replacement {
+        start: 2,
+        end: 5,
+        names: &[11, 12],
+        held: &[1, 2, 3, 4, 5, 6, 7, 8],
+        taken: &[3, 4, 5],
+    },
+];
 
 const BEHIND: [u8; 7] = [1, 2, 11, 12, 6, 7, 8];
 
-/// Replaces three of eight items by two others.
+/// Fills an empty store with eight items, and replaces three of them by two others.
 pub fn try_replace<S: ParagraphStore<Item>>(store: &mut S, alloc: Global) -> Result<(), Wrong> {
-    let old = replace_twice(store, 0..0, alloc, &BEFORE, &[])?;
-    if !old.is_empty() {
-        return Err("items of an empty store");
+    for replacement in &REPLACEMENTS {
+        try_one(store, alloc, replacement)?;
     }
-    let old = replace_twice(store, 2..5, alloc, &[11, 12], &BEFORE)?;
-    if !has_names(&old, &[3, 4, 5]) || !holds(store, &BEHIND) {
+    if !holds(store, &BEHIND) {
         return Err("other items");
     }
     Ok(())
 }
 
-// Puts items of these names in, and once more where that was refused: they have to come back in their
-// order, and the store has to hold what it held.
+fn try_one<S: ParagraphStore<Item>>(
+    store: &mut S,
+    alloc: Global,
+    replacement: &Replacement,
+) -> Result<(), Wrong> {
+    let old = replace_twice(store, alloc, replacement)?;
+    if !has_names(&old, replacement.taken) {
+        return Err("other items taken out");
+    }
+    Ok(())
+}
+
+// Puts the items in, and once more where that was refused.
 fn replace_twice<S: ParagraphStore<Item>>(
     store: &mut S,
-    range: Range<usize>,
     alloc: Global,
-    names: &[u8],
-    held: &[u8],
+    replacement: &Replacement,
 ) -> Result<Vec<Item>, Wrong> {
-    let (start, end) = (range.start, range.end);
-    let new_items = match replace(store, start..end, items(alloc, names)?)? {
-        Ok(old) => return Ok(old),
-        Err(new_items) => new_items,
-    };
-    if !has_names(&new_items, names) {
+    let new_items = items(alloc, replacement.names)?;
+    match replace(store, replacement.start..replacement.end, new_items)? {
+        Ok(old) => Ok(old),
+        Err(new_items) => replace_again(store, replacement, new_items),
+    }
+}
+
+// The items have to have come back in their order, and the store has to hold what it held.
+fn replace_again<S: ParagraphStore<Item>>(
+    store: &mut S,
+    replacement: &Replacement,
+    new_items: Vec<Item>,
+) -> Result<Vec<Item>, Wrong> {
+    check_refusal(store, replacement, &new_items)?;
+    match replace(store, replacement.start..replacement.end, new_items)? {
+        Ok(old) => Ok(old),
+        Err(_) => Err("refused twice"),
+    }
+}
+
+fn check_refusal<S: ParagraphStore<Item>>(
+    store: &S,
+    replacement: &Replacement,
+    new_items: &[Item],
+) -> Result<(), Wrong> {
+    if !has_names(new_items, replacement.names) {
         return Err("other items came back");
     }
-    if !holds(store, held) {
+    if !holds(store, replacement.held) {
         return Err("changed by a refused call");
     }
-    replace(store, start..end, new_items)?.map_err(|_| "refused twice")
+    Ok(())
 }
 
 // The items of these names, asked for twice.
 fn items(alloc: Global, names: &[u8]) -> Result<Vec<Item>, Wrong> {
+    if let Ok(items) = named(alloc, names) {
+        return Ok(items);
+    }
     match named(alloc, names) {
         Ok(items) => Ok(items),
-        Err(_) => named(alloc, names).map_err(|_| "refused twice"),
+        Err(_) => Err("refused twice"),
     }
 }
 

@@ -15,6 +15,3 @@ mod width;
 pub use edits::{Damage, Edit, EditFault, TEXT_LIMIT};
 pub use kept::Kept;
 pub use session::Session;
-
-#[cfg(test)]
-mod tests;

@@ -3,5 +3,4 @@ mod FindLemmas
 mod FitsLemmas
 pub mod ListLemmas
 mod SubtreeLemmas
-mod TestLemmas
 mod TreeLemmas

@@ -15,6 +15,3 @@ pub use measured::{Exchanger, Measured};
 pub use paragraph_store::ParagraphStore;
 pub use tree_store::TreeStore;
 pub use vec_store::VecStore;
-
-#[cfg(test)]
-mod tests;

@@ -21,12 +21,3 @@ pub use program::ProgramFault;
 pub use script::run_script;
 pub use start::open_text;
 pub use text::run_text;
-
-#[cfg(test)]
-mod levels_tests;
-#[cfg(test)]
-mod script_tests;
-#[cfg(test)]
-mod tests;
-#[cfg(test)]
-mod words_tests;

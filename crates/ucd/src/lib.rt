@@ -27,6 +27,3 @@ pub use fault::{Cause, FILE_NAMES, TableFault};
 pub use line_class::LineClass;
 pub use properties::Properties;
 pub use tables::{Tables, UcdFiles};
-
-#[cfg(test)]
-mod tests;

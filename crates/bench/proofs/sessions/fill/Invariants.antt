@@ -4,4 +4,4 @@ use Rattle.lines.specs.Layouts.{IsLaidOut}
 use Rattle.bench.proofs.sessions.fill.Given as goal
 
 abbrev pub invariant-loop : goal.invariant-loop
-invariant-loop l = All (IsLaidOut (rules_of l.engine)) l.all.items
+invariant-loop l = All (IsLaidOut (rules_of l.engine)) l.all

@@ -1,0 +1,33 @@
+//! Times, and the lines that tell them.
+use anyhow::Result;
+use std::io;
+use std::time::Instant;
+
+/// How many nanoseconds have gone by since then.
+pub fn since(rt: &HostRuntime, start: Instant) -> Result<u64> {
+    let time = start.elapsed(rt)?.as_nanos();
+    Ok(u64::try_from(time).unwrap_or(u64::MAX))
+}
+
+/// Prints numbers, and behind them a name, in one line.
+pub fn show(rt: &HostRuntime, numbers: &[u64], name: &str) -> Result<()> {
+    print_numbers(rt, numbers)?;
+    println!(rt; " {name}")?;
+    Ok(())
+}
+
+/// Prints numbers in one line.
+pub fn show_numbers(rt: &HostRuntime, numbers: &[u64]) -> Result<()> {
+    print_numbers(rt, numbers)?;
+    println!(rt;)?;
+    Ok(())
+}
+
+fn print_numbers(rt: &HostRuntime, numbers: &[u64]) -> io::Result<()> {
+    let mut gap = "";
+    for number in numbers {
+        print!(rt; "{gap}{number}")?;
+        gap = " ";
+    }
+    Ok(())
+}

@@ -1,0 +1,197 @@
+//! Bracket pairs (UAX #9, BD16) and the directions that they take (N0).
+use std::alloc::{AllocError, Global};
+use ucd::{BidiClass, Bracket, Tables};
+
+// How many openers are held at most (BD16).
+const MAX_OPENERS: usize = 63;
+
+// An opener that is held, and the closer that it makes a pair with.
+#[derive(Clone, Copy)]
+struct Opener {
+    place: usize,
+    closer: char,
+}
+
+// The places of an opener and of its closer.
+#[derive(Clone, Copy)]
+struct Pair {
+    opener: usize,
+    closer: usize,
+}
+
+/// N0 over the types of a sequence, by its characters and by their classes.
+pub fn resolve_brackets(
+    alloc: Global,
+    tables: &Tables,
+    text: &[char],
+    classes: &[BidiClass],
+    types: &mut [BidiClass],
+    side: BidiClass,
+) -> Result<(), AllocError> {
+    let pairs = pairs_of(alloc, tables, text, types)?;
+    for opener in 0..types.len() {
+        if let Some(closer) = closer_of(&pairs, opener) {
+            set_pair(types, classes, opener, closer, side);
+        }
+    }
+    Ok(())
+}
+
+// BD16: at the first opener at which 63 are held, the pairing stops.
+fn pairs_of(
+    alloc: Global,
+    tables: &Tables,
+    text: &[char],
+    types: &[BidiClass],
+) -> Result<Vec<Pair>, AllocError> {
+    let mut openers = Vec::new(alloc);
+    let mut pairs = Vec::new(alloc);
+    for (place, (c, class)) in text.iter().zip(types).enumerate() {
+        match bracket_at(tables, *c, *class) {
+            Some(bracket) if !bracket.opens => close(&mut openers, &mut pairs, *c, place)?,
+            Some(_) if openers.len() >= MAX_OPENERS => return Ok(pairs),
+            Some(bracket) => openers.push(Opener {
+                place,
+                closer: bracket.pair,
+            })?,
+            None => {}
+        }
+    }
+    Ok(pairs)
+}
+
+// The bracket that a character is, which only a character of type ON is.
+fn bracket_at(tables: &Tables, c: char, class: BidiClass) -> Option<Bracket> {
+    match class {
+        BidiClass::ON => tables.bracket(c),
+        _ => None,
+    }
+}
+
+// Makes a pair of a closer and the newest opener that it matches, if there is one. That opener is dropped,
+// and so are the newer ones.
+fn close(
+    openers: &mut Vec<Opener>,
+    pairs: &mut Vec<Pair>,
+    c: char,
+    place: usize,
+) -> Result<(), AllocError> {
+    if let Some((held, opener)) = newest(openers, c) {
+        pairs.push(Pair {
+            opener,
+            closer: place,
+        })?;
+        openers.truncate(held);
+    }
+    Ok(())
+}
+
+// The newest opener that a closer matches: how many are held in front of it, and its place.
+fn newest(openers: &[Opener], c: char) -> Option<(usize, usize)> {
+    let mut newest = None;
+    for (held, opener) in openers.iter().enumerate() {
+        if canonical(opener.closer) == canonical(c) {
+            newest = Some((held, opener.place));
+        }
+    }
+    newest
+}
+
+// U+2329 and U+232A count as U+3008 and U+3009.
+fn canonical(c: char) -> char {
+    match c {
+        '\u{2329}' => '\u{3008}',
+        '\u{232A}' => '\u{3009}',
+        _ => c,
+    }
+}
+
+fn closer_of(pairs: &[Pair], opener: usize) -> Option<usize> {
+    for pair in pairs {
+        if pair.opener == opener {
+            return Some(pair.closer);
+        }
+    }
+    None
+}
+
+// Sets the types of a pair, if it takes a direction.
+fn set_pair(
+    types: &mut [BidiClass],
+    classes: &[BidiClass],
+    opener: usize,
+    closer: usize,
+    side: BidiClass,
+) {
+    if let Some(direction) = pair_direction(types, opener, closer, side) {
+        set_with_marks(types, classes, opener, direction);
+        set_with_marks(types, classes, closer, direction);
+    }
+}
+
+// The direction of a pair: that of the embedding where a strong type of it stands inside; else, where one of
+// the other stands inside, that of the nearest strong type in front.
+fn pair_direction(
+    types: &[BidiClass],
+    opener: usize,
+    closer: usize,
+    side: BidiClass,
+) -> Option<BidiClass> {
+    if stands_between(types, opener, closer, side) {
+        Some(side)
+    } else if stands_between(types, opener, closer, opposite(side)) {
+        Some(direction_before(types, opener, side))
+    } else {
+        None
+    }
+}
+
+fn stands_between(types: &[BidiClass], opener: usize, closer: usize, wanted: BidiClass) -> bool {
+    for (at, class) in types.iter().enumerate() {
+        if opener < at && at < closer && strong_direction(*class) == Some(wanted) {
+            return true;
+        }
+    }
+    false
+}
+
+// The direction of the nearest strong type in front of a place, or another where there is none.
+fn direction_before(types: &[BidiClass], place: usize, other: BidiClass) -> BidiClass {
+    let mut before = other;
+    for class in types.iter().take(place) {
+        before = strong_direction(*class).unwrap_or(before);
+    }
+    before
+}
+
+// The direction of a strong type. Numbers count as R.
+fn strong_direction(class: BidiClass) -> Option<BidiClass> {
+    match class {
+        BidiClass::L => Some(BidiClass::L),
+        BidiClass::R | BidiClass::AL | BidiClass::EN | BidiClass::AN => Some(BidiClass::R),
+        _ => None,
+    }
+}
+
+fn opposite(side: BidiClass) -> BidiClass {
+    match side {
+        BidiClass::L => BidiClass::R,
+        _ => BidiClass::L,
+    }
+}
+
+// Sets the type at a place, and those of the marks directly behind it.
+fn set_with_marks(
+    types: &mut [BidiClass],
+    classes: &[BidiClass],
+    place: usize,
+    direction: BidiClass,
+) {
+    let mut is_set = false;
+    for (at, (slot, class)) in types.iter_mut().zip(classes).enumerate() {
+        is_set = at == place || (is_set && *class == BidiClass::NSM);
+        if is_set {
+            *slot = direction;
+        }
+    }
+}

@@ -1,0 +1,55 @@
+//! The neutral rules (UAX #9, N1 and N2), as a pass over the types of a sequence.
+use crate::levels::weak::type_or;
+use ucd::BidiClass;
+
+/// N1 and N2: neutrals take the direction of both their sides, or else the embedding direction, which is also
+/// the type on both sides of the sequence.
+pub fn resolve_neutral(types: &mut [BidiClass], side: BidiClass) {
+    let mut before = side;
+    // The nearest place behind that has no neutral, where it isn't passed yet.
+    let mut end = 0;
+    for at in 0..types.len() {
+        let class = types[at];
+        if is_neutral(class) {
+            if end <= at {
+                end = behind_neutrals(types, at + 1);
+            }
+            types[at] = between(side, before, type_or(types, end, side));
+        } else {
+            before = class;
+        }
+    }
+}
+
+fn is_neutral(class: BidiClass) -> bool {
+    matches!(
+        class,
+        BidiClass::B
+            | BidiClass::S
+            | BidiClass::WS
+            | BidiClass::ON
+            | BidiClass::LRI
+            | BidiClass::RLI
+            | BidiClass::FSI
+            | BidiClass::PDI
+    )
+}
+
+// The least place from `from` on that has no neutral, or the length.
+fn behind_neutrals(types: &[BidiClass], from: usize) -> usize {
+    for at in from..types.len() {
+        if !is_neutral(types[at]) {
+            return at;
+        }
+    }
+    types.len()
+}
+
+// The direction of what stands between two types that are no neutrals.
+fn between(side: BidiClass, before: BidiClass, behind: BidiClass) -> BidiClass {
+    match (before, behind) {
+        (BidiClass::L, BidiClass::L) => BidiClass::L,
+        (BidiClass::L, _) | (_, BidiClass::L) => side,
+        _ => BidiClass::R,
+    }
+}

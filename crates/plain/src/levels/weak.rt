@@ -1,0 +1,179 @@
+//! The weak rules (UAX #9, W1 to W7), each a pass of its own over the types of a sequence.
+use ucd::BidiClass;
+
+/// The weak rules in their order, over the types of a sequence.
+pub fn resolve_weak(types: &mut [BidiClass], sos: BidiClass) {
+    w1(types, sos);
+    w2(types, sos);
+    w3(types);
+    w4(types);
+    w5(types);
+    w6(types);
+    w7(types, sos);
+}
+
+// W1: a mark takes the type of what stands in front of it.
+fn w1(types: &mut [BidiClass], sos: BidiClass) {
+    let mut before = sos;
+    for slot in types.iter_mut() {
+        let class = *slot;
+        *slot = w1_type(class, before);
+        before = unmarked_after(class, before);
+    }
+}
+
+fn w1_type(class: BidiClass, before: BidiClass) -> BidiClass {
+    match class {
+        BidiClass::NSM => mark_behind(before),
+        _ => class,
+    }
+}
+
+fn mark_behind(before: BidiClass) -> BidiClass {
+    match before {
+        BidiClass::LRI | BidiClass::RLI | BidiClass::FSI | BidiClass::PDI => BidiClass::ON,
+        _ => before,
+    }
+}
+
+// The nearest type that is no mark, behind a character of this type.
+fn unmarked_after(class: BidiClass, before: BidiClass) -> BidiClass {
+    match class {
+        BidiClass::NSM => before,
+        _ => class,
+    }
+}
+
+// W2: a European number behind AL becomes an Arabic number.
+fn w2(types: &mut [BidiClass], sos: BidiClass) {
+    let mut strong = sos;
+    for slot in types.iter_mut() {
+        let class = *slot;
+        *slot = w2_type(class, strong);
+        strong = strong_after(class, strong);
+    }
+}
+
+fn w2_type(class: BidiClass, strong: BidiClass) -> BidiClass {
+    match (class, strong) {
+        (BidiClass::EN, BidiClass::AL) => BidiClass::AN,
+        _ => class,
+    }
+}
+
+// The nearest strong type, behind a character of this type.
+fn strong_after(class: BidiClass, strong: BidiClass) -> BidiClass {
+    match class {
+        BidiClass::L | BidiClass::R | BidiClass::AL => class,
+        _ => strong,
+    }
+}
+
+// W3: AL becomes R.
+fn w3(types: &mut [BidiClass]) {
+    for slot in types.iter_mut() {
+        *slot = w3_type(*slot);
+    }
+}
+
+fn w3_type(class: BidiClass) -> BidiClass {
+    match class {
+        BidiClass::AL => BidiClass::R,
+        _ => class,
+    }
+}
+
+// W4: a single separator between two numbers becomes such a number.
+fn w4(types: &mut [BidiClass]) {
+    let mut before = BidiClass::ON;
+    for at in 0..types.len() {
+        let class = types[at];
+        let behind = type_or(types, at + 1, BidiClass::ON);
+        types[at] = w4_type(before, class, behind);
+        before = class;
+    }
+}
+
+fn w4_type(before: BidiClass, class: BidiClass, behind: BidiClass) -> BidiClass {
+    match (before, class, behind) {
+        (BidiClass::EN, BidiClass::ES | BidiClass::CS, BidiClass::EN) => BidiClass::EN,
+        (BidiClass::AN, BidiClass::CS, BidiClass::AN) => BidiClass::AN,
+        _ => class,
+    }
+}
+
+/// The type at an index, or another behind the end.
+pub fn type_or(types: &[BidiClass], at: usize, other: BidiClass) -> BidiClass {
+    if at < types.len() { types[at] } else { other }
+}
+
+// W5: European terminators in a row, next to a European number, become European numbers.
+fn w5(types: &mut [BidiClass]) {
+    let mut before = BidiClass::ON;
+    // The nearest place behind that has no terminator, where it isn't passed yet.
+    let mut end = 0;
+    for at in 0..types.len() {
+        let class = types[at];
+        if is_terminator(class) {
+            if end <= at {
+                end = behind_terminators(types, at + 1);
+            }
+            types[at] = w5_type(before, type_or(types, end, BidiClass::ON));
+        } else {
+            before = class;
+        }
+    }
+}
+
+fn is_terminator(class: BidiClass) -> bool {
+    matches!(class, BidiClass::ET)
+}
+
+// The least place from `from` on that has no terminator, or the length.
+fn behind_terminators(types: &[BidiClass], from: usize) -> usize {
+    for at in from..types.len() {
+        if !is_terminator(types[at]) {
+            return at;
+        }
+    }
+    types.len()
+}
+
+// What a terminator becomes between two types.
+fn w5_type(before: BidiClass, behind: BidiClass) -> BidiClass {
+    match (before, behind) {
+        (BidiClass::EN, _) | (_, BidiClass::EN) => BidiClass::EN,
+        _ => BidiClass::ET,
+    }
+}
+
+// W6: all other separators and terminators become ON.
+fn w6(types: &mut [BidiClass]) {
+    for slot in types.iter_mut() {
+        *slot = w6_type(*slot);
+    }
+}
+
+fn w6_type(class: BidiClass) -> BidiClass {
+    match class {
+        BidiClass::ES | BidiClass::ET | BidiClass::CS => BidiClass::ON,
+        _ => class,
+    }
+}
+
+// W7: a European number behind L becomes L.
+fn w7(types: &mut [BidiClass], sos: BidiClass) {
+    let mut strong = sos;
+    for slot in types.iter_mut() {
+        let class = *slot;
+        *slot = w7_type(class, strong);
+        strong = strong_after(class, strong);
+    }
+}
+
+fn w7_type(class: BidiClass, strong: BidiClass) -> BidiClass {
+    match (class, strong) {
+        (BidiClass::EN, BidiClass::L) => BidiClass::L,
+        _ => class,
+    }
+}

@@ -1,0 +1,41 @@
+//! What line breaking reads of a character (UAX #14, LB1, LB9 and LB10).
+use ucd::{LineClass, Tables};
+
+/// What the rules read of a character. The class is the one that LB1 gives.
+#[derive(Clone, Copy, Debug)]
+pub struct Character {
+    pub class: LineClass,
+    pub is_wide: bool,
+    pub is_future_pictograph: bool,
+}
+
+impl Character {
+    /// What the tables say of one.
+    pub fn of(tables: &Tables, c: char) -> Character {
+        Character {
+            class: resolved(tables.line_class(c), tables.is_mark(c)),
+            is_wide: tables.is_wide(c),
+            is_future_pictograph: tables.is_future_pictograph(c),
+        }
+    }
+
+    /// The class of the base that begins with the character: LB10 makes an AL of a CM or ZWJ that
+    /// stands behind no base.
+    pub fn base_class(&self) -> LineClass {
+        match self.class {
+            LineClass::CM | LineClass::ZWJ => LineClass::AL,
+            class => class,
+        }
+    }
+}
+
+// LB1: the class that takes the place of one that depends on the language, or is none.
+fn resolved(class: LineClass, is_mark: bool) -> LineClass {
+    match class {
+        LineClass::AI | LineClass::SG | LineClass::XX => LineClass::AL,
+        LineClass::SA if is_mark => LineClass::CM,
+        LineClass::SA => LineClass::AL,
+        LineClass::CJ => LineClass::NS,
+        _ => class,
+    }
+}

@@ -1,0 +1,59 @@
+//! Numbers that stay whole (UAX #14, LB25 in its second form), tried on every list of bases.
+
+use crate::marks::classes::{CL, CP, HY, IS, NU, OP, PO, PR, SY, has};
+use ucd::LineClass;
+
+// How far a list of classes has come in `(PR | PO)? (OP | HY)? NU (NU | SY | IS)* (CL | CP)? (PR | PO)?`.
+#[derive(Clone, Copy)]
+enum Place {
+    Start,
+    Affix,
+    Opening,
+    Digits,
+    Closing,
+    End,
+}
+
+/// Whether some of the bases before one of these and some from it on are a number.
+pub fn is_in_number(classes: &[LineClass], place: usize) -> bool {
+    for start in 0..place {
+        if begins_number(classes, start, place) {
+            return true;
+        }
+    }
+    false
+}
+
+// Whether a number that begins at a base goes on past another.
+fn begins_number(classes: &[LineClass], start: usize, place: usize) -> bool {
+    let mut at = Place::Start;
+    for i in start..classes.len() {
+        let Some(next) = behind(at, classes[i]) else {
+            return false;
+        };
+        if i >= place && is_number(next) {
+            return true;
+        }
+        at = next;
+    }
+    false
+}
+
+fn behind(at: Place, class: LineClass) -> Option<Place> {
+    match at {
+        Place::Start if has(PR | PO, class) => Some(Place::Affix),
+        Place::Start | Place::Affix if has(OP | HY, class) => Some(Place::Opening),
+        Place::Start | Place::Affix | Place::Opening if has(NU, class) => Some(Place::Digits),
+        Place::Digits if has(NU | SY | IS, class) => Some(Place::Digits),
+        Place::Digits if has(CL | CP, class) => Some(Place::Closing),
+        Place::Digits | Place::Closing if has(PR | PO, class) => Some(Place::End),
+        _ => None,
+    }
+}
+
+fn is_number(at: Place) -> bool {
+    match at {
+        Place::Start | Place::Affix | Place::Opening => false,
+        Place::Digits | Place::Closing | Place::End => true,
+    }
+}

@@ -1,0 +1,339 @@
+//! Worked rows. The tests pass too where one allocation is refused, whichever it is.
+ghost use Rattle.std.specs.Prelude.{◌≡◌, ◌<◌, IfOk, OnOk};
+ghost use Rattle.lines.specs.Engine.{rules_of, SameRules};
+ghost use Rattle.lines.specs.Extents.{extents_of};
+ghost use Rattle.lines.specs.Layouts.{AreLinesOf, IsLaidOut};
+
+mod orders;
+mod printed;
+mod written;
+
+use crate::files::FILES;
+use bidi::Base;
+use breaks::Mark;
+use lines::{Engine, Extents, Fill, Laid, Options, PARAGRAPH_LIMIT, Room, VisualLine};
+use std::alloc::Global;
+use std::process::Abort;
+use std::test::Fail;
+use ucd::{Cause, Tables, UcdFiles};
+
+fn engine(alloc: Global, nobreak: bool) -> Result<Engine, Fail> {
+    let options = Options {
+        base: Base::WeakLtr,
+        nobreak,
+        ..Options::default()
+    };
+    engine_by(alloc, &FILES, options)
+}
+
+fn engine_by(alloc: Global, files: &UcdFiles<'_>, options: Options) -> Result<Engine, Fail> {
+    let tables = match Tables::read(alloc, files) {
+        Err(fault) if fault.cause == Cause::Memory => Tables::read(alloc, files)?,
+        tables => tables?,
+    };
+    Ok(Engine::new(tables, options))
+}
+
+// The layout of a text that is one paragraph, at a width that is not 0.
+fn lay_out(alloc: Global, engine: &mut Engine, text: &str, width: u16) -> Result<Laid, Fail>
+    ensures laid { IfOk result (IsLaidOut (rules_of engine.new)) }
+    ensures rules { SameRules engine.old engine.new }
+{
+    let text: Vec<char> = text.chars().collect(alloc)?;
+    lay_out_characters(alloc, engine, text, width)
+}
+
+fn lay_out_characters(
+    alloc: Global,
+    engine: &mut Engine,
+    text: Vec<char>,
+    width: u16,
+) -> Result<Laid, Fail>
+    ensures laid { IfOk result (IsLaidOut (rules_of engine.new)) }
+    ensures rules { SameRules engine.old engine.new }
+{
+    let is_long = text.len() > PARAGRAPH_LIMIT;
+    if text.is_empty() || is_long || engine.first_cut(&text).is_some() || width == 0 {
+        return Err(Fail::new("no paragraph"));
+    }
+    match engine.lay_out(alloc, text, width) {
+        Ok(laid) => Ok(laid),
+        // The text came back where memory ran out.
+        Err((text, _)) => match engine.lay_out(alloc, text, width) {
+            Ok(laid) => Ok(laid),
+            Err((_, error)) => Err(Fail::from(error)),
+        },
+    }
+}
+
+// A paragraph, a width, and where its lines start.
+const STARTS: [(&str, u16, &[u32]); 13] = [
+    ("abcdefgh", 3, &[0, 3, 6]),
+    ("abc   def", 3, &[0, 6]),
+    ("ab cd ef", 5, &[0, 6]),
+    ("ab cd ef", 4, &[0, 3, 6]),
+    ("ab cd ef", 1, &[0, 1, 3, 4, 6, 7]),
+    ("   a", 1, &[0, 3]),
+    ("a \u{300}b", 1, &[0, 2]),
+    ("a\u{2028}b", 80, &[0, 2]),
+    ("\u{4E00}\u{4E00}", 1, &[0, 1]),
+    ("e\u{300}e\u{300}e", 1, &[0, 2, 4]),
+    ("a\r\n", 1, &[0]),
+    ("\n", 1, &[0]),
+    ("ab cd\u{2028}e", 1, &[0, 1, 3, 4, 6]),
+];
+
+// The same where lines end at mandatory breaks only.
+const STARTS_AT_MANDATORY_BREAKS: [(&str, u16, &[u32]); 5] = [
+    ("abcdefgh", 3, &[0]),
+    ("ab cd ef", 1, &[0]),
+    ("a\u{2028}b", 80, &[0, 2]),
+    ("a\r\n", 1, &[0]),
+    ("ab cd\u{2028}e", 1, &[0, 6]),
+];
+
+// Whether a paragraph's lines start there.
+fn starts_at(laid: &Laid, starts: &[u32]) -> bool {
+    laid.line_count() == starts.len() && laid.line_starts() == starts
+}
+
+fn starts(
+    alloc: Global,
+    engine: &mut Engine,
+    text: &str,
+    width: u16,
+    wanted: &[u32],
+) -> Result<bool, Fail> {
+    let laid = lay_out(alloc, engine, text, width)?;
+    Ok(starts_at(&laid, wanted))
+}
+
+// Whether the lines of each paragraph start where it is said.
+fn all_start(
+    alloc: Global,
+    engine: &mut Engine,
+    rows: &[(&str, u16, &[u32])],
+) -> Result<bool, Fail> {
+    let mut all_right = true;
+    for (text, width, wanted) in rows {
+        all_right &= starts(alloc, engine, text, *width, wanted)?;
+    }
+    Ok(all_right)
+}
+
+#[test]
+fn line_starts_of_rows(rt: HostRuntime) -> Result<(), Fail> {
+    let alloc = rt.alloc();
+    let mut engine = engine(alloc, false)?;
+    assert!(rt; all_start(alloc, &mut engine, &STARTS)?);
+    Ok(())
+}
+
+#[test]
+fn line_starts_at_mandatory_breaks(rt: HostRuntime) -> Result<(), Fail> {
+    let alloc = rt.alloc();
+    let mut engine = engine(alloc, true)?;
+    assert!(rt; all_start(alloc, &mut engine, &STARTS_AT_MANDATORY_BREAKS)?);
+    Ok(())
+}
+
+// The layout of so many letters at a width of 1.
+fn lay_out_letters(alloc: Global, engine: &mut Engine, len: usize) -> Result<Laid, Fail> {
+    let text = vec![in alloc; 'a'; len]?;
+    lay_out_characters(alloc, engine, text, 1)
+}
+
+// Whether each character of the longest paragraph has a line of its own.
+fn has_a_line_for_each(starts: &[u32]) -> bool {
+    starts.len() == PARAGRAPH_LIMIT && starts.last().copied() == Some(1_048_575)
+}
+
+#[test]
+fn longest_paragraph_at_the_least_width(rt: HostRuntime) -> Result<(), Fail> {
+    let alloc = rt.alloc();
+    let mut engine = engine(alloc, false)?;
+    let laid = lay_out_letters(alloc, &mut engine, PARAGRAPH_LIMIT)?;
+    assert!(rt; has_a_line_for_each(laid.line_starts()));
+    Ok(())
+}
+
+// The lines of a paragraph at another width.
+fn refill(alloc: Global, engine: &mut Engine, laid: &Laid, width: u16) -> Result<Fill, Fail>
+    requires laid { IsLaidOut (rules_of engine.old) laid.now }
+    requires width { 0 < width }
+    ensures { IfOk result (AreLinesOf (rules_of engine.old) laid.now.text) }
+{
+    match engine.refill(alloc, laid, width) {
+        Ok(fill) => Ok(fill),
+        Err(_) => Ok(engine.refill(alloc, laid, width)?),
+    }
+}
+
+// Whether the engine counts so many characters.
+fn counts(engine: &Engine, analysed: u64, filled: u64) -> bool {
+    engine.analysed() == analysed && engine.filled() == filled
+}
+
+#[test]
+fn paragraph_at_two_widths(rt: HostRuntime) -> Result<(), Fail> {
+    let alloc = rt.alloc();
+    let mut engine = engine(alloc, false)?;
+    let mut laid = lay_out(alloc, &mut engine, "abcdefgh", 3)?;
+    assert!(rt; counts(&engine, 8, 8) && starts_at(&laid, &[0, 3, 6]));
+    let mut fill = refill(alloc, &mut engine, &laid, 4)?;
+    laid.exchange(&mut fill);
+    assert!(rt; counts(&engine, 8, 16) && starts_at(&laid, &[0, 4]));
+    laid.exchange(&mut fill);
+    assert!(rt; counts(&engine, 8, 16) && starts_at(&laid, &[0, 3, 6]));
+    Ok(())
+}
+
+// The extents of its lines.
+fn extents(alloc: Global, engine: &mut Engine, laid: &Laid, width: u16) -> Result<Extents, Fail>
+    requires laid { IsLaidOut (rules_of engine.old) laid.now }
+    requires width { 0 < width }
+    ensures extents { IfOk result (λ extents.
+        extents ≡ extents_of (rules_of engine.old) width laid.now.text) }
+    ensures rules { SameRules engine.old engine.new }
+{
+    match engine.extents(alloc, laid, width) {
+        Ok(extents) => Ok(extents),
+        Err(_) => Ok(engine.extents(alloc, laid, width)?),
+    }
+}
+
+// Room for so many characters.
+fn room(alloc: Global, engine: &Engine, len: usize) -> Result<Room, Fail>
+    ensures { IfOk result (λ room. room ≡ len) }
+{
+    match engine.room(alloc, len) {
+        Ok(room) => Ok(room),
+        Err(_) => Ok(engine.room(alloc, len)?),
+    }
+}
+
+// Writes its lines at another width over those that it has.
+fn reflow(alloc: Global, engine: &mut Engine, laid: &mut Laid, width: u16) -> Result<(), Fail>
+    requires laid { IsLaidOut (rules_of engine.old) laid.old }
+    requires width { 0 < width }
+    ensures laid { OnOk result (IsLaidOut (rules_of engine.new) laid.new) }
+    ensures rules { SameRules engine.old engine.new }
+{
+    let mut room = room(alloc, engine, laid.text().len())?;
+    let mut extents = extents(alloc, engine, laid, width)?;
+    engine.reflow(laid, &mut extents, &mut room);
+    Ok(())
+}
+
+// The paragraph of these lines at three widths, one after another.
+fn check_reflowed(
+    rt: &impl Abort,
+    alloc: Global,
+    engine: &mut Engine,
+    laid: &mut Laid,
+) -> Result<(), Fail>
+    requires laid { IsLaidOut (rules_of engine.old) laid.old }
+{
+    reflow(alloc, engine, laid, 2)?;
+    assert!(rt; starts_at(laid, &[0, 3]) && shows_lines(laid, &SHOWN));
+    reflow(alloc, engine, laid, 1)?;
+    assert!(rt; starts_at(laid, &[0, 1, 3, 4]));
+    reflow(alloc, engine, laid, 2)?;
+    assert!(rt; counts(engine, 5, 20) && shows_lines(laid, &SHOWN));
+    Ok(())
+}
+
+#[test]
+fn paragraph_reflowed(rt: HostRuntime) -> Result<(), Fail> {
+    let alloc = rt.alloc();
+    let mut engine = engine(alloc, false)?;
+    let mut laid = lay_out(alloc, &mut engine, "\u{5D0}1 (\u{5D1}", 80)?;
+    assert!(rt; counts(&engine, 5, 5) && starts_at(&laid, &[0]));
+    check_reflowed(&rt, alloc, &mut engine, &mut laid)
+}
+
+// Whether a paragraph has this text and base level.
+fn is_of(laid: &Laid, text: &[char], base: u8) -> bool {
+    laid.text() == text && laid.base() == base
+}
+
+// Whether its characters have these levels, and these marks behind them.
+fn has(laid: &Laid, levels: &[u8], marks: &[Mark]) -> bool {
+    laid.levels() == levels && laid.marks() == marks
+}
+
+#[test]
+fn cuts_of_an_engine(rt: HostRuntime) -> Result<(), Fail> {
+    let engine = engine(rt.alloc(), false)?;
+    assert!(rt; engine.is_cut('\n', 'a') && !engine.is_cut('a', '\n'));
+    Ok(())
+}
+
+const MARKS: [Mark; 4] = [Mark::Never, Mark::Never, Mark::May, Mark::Must];
+
+#[test]
+fn parts_of_a_paragraph(rt: HostRuntime) -> Result<(), Fail> {
+    let alloc = rt.alloc();
+    let mut engine = engine(alloc, false)?;
+    let laid = lay_out(alloc, &mut engine, "\u{5D0}- a", 3)?;
+    assert!(rt; is_of(&laid, &['\u{5D0}', '-', ' ', 'a'], 1));
+    assert!(rt; has(&laid, &[1, 1, 1, 2], &MARKS));
+    Ok(())
+}
+
+// A line: its characters and levels, and of each logical position the visual one and back.
+struct Row {
+    chars: &'static [char],
+    levels: &'static [u8],
+    ltov: &'static [u32],
+    vtol: &'static [u32],
+}
+
+// Of U+05D0, `1`, a space, `(` and U+05D1 at a width of 2. The first line's space counts for nothing
+// at its end; the bracket is mirrored on the second.
+const SHOWN: [Row; 2] = [
+    Row {
+        chars: &['1', '\u{5D0}'],
+        levels: &[1, 2],
+        ltov: &[1, 0],
+        vtol: &[1, 0],
+    },
+    Row {
+        chars: &['\u{5D1}', ')'],
+        levels: &[1, 1],
+        ltov: &[1, 0],
+        vtol: &[1, 0],
+    },
+];
+
+fn is_shown(line: &VisualLine<'_>, row: &Row) -> bool {
+    line.chars() == row.chars
+        && line.levels() == row.levels
+        && line.ltov() == row.ltov
+        && line.vtol() == row.vtol
+        && line.columns() as usize == row.chars.len()
+}
+
+// Whether the lines are these and no others.
+fn shows_lines(laid: &Laid, rows: &[Row]) -> bool {
+    let mut all_right = laid.line(rows.len()).is_none();
+    for (n, row) in rows.iter().enumerate() {
+        match laid.line(n) {
+            Some(line) => {
+                all_right &= is_shown(&line, row);
+                all_right &= line.is_first() == (n == 0) && line.base() == laid.base();
+            }
+            None => all_right = false,
+        }
+    }
+    all_right
+}
+
+#[test]
+fn lines_as_they_are_shown(rt: HostRuntime) -> Result<(), Fail> {
+    let alloc = rt.alloc();
+    let mut engine = engine(alloc, false)?;
+    let laid = lay_out(alloc, &mut engine, "\u{5D0}1 (\u{5D1}", 2)?;
+    assert!(rt; shows_lines(&laid, &SHOWN));
+    Ok(())
+}

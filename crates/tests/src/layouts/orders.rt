@@ -1,0 +1,205 @@
+//! Marks behind their bases, in reading order, and in front of them without the option.
+use super::printed::{ALL, PLAIN, UNMIRRORED, are_printed};
+use super::{engine_by, lay_out};
+use crate::files::FILES;
+use bidi::Base;
+use lines::{Engine, Laid, Options, Print};
+use std::alloc::Global;
+use std::test::Fail;
+use ucd::UcdFiles;
+
+const READ: Options = Options {
+    base: Base::WeakLtr,
+    nobreak: false,
+    reordernsm: true,
+    whole_numbers: false,
+};
+
+const REVERSED: Options = Options {
+    reordernsm: false,
+    ..READ
+};
+
+// Hebrew points are marks.
+const POINTS: UcdFiles<'_> = UcdFiles {
+    bidi_class: b"05B0..05BD;NSM\n05D0..05EA;R\n",
+    ..FILES
+};
+
+// A text of one line, its characters in visual order, and of each logical position the visual one and back.
+type Row = (
+    &'static str,
+    &'static [char],
+    &'static [u32],
+    &'static [u32],
+);
+
+// With the option. The last two: a mark of another level, and one behind a space at the line's end.
+const READ_ROWS: [Row; 7] = [
+    (
+        "\u{5D0}\u{300}\u{5D1}",
+        &['\u{5D1}', '\u{5D0}', '\u{300}'],
+        &[1, 2, 0],
+        &[2, 0, 1],
+    ),
+    (
+        "\u{5D0}\u{300}\u{301}",
+        &['\u{5D0}', '\u{300}', '\u{301}'],
+        &[0, 1, 2],
+        &[0, 1, 2],
+    ),
+    (
+        "\u{5D0}1\u{300}",
+        &['1', '\u{300}', '\u{5D0}'],
+        &[2, 0, 1],
+        &[1, 2, 0],
+    ),
+    (
+        "\u{300}\u{301}\u{5D0}\u{300} ",
+        &['\u{5D0}', '\u{300}', '\u{301}', '\u{300}'],
+        &[3, 2, 0, 1],
+        &[2, 3, 1, 0],
+    ),
+    (
+        "a \u{5D0}\u{300}",
+        &['a', ' ', '\u{5D0}', '\u{300}'],
+        &[0, 1, 2, 3],
+        &[0, 1, 2, 3],
+    ),
+    (
+        "\u{5D0}\u{2066}\u{300}\u{2069}",
+        &['\u{2069}', '\u{300}', '\u{2066}', '\u{5D0}'],
+        &[3, 2, 1, 0],
+        &[3, 2, 1, 0],
+    ),
+    (
+        "\u{5D0} \u{300}",
+        &[' ', '\u{300}', '\u{5D0}'],
+        &[2, 0, 1],
+        &[1, 2, 0],
+    ),
+];
+
+// The same texts without it, where they differ.
+const REVERSED_ROWS: [Row; 5] = [
+    (
+        "\u{5D0}\u{300}\u{5D1}",
+        &['\u{5D1}', '\u{300}', '\u{5D0}'],
+        &[2, 1, 0],
+        &[2, 1, 0],
+    ),
+    (
+        "\u{5D0}\u{300}\u{301}",
+        &['\u{301}', '\u{300}', '\u{5D0}'],
+        &[2, 1, 0],
+        &[2, 1, 0],
+    ),
+    (
+        "\u{300}\u{301}\u{5D0}\u{300} ",
+        &['\u{300}', '\u{5D0}', '\u{301}', '\u{300}'],
+        &[3, 2, 1, 0],
+        &[3, 2, 1, 0],
+    ),
+    (
+        "a \u{5D0}\u{300}",
+        &['a', ' ', '\u{300}', '\u{5D0}'],
+        &[0, 1, 3, 2],
+        &[0, 1, 3, 2],
+    ),
+    (
+        "\u{5D0} \u{300}",
+        &['\u{300}', ' ', '\u{5D0}'],
+        &[2, 1, 0],
+        &[2, 1, 0],
+    ),
+];
+
+// At an even level a mark stands behind its base anyway.
+const RTL_ROWS: [Row; 1] = [("a\u{300}", &['a', '\u{300}'], &[0, 1], &[0, 1])];
+
+const POINT_ROWS: [Row; 1] = [(
+    "\u{5D0}\u{5B8}\u{5E9}",
+    &['\u{5E9}', '\u{5D0}', '\u{5B8}'],
+    &[1, 2, 0],
+    &[2, 0, 1],
+)];
+
+// A paragraph, a width, what is printed, and the bytes.
+const PRINTED: [(&str, u16, Print, &str); 3] = [
+    (
+        "\u{5D0}\u{300}(\u{5D1}",
+        4,
+        ALL,
+        " \u{5D1})\u{5D0}\u{300}\nRTL\n2 3 1 0\n3 2 0 1\n1 1 1 1\n",
+    ),
+    (
+        "\u{5D0}\u{300}(\u{5D1}",
+        3,
+        UNMIRRORED,
+        "\u{5D1}(\u{5D0}\u{300}\n",
+    ),
+    ("ab", 3, PLAIN, "ab\n"),
+];
+
+fn is_ordered(laid: &Laid, row: &Row) -> bool {
+    match laid.line(0) {
+        Some(line) => line.chars() == row.1 && line.ltov() == row.2 && line.vtol() == row.3,
+        None => false,
+    }
+}
+
+fn orders(alloc: Global, engine: &mut Engine, row: &Row) -> Result<bool, Fail> {
+    let laid = lay_out(alloc, engine, row.0, 80)?;
+    Ok(laid.line_count() == 1 && is_ordered(&laid, row))
+}
+
+// Whether an engine by these files and options orders each text so.
+fn all_ordered(
+    alloc: Global,
+    files: &UcdFiles<'_>,
+    options: Options,
+    rows: &[Row],
+) -> Result<bool, Fail> {
+    let mut engine = engine_by(alloc, files, options)?;
+    let mut all_right = true;
+    for row in rows {
+        all_right &= orders(alloc, &mut engine, row)?;
+    }
+    Ok(all_right)
+}
+
+#[test]
+fn marks_in_reading_order(rt: HostRuntime) -> Result<(), Fail> {
+    assert!(rt; all_ordered(rt.alloc(), &FILES, READ, &READ_ROWS)?);
+    Ok(())
+}
+
+#[test]
+fn marks_in_front_of_their_bases(rt: HostRuntime) -> Result<(), Fail> {
+    assert!(rt; all_ordered(rt.alloc(), &FILES, REVERSED, &REVERSED_ROWS)?);
+    Ok(())
+}
+
+#[test]
+fn marks_at_an_even_level(rt: HostRuntime) -> Result<(), Fail> {
+    let options = Options {
+        base: Base::Rtl,
+        ..READ
+    };
+    assert!(rt; all_ordered(rt.alloc(), &FILES, options, &RTL_ROWS)?);
+    Ok(())
+}
+
+#[test]
+fn points_in_reading_order(rt: HostRuntime) -> Result<(), Fail> {
+    assert!(rt; all_ordered(rt.alloc(), &POINTS, READ, &POINT_ROWS)?);
+    Ok(())
+}
+
+#[test]
+fn marks_in_reading_order_printed(rt: HostRuntime) -> Result<(), Fail> {
+    let alloc = rt.alloc();
+    let mut engine = engine_by(alloc, &FILES, READ)?;
+    assert!(rt; are_printed(alloc, &mut engine, &PRINTED)?);
+    Ok(())
+}

@@ -1,0 +1,184 @@
+//! What is written of a paragraph line by line, by its layout, and with nothing kept: the same bytes.
+use super::{engine, lay_out};
+use device::ToWrite;
+use lines::{Engine, Laid, PARAGRAPH_LIMIT, Print, PrintFault, WriteFault};
+use std::alloc::Global;
+use std::test::Fail;
+
+pub(super) const PLAIN: Print = Print {
+    novisual: false,
+    basedir: false,
+    ltov: false,
+    vtol: false,
+    levels: false,
+    nopad: false,
+    nomirror: false,
+};
+
+pub(super) const ALL: Print = Print {
+    basedir: true,
+    ltov: true,
+    vtol: true,
+    levels: true,
+    ..PLAIN
+};
+
+pub(super) const UNMIRRORED: Print = Print {
+    nomirror: true,
+    nopad: true,
+    ..PLAIN
+};
+
+pub(super) const LEVELS: Print = Print {
+    novisual: true,
+    levels: true,
+    ..PLAIN
+};
+
+const NOTHING: Print = Print {
+    novisual: true,
+    ..PLAIN
+};
+
+const DIRECTION: Print = Print {
+    basedir: true,
+    ..NOTHING
+};
+
+// A paragraph, a width, what is printed, and the bytes. Shorter ones stand behind longer ones, whose lists
+// are used again.
+const ROWS: [(&str, u16, Print, &str); 10] = [
+    ("abcdefgh ij kl", 3, PLAIN, "abc\ndef\ngh\nij\nkl\n"),
+    (
+        "\u{5D0}1 (\u{5D1}",
+        2,
+        ALL,
+        "1\u{5D0}\nRTL\n1 0\n1 0\n1 2\n\u{5D1})\n1 0\n1 0\n1 1\n",
+    ),
+    ("\u{5D0}1 (\u{5D1}", 2, UNMIRRORED, "1\u{5D0}\n\u{5D1}(\n"),
+    ("\u{5D0}1 (\u{5D1}", 2, LEVELS, "1 2\n1 1\n"),
+    ("\u{5D0}1 (\u{5D1}", 2, DIRECTION, "RTL\n"),
+    ("\u{5D0}1 (\u{5D1}", 2, NOTHING, ""),
+    ("\u{627} 12", 6, PLAIN, "  12 \u{627}\n"),
+    ("a\u{2028}b", 80, ALL, "a\nLTR\n0\n0\n0\nb\n0\n0\n0\n"),
+    ("\n", 1, ALL, "\nLTR\n\n\n\n"),
+    ("\n", 1, DIRECTION, "LTR\n"),
+];
+
+// Whether these bytes were written, and nothing behind them.
+fn holds(taken: &[u8], bytes: &[u8]) -> bool {
+    if bytes.len() > taken.len() {
+        return false;
+    }
+    let (front, rest) = taken.split_at(bytes.len());
+    front == bytes && rest.iter().all(|b| *b == b'?')
+}
+
+fn write_lines(laid: &Laid, width: u16, print: &Print, taken: &mut [u8]) -> bool {
+    let mut writer = ToWrite::new(taken);
+    let mut all_right = true;
+    for n in 0..laid.line_count() {
+        match laid.line(n) {
+            Some(line) => all_right &= line.write(&mut writer, width, print).is_ok(),
+            None => all_right = false,
+        }
+    }
+    all_right
+}
+
+fn write_laid(laid: &Laid, width: u16, print: &Print, taken: &mut [u8]) -> bool {
+    let mut writer = ToWrite::new(taken);
+    laid.write(&mut writer, width, print).is_ok()
+}
+
+fn write_paragraph(
+    alloc: Global,
+    engine: &mut Engine,
+    text: &[char],
+    width: u16,
+    print: &Print,
+    taken: &mut [u8],
+) -> Result<(), PrintFault> {
+    let is_long = text.len() > PARAGRAPH_LIMIT;
+    if text.is_empty() || is_long || engine.first_cut(text).is_some() || width == 0 {
+        return Err(PrintFault::Memory);
+    }
+    let mut writer = ToWrite::new(taken);
+    match engine.write_paragraph(alloc, text, width, print, &mut writer) {
+        // Nothing was written where memory ran out.
+        Err(PrintFault::Memory) => engine.write_paragraph(alloc, text, width, print, &mut writer),
+        result => result,
+    }
+}
+
+// Whether a layout's lines are these bytes, by both ways.
+fn is_written(laid: &Laid, width: u16, print: &Print, bytes: &[u8]) -> bool {
+    let mut by_lines = [b'?'; 64];
+    let mut at_once = [b'?'; 64];
+    write_lines(laid, width, print, &mut by_lines)
+        && write_laid(laid, width, print, &mut at_once)
+        && holds(&by_lines, bytes)
+        && holds(&at_once, bytes)
+}
+
+// Whether a paragraph is written into so much room, up to its end.
+fn fills(
+    alloc: Global,
+    engine: &mut Engine,
+    text: &[char],
+    width: u16,
+    print: &Print,
+    bytes: &[u8],
+    room: usize,
+) -> bool {
+    let mut taken = [b'?'; 64];
+    let room = room.min(64);
+    let result = write_paragraph(alloc, engine, text, width, print, &mut taken[..room]);
+    let wanted = if room < bytes.len() {
+        Err(PrintFault::Write(WriteFault {
+            written: room as u64,
+        }))
+    } else {
+        Ok(())
+    };
+    result == wanted && holds(&taken, &bytes[..room.min(bytes.len())])
+}
+
+fn is_printed(
+    alloc: Global,
+    engine: &mut Engine,
+    text: &str,
+    width: u16,
+    print: &Print,
+    bytes: &[u8],
+) -> Result<bool, Fail> {
+    let laid = lay_out(alloc, engine, text, width)?;
+    let text = laid.text();
+    let all = bytes.len();
+    Ok(
+        is_written(&laid, width, print, bytes)
+            && fills(alloc, engine, text, width, print, bytes, 64)
+            && fills(alloc, engine, text, width, print, bytes, all)
+            && fills(alloc, engine, text, width, print, bytes, all / 2),
+    )
+}
+
+pub(super) fn are_printed(
+    alloc: Global,
+    engine: &mut Engine,
+    rows: &[(&str, u16, Print, &str)],
+) -> Result<bool, Fail> {
+    let mut all_right = true;
+    for (text, width, print, bytes) in rows {
+        all_right &= is_printed(alloc, engine, text, *width, print, bytes.as_bytes())?;
+    }
+    Ok(all_right)
+}
+
+#[test]
+fn paragraphs_printed_each_way(rt: HostRuntime) -> Result<(), Fail> {
+    let alloc = rt.alloc();
+    let mut engine = engine(alloc, false)?;
+    assert!(rt; are_printed(alloc, &mut engine, &ROWS)?);
+    Ok(())
+}

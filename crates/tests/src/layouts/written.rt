@@ -1,0 +1,58 @@
+//! What is written of a line, all of it and up to each failure of the writer.
+use super::printed::{ALL, LEVELS, PLAIN, UNMIRRORED};
+use super::{engine, lay_out};
+use device::ToWrite;
+use lines::{Laid, Print, VisualLine, WriteFault};
+use std::test::Fail;
+
+// Whether these bytes are written, and a writer that takes fewer fails behind all that it takes.
+fn writes(line: &VisualLine<'_>, width: u16, print: &Print, bytes: &[u8]) -> bool {
+    let mut all_right = bytes.len() <= 64;
+    for room in 0..65usize {
+        let mut taken = [b'?'; 64];
+        let mut writer = ToWrite::new(&mut taken[..room]);
+        let result = line.write(&mut writer, width, print);
+        drop(writer);
+        let len = room.min(bytes.len());
+        let (front, rest) = taken.split_at(len);
+        let wanted = if room < bytes.len() {
+            Err(WriteFault {
+                written: room as u64,
+            })
+        } else {
+            Ok(())
+        };
+        all_right &= result == wanted && front == &bytes[..len] && rest.iter().all(|b| *b == b'?');
+    }
+    all_right
+}
+
+// A width, what is printed, and the bytes of the line.
+const ROWS: [(u16, Print, &str); 5] = [
+    (4, PLAIN, "12)\u{5D0}\n"),
+    (7, PLAIN, "   12)\u{5D0}\n"),
+    (6, ALL, "  12)\u{5D0}\nRTL\n3 2 0 1\n2 3 1 0\n1 1 2 2\n"),
+    (9, UNMIRRORED, "12(\u{5D0}\n"),
+    (80, LEVELS, "1 1 2 2\n"),
+];
+
+fn writes_all(laid: &Laid, rows: &[(u16, Print, &str)]) -> bool {
+    let Some(line) = laid.line(0) else {
+        return false;
+    };
+    let mut all_right = true;
+    for (width, print, bytes) in rows {
+        all_right &= writes(&line, *width, print, bytes.as_bytes());
+    }
+    all_right
+}
+
+// The line of a letter from right to left, a bracket and two digits.
+#[test]
+fn bytes_of_a_line(rt: HostRuntime) -> Result<(), Fail> {
+    let alloc = rt.alloc();
+    let mut engine = engine(alloc, false)?;
+    let laid = lay_out(alloc, &mut engine, "\u{5D0}(12", 80)?;
+    assert!(rt; writes_all(&laid, &ROWS));
+    Ok(())
+}

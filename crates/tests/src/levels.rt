@@ -1,0 +1,251 @@
+//! Levels of short lists are those that the plain passes find, and worked rows.
+ghost use Rattle.std.specs.Prelude.{◌≡◌, map, IfOk};
+ghost use Rattle.ucd.specs.Properties.{properties_of};
+
+use crate::files::tables;
+use bidi::{Base, Resolver, base_level, base_level_by, resolve};
+use plain::levels::plain_levels;
+use std::alloc::{AllocError, Global};
+use std::test::Fail;
+use ucd::{Properties, Tables};
+
+// One of each class that the weak and neutral rules tell apart, and two brackets.
+const CHARACTERS: [char; 12] = [
+    'a', '\u{5D0}', '\u{627}', '1', '\u{660}', '+', ',', '$', '\u{300}', '(', ')', ' ',
+];
+
+const BASES: [Base; 4] = [Base::Rtl, Base::Ltr, Base::WeakRtl, Base::WeakLtr];
+
+// The list of so many characters with a number, of all in order.
+fn put_list(text: &mut Vec<char>, len: usize, number: usize) -> Result<(), AllocError> {
+    text.clear();
+    let mut left = number;
+    for _ in 0..len {
+        text.push(CHARACTERS[left % 12])?;
+        left /= 12;
+    }
+    Ok(())
+}
+
+fn properties_of(
+    alloc: Global,
+    tables: &Tables,
+    text: &[char],
+) -> Result<Vec<Properties>, AllocError>
+    ensures { IfOk result (λ properties. properties.items ≡ map (properties_of tables.now) text.now) }
+{
+    text.iter().map(|c| tables.properties(*c)).collect(alloc)
+}
+
+// Puts the levels of a list in place of what `levels` has, and answers whether its base level is the one that is
+// found by itself.
+fn put_levels(
+    alloc: Global,
+    resolver: &mut Resolver,
+    tables: &Tables,
+    text: &[char],
+    base: Base,
+    levels: &mut Vec<u8>,
+) -> Result<bool, AllocError> {
+    let properties = properties_of(alloc, tables, text)?;
+    let level = resolver.resolve(tables, text, &properties, base, levels)?;
+    Ok(level == base_level(tables, text, base) && level == base_level_by(&properties, base))
+}
+
+// Whether these are the levels from a place on.
+fn are_from(levels: &[u8], place: usize, wanted: &[u8]) -> bool {
+    match levels.get(place..) {
+        Some(behind) => behind == wanted,
+        None => false,
+    }
+}
+
+// Whether a resolver finds these levels of a list, from a place on.
+fn is_found(
+    alloc: Global,
+    resolver: &mut Resolver,
+    tables: &Tables,
+    text: &[char],
+    base: Base,
+    place: usize,
+    wanted: &[u8],
+) -> Result<bool, AllocError> {
+    let mut levels = Vec::new(alloc);
+    let is_base = put_levels(alloc, resolver, tables, text, base, &mut levels)?;
+    Ok(is_base && are_from(&levels, place, wanted))
+}
+
+// The list behind a PDF that matches nothing. That is taken out by X9 and opens nothing, so the levels behind
+// it are those of the list alone, but they are found by all rules, as of a paragraph that is no sequence.
+fn behind_pdf(alloc: Global, text: &[char]) -> Result<Vec<char>, AllocError> {
+    let mut longer = Vec::new(alloc);
+    longer.push('\u{202C}')?;
+    longer.extend_from_slice(text)?;
+    Ok(longer)
+}
+
+fn is_found_behind_pdf(
+    alloc: Global,
+    resolver: &mut Resolver,
+    tables: &Tables,
+    text: &[char],
+    base: Base,
+    wanted: &[u8],
+) -> Result<bool, AllocError> {
+    let longer = behind_pdf(alloc, text)?;
+    is_found(alloc, resolver, tables, &longer, base, 1, wanted)
+}
+
+// Whether a resolver finds the levels of a list that the plain passes find, and finds them also behind a PDF.
+fn is_same(
+    alloc: Global,
+    resolver: &mut Resolver,
+    tables: &Tables,
+    text: &[char],
+    base: Base,
+) -> Result<bool, AllocError> {
+    let wanted = plain_levels(alloc, tables, text, base)?;
+    if !is_found(alloc, resolver, tables, text, base, 0, &wanted)? {
+        return Ok(false);
+    }
+    is_found_behind_pdf(alloc, resolver, tables, text, base, &wanted)
+}
+
+// Whether that is so of all lists of so many characters, of which there are `lists`.
+fn are_same(
+    alloc: Global,
+    resolver: &mut Resolver,
+    tables: &Tables,
+    len: usize,
+    lists: usize,
+) -> Result<bool, AllocError> {
+    let mut text = Vec::new(alloc);
+    for number in 0..lists {
+        put_list(&mut text, len, number)?;
+        for base in &BASES {
+            if !is_same(alloc, resolver, tables, &text, *base)? {
+                return Ok(false);
+            }
+        }
+    }
+    Ok(true)
+}
+
+// How many lists there are of so many characters.
+const LISTS: [(usize, usize); 4] = [(1, 12), (2, 144), (3, 1_728), (4, 20_736)];
+
+// Whether it is so of all lists of 1 to 4 characters.
+fn all_are_same(alloc: Global, tables: &Tables) -> Result<bool, AllocError> {
+    let mut resolver = Resolver::new(alloc);
+    for (len, lists) in &LISTS {
+        if !are_same(alloc, &mut resolver, tables, *len, *lists)? {
+            return Ok(false);
+        }
+    }
+    Ok(true)
+}
+
+#[test]
+fn walks_find_what_passes_find(rt: HostRuntime) -> Result<(), Fail> {
+    let tables = tables(rt.alloc())?;
+    assert!(rt; all_are_same(rt.alloc(), &tables)?);
+    Ok(())
+}
+
+// A text, and the levels of its characters, each as a digit.
+struct Row {
+    text: &'static str,
+    levels: &'static str,
+}
+
+// Paragraphs that are no sequence as they stand, and some that are, long and short in turn.
+const ROWS: [Row; 6] = [
+    Row {
+        text: "a\u{202B}b\u{202C}c",
+        levels: "00220",
+    },
+    Row {
+        text: "\u{5D0}1",
+        levels: "12",
+    },
+    Row {
+        text: "a\u{2067}b\u{2069}c",
+        levels: "00200",
+    },
+    Row {
+        text: "a1",
+        levels: "00",
+    },
+    Row {
+        text: "a\u{2068}\u{5D0}\u{2069}",
+        levels: "0010",
+    },
+    Row {
+        text: "\u{5D0}(a)",
+        levels: "1121",
+    },
+];
+
+fn are_digits(levels: &[u8], digits: &[u8]) -> bool {
+    let is_digit = |(level, digit): (&u8, &u8)| level.wrapping_add(b'0') == *digit;
+    levels.len() == digits.len() && levels.iter().zip(digits).all(is_digit)
+}
+
+fn has_levels(
+    alloc: Global,
+    resolver: &mut Resolver,
+    tables: &Tables,
+    row: &Row,
+) -> Result<bool, AllocError> {
+    let text: Vec<char> = row.text.chars().collect(alloc)?;
+    let properties = properties_of(alloc, tables, &text)?;
+    let mut levels = Vec::new(alloc);
+    let _ = resolver.resolve(tables, &text, &properties, Base::WeakLtr, &mut levels)?;
+    let once = resolve(alloc, tables, &text, Base::WeakLtr)?;
+    Ok(are_digits(&levels, row.levels.as_bytes()) && levels.as_slice() == once.as_slice())
+}
+
+fn have_levels(alloc: Global, tables: &Tables, rows: &[Row]) -> Result<bool, AllocError> {
+    let mut resolver = Resolver::new(alloc);
+    for row in rows {
+        if !has_levels(alloc, &mut resolver, tables, row)? {
+            return Ok(false);
+        }
+    }
+    Ok(true)
+}
+
+#[test]
+fn a_resolver_serves_again(rt: HostRuntime) -> Result<(), Fail> {
+    let tables = tables(rt.alloc())?;
+    assert!(rt; have_levels(rt.alloc(), &tables, &ROWS)?);
+    Ok(())
+}
+
+fn resolves_to(
+    alloc: Global,
+    tables: &Tables,
+    text: &str,
+    base: Base,
+    digits: &str,
+) -> Result<bool, AllocError> {
+    let text: Vec<char> = text.chars().collect(alloc)?;
+    let levels = resolve(alloc, tables, &text, base)?;
+    Ok(are_digits(&levels, digits.as_bytes()))
+}
+
+// A paragraph with its separator, whose level no line shows.
+const SEPARATED: [(&str, Base, &str); 3] = [
+    ("\u{5D0}\n", Base::WeakLtr, "11"),
+    ("\u{202E}a\n", Base::WeakLtr, "010"),
+    ("\u{2067}a\n", Base::WeakRtl, "141"),
+];
+
+#[test]
+fn levels_of_separators(rt: HostRuntime) -> Result<(), Fail> {
+    let tables = tables(rt.alloc())?;
+    for (text, base, digits) in &SEPARATED {
+        assert!(rt; resolves_to(rt.alloc(), &tables, text, *base, digits)?);
+    }
+    Ok(())
+}

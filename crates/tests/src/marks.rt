@@ -1,0 +1,389 @@
+//! Worked rows, and lists of characters of which the walk finds the marks that the plain body does. The
+//! tests pass too where one allocation is refused, whichever it is.
+ghost use Rattle.std.specs.Prelude.{◌≡◌, map, OnOk};
+ghost use Rattle.ucd.specs.Properties.{properties_of};
+
+use crate::files::FILES;
+use breaks::{Mark, marks, marks_into};
+use plain::marks::plain_marks;
+use std::alloc::{AllocError, Global};
+use std::process::Abort;
+use std::test::Fail;
+use ucd::{Cause, LineClass, Properties, Tables, UcdFiles};
+
+fn tables(alloc: Global, files: &UcdFiles<'_>) -> Result<Tables, Fail> {
+    match Tables::read(alloc, files) {
+        Err(fault) if fault.cause == Cause::Memory => Ok(Tables::read(alloc, files)?),
+        tables => Ok(tables?),
+    }
+}
+
+// The marks of a text, in the signs of the annex.
+fn signs(alloc: Global, tables: &Tables, text: &str, whole_numbers: bool) -> Result<String, Fail> {
+    let text: Vec<char> = text.chars().collect(alloc)?;
+    let marks = match marks(alloc, tables, &text, whole_numbers) {
+        Ok(marks) => marks,
+        Err(_) => marks(alloc, tables, &text, whole_numbers)?,
+    };
+    let signs = marks.iter().map(|mark| match mark {
+        Mark::Never => '×',
+        Mark::May => '÷',
+        Mark::Must => '!',
+    });
+    Ok(signs.collect(alloc)?)
+}
+
+// Texts and their marks, whether numbers stay whole or not.
+const ROWS: [(&str, &str); 15] = [
+    ("", ""),
+    ("a b", "×÷!"),
+    ("a-b", "×÷!"),
+    ("\u{5D0}-\u{5D1}", "××!"),
+    ("a(b", "××!"),
+    ("a\u{3008}", "÷!"),
+    ("a\u{200B} b", "××÷!"),
+    ("\" (", "××!"),
+    ("\u{2014} \u{2014}", "××!"),
+    ("a\u{200D}\u{4E00}", "××!"),
+    ("a\r\n", "××!"),
+    ("a\u{2028}b", "×!!"),
+    ("\u{1F1E6}\u{1F1E6}\u{1F1E6}a\u{1F1E6}\u{1F1E6}", "×÷÷÷×!"),
+    (
+        "\u{1F1E6}\u{1F1E6}\u{300}\u{1F1E6}\u{1F1E6}\u{1F1E6}",
+        "××÷×÷!",
+    ),
+    ("a \u{300}b", "×÷×!"),
+];
+
+// Texts and their marks without whole numbers, and with them.
+const NUMBERS: [(&str, &str, &str); 23] = [
+    ("$(1", "××!", "××!"),
+    ("$(a", "××!", "÷×!"),
+    ("$(", "×!", "÷!"),
+    ("$\u{3008}1", "××!", "××!"),
+    ("$\u{3008}a", "××!", "÷×!"),
+    ("$\u{300}(\u{300}\u{200D}1", "×××××!", "×××××!"),
+    ("$(\u{300}a", "×××!", "÷××!"),
+    ("$(\u{300}", "××!", "÷×!"),
+    ("$\u{200D}(a", "×××!", "×××!"),
+    ("%( 1", "×××!", "÷××!"),
+    ("a}%", "××!", "×÷!"),
+    ("1}%", "××!", "××!"),
+    ("1\u{300},\u{300})\u{300}$", "××××××!", "××××××!"),
+    ("1))%", "×××!", "××÷!"),
+    ("1/%", "×÷!", "××!"),
+    ("a,1", "××!", "×÷!"),
+    ("0,1", "××!", "××!"),
+    ("1/2", "××!", "××!"),
+    ("1 /2", "×××!", "××÷!"),
+    ("$-1", "××!", "××!"),
+    ("$1,234.56", "××××××××!", "××××××××!"),
+    ("(12.5%)", "××××××!", "××××××!"),
+    ("%(1.)$1", "××××××!", "××××××!"),
+];
+
+// The same of a degree sign and a euro sign. A line may end behind a space, inside what would else be a
+// number, but not behind one that is no break.
+const SIGNS: [(&str, &str, &str); 3] = [
+    ("-5\u{B0}", "××!", "××!"),
+    ("\u{20AC}\u{A0}30", "×××!", "×××!"),
+    ("\u{20AC} 30", "×÷×!", "×÷×!"),
+];
+
+// Those of U+00A9 and a modifier, where the first is unassigned and where it isn't.
+const PICTOGRAPHS: [(&[u8], &str); 2] = [(b"", "×!"), (b"00A9;So", "÷!")];
+
+fn check(
+    rt: &impl Abort,
+    alloc: Global,
+    tables: &Tables,
+    text: &str,
+    whole_numbers: bool,
+    want: &str,
+) -> Result<(), Fail> {
+    let signs = signs(alloc, tables, text, whole_numbers)?;
+    assert_eq!(rt;
+        signs.as_str(),
+        want,
+        "{text:?}, whole numbers: {whole_numbers}"
+    );
+    Ok(())
+}
+
+fn check_each(
+    rt: &impl Abort,
+    alloc: Global,
+    tables: &Tables,
+    rows: &[(&str, &str)],
+) -> Result<(), Fail> {
+    for (text, want) in rows {
+        check(rt, alloc, tables, text, false, want)?;
+        check(rt, alloc, tables, text, true, want)?;
+    }
+    Ok(())
+}
+
+fn check_numbers(
+    rt: &impl Abort,
+    alloc: Global,
+    tables: &Tables,
+    rows: &[(&str, &str, &str)],
+) -> Result<(), Fail> {
+    for (text, want, want_whole) in rows {
+        check(rt, alloc, tables, text, false, want)?;
+        check(rt, alloc, tables, text, true, want_whole)?;
+    }
+    Ok(())
+}
+
+#[test]
+fn marks_of_rows(rt: HostRuntime) -> Result<(), Fail> {
+    let tables = tables(rt.alloc(), &FILES)?;
+    check_each(&rt, rt.alloc(), &tables, &ROWS)
+}
+
+#[test]
+fn marks_of_numbers(rt: HostRuntime) -> Result<(), Fail> {
+    let tables = tables(rt.alloc(), &FILES)?;
+    check_numbers(&rt, rt.alloc(), &tables, &NUMBERS)
+}
+
+#[test]
+fn marks_of_signs(rt: HostRuntime) -> Result<(), Fail> {
+    let files = UcdFiles {
+        line_break: b"0020;SP\n002D;HY\n0030..0039;NU\n00A0;GL\n00B0;PO\n20AC;PR",
+        ..FILES
+    };
+    let tables = tables(rt.alloc(), &files)?;
+    check_numbers(&rt, rt.alloc(), &tables, &SIGNS)
+}
+
+fn check_pictograph(
+    rt: &impl Abort,
+    alloc: Global,
+    categories: &[u8],
+    want: &str,
+) -> Result<(), Fail> {
+    let files = UcdFiles {
+        line_break: b"1F3FB;EM",
+        general_category: categories,
+        ..FILES
+    };
+    check_each(
+        rt,
+        alloc,
+        &tables(alloc, &files)?,
+        &[("\u{A9}\u{1F3FB}", want)],
+    )
+}
+
+// A modifier stands behind a pictograph that is unassigned, and behind no other.
+#[test]
+fn marks_behind_pictographs(rt: HostRuntime) -> Result<(), Fail> {
+    for (categories, want) in PICTOGRAPHS {
+        check_pictograph(&rt, rt.alloc(), categories, want)?;
+    }
+    Ok(())
+}
+
+// Lists that are kept from text to text.
+#[derive(Drop)]
+struct Kept {
+    text: Vec<char>,
+    properties: Vec<Properties>,
+    classes: Vec<LineClass>,
+    plain: Vec<Mark>,
+    marks: Vec<Mark>,
+}
+
+impl Kept {
+    fn new(alloc: Global) -> Kept {
+        Kept {
+            text: Vec::new(alloc),
+            properties: Vec::new(alloc),
+            classes: Vec::new(alloc),
+            plain: Vec::new(alloc),
+            marks: Vec::new(alloc),
+        }
+    }
+}
+
+fn read_all(
+    tables: &Tables,
+    text: &[char],
+    properties: &mut Vec<Properties>,
+) -> Result<(), AllocError>
+    ensures { OnOk result (properties.new.items ≡ map (properties_of tables.now) text.now) }
+{
+    properties.clear();
+    for c in text {
+        properties.push(tables.properties(*c))?;
+    }
+    Ok(())
+}
+
+// Whether the walk finds the marks of the text that the plain body finds, without whole numbers and with
+// them.
+fn agrees(tables: &Tables, kept: &mut Kept) -> Result<bool, AllocError> {
+    read_all(tables, &kept.text, &mut kept.properties)?;
+    Ok(agrees_where(tables, false, kept)? && agrees_where(tables, true, kept)?)
+}
+
+fn agrees_where(tables: &Tables, whole_numbers: bool, kept: &mut Kept) -> Result<bool, AllocError>
+    requires { kept.old.properties.items ≡ map (properties_of tables.now) kept.old.text.items }
+    ensures { OnOk result (kept.new.properties.items ≡ map (properties_of tables.now) kept.new.text.items) }
+{
+    plain_marks(
+        tables,
+        &kept.text,
+        whole_numbers,
+        &mut kept.classes,
+        &mut kept.plain,
+    )?;
+    marks_into(
+        tables,
+        &kept.text,
+        &kept.properties,
+        whole_numbers,
+        &mut kept.marks,
+    )?;
+    Ok(kept.marks.as_slice() == kept.plain.as_slice())
+}
+
+// Two characters of each line breaking class, U+0100 the first of BK: of some classes the second is
+// wide, a mark or a pictograph to come.
+const CLASS_FILES: UcdFiles<'_> = UcdFiles {
+    line_break: b"0100..0101;BK\n0102..0103;CM\n0104..0105;CR\n0106..0107;GL\n0108..0109;LF\n\
+        010A..010B;NL\n010C..010D;SP\n010E..010F;WJ\n0110..0111;ZW\n0112..0113;ZWJ\n\
+        0114..0115;B2\n0116..0117;BA\n0118..0119;BB\n011A..011B;CB\n011C..011D;HY\n\
+        011E..011F;CL\n0120..0121;CP\n0122..0123;EX\n0124..0125;IN\n0126..0127;NS\n\
+        0128..0129;OP\n012A..012B;QU\n012C..012D;IS\n012E..012F;NU\n0130..0131;PO\n\
+        0132..0133;PR\n0134..0135;SY\n0136..0137;AI\n0138..0139;AL\n013A..013B;CJ\n\
+        013C..013D;EB\n013E..013F;EM\n0140..0141;H2\n0142..0143;H3\n0144..0145;HL\n\
+        0146..0147;ID\n0148..0149;JL\n014A..014B;JT\n014C..014D;JV\n014E..014F;RI\n\
+        0150..0151;SA\n0152..0153;SG\n0154..0155;XX\n",
+    east_asian_width: b"0129;W\n0121;W\n0147;W\n012B;W\n011F;W\n0103;W\n010D;W\n0139;W\n012F;W\n",
+    general_category: b"0151;Mn\n0102;Mn\n0121;Mc\n0146;So\n013B;Mn\n",
+    emoji_data: b"0147;Extended_Pictographic\n0155;Extended_Pictographic\n0103;Extended_Pictographic\n\
+        010D;Extended_Pictographic\n011B;Extended_Pictographic\n013D;Extended_Pictographic\n\
+        0129;Extended_Pictographic\n0113;Extended_Pictographic\n0133;Extended_Pictographic\n\
+        014F;Extended_Pictographic\n012B;Extended_Pictographic\n0139;Extended_Pictographic\n\
+        0101;Extended_Pictographic\n",
+    ..FILES
+};
+
+const LETTERS: [char; 12] = [
+    'a', '\u{5D0}', '\u{627}', '1', '\u{660}', '+', ',', '$', '\u{300}', '(', ')', ' ',
+];
+
+// Whether the walk agrees on the list of so many of these characters that a number spells.
+fn agrees_on(
+    tables: &Tables,
+    letters: &[char],
+    length: usize,
+    number: u64,
+    kept: &mut Kept,
+) -> Result<bool, AllocError> {
+    kept.text.clear();
+    let count = (letters.len() as u64).max(1);
+    let mut rest = number;
+    for _ in 0..length {
+        let letter = letters.get((rest % count) as usize);
+        kept.text.push(letter.copied().unwrap_or('a'))?;
+        rest /= count;
+    }
+    agrees(tables, kept)
+}
+
+fn check_list(
+    rt: &impl Abort,
+    tables: &Tables,
+    letters: &[char],
+    length: usize,
+    number: u64,
+    kept: &mut Kept,
+) -> Result<(), Fail> {
+    let agrees = match agrees_on(tables, letters, length, number, kept) {
+        Ok(agrees) => agrees,
+        Err(_) => agrees_on(tables, letters, length, number, kept)?,
+    };
+    assert!(rt; agrees, "list {number} of {length}");
+    Ok(())
+}
+
+// The lists of so many characters that some numbers spell.
+fn check_lists(
+    rt: &impl Abort,
+    alloc: Global,
+    tables: &Tables,
+    letters: &[char],
+    length: usize,
+    numbers: u64,
+) -> Result<(), Fail> {
+    let mut kept = Kept::new(alloc);
+    for number in 0..numbers {
+        check_list(rt, tables, letters, length, number, &mut kept)?;
+    }
+    Ok(())
+}
+
+// How many lists there are of so many letters.
+const LISTS: [(usize, u64); 4] = [(1, 12), (2, 144), (3, 1_728), (4, 20_736)];
+
+fn check_letters(rt: &impl Abort, alloc: Global, tables: &Tables) -> Result<(), Fail> {
+    for (length, numbers) in &LISTS {
+        check_lists(rt, alloc, tables, &LETTERS, *length, *numbers)?;
+    }
+    Ok(())
+}
+
+// Every list of 1 to 4 of the letters.
+#[test]
+fn walk_finds_the_marks_of_letters(rt: HostRuntime) -> Result<(), Fail> {
+    let tables = tables(rt.alloc(), &FILES)?;
+    check_letters(&rt, rt.alloc(), &tables)
+}
+
+fn class_letters(alloc: Global) -> Result<Vec<char>, AllocError> {
+    (0x100..0x156).filter_map(char::from_u32).collect(alloc)
+}
+
+// Lists of 10 that look random.
+fn check_random(
+    rt: &impl Abort,
+    alloc: Global,
+    tables: &Tables,
+    letters: &[char],
+) -> Result<(), Fail> {
+    let mut kept = Kept::new(alloc);
+    let mut number: u64 = 1;
+    for _ in 0..10_000 {
+        number = number
+            .wrapping_mul(6_364_136_223_846_793_005)
+            .wrapping_add(1);
+        check_list(rt, tables, letters, 10, number >> 1, &mut kept)?;
+    }
+    Ok(())
+}
+
+fn check_classes(
+    rt: &impl Abort,
+    alloc: Global,
+    tables: &Tables,
+    letters: &[char],
+) -> Result<(), Fail> {
+    check_lists(rt, alloc, tables, letters, 1, 86)?;
+    check_lists(rt, alloc, tables, letters, 2, 7_396)?;
+    check_random(rt, alloc, tables, letters)
+}
+
+// Every list of 1 or 2 characters of each class, and lists of 10 that look random.
+#[test]
+fn walk_finds_the_marks_of_classes(rt: HostRuntime) -> Result<(), Fail> {
+    let tables = tables(rt.alloc(), &CLASS_FILES)?;
+    let letters = match class_letters(rt.alloc()) {
+        Ok(letters) => letters,
+        Err(_) => class_letters(rt.alloc())?,
+    };
+    check_classes(&rt, rt.alloc(), &tables, &letters)
+}

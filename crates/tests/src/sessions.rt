@@ -1,0 +1,298 @@
+//! Worked rows, and long lists of changes against sessions made anew, over both stores. The tests pass
+//! too where one allocation is refused, whichever it is: a change that is refused for memory leaves all
+//! as it was, and is made when it is asked for again.
+mod random;
+mod refusals;
+mod rows;
+
+use crate::files::FILES;
+use device::ToWrite;
+use lines::{Engine, Laid, Options, Print, VisualLine};
+use session::{Damage, Edit, EditFault, Kept, Session};
+use std::alloc::{AllocError, Global};
+use std::io;
+use std::io::Write;
+use std::process::Abort;
+use std::test::Fail;
+use store::{ParagraphStore, VecStore};
+use ucd::{Cause, TableFault, Tables};
+
+fn tables(alloc: Global) -> Result<Tables, TableFault> {
+    Tables::read(alloc, &FILES)
+}
+
+fn engine(alloc: Global) -> Result<Engine, Fail> {
+    let tables = match tables(alloc) {
+        Err(fault) if fault.cause == Cause::Memory => tables(alloc)?,
+        tables => tables?,
+    };
+    Ok(Engine::new(tables, Options::default()))
+}
+
+// A session on a text. Where memory ran out once, the engine that came back opens it.
+fn session<S: ParagraphStore<Kept> + Drop>(
+    alloc: Global,
+    text: &str,
+    width: u16,
+) -> Result<Session<S>, Fail> {
+    match Session::open(alloc, engine(alloc)?, text, width) {
+        Ok(session) => Ok(session),
+        Err((engine, EditFault::NoMemory)) => session_again(alloc, engine, text, width),
+        Err((_, fault)) => Err(Fail::from(fault)),
+    }
+}
+
+fn session_again<S: ParagraphStore<Kept> + Drop>(
+    alloc: Global,
+    engine: Engine,
+    text: &str,
+    width: u16,
+) -> Result<Session<S>, Fail> {
+    match Session::open(alloc, engine, text, width) {
+        Ok(session) => Ok(session),
+        Err((_, fault)) => Err(Fail::from(fault)),
+    }
+}
+
+fn make<S: ParagraphStore<Kept>>(
+    edited: &mut Session<S>,
+    edit: Edit<'_>,
+) -> Result<Damage, EditFault> {
+    match edit {
+        Edit::Insert(pos, text) => edited.insert(pos, text),
+        Edit::Delete(pos, count) => edited.delete(pos, count),
+        Edit::SetWidth(width) => edited.set_width(width),
+    }
+}
+
+// Makes the change, by which the counts may rise by so much, and once more where it was refused for
+// memory.
+fn make_within<S: ParagraphStore<Kept>>(
+    rt: &impl Abort,
+    edited: &mut Session<S>,
+    edit: Edit<'_>,
+    [analysed, filled]: [u64; 2],
+) -> Result<Damage, EditFault> {
+    let before = (edited.analysed(), edited.filled());
+    let result = make(edited, edit);
+    assert!(rt; edited.analysed().saturating_sub(before.0) <= analysed);
+    assert!(rt; edited.filled().saturating_sub(before.1) <= filled);
+    match result {
+        Err(EditFault::NoMemory) => make(edited, edit),
+        result => result,
+    }
+}
+
+fn same_paragraph(left: Option<&Laid>, right: Option<&Laid>) -> bool {
+    match (left, right) {
+        (Some(left), Some(right)) => {
+            left.text() == right.text()
+                && left.base() == right.base()
+                && left.levels() == right.levels()
+                && left.marks() == right.marks()
+                && left.line_starts() == right.line_starts()
+        }
+        _ => false,
+    }
+}
+
+fn same_line(left: Option<VisualLine<'_>>, right: Option<VisualLine<'_>>) -> bool {
+    match (left, right) {
+        (Some(left), Some(right)) => {
+            left.is_first() == right.is_first()
+                && left.base() == right.base()
+                && left.chars() == right.chars()
+                && left.levels() == right.levels()
+                && left.ltov() == right.ltov()
+                && left.vtol() == right.vtol()
+                && left.columns() == right.columns()
+        }
+        _ => false,
+    }
+}
+
+// Whether so many paragraphs, from these on, are the same.
+fn same_paragraphs<S: ParagraphStore<Kept>, T: ParagraphStore<Kept>>(
+    left: &Session<S>,
+    right: &Session<T>,
+    (first, second): (usize, usize),
+    count: usize,
+) -> bool {
+    let mut all = true;
+    for i in 0..count {
+        all &= same_paragraph(
+            left.paragraph(first.wrapping_add(i)),
+            right.paragraph(second.wrapping_add(i)),
+        );
+    }
+    all
+}
+
+// Whether so many lines, from these on, are the same.
+fn same_lines<S: ParagraphStore<Kept>, T: ParagraphStore<Kept>>(
+    left: &Session<S>,
+    right: &Session<T>,
+    (first, second): (usize, usize),
+    count: usize,
+) -> bool {
+    let mut all = true;
+    for n in 0..count {
+        all &= same_line(
+            left.line(first.wrapping_add(n)),
+            right.line(second.wrapping_add(n)),
+        );
+    }
+    all
+}
+
+// All lines of a line's output.
+const ALL: Print = Print {
+    novisual: false,
+    basedir: true,
+    ltov: true,
+    vtol: true,
+    levels: true,
+    nopad: false,
+    nomirror: false,
+};
+
+// A writer into a slice, which tells how much it took.
+#[derive(Drop)]
+struct Taker<'a> {
+    room: &'a mut [u8],
+    taken: &'a mut usize,
+}
+
+impl Write for Taker<'_> {
+    fn write(&mut self, buf: &[u8]) -> io::Result<usize> {
+        let len = self.room.write(buf)?;
+        *self.taken = self.taken.saturating_add(len);
+        Ok(len)
+    }
+
+    fn flush(&mut self) -> io::Result<()> {
+        Ok(())
+    }
+}
+
+// Room for two pages.
+#[derive(Drop)]
+struct Room {
+    left: Vec<u8>,
+    right: Vec<u8>,
+}
+
+// So many bytes.
+fn zeros(alloc: Global, count: usize) -> Result<Vec<u8>, AllocError> {
+    match vec![in alloc; 0; count] {
+        Ok(bytes) => Ok(bytes),
+        Err(_) => vec![in alloc; 0; count],
+    }
+}
+
+fn room_for(alloc: Global, count: usize) -> Result<Room, AllocError> {
+    let (left, right) = (zeros(alloc, count)?, zeros(alloc, count)?);
+    Ok(Room { left, right })
+}
+
+// What is printed, for which there is room.
+fn print<'a, S: ParagraphStore<Kept>>(
+    session: &Session<S>,
+    room: &'a mut [u8],
+    form: &Print,
+) -> Option<&'a [u8]> {
+    let mut taken = 0;
+    let mut writer = ToWrite::new(Taker {
+        room,
+        taken: &mut taken,
+    });
+    let result = session.print(&mut writer, form);
+    drop(writer);
+    match result {
+        Ok(()) => room.get(..taken),
+        Err(_) => None,
+    }
+}
+
+// Whether the sessions print the same.
+fn same_page<S: ParagraphStore<Kept>, T: ParagraphStore<Kept>>(
+    left: &Session<S>,
+    right: &Session<T>,
+    room: &mut Room,
+) -> bool {
+    match (
+        print(left, &mut room.left, &ALL),
+        print(right, &mut room.right, &ALL),
+    ) {
+        (Some(left), Some(right)) => left == right,
+        _ => false,
+    }
+}
+
+// Whether the sessions keep and show the same.
+fn same<S: ParagraphStore<Kept>, T: ParagraphStore<Kept>>(
+    left: &Session<S>,
+    right: &Session<T>,
+    room: &mut Room,
+) -> bool {
+    left.char_count() == right.char_count()
+        && left.width() == right.width()
+        && left.paragraph_count() == right.paragraph_count()
+        && left.line_count() == right.line_count()
+        && same_paragraphs(left, right, (0, 0), left.paragraph_count())
+        && same_lines(left, right, (0, 0), left.line_count())
+        && left.paragraph(left.paragraph_count()).is_none()
+        && left.line(left.line_count()).is_none()
+        && same_page(left, right, room)
+}
+
+// Puts a text in place of all that a session has, at another width.
+fn renew<S: ParagraphStore<Kept>>(
+    session: &mut Session<S>,
+    text: &str,
+    width: u16,
+) -> Result<(), EditFault> {
+    let edits = [
+        Edit::Delete(0, session.char_count()),
+        Edit::SetWidth(width),
+        Edit::Insert(0, text),
+    ];
+    for edit in edits {
+        if make(session, edit) == Err(EditFault::NoMemory) {
+            make(session, edit)?;
+        }
+    }
+    Ok(())
+}
+
+// A session over some store; one beside it, of which the whole text gives way at once; and room for what
+// they print.
+#[derive(Drop)]
+struct Pair<S: ParagraphStore<Kept>> {
+    edited: Session<S>,
+    anew: Session<VecStore<Kept>>,
+    room: Room,
+}
+
+impl<S: ParagraphStore<Kept> + Drop> Pair<S> {
+    fn new(alloc: Global) -> Result<Pair<S>, Fail> {
+        let room = room_for(alloc, 131_072)?;
+        let anew = session(alloc, "", 20)?;
+        let edited = session(alloc, "", 20)?;
+        Ok(Pair { edited, anew, room })
+    }
+
+    // The session keeps what one does into which the text is put at once.
+    fn check_same(&mut self, rt: &impl Abort, text: &str) -> Result<(), Fail> {
+        renew(&mut self.anew, text, self.edited.width())?;
+        assert!(rt; same(&self.edited, &self.anew, &mut self.room), "{text:?}");
+        Ok(())
+    }
+
+    // The session keeps what one does that is opened on the text.
+    fn check_opened(&mut self, rt: &impl Abort, alloc: Global, text: &str) -> Result<(), Fail> {
+        let opened: Session<VecStore<Kept>> = session(alloc, text, self.edited.width())?;
+        assert!(rt; same(&self.edited, &opened, &mut self.room), "{text:?}");
+        Ok(())
+    }
+}

@@ -1,0 +1,268 @@
+//! Changes at random places, over both stores. Each is compared with a session whose whole text gives
+//! way to the new one at once, and some with one that is opened on it.
+use super::{Pair, make_within, same_lines, same_paragraphs};
+use session::{Damage, Edit, EditFault, Kept, Session};
+use std::alloc::{AllocError, Global};
+use std::process::Abort;
+use std::test::Fail;
+use store::{ParagraphStore, TreeStore, VecStore};
+
+// Numbers that look random, from a fixed seed.
+#[derive(Clone, Copy)]
+struct Numbers(u64);
+
+impl Numbers {
+    fn below(&mut self, bound: usize) -> usize {
+        self.0 = self
+            .0
+            .wrapping_mul(6_364_136_223_846_793_005)
+            .wrapping_add(1_442_695_040_888_963_407);
+        let wide = (self.0 >> 33) as usize;
+        if bound == 0 { 0 } else { wide % bound }
+    }
+}
+
+// Letters, digits, spaces, separators, marks, brackets and isolates.
+const CHARACTERS: &str = "abcde fg\u{5d0}\u{5d1}\u{5d2}\u{627}12\u{660}  \n\r\u{2029}\u{300}()[],\
+    \u{2066}\u{2067}\u{2068}\u{2069}\u{2069}";
+
+fn random_piece(alloc: Global, numbers: &mut Numbers) -> Result<String, AllocError> {
+    let mut piece = String::new(alloc);
+    for _ in 0..numbers.below(41) {
+        let c = CHARACTERS.chars().nth(numbers.below(33)).unwrap_or('\r');
+        piece.push(c)?;
+    }
+    Ok(piece)
+}
+
+fn random_edit<'a>(numbers: &mut Numbers, len: usize, piece: &'a str) -> Edit<'a> {
+    let pos = numbers.below(len.wrapping_add(2));
+    match numbers.below(8) {
+        0 => Edit::SetWidth(u16::try_from(numbers.below(91)).unwrap_or(0)),
+        1..=3 => Edit::Insert(pos, piece),
+        _ => Edit::Delete(pos, numbers.below(36)),
+    }
+}
+
+// What is taken out of a text, from where on, and what is put in.
+fn parts(edit: Edit<'_>) -> (usize, usize, &str) {
+    match edit {
+        Edit::Insert(pos, piece) => (pos, 0, piece),
+        Edit::Delete(pos, count) => (pos, count, ""),
+        Edit::SetWidth(_) => (0, 0, ""),
+    }
+}
+
+// Why the change is refused.
+fn refusal(text: &str, edit: Edit<'_>) -> Option<EditFault> {
+    let (pos, count, _) = parts(edit);
+    match edit {
+        Edit::SetWidth(0) => Some(EditFault::WidthOutOfRange),
+        _ if pos.wrapping_add(count) > text.chars().count() => Some(EditFault::OutOfRange),
+        _ => None,
+    }
+}
+
+// The text behind the change.
+fn changed(alloc: Global, text: &str, edit: Edit<'_>) -> Result<String, AllocError> {
+    let (pos, count, piece) = parts(edit);
+    let mut new = String::new(alloc);
+    for c in text.chars().take(pos) {
+        new.push(c)?;
+    }
+    new.push_str(piece)?;
+    for c in text.chars().skip(pos).skip(count) {
+        new.push(c)?;
+    }
+    Ok(new)
+}
+
+// What a change names that touches the paragraphs whose closed spans meet the closed range from `pos` to
+// `end`, without what stands in their place; and how many characters these have.
+fn touched(old: &Session<VecStore<Kept>>, pos: usize, end: usize) -> (Damage, usize) {
+    let (mut first_line, mut old_lines, mut first_par, mut old_pars) = (0, 0, 0, 0);
+    let (mut start, mut chars) = (0usize, 0usize);
+    for i in 0..old.paragraph_count() {
+        let (len, lines) = match old.paragraph(i) {
+            Some(laid) => (laid.text().len(), laid.line_count()),
+            None => (0, 0),
+        };
+        if start.wrapping_add(len) < pos {
+            first_par = i + 1;
+            first_line = lines.wrapping_add(first_line);
+        } else if start <= end {
+            old_pars = 1usize.wrapping_add(old_pars);
+            old_lines = lines.wrapping_add(old_lines);
+            chars = len.wrapping_add(chars);
+        }
+        start = start.wrapping_add(len);
+    }
+    let damage = Damage {
+        first_line,
+        old_lines,
+        new_lines: 0,
+        first_par,
+        old_pars,
+        new_pars: 0,
+    };
+    (damage, chars)
+}
+
+fn touched_by(old: &Session<VecStore<Kept>>, edit: Edit<'_>) -> (Damage, usize) {
+    let (pos, count, _) = parts(edit);
+    match edit {
+        Edit::SetWidth(_) => touched(old, 0, usize::MAX),
+        _ => touched(old, pos, pos.wrapping_add(count)),
+    }
+}
+
+// By how much the counts may rise.
+fn bounds(old: &Session<VecStore<Kept>>, edit: Edit<'_>) -> [u64; 2] {
+    let (_, count, piece) = parts(edit);
+    let (_, chars) = touched_by(old, edit);
+    let fresh = chars
+        .wrapping_sub(count)
+        .wrapping_add(piece.chars().count()) as u64;
+    match edit {
+        Edit::SetWidth(_) => [0, fresh],
+        _ => [fresh, fresh],
+    }
+}
+
+// The damage that made one session of another.
+fn damage_of<S: ParagraphStore<Kept>>(
+    old: &Session<VecStore<Kept>>,
+    new: &Session<S>,
+    edit: Edit<'_>,
+) -> Damage {
+    let (damage, _) = touched_by(old, edit);
+    Damage {
+        new_lines: new
+            .line_count()
+            .wrapping_add(damage.old_lines)
+            .wrapping_sub(old.line_count()),
+        new_pars: new
+            .paragraph_count()
+            .wrapping_add(damage.old_pars)
+            .wrapping_sub(old.paragraph_count()),
+        ..damage
+    }
+}
+
+// Whether all that the damage doesn't name stayed.
+fn stays<S: ParagraphStore<Kept>>(
+    old: &Session<VecStore<Kept>>,
+    new: &Session<S>,
+    damage: Damage,
+) -> bool {
+    let behind = (
+        damage.first_line.wrapping_add(damage.old_lines),
+        damage.first_line.wrapping_add(damage.new_lines),
+    );
+    let rest = old.line_count().wrapping_sub(behind.0);
+    let behind_pars = (
+        damage.first_par.wrapping_add(damage.old_pars),
+        damage.first_par.wrapping_add(damage.new_pars),
+    );
+    let rest_pars = old.paragraph_count().wrapping_sub(behind_pars.0);
+    same_lines(old, new, (0, 0), damage.first_line)
+        && same_lines(old, new, behind, rest)
+        && same_paragraphs(old, new, (0, 0), damage.first_par)
+        && same_paragraphs(old, new, behind_pars, rest_pars)
+}
+
+// The change and its answer, beside the session of the text as it was.
+fn check_answer<S: ParagraphStore<Kept>>(
+    rt: &impl Abort,
+    edited: &mut Session<S>,
+    old: &Session<VecStore<Kept>>,
+    edit: Edit<'_>,
+    refusal: Option<EditFault>,
+) {
+    let most = if refusal.is_none() {
+        bounds(old, edit)
+    } else {
+        [0, 0]
+    };
+    match make_within(rt, edited, edit, most) {
+        Ok(damage) => {
+            assert_eq!(rt; refusal, None);
+            assert_eq!(rt; damage, damage_of(old, edited, edit));
+            assert!(rt; stays(old, edited, damage));
+        }
+        Err(fault) => assert_eq!(rt; Some(fault), refusal),
+    }
+}
+
+// Makes a change in a session of this text, and answers the text behind it.
+fn check_change<S: ParagraphStore<Kept> + Drop>(
+    rt: &impl Abort,
+    alloc: Global,
+    pair: &mut Pair<S>,
+    text: String,
+    edit: Edit<'_>,
+) -> Result<String, Fail> {
+    let refusal = refusal(text.as_str(), edit);
+    check_answer(rt, &mut pair.edited, &pair.anew, edit, refusal);
+    let new = if refusal.is_some() {
+        text
+    } else {
+        match changed(alloc, text.as_str(), edit) {
+            Ok(new) => new,
+            Err(_) => changed(alloc, text.as_str(), edit)?,
+        }
+    };
+    pair.check_same(rt, new.as_str())?;
+    Ok(new)
+}
+
+// Makes the next change, and answers the text behind it.
+fn check_next<S: ParagraphStore<Kept> + Drop>(
+    rt: &impl Abort,
+    alloc: Global,
+    pair: &mut Pair<S>,
+    numbers: &mut Numbers,
+    text: String,
+) -> Result<String, Fail> {
+    let piece = match random_piece(alloc, numbers) {
+        Ok(piece) => piece,
+        Err(_) => random_piece(alloc, numbers)?,
+    };
+    let edit = random_edit(numbers, pair.edited.char_count(), piece.as_str());
+    check_change(rt, alloc, pair, text, edit)
+}
+
+fn check_each<S: ParagraphStore<Kept> + Drop>(
+    rt: &impl Abort,
+    alloc: Global,
+    pair: &mut Pair<S>,
+    numbers: &mut Numbers,
+) -> Result<(), Fail> {
+    let mut text = String::new(alloc);
+    for turn in 0..2_000 {
+        text = check_next(rt, alloc, pair, numbers, text)?;
+        if turn % 500 == 0 {
+            pair.check_opened(rt, alloc, text.as_str())?;
+        }
+    }
+    Ok(())
+}
+
+fn check_changes<S: ParagraphStore<Kept> + Drop>(
+    rt: &impl Abort,
+    alloc: Global,
+    seed: u64,
+) -> Result<(), Fail> {
+    let mut pair: Pair<S> = Pair::new(alloc)?;
+    check_each(rt, alloc, &mut pair, &mut Numbers(seed))
+}
+
+#[test]
+fn changes_at_random_in_a_tree(rt: HostRuntime) -> Result<(), Fail> {
+    check_changes::<TreeStore<Kept>>(&rt, rt.alloc(), 15)
+}
+
+#[test]
+fn changes_at_random_in_a_list(rt: HostRuntime) -> Result<(), Fail> {
+    check_changes::<VecStore<Kept>>(&rt, rt.alloc(), 16)
+}

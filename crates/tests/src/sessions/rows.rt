@@ -1,0 +1,351 @@
+//! Worked rows of changes, one by one and one after another.
+use super::{Pair, make_within, print, renew};
+use lines::Print;
+use session::{Damage, Edit, EditFault, Kept, Session};
+use std::process::Abort;
+use std::test::Fail;
+use store::TreeStore;
+
+// A text, its width, a change, the damage, by how much the counts may rise, and the text behind it.
+type Row<'a> = (&'a str, u16, Edit<'a>, [usize; 6], [u64; 2], &'a str);
+
+fn check_row(rt: &impl Abort, pair: &mut Pair<TreeStore<Kept>>, row: &Row<'_>) -> Result<(), Fail> {
+    let (text, width, edit, numbers, most, after) = *row;
+    let [
+        first_line,
+        old_lines,
+        new_lines,
+        first_par,
+        old_pars,
+        new_pars,
+    ] = numbers;
+    let expected = Damage {
+        first_line,
+        old_lines,
+        new_lines,
+        first_par,
+        old_pars,
+        new_pars,
+    };
+    renew(&mut pair.edited, text, width)?;
+    let damage = make_within(rt, &mut pair.edited, edit, most)?;
+    assert_eq!(rt; damage, expected, "{text:?}");
+    pair.check_same(rt, after)
+}
+
+const HEBREW: &str = "\u{5d0}\nab";
+
+const ROWS: [Row<'_>; 20] = [
+    (
+        "a\r",
+        80,
+        Edit::Insert(2, "\n"),
+        [0, 1, 1, 0, 1, 1],
+        [3, 3],
+        "a\r\n",
+    ),
+    (
+        "a\n",
+        80,
+        Edit::Insert(1, "\r"),
+        [0, 1, 1, 0, 1, 1],
+        [3, 3],
+        "a\r\n",
+    ),
+    (
+        "a\r\nb",
+        80,
+        Edit::Insert(2, "x"),
+        [0, 1, 2, 0, 1, 2],
+        [4, 4],
+        "a\rx\nb",
+    ),
+    (
+        "ab\ncd\nef",
+        80,
+        Edit::Insert(3, "x"),
+        [0, 2, 2, 0, 2, 2],
+        [7, 7],
+        "ab\nxcd\nef",
+    ),
+    (
+        "ab\ncd\nef",
+        80,
+        Edit::Insert(4, "x"),
+        [1, 1, 1, 1, 1, 1],
+        [4, 4],
+        "ab\ncxd\nef",
+    ),
+    (
+        "ab\ncd\nef",
+        80,
+        Edit::Delete(2, 4),
+        [0, 3, 1, 0, 3, 1],
+        [4, 4],
+        "abef",
+    ),
+    (
+        HEBREW,
+        80,
+        Edit::Delete(1, 1),
+        [0, 2, 1, 0, 2, 1],
+        [3, 3],
+        "\u{5d0}ab",
+    ),
+    (
+        "ab\n\u{5d0}\u{5d1}",
+        80,
+        Edit::Delete(2, 1),
+        [0, 2, 1, 0, 2, 1],
+        [4, 4],
+        "ab\u{5d0}\u{5d1}",
+    ),
+    (
+        "ab\ncd",
+        80,
+        Edit::Insert(0, "\u{5d0}"),
+        [0, 1, 1, 0, 1, 1],
+        [4, 4],
+        "\u{5d0}ab\ncd",
+    ),
+    (
+        "abc",
+        80,
+        Edit::Delete(0, 3),
+        [0, 1, 0, 0, 1, 0],
+        [0, 0],
+        "",
+    ),
+    ("", 80, Edit::Insert(0, ""), [0, 0, 0, 0, 0, 0], [0, 0], ""),
+    (
+        "",
+        80,
+        Edit::Insert(0, "x"),
+        [0, 0, 1, 0, 0, 1],
+        [1, 1],
+        "x",
+    ),
+    (
+        "abc",
+        80,
+        Edit::Insert(0, ""),
+        [0, 1, 1, 0, 1, 1],
+        [3, 3],
+        "abc",
+    ),
+    (
+        "abc def\nghi jkl\nx",
+        3,
+        Edit::Insert(9, "y"),
+        [2, 2, 3, 1, 1, 1],
+        [9, 9],
+        "abc def\ngyhi jkl\nx",
+    ),
+    (
+        "abc def\nghi jkl\nx",
+        3,
+        Edit::Delete(7, 1),
+        [0, 4, 4, 0, 2, 1],
+        [15, 15],
+        "abc defghi jkl\nx",
+    ),
+    (
+        "abc def ghi",
+        80,
+        Edit::SetWidth(3),
+        [0, 1, 3, 0, 1, 1],
+        [0, 11],
+        "abc def ghi",
+    ),
+    (
+        "abc def ghi",
+        3,
+        Edit::SetWidth(3),
+        [0, 3, 3, 0, 1, 1],
+        [0, 11],
+        "abc def ghi",
+    ),
+    // A line that just fits is kept; one column less, and back.
+    (
+        "ab cd \nef",
+        80,
+        Edit::SetWidth(5),
+        [0, 2, 2, 0, 2, 2],
+        [0, 0],
+        "ab cd \nef",
+    ),
+    (
+        "ab cd \nef",
+        5,
+        Edit::SetWidth(4),
+        [0, 2, 3, 0, 2, 2],
+        [0, 7],
+        "ab cd \nef",
+    ),
+    (
+        "ab cd \nef",
+        4,
+        Edit::SetWidth(5),
+        [0, 3, 2, 0, 2, 2],
+        [0, 7],
+        "ab cd \nef",
+    ),
+];
+
+#[test]
+fn changes_of_rows(rt: HostRuntime) -> Result<(), Fail> {
+    let mut pair = Pair::new(rt.alloc())?;
+    check_rows(&rt, &mut pair, &ROWS)
+}
+
+fn check_rows(
+    rt: &impl Abort,
+    pair: &mut Pair<TreeStore<Kept>>,
+    rows: &[Row<'_>],
+) -> Result<(), Fail> {
+    for row in rows {
+        check_row(rt, pair, row)?;
+    }
+    Ok(())
+}
+
+// A change, what its answer says of lines, and what is printed then.
+type Step<'a> = (Edit<'a>, Result<[usize; 3], EditFault>, &'a str);
+
+// Lines as they are shown, with their levels or without.
+const LEVELS: Print = Print {
+    novisual: false,
+    basedir: false,
+    ltov: false,
+    vtol: false,
+    levels: true,
+    nopad: false,
+    nomirror: false,
+};
+
+const SHOWN: Print = Print {
+    levels: false,
+    ..LEVELS
+};
+
+fn check_step(
+    rt: &impl Abort,
+    edited: &mut Session<TreeStore<Kept>>,
+    room: &mut [u8],
+    form: &Print,
+    step: &Step<'_>,
+) {
+    let (edit, answer, page) = *step;
+    let most = edited.char_count() as u64;
+    let bounds = match edit {
+        Edit::SetWidth(_) => [0, most],
+        _ => [most.wrapping_add(1); 2],
+    };
+    let lines = match make_within(rt, edited, edit, bounds) {
+        Ok(damage) => Ok([damage.first_line, damage.old_lines, damage.new_lines]),
+        Err(fault) => Err(fault),
+    };
+    assert_eq!(rt; lines, answer, "{edit:?}");
+    assert!(rt;
+        print(edited, room, form) == Some(page.as_bytes()),
+        "{page:?}"
+    );
+}
+
+// Makes the changes in a session of a text.
+fn check_steps(
+    rt: &impl Abort,
+    pair: &mut Pair<TreeStore<Kept>>,
+    text: &str,
+    form: &Print,
+    steps: &[Step<'_>],
+) -> Result<(), Fail> {
+    renew(&mut pair.edited, text, 80)?;
+    for step in steps {
+        check_step(rt, &mut pair.edited, &mut pair.room.left, form, step);
+    }
+    Ok(())
+}
+
+const REFUSED_AND_EMPTIED: [Step<'_>; 3] = [
+    (
+        Edit::Delete(5, 10),
+        Err(EditFault::OutOfRange),
+        "abcdefgh\n",
+    ),
+    (Edit::Delete(0, 8), Ok([0, 1, 0]), ""),
+    (Edit::Insert(0, "x"), Ok([0, 0, 1]), "x\n"),
+];
+
+const JOINED: [Step<'_>; 1] = [(
+    Edit::Delete(2, 1),
+    Ok([0, 2, 1]),
+    "ab\u{5d1}\u{5d0}\n0 0 1 1\n",
+)];
+
+const THERE_AND_BACK: [Step<'_>; 3] = [
+    (Edit::SetWidth(3), Ok([0, 1, 3]), "abc\ndef\nghi\n"),
+    (Edit::SetWidth(80), Ok([0, 3, 1]), "abc def ghi\n"),
+    (
+        Edit::SetWidth(0),
+        Err(EditFault::WidthOutOfRange),
+        "abc def ghi\n",
+    ),
+];
+
+#[test]
+fn changes_one_after_another(rt: HostRuntime) -> Result<(), Fail> {
+    let mut pair = Pair::new(rt.alloc())?;
+    check_steps(&rt, &mut pair, "abcdefgh", &SHOWN, &REFUSED_AND_EMPTIED)?;
+    check_steps(&rt, &mut pair, "ab\n\u{5d0}\u{5d1}", &LEVELS, &JOINED)?;
+    check_steps(&rt, &mut pair, "abc def ghi", &SHOWN, &THERE_AND_BACK)
+}
+
+#[test]
+fn widths_there_and_back(rt: HostRuntime) -> Result<(), Fail> {
+    let mut pair: Pair<TreeStore<Kept>> = Pair::new(rt.alloc())?;
+    check_widths(&rt, &mut pair, "abc def ghi\n\u{5d0}\u{5d1} (1) x")
+}
+
+fn check_widths(rt: &impl Abort, pair: &mut Pair<TreeStore<Kept>>, text: &str) -> Result<(), Fail> {
+    renew(&mut pair.edited, text, 80)?;
+    let analysed = pair.edited.analysed();
+    for width in [3, 1, 65_535, 80] {
+        if pair.edited.set_width(width) == Err(EditFault::NoMemory) {
+            pair.edited.set_width(width)?;
+        }
+        pair.check_same(rt, text)?;
+    }
+    assert_eq!(rt; pair.edited.analysed(), analysed);
+    Ok(())
+}
+
+const CHANGES: [Edit<'_>; 6] = [
+    Edit::Insert(3, "\u{5d0}"),
+    Edit::Delete(5, 10),
+    Edit::SetWidth(2),
+    Edit::SetWidth(0),
+    Edit::Delete(0, 3),
+    Edit::Insert(3, "\ne"),
+];
+
+#[test]
+fn runs_of_changes(rt: HostRuntime) -> Result<(), Fail> {
+    let mut pair: Pair<TreeStore<Kept>> = Pair::new(rt.alloc())?;
+    check_run(&rt, &mut pair, &CHANGES)
+}
+
+// Where memory runs out some of the changes were made: then all follow on the first text again.
+fn check_run(
+    rt: &impl Abort,
+    pair: &mut Pair<TreeStore<Kept>>,
+    changes: &[Edit<'_>],
+) -> Result<(), Fail> {
+    renew(&mut pair.edited, "ab\ncd", 80)?;
+    if pair.edited.run(changes).is_err() {
+        renew(&mut pair.edited, "ab\ncd", 80)?;
+        pair.edited.run(changes)?;
+    }
+    assert_eq!(rt; pair.edited.width(), 2);
+    pair.check_same(rt, "\u{5d0}cd\ne")
+}

@@ -1,0 +1,370 @@
+//! Look-ups and faults of the seven files. The tests pass too where one allocation is refused,
+//! whichever it is.
+use crate::files::FILES;
+use std::alloc::{AllocError, Global};
+use std::process::Abort;
+use std::test::Fail;
+use ucd::{BidiClass as Bidi, Cause, LineClass as Line, Properties, TableFault, Tables, UcdFiles};
+
+const EMPTY: UcdFiles<'_> = UcdFiles {
+    bidi_class: b"",
+    bidi_brackets: b"",
+    bidi_mirroring: b"",
+    line_break: b"",
+    general_category: b"",
+    east_asian_width: b"",
+    emoji_data: b"",
+};
+
+fn read(alloc: Global, files: &UcdFiles<'_>) -> Result<Tables, TableFault> {
+    match Tables::read(alloc, files) {
+        Err(fault) if fault.cause == Cause::Memory => Tables::read(alloc, files),
+        tables => tables,
+    }
+}
+
+// A character, its classes, what pairs with it if it is a bracket and whether it opens the pair, its
+// mirror, whether it is wide, a mark and a future pictograph, and its number for line breaking.
+type Row = (
+    char,
+    Bidi,
+    Line,
+    Option<(char, bool)>,
+    Option<char>,
+    [bool; 3],
+    usize,
+);
+
+const NONE: [bool; 3] = [false, false, false];
+
+const WIDE: [bool; 3] = [true, false, false];
+
+const ROWS: [Row; 16] = [
+    (
+        '(',
+        Bidi::ON,
+        Line::OP,
+        Some((')', true)),
+        Some(')'),
+        NONE,
+        160,
+    ),
+    (
+        ')',
+        Bidi::ON,
+        Line::CP,
+        Some(('(', false)),
+        Some('('),
+        NONE,
+        128,
+    ),
+    // A mirror that is of no bracket, and a bracket that has no mirror.
+    ('<', Bidi::ON, Line::XX, None, Some('>'), NONE, 336),
+    (
+        '\u{2329}',
+        Bidi::ON,
+        Line::XX,
+        Some(('\u{232A}', true)),
+        None,
+        NONE,
+        336,
+    ),
+    (
+        '\u{3009}',
+        Bidi::ON,
+        Line::CL,
+        Some(('\u{3008}', false)),
+        Some('\u{3008}'),
+        WIDE,
+        124,
+    ),
+    ('a', Bidi::L, Line::AL, None, None, NONE, 224),
+    ('\u{5D0}', Bidi::R, Line::HL, None, None, NONE, 272),
+    (
+        '\u{300}',
+        Bidi::NSM,
+        Line::CM,
+        None,
+        None,
+        [false, true, false],
+        10,
+    ),
+    (
+        '\u{A9}',
+        Bidi::L,
+        Line::XX,
+        None,
+        None,
+        [false, false, true],
+        337,
+    ),
+    // A line of emoji-data.txt names it, but of another property.
+    ('\u{1F1E6}', Bidi::L, Line::RI, None, None, NONE, 312),
+    // Over many pages, and the characters beside them.
+    ('\u{4DFF}', Bidi::L, Line::XX, None, None, NONE, 336),
+    ('\u{4E00}', Bidi::L, Line::ID, None, None, WIDE, 284),
+    ('\u{9FFF}', Bidi::L, Line::ID, None, None, WIDE, 284),
+    ('\u{A000}', Bidi::L, Line::XX, None, None, NONE, 336),
+    // The first and the last character.
+    ('\0', Bidi::L, Line::XX, None, None, NONE, 336),
+    ('\u{10FFFF}', Bidi::L, Line::XX, None, None, NONE, 336),
+];
+
+// What the tables say of a character by a look-up each, and the number of its properties.
+fn looked_up(tables: &Tables, c: char) -> Row {
+    let pair = match tables.bracket(c) {
+        Some(bracket) => Some((bracket.pair, bracket.opens)),
+        None => None,
+    };
+    let are = [
+        tables.is_wide(c),
+        tables.is_mark(c),
+        tables.is_future_pictograph(c),
+    ];
+    let index = tables.properties(c).line_index();
+    (
+        c,
+        tables.bidi_class(c),
+        tables.line_class(c),
+        pair,
+        tables.mirror(c),
+        are,
+        index,
+    )
+}
+
+// Whether a character's properties are those of its row.
+fn are_of(properties: Properties, row: &Row) -> bool {
+    let are = [
+        properties.is_wide(),
+        properties.is_mark(),
+        properties.is_future_pictograph(),
+    ];
+    properties.bidi_class() == row.1
+        && properties.line_class() == row.2
+        && properties.has_bracket() == row.3.is_some()
+        && properties.has_mirror() == row.4.is_some()
+        && are == row.5
+}
+
+fn check_row(rt: &impl Abort, tables: &Tables, row: &Row) {
+    assert!(rt; looked_up(tables, row.0) == *row, "at {}", row.0 as u32);
+    assert!(rt;
+        are_of(tables.properties(row.0), row),
+        "at {}",
+        row.0 as u32
+    );
+}
+
+fn check_rows(rt: &impl Abort, tables: &Tables, rows: &[Row]) {
+    for row in rows {
+        check_row(rt, tables, row);
+    }
+}
+
+#[test]
+fn look_ups_of_rows(rt: HostRuntime) -> Result<(), Fail> {
+    let tables = read(rt.alloc(), &FILES)?;
+    check_rows(&rt, &tables, &ROWS);
+    Ok(())
+}
+
+#[test]
+fn classes_by_name(rt: HostRuntime) {
+    assert_eq!(rt; Bidi::from_name(b"NSM"), Some(Bidi::NSM));
+    assert_eq!(rt; Line::from_name(b"B2"), Some(Line::B2));
+    assert_eq!(rt; Line::from_name(b"NSM"), None);
+}
+
+// Files of which one has lines.
+fn only(file: usize, lines: &[u8]) -> UcdFiles<'_> {
+    let mut files = EMPTY;
+    match file {
+        1 => files.bidi_class = lines,
+        2 => files.bidi_brackets = lines,
+        3 => files.bidi_mirroring = lines,
+        4 => files.line_break = lines,
+        5 => files.general_category = lines,
+        6 => files.east_asian_width = lines,
+        _ => files.emoji_data = lines,
+    }
+    files
+}
+
+// The characters of which 200 lines name one each, the first half of them in one page and the others in
+// the next, and their classes.
+const FIRST: u32 = 0x3F9C;
+
+const NAMES: [(&str, Bidi); 3] = [("R", Bidi::R), ("AL", Bidi::AL), ("EN", Bidi::EN)];
+
+fn numbered_lines(alloc: Global, is_reversed: bool) -> Result<String, AllocError> {
+    let mut text = String::new(alloc);
+    for n in 0..200 {
+        let place = if is_reversed { 199 - n } else { n };
+        let (point, name) = (FIRST + place, NAMES[place as usize % 3].0);
+        let line = format!(in alloc; "{point:04X};{name}\n")?;
+        text.push_str(line.as_str())?;
+    }
+    Ok(text)
+}
+
+fn check_numbered(rt: &impl Abort, tables: &Tables) {
+    for place in 0..200 {
+        let c = char::from_u32(FIRST + place).unwrap_or('\0');
+        let class = NAMES[place as usize % 3].1;
+        assert!(rt; tables.bidi_class(c) == class, "at {place}");
+    }
+}
+
+fn check_order(rt: &impl Abort, alloc: Global, is_reversed: bool) -> Result<(), Fail> {
+    let text = match numbered_lines(alloc, is_reversed) {
+        Err(_) => numbered_lines(alloc, is_reversed)?,
+        Ok(text) => text,
+    };
+    let tables = read(alloc, &only(1, text.as_bytes()))?;
+    check_numbered(rt, &tables);
+    assert_eq!(rt; tables.bidi_class('\u{3F9B}'), Bidi::L);
+    assert_eq!(rt; tables.bidi_class('\u{4064}'), Bidi::L);
+    Ok(())
+}
+
+// Lines in any order say the same.
+#[test]
+fn lines_in_order_and_reversed(rt: HostRuntime) -> Result<(), Fail> {
+    check_order(&rt, rt.alloc(), false)?;
+    check_order(&rt, rt.alloc(), true)
+}
+
+// The first and the last character, and a range over the surrogates, none of which is a character.
+#[test]
+fn ends_of_all_characters(rt: HostRuntime) -> Result<(), Fail> {
+    let lines = b"10FFFF;AL\nD7FF..E000;R\nD800..DFFF;EN\n0000;ON";
+    let tables = read(rt.alloc(), &only(1, lines))?;
+    let classes = [
+        ('\0', Bidi::ON),
+        ('\u{1}', Bidi::L),
+        ('\u{D7FE}', Bidi::L),
+        ('\u{D7FF}', Bidi::R),
+        ('\u{E000}', Bidi::R),
+        ('\u{E001}', Bidi::L),
+        ('\u{10FFFE}', Bidi::L),
+        ('\u{10FFFF}', Bidi::AL),
+    ];
+    for (c, class) in classes {
+        assert_eq!(rt; tables.bidi_class(c), class);
+    }
+    Ok(())
+}
+
+// A range that ends behind the surrogates, a surrogate, and a last line with a return and no line feed.
+const CLASSES: &[u8] = b"D800..E000;R\nD800;L\n0041;AL\r";
+
+#[test]
+fn classes_of_a_file(rt: HostRuntime) -> Result<(), Fail> {
+    let files = UcdFiles {
+        bidi_class: CLASSES,
+        ..FILES
+    };
+    let tables = read(rt.alloc(), &files)?;
+    let classes = [
+        ('\u{E000}', Bidi::R),
+        ('\u{D7FF}', Bidi::L),
+        ('\u{E001}', Bidi::L),
+        ('A', Bidi::AL),
+    ];
+    for (c, class) in classes {
+        assert_eq!(rt; tables.bidi_class(c), class);
+    }
+    Ok(())
+}
+
+// A file, its lines, the line at fault and why.
+const FAULTS: [(usize, &[u8], usize, Cause); 14] = [
+    (1, b"0041;\xC3\x89", 1, Cause::NotAscii),
+    (2, b"0028..0029; 0029; o", 1, Cause::CodePoint),
+    (2, b"0028; 0029; x", 1, Cause::Value),
+    (2, b"0028; 0029", 1, Cause::FieldCount),
+    (3, b"0028; D800", 1, Cause::Value),
+    (4, b"0041;A", 1, Cause::Value),
+    (5, b"0041..0030;Q", 1, Cause::Reversed),
+    (6, b"0041;N;x", 1, Cause::FieldCount),
+    (7, b"0042..0041;Emoji", 1, Cause::Reversed),
+    (7, b"41;Emoji", 1, Cause::CodePoint),
+    // Ranges over the end of a page that meet at the last character of one and the first of the other.
+    (1, b"00F0..0110;R\n\n0110..0120;L", 3, Cause::NamedBefore),
+    (1, b"0101..0120;R\n00F0..0101;L", 2, Cause::NamedBefore),
+    (4, b"10FFFF;AL\n0000..10FFFF;AL", 2, Cause::NamedBefore),
+    (3, b"0028; 0029\n0028; 0029", 2, Cause::NamedBefore),
+];
+
+fn check_fault(rt: &impl Abort, alloc: Global, row: (usize, &[u8], usize, Cause)) {
+    let (file, lines, line, cause) = row;
+    let fault = read(alloc, &only(file, lines)).err();
+    assert_eq!(rt; fault, Some(TableFault { file, line, cause }));
+}
+
+#[test]
+fn faults_of_lines(rt: HostRuntime) {
+    for row in FAULTS {
+        check_fault(&rt, rt.alloc(), row);
+    }
+}
+
+// The first bad line in the order of the files, and then of their lines.
+#[test]
+fn first_fault_of_all(rt: HostRuntime) -> Result<(), Fail> {
+    let files = UcdFiles {
+        bidi_class: b"0041;L\n0041;R",
+        bidi_brackets: b"0028; 0029",
+        ..EMPTY
+    };
+    let fault = TableFault {
+        file: 1,
+        line: 2,
+        cause: Cause::NamedBefore,
+    };
+    assert_eq!(rt; read(rt.alloc(), &files).err(), Some(fault));
+    Ok(())
+}
+
+// Lines of another property name nothing, so they may come again. Those of Extended_Pictographic may
+// not.
+#[test]
+fn emoji_named_again(rt: HostRuntime) -> Result<(), Fail> {
+    let lines = b"00A9;Emoji\n00A9;Emoji\n00A9;Extended_Pictographic";
+    let tables = read(rt.alloc(), &only(7, lines))?;
+    assert!(rt; tables.is_future_pictograph('\u{A9}'));
+    let lines = b"00A9;Extended_Pictographic\n00A9;Extended_Pictographic";
+    let fault = TableFault {
+        file: 7,
+        line: 2,
+        cause: Cause::NamedBefore,
+    };
+    assert_eq!(rt; read(rt.alloc(), &only(7, lines)).err(), Some(fault));
+    Ok(())
+}
+
+fn check_text(rt: &impl Abort, alloc: Global, fault: TableFault, want: &str) -> Result<(), Fail> {
+    let text = match fault.to_string(alloc) {
+        Err(_) => fault.to_string(alloc)?,
+        Ok(text) => text,
+    };
+    assert_eq!(rt; text.as_str(), want);
+    Ok(())
+}
+
+#[test]
+fn faults_as_text(rt: HostRuntime) -> Result<(), Fail> {
+    let fault = TableFault {
+        file: 7,
+        line: 12,
+        cause: Cause::Value,
+    };
+    check_text(&rt, rt.alloc(), fault, "emoji-data.txt:12: cause 5")?;
+    let memory = TableFault {
+        file: 0,
+        line: 0,
+        cause: Cause::Memory,
+    };
+    check_text(&rt, rt.alloc(), memory, "out of memory")
+}
