@@ -19,24 +19,33 @@ OPTIONS = --width 44 --basedir
 
 .PHONY: all program ucd demo check test attack bench-program conformance bench
 
-all: program bench-program
-	cd crates/refused && rt run > /dev/null
+all: programs = fribidi bench refused list_script
+program: programs = fribidi
+bench-program: programs = fribidi bench
 
-# rt proves the crates where they have changed, those that don't stand on one another side by side, and runs the program,
-# which stays in out/. A check by several jobs takes less than a build by one, which then finds what is proved.
-program:
-	$(MAKE) --no-print-directory --jobs=2 lib-tool
-	cd crates/fribidi && rt check --jobs $(JOBS) > /dev/null && rt run -- --help > /dev/null
+# rt proves the crates where they have changed, those that don't stand on one another side by side, and runs the programs,
+# which stay in out/. A check by several jobs takes less time than a build by one, which then finds what is proved.
+all program bench-program:
+	$(MAKE) --no-print-directory --jobs=2 $(programs:%=run-%)
 	mkdir -p bin
-	cp crates/fribidi/out/fribidi bin/fribidi
+	for name in $(filter fribidi bench,$(programs)); do cp crates/$$name/out/$$name bin/$$name; done
 
 lib-bidi lib-breaks: lib-ucd
 lib-lines: lib-device lib-bidi lib-breaks
 lib-session: lib-lines lib-store
 lib-tool: lib-session
+run-fribidi run-refused run-list_script: lib-tool
+run-bench: lib-session
+
+run-fribidi: words = -- --help
+run-bench: words = -- edits tree 1 1
+run-list_script: words = -- data/text.txt data/script
 
 lib-%:
 	cd crates/$* && rt check --jobs $(JOBS) > /dev/null && rt lib > /dev/null
+
+run-%:
+	cd crates/$* && rt check --jobs $(JOBS) > /dev/null && rt run $(words) > /dev/null
 
 ucd:
 	@[ -f $(UNICODE)/extracted/DerivedBidiClass.txt ] || { apt-get update -q && apt-get install -qy unicode-data; }
@@ -66,10 +75,6 @@ test:
 
 attack:
 	attack/run $(CRATES)
-
-bench-program: program
-	cd crates/bench && rt check --jobs $(JOBS) > /dev/null && rt run -- edits tree 1 1 > /dev/null
-	cp crates/bench/out/bench bin/bench
 
 conformance: bench-program ucd
 	conformance/run

@@ -65,8 +65,9 @@ const SUBJECTS: [(&str, Subject); 10] = [
     ("lines-of", Subject::LinesOf),
 ];
 
-// What is asked for. Functions here hold little where one of many calls may fail, since all that is held there
-// makes the proof longer, and names are found in tables, since a `match` has a path for each of their bytes.
+// What is asked for. Functions here hold little where one of many calls may fail, since all that is held
+// there makes the proof longer, and names are found in tables, since a `match` has a path for each of their
+// bytes.
 fn run(rt: &HostRuntime, words: &[String]) -> Result<()> {
     let name = word(words, 1);
     for (known, subject) in &SUBJECTS {

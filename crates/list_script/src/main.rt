@@ -1,6 +1,6 @@
-//! Runs an edit script over a text whose paragraphs are kept in a list, where the command keeps them in a tree:
-//! `list_script TEXT SCRIPT`, two files, by the test tables and at 80 columns. `cases/run` runs the worked scripts
-//! over both.
+//! Runs an edit script over a text whose paragraphs are kept in a list, where the command keeps them in a
+//! tree: `list_script TEXT SCRIPT`, two files, by the test tables and at 80 columns. `cases/run` runs the
+//! worked scripts over both.
 #![tactic(auto)]
 
 use device::{FromRead, ToWrite};

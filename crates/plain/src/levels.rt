@@ -1,5 +1,5 @@
-//! The levels of a list that is one isolating run sequence as it stands (UAX #9, W1 to I2), each rule a pass of
-//! its own over the types.
+//! The levels of a list that is one isolating run sequence as it stands (UAX #9, W1 to I2), each rule a
+//! pass of its own over the types.
 mod brackets;
 mod neutral;
 mod weak;

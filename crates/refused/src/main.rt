@@ -1,6 +1,6 @@
 //! Makes each call that can want memory, and tells how each went. A call that is refused has to leave all
 //! as it was, or to give back what it was given, and is then made again, so what is printed is the same
-//! whichever one allocation is refused: the gate has each refused in turn (`.ci/refused`).
+//! whichever one allocation is refused: the gate has each refused in turn (`faults/run`).
 #![tactic(auto)]
 
 mod page;

@@ -37,8 +37,8 @@ fn properties_of(
     text.iter().map(|c| tables.properties(*c)).collect(alloc)
 }
 
-// Puts the levels of a list in place of what `levels` has, and answers whether its base level is the one that is
-// found by itself.
+// Puts the levels of a list in place of what `levels` has, and answers whether its base level is the one
+// that is found by itself.
 fn put_levels(
     alloc: Global,
     resolver: &mut Resolver,
