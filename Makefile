@@ -1,4 +1,4 @@
-# make demo   the command on the sample texts, compiled and not yet proved: two minutes. A text of one's own:
+# make demo   the command on the sample texts, compiled and not yet proved: one minute. A text of one's own:
 #             make demo TEXT=FILE OPTIONS="--width 60 --basedir"
 # make        proves and builds the program, as bin/fribidi
 # make ucd    the seven table files of Unicode 15.0, from Debian's package unicode-data, into ucd/
