@@ -101,11 +101,21 @@ fn put_zeros(levels: &mut Vec<u8>, len: usize) -> Result<(), AllocError>
 
 /// Finds the levels of paragraphs, in lists that are emptied and used again: a paragraph for which
 /// they have room takes no memory.
-#[derive(Debug, Drop)]
+#[derive(Debug)]
 pub struct Resolver {
     classes: Vec<BidiClass>,
     acting: Vec<BidiClass>,
     work: Work,
+}
+
+impl Drop for Resolver {
+    fn drop(self) {
+        let Resolver {
+            classes: _,
+            acting: _,
+            work: _,
+        } = self;
+    }
 }
 
 impl Resolver {

@@ -87,23 +87,29 @@ fn texts<'a>(alloc: Global, words: &'a [String]) -> Result<Vec<&'a str>, AllocEr
 
 // Reads the table files of a folder, all of them before the first is parsed.
 fn tables(rt: &HostRuntime, folder: &str) -> Result<Tables, ProgramFault> {
-    let bidi_class = table_file(rt, folder, FILE_NAMES[0])?;
-    let bidi_brackets = table_file(rt, folder, FILE_NAMES[1])?;
-    let bidi_mirroring = table_file(rt, folder, FILE_NAMES[2])?;
-    let line_break = table_file(rt, folder, FILE_NAMES[3])?;
-    let general_category = table_file(rt, folder, FILE_NAMES[4])?;
-    let east_asian_width = table_file(rt, folder, FILE_NAMES[5])?;
-    let emoji_data = table_file(rt, folder, FILE_NAMES[6])?;
+    let alloc = rt.alloc();
+    let mut files = [
+        Vec::new(alloc),
+        Vec::new(alloc),
+        Vec::new(alloc),
+        Vec::new(alloc),
+        Vec::new(alloc),
+        Vec::new(alloc),
+        Vec::new(alloc),
+    ];
+    for (k, name) in FILE_NAMES.iter().enumerate() {
+        files[k] = table_file(rt, folder, name)?;
+    }
     let files = UcdFiles {
-        bidi_class: &bidi_class,
-        bidi_brackets: &bidi_brackets,
-        bidi_mirroring: &bidi_mirroring,
-        line_break: &line_break,
-        general_category: &general_category,
-        east_asian_width: &east_asian_width,
-        emoji_data: &emoji_data,
+        bidi_class: &files[0],
+        bidi_brackets: &files[1],
+        bidi_mirroring: &files[2],
+        line_break: &files[3],
+        general_category: &files[4],
+        east_asian_width: &files[5],
+        emoji_data: &files[6],
     };
-    Tables::read(rt.alloc(), &files).map_err(ProgramFault::Table)
+    Tables::read(alloc, &files).map_err(ProgramFault::Table)
 }
 
 fn table_file(rt: &HostRuntime, folder: &str, name: &'static str) -> Result<Vec<u8>, ProgramFault> {

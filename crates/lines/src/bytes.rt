@@ -83,26 +83,7 @@ fn encode_behind(c: char, buffer: &mut [u8], at: usize) -> usize
     ensures bytes { take result buffer.new ≡ take at buffer.old ++ encode_utf8 c }
 {
     let mut bytes = [0; 4];
-    // Byte by byte, since so few are no work for a copy.
-    match c.encode_utf8(&mut bytes).as_bytes() {
-        [first] => put(buffer, at, *first),
-        [first, second] => {
-            let behind = put(buffer, at, *first);
-            put(buffer, behind, *second)
-        }
-        [first, second, third] => {
-            let behind = put(buffer, at, *first);
-            let behind = put(buffer, behind, *second);
-            put(buffer, behind, *third)
-        }
-        [first, second, third, fourth] => {
-            let behind = put(buffer, at, *first);
-            let behind = put(buffer, behind, *second);
-            let behind = put(buffer, behind, *third);
-            put(buffer, behind, *fourth)
-        }
-        _ => unreachable!(),
-    }
+    put_few(buffer, at, c.encode_utf8(&mut bytes).as_bytes())
 }
 
 // Puts a byte to a place of a buffer, and says where it ends.
@@ -240,19 +221,34 @@ fn encode_number<I: Integer>(number: I, is_first: bool, buffer: &mut [u8], at: u
 {
     let mut digits = Buffer::new();
     let start = if is_first { at } else { put(buffer, at, b' ') };
-    // Byte by byte, since so few are no work for a copy.
-    match digits.format(number).as_bytes() {
-        [first] => put(buffer, start, *first),
+    put_few(buffer, start, digits.format(number).as_bytes())
+}
+
+// Puts some bytes to a place of a buffer, and says where they end: up to four byte by byte, since so few are
+// no work for a copy.
+fn put_few(buffer: &mut [u8], at: usize, bytes: &[u8]) -> usize
+    requires { at + length bytes.now ≤ length buffer.old }
+    ensures end { result ≡ at + length bytes.now }
+    ensures bytes { take result buffer.new ≡ take at buffer.old ++ bytes.now }
+{
+    match bytes {
+        [first] => put(buffer, at, *first),
         [first, second] => {
-            let behind = put(buffer, start, *first);
+            let behind = put(buffer, at, *first);
             put(buffer, behind, *second)
         }
         [first, second, third] => {
-            let behind = put(buffer, start, *first);
+            let behind = put(buffer, at, *first);
             let behind = put(buffer, behind, *second);
             put(buffer, behind, *third)
         }
-        more => put_all(buffer, start, more),
+        [first, second, third, fourth] => {
+            let behind = put(buffer, at, *first);
+            let behind = put(buffer, behind, *second);
+            let behind = put(buffer, behind, *third);
+            put(buffer, behind, *fourth)
+        }
+        more => put_all(buffer, at, more),
     }
 }
 

@@ -29,7 +29,7 @@ use ucd::Tables;
 pub const PARAGRAPH_LIMIT: usize = 1_048_576;
 
 /// Owns the tables and lends none of them out, so that all work on them is counted.
-#[derive(Debug, Drop)]
+#[derive(Debug)]
 pub struct Engine {
     tables: Tables,
     options: Options,
@@ -39,6 +39,19 @@ pub struct Engine {
     work: Option<Work>,
     // What the last paragraph that was written consisted of.
     kept: Option<Kept>,
+}
+
+impl Drop for Engine {
+    fn drop(self) {
+        let Engine {
+            tables: _,
+            options: _,
+            analysed: _,
+            filled: _,
+            work: _,
+            kept: _,
+        } = self;
+    }
 }
 
 impl Model for Engine {

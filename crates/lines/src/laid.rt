@@ -15,13 +15,25 @@ use std::marker::Model;
 use ucd::Tables;
 
 /// A paragraph that is laid out: its text, base level, levels, break marks and lines.
-#[derive(Debug, Drop)]
+#[derive(Debug)]
 pub struct Laid {
     pub(crate) text: Vec<char>,
     pub(crate) base: u8,
     pub(crate) levels: Vec<u8>,
     pub(crate) marks: Vec<Mark>,
     pub(crate) lines: Fill,
+}
+
+impl Drop for Laid {
+    fn drop(self) {
+        let Laid {
+            text: _,
+            base: _,
+            levels: _,
+            marks: _,
+            lines: _,
+        } = self;
+    }
 }
 
 impl Model for Laid {

@@ -39,7 +39,7 @@ pub struct Shown {
 
 /// The lines of a paragraph at some width. What belongs to a line stands at the place of the line's
 /// characters.
-#[derive(Debug, Drop)]
+#[derive(Debug)]
 pub struct Fill {
     pub(crate) starts: Vec<u32>,
     pub(crate) shown: Vec<Shown>,
@@ -47,6 +47,19 @@ pub struct Fill {
     pub(crate) ltov: Vec<u32>,
     pub(crate) vtol: Vec<u32>,
     pub(crate) chars: Vec<char>,
+}
+
+impl Drop for Fill {
+    fn drop(self) {
+        let Fill {
+            starts: _,
+            shown: _,
+            levels: _,
+            ltov: _,
+            vtol: _,
+            chars: _,
+        } = self;
+    }
 }
 
 impl Model for Fill {
@@ -130,13 +143,21 @@ impl Fill {
 
     /// The lists alone, of lines that are done with.
     pub(crate) fn into_lists(self) -> Lists {
+        let Fill {
+            starts,
+            shown,
+            levels,
+            ltov,
+            vtol,
+            chars,
+        } = self;
         Lists {
-            starts: self.starts,
-            shown: self.shown,
-            levels: self.levels,
-            ltov: self.ltov,
-            vtol: self.vtol,
-            chars: self.chars,
+            starts,
+            shown,
+            levels,
+            ltov,
+            vtol,
+            chars,
         }
     }
 }

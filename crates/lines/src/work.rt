@@ -54,11 +54,21 @@ impl Kept {
 
 /// Lists that live for one paragraph, used again for the next: so a paragraph for which they have room
 /// takes memory for what is kept of it alone.
-#[derive(Debug, Drop)]
+#[derive(Debug)]
 pub(crate) struct Work {
     properties: Vec<Properties>,
     places: Vec<Place>,
     resolver: Resolver,
+}
+
+impl Drop for Work {
+    fn drop(self) {
+        let Work {
+            properties: _,
+            places: _,
+            resolver: _,
+        } = self;
+    }
 }
 
 impl Work {

@@ -11,11 +11,21 @@ use store::{Exchanger, Measured};
 
 /// A paragraph that is laid out, as an item of a store. It is two numbers and a place of the paragraph's
 /// own, so that a store that looks for another one doesn't read it.
-#[derive(Debug, Drop)]
+#[derive(Debug)]
 pub struct Kept {
     chars: usize,
     lines: usize,
     laid: Box<Laid>,
+}
+
+impl Drop for Kept {
+    fn drop(self) {
+        let Kept {
+            chars: _,
+            lines: _,
+            laid: _,
+        } = self;
+    }
 }
 
 impl Model for Kept {
@@ -80,11 +90,16 @@ impl Measured for Kept {
 
 /// Writes the lines of paragraphs at another width over those that they have, by an engine's tables and
 /// options. The part of a paragraph is the extents of its lines, or none where it keeps its own.
-#[derive(Drop)]
 pub struct Reflow<'a> {
     pub engine: &'a Engine,
     /// For the longest of the paragraphs.
     pub room: Room,
+}
+
+impl<'a> Drop for Reflow<'a> {
+    fn drop(self) {
+        let Reflow { engine: _, room: _ } = self;
+    }
 }
 
 impl<'a> Model for Reflow<'a> {

@@ -26,12 +26,22 @@ use std::marker::Model;
 use store::ParagraphStore;
 
 /// A text at a width, with the layout of each paragraph.
-#[derive(Drop)]
 pub struct Session<S: ParagraphStore<Kept>> {
     engine: Engine,
     store: S,
     width: u16,
     alloc: Global,
+}
+
+impl<S: ParagraphStore<Kept> + Drop> Drop for Session<S> {
+    fn drop(self) {
+        let Session {
+            engine: _,
+            store: _,
+            width: _,
+            alloc: _,
+        } = self;
+    }
 }
 
 impl<S: ParagraphStore<Kept>> Model for Session<S> {

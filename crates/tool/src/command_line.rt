@@ -1,9 +1,9 @@
 //! The command line: its words, read with `clap`, and what they ask for.
-ghost use Rattle.std.specs.Prelude.{◌≡◌, fold, map, true, false, is_some, IfOk, IfErr};
-ghost use Rattle.clap.specs.Words.{app_of, found_of, rows_of, rule_of, with_rule};
+ghost use Rattle.std.specs.Prelude.{◌≡◌, List, codes, fold, map, option_map, true, false, is_some, IfOk, IfErr, IfSome};
+ghost use Rattle.clap.specs.Words.{Text, app_of, found_of, rows_of, rule_of, with_rule};
 ghost use Rattle.clap.specs.Takes.{is_given};
 ghost use Rattle.tool.specs.CommandLine.{program, ucd_rule, width_rule, script_rule, files_rule, flag_rule};
-ghost use Rattle.tool.specs.CommandLine.{AreMatches, AreSettings, IsLineFault, base_by, fits_script};
+ghost use Rattle.tool.specs.CommandLine.{AreMatches, AreSettings, IsLineFault, base_by, base_of, fits_script};
 ghost use Rattle.tool.specs.CommandLine.{layout_rules, print_rules};
 
 use crate::options::{LineFault, Settings};
@@ -208,28 +208,17 @@ pub fn settings<'a>(alloc: Global, words: &'a [&'a str]) -> Result<Settings<'a>,
     ensures err { IfErr result (IsLineFault (map (λ word. word.now) words.entry.now)) }
 {
     let matches = parse(alloc, words)?;
-    let Some(base) = base_of(
-        is_set(&matches, "rtl"),
-        is_set(&matches, "ltr"),
-        is_set(&matches, "wrtl"),
-        is_set(&matches, "wltr"),
-    ) else {
+    settings_of(alloc, &matches)
+}
+
+// What words ask for that have these matches.
+fn settings_of<'a>(alloc: Global, matches: &ArgMatches<'a>) -> Result<Settings<'a>, LineFault>
+    requires { (words : List Text) × AreMatches words matches.now }
+    ensures ok { (words : List Text) → AreMatches words matches.now → IfOk result (AreSettings words) }
+    ensures err { (words : List Text) → AreMatches words matches.now → IfErr result (IsLineFault words) }
+{
+    let Some(options) = options_of(matches) else {
         return Err(LineFault::Directions);
-    };
-    let options = Options {
-        base,
-        nobreak: is_set(&matches, "nobreak"),
-        reordernsm: is_set(&matches, "reordernsm"),
-        whole_numbers: is_set(&matches, "whole-numbers"),
-    };
-    let print = Print {
-        novisual: is_set(&matches, "novisual"),
-        basedir: is_set(&matches, "basedir"),
-        ltov: is_set(&matches, "ltov"),
-        vtol: is_set(&matches, "vtol"),
-        levels: is_set(&matches, "levels"),
-        nopad: is_set(&matches, "nopad"),
-        nomirror: is_set(&matches, "nomirror"),
     };
     let Some(ucd) = matches.get_str("ucd") else {
         unreachable!()
@@ -248,8 +237,53 @@ pub fn settings<'a>(alloc: Global, words: &'a [&'a str]) -> Result<Settings<'a>,
         ucd,
         width,
         options,
-        print,
+        print: print_of(matches),
         script,
         files,
     })
+}
+
+// The options by which texts are laid out, unless the words have more than one direction.
+fn options_of(matches: &ArgMatches<'_>) -> Option<Options>
+    ensures base { option_map (λ o. o.base) result ≡ base_of (rows_of (found_of matches.now)) }
+    ensures nobreak { IfSome result (λ o.
+        o.nobreak ≡ is_given (codes "nobreak") (rows_of (found_of matches.now))) }
+    ensures reordernsm { IfSome result (λ o.
+        o.reordernsm ≡ is_given (codes "reordernsm") (rows_of (found_of matches.now))) }
+    ensures whole_numbers { IfSome result (λ o.
+        o.whole_numbers ≡ is_given (codes "whole-numbers") (rows_of (found_of matches.now))) }
+{
+    let base = base_of(
+        is_set(matches, "rtl"),
+        is_set(matches, "ltr"),
+        is_set(matches, "wrtl"),
+        is_set(matches, "wltr"),
+    )?;
+    Some(Options {
+        base,
+        nobreak: is_set(matches, "nobreak"),
+        reordernsm: is_set(matches, "reordernsm"),
+        whole_numbers: is_set(matches, "whole-numbers"),
+    })
+}
+
+// The options by which lines are printed.
+fn print_of(matches: &ArgMatches<'_>) -> Print
+    ensures novisual { result.novisual ≡ is_given (codes "novisual") (rows_of (found_of matches.now)) }
+    ensures basedir { result.basedir ≡ is_given (codes "basedir") (rows_of (found_of matches.now)) }
+    ensures ltov { result.ltov ≡ is_given (codes "ltov") (rows_of (found_of matches.now)) }
+    ensures vtol { result.vtol ≡ is_given (codes "vtol") (rows_of (found_of matches.now)) }
+    ensures levels { result.levels ≡ is_given (codes "levels") (rows_of (found_of matches.now)) }
+    ensures nopad { result.nopad ≡ is_given (codes "nopad") (rows_of (found_of matches.now)) }
+    ensures nomirror { result.nomirror ≡ is_given (codes "nomirror") (rows_of (found_of matches.now)) }
+{
+    Print {
+        novisual: is_set(matches, "novisual"),
+        basedir: is_set(matches, "basedir"),
+        ltov: is_set(matches, "ltov"),
+        vtol: is_set(matches, "vtol"),
+        levels: is_set(matches, "levels"),
+        nopad: is_set(matches, "nopad"),
+        nomirror: is_set(matches, "nomirror"),
+    }
 }

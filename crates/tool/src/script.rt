@@ -33,7 +33,7 @@ use store::ParagraphStore;
 const LINE_LIMIT: usize = 1_048_576;
 
 /// What a run holds between two reads.
-#[derive(Debug, Drop)]
+#[derive(Debug)]
 struct Reading {
     // The bytes behind the last end of a line.
     line: Vec<u8>,
@@ -43,6 +43,18 @@ struct Reading {
     // The characters of a line, and its answer.
     text: Vec<char>,
     answer: Vec<u8>,
+}
+
+impl Drop for Reading {
+    fn drop(self) {
+        let Reading {
+            line: _,
+            lines: _,
+            written: _,
+            text: _,
+            answer: _,
+        } = self;
+    }
 }
 
 // Sets the width of a session, if it is a width.
@@ -375,6 +387,48 @@ fn step<R: Source, W: Sink, S: ParagraphStore<Kept>>(
     }
 }
 
+// Obeys the lines of a script over a session.
+fn run_over<R: Source, W: Sink, S: ParagraphStore<Kept>>(
+    alloc: Global,
+    reader: &mut R,
+    writer: &mut W,
+    session: &mut Session<S>,
+    print: &Print,
+) -> Result<(), RunFault>
+    ensures run { IsScriptRun (rules_of session.old.engine) print.now (held_at session.old)
+        (R.state reader.old) (R.state reader.new) (W.state writer.old) (W.state writer.new) result }
+    ensures reads { TellsReads result (R.state reader.old) (R.state reader.new) }
+    ensures ahead { OnErr result (LinesReadAhead (rules_of session.old.engine) print.now
+        (held_at session.old) (R.state reader.old) (R.state reader.new)
+        (W.state writer.old) (W.state writer.new)) }
+{
+    let Ok(mut piece) = room(alloc, PIECE) else {
+        return Err(RunFault::Memory);
+    };
+    let mut reading = Reading {
+        line: Vec::new(alloc),
+        lines: 0,
+        written: 0,
+        text: Vec::new(alloc),
+        answer: Vec::new(alloc),
+    };
+    loop {
+        match step(
+            alloc,
+            reader,
+            writer,
+            session,
+            print,
+            &mut piece,
+            &mut reading,
+        ) {
+            Ok(true) => (),
+            Ok(false) => return Ok(()),
+            Err(fault) => return Err(fault),
+        }
+    }
+}
+
 /// Obeys the lines of a script over a session, which is given up however the run ends. Each line is obeyed as
 /// soon as its end was read, and its answer is written before more is read: of the script, no more is held
 /// than a line and one piece.
@@ -393,29 +447,5 @@ pub fn run_script<R: Source, W: Sink, S: ParagraphStore<Kept> + Drop>(
         (W.state writer.old) (W.state writer.new)) }
 {
     let mut session = session;
-    let Ok(mut piece) = room(alloc, PIECE) else {
-        return Err(RunFault::Memory);
-    };
-    let mut reading = Reading {
-        line: Vec::new(alloc),
-        lines: 0,
-        written: 0,
-        text: Vec::new(alloc),
-        answer: Vec::new(alloc),
-    };
-    loop {
-        match step(
-            alloc,
-            reader,
-            writer,
-            &mut session,
-            print,
-            &mut piece,
-            &mut reading,
-        ) {
-            Ok(true) => (),
-            Ok(false) => return Ok(()),
-            Err(fault) => return Err(fault),
-        }
-    }
+    run_over(alloc, reader, writer, &mut session, print)
 }

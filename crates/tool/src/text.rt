@@ -32,7 +32,7 @@ pub enum Ending {
 }
 
 /// What a run holds between two reads.
-#[derive(Debug, Drop)]
+#[derive(Debug)]
 struct Held {
     // What was read last, and how many bytes at its front are the beginning of a character.
     piece: Vec<u8>,
@@ -44,6 +44,19 @@ struct Held {
     // The lines that aren't written yet, and how many bytes are written.
     page: Page,
     written: u64,
+}
+
+impl Drop for Held {
+    fn drop(self) {
+        let Held {
+            piece: _,
+            waiting: _,
+            decoded: _,
+            text: _,
+            page: _,
+            written: _,
+        } = self;
+    }
 }
 
 // Room for so many bytes.

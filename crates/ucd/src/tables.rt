@@ -44,11 +44,21 @@ pub struct UcdFiles<'a> {
 
 /// What the table files say of each character: its properties, in pages, and the brackets and mirrors of
 /// those that have one.
-#[derive(Debug, Drop)]
+#[derive(Debug)]
 pub struct Tables {
     pages: Pages,
     brackets: BTreeMap<u32, Bracket>,
     mirrors: BTreeMap<u32, Mirror>,
+}
+
+impl Drop for Tables {
+    fn drop(self) {
+        let Tables {
+            pages: _,
+            brackets: _,
+            mirrors: _,
+        } = self;
+    }
 }
 
 impl Model for Tables {

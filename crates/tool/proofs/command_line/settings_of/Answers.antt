@@ -4,10 +4,10 @@ use Rattle.clap.specs.declared.parser.matches.Found.{Found}
 use Rattle.clap.specs.Takes.{is_given}
 use Rattle.clap.proofs.WalkLemmas.{first_value-rows, one_text-rows, raw_values-rows}
 use Rattle.std.specs.Str.Parse.{ParsesUnsigned, ExplainsUnsignedError, HasUnsignedDigitsIfOk}
-use Rattle.tool.specs.CommandLine.{HasWidth, base_by, fits_script, number_of, program, script_fits, texts_of}
+use Rattle.tool.specs.CommandLine.{HasWidth, base_of, fits_script, number_of, program, script_fits, texts_of}
 use Rattle.std.proofs.lemmas.List.{length-map}
 use Rattle.tool.proofs.DefaultLemmas.{number_read}
-use Rattle.tool.proofs.command_line.settings.Goals as goal
+use Rattle.tool.proofs.command_line.settings_of.Goals as goal
 
 -- the texts of a list that may be missing
 texts_or_none : (o : Option (Bor (List (Bor Text)))) (none : Bor (List (Bor Text))) → none.now ≡ []
@@ -25,8 +25,8 @@ script_one script n rows told texts = ap₂ fits_script (ap is_some (sym told) �
 
 pub unreachable-requires : goal.unreachable-requires
 unreachable-requires c =
-    let found = found_of c.in_ok-matches.matches in
-    true≢false (sym (ap is_some (c.in_default-get_str.ensures ∙ first_value-rows found (codes "ucd")) ∙ c.in_ok-matches.ensures.ok.ucd))
+    let found = found_of c.args.matches.now in
+    true≢false (sym (ap is_some (c.in_default-get_str.ensures ∙ first_value-rows found (codes "ucd")) ∙ c.requires.1.ucd))
 
 -- the width's text is read as the number that it writes
 read_width : (E : Type 0) (Gives : Text → Result ℕ E → Type 0) → ((t : Text) (x : Result ℕ E) → Gives t x → ParsesUnsigned 16 10 t x)
@@ -38,20 +38,15 @@ read_width E Gives parses f r width read =
 
 pub unreachable-requires-in_default-get_one : goal.unreachable-requires-in_default-get_one
 unreachable-requires-in_default-get_one c =
-    let found = found_of c.in_ok-matches.matches in
-    let width = c.in_ok-matches.ensures.ok.width in
+    let found = found_of c.args.matches.now in
+    let width = c.requires.1.width in
     let none = sym (ap (option_map number_of) width.first) ∙ read_width _ (λ t r. ParsesUnsigned 16 10 t r × ExplainsUnsignedError 10 t r × HasUnsignedDigitsIfOk t r) (λ t r gives. gives.0) found None width c.in_default-get_one.ensures.value in
     true≢false (ap is_some none)
 
 pub returns-clause-ok : goal.returns-clause-ok
-returns-clause-ok c =
-    let found = found_of c.in_ok-matches.matches in
-    let m = c.in_ok-matches.ensures.ok in
+returns-clause-ok c = λ words m.
+    let found = found_of c.args.matches.now in
     let given = λ (name : Text). ap (is_given name) m.rows in
-    let rtl = c.is_set.ensures ∙ given (codes "rtl") in
-    let ltr = c.is_set-2.ensures ∙ given (codes "ltr") in
-    let wrtl = c.is_set-3.ensures ∙ given (codes "wrtl") in
-    let wltr = c.is_set-4.ensures ∙ given (codes "wltr") in
     let width = read_width _ (λ t r. ParsesUnsigned 16 10 t r × ExplainsUnsignedError 10 t r × HasUnsignedDigitsIfOk t r) (λ t r gives. gives.0) found (Some c.in-Some-get_one.width) m.width c.in-Some-get_one.ensures.value in
     let is_width : number_of m.width.text ≡ c.in-Some-get_one.width = ap (λ o. unwrap_or o 0) (sym (ap (option_map number_of) m.width.first) ∙ width) in
     let script = c.get_str-script.ensures ∙ first_value-rows found (codes "script") ∙ ap (first_of (codes "script")) m.rows in
@@ -59,39 +54,34 @@ returns-clause-ok c =
     ∙ texts_or_none c.get_strs.result _ refl
     ∙ ap (λ texts. unwrap_or texts []) (c.get_strs.ensures ∙ raw_values-rows found (codes "files") ∙ ap (all_of (codes "files")) m.rows) in
     let fits : c.fits_script.result ≡ true = search rules in
+    let print = c.print_of.ensures in
     record {
       taken = m.taken;
       ucd = sym (c.in-Some-get_str.ensures ∙ first_value-rows found (codes "ucd") ∙ ap (first_of (codes "ucd")) m.rows);
-      base = sym (c.in-Some.ensures ∙ (λ i. base_by (rtl i) (ltr i) (wrtl i) (wltr i)));
+      base = sym (c.in-Some.ensures.base ∙ ap base_of m.rows);
       width = ap (λ rows. option_map number_of (first_of (codes "width") rows)) (sym m.rows) ∙ width;
       wide = (omega (arith, is_width, m.width.allowed.1), omega (arith, is_width, m.width.allowed.2));
-      novisual = c.is_set-8.ensures ∙ given (codes "novisual");
-      basedir = c.is_set-9.ensures ∙ given (codes "basedir");
-      ltov = c.is_set-10.ensures ∙ given (codes "ltov");
-      vtol = c.is_set-11.ensures ∙ given (codes "vtol");
-      levels = c.is_set-12.ensures ∙ given (codes "levels");
-      nopad = c.is_set-13.ensures ∙ given (codes "nopad");
-      nomirror = c.is_set-14.ensures ∙ given (codes "nomirror");
-      nobreak = c.is_set-5.ensures ∙ given (codes "nobreak");
-      reordernsm = c.is_set-6.ensures ∙ given (codes "reordernsm");
-      whole_numbers = c.is_set-7.ensures ∙ given (codes "whole-numbers");
+      novisual = print.novisual ∙ given (codes "novisual");
+      basedir = print.basedir ∙ given (codes "basedir");
+      ltov = print.ltov ∙ given (codes "ltov");
+      vtol = print.vtol ∙ given (codes "vtol");
+      levels = print.levels ∙ given (codes "levels");
+      nopad = print.nopad ∙ given (codes "nopad");
+      nomirror = print.nomirror ∙ given (codes "nomirror");
+      nobreak = c.in-Some.ensures.nobreak ∙ given (codes "nobreak");
+      reordernsm = c.in-Some.ensures.reordernsm ∙ given (codes "reordernsm");
+      whole_numbers = c.in-Some.ensures.whole_numbers ∙ given (codes "whole-numbers");
       script = script;
       files = files;
       one = script_one c.get_str-script.result c.len.result (matches_of program _) script (omega (arith, c.len.ensures, ap length files, length-map c.in-Ok.files.items (λ (s : Bor Text). s.now))) ∙ sym c.fits_script.ensures ∙ fits;
     }
 
 pub returns-then-not-fits_script-clause-err : goal.returns-then-not-fits_script-clause-err
-returns-then-not-fits_script-clause-err c =
-    let found = found_of c.in_ok-matches.matches in
-    let m = c.in_ok-matches.ensures.ok in
-    let given = λ (name : Text). ap (is_given name) m.rows in
-    let rtl = c.is_set.ensures ∙ given (codes "rtl") in
-    let ltr = c.is_set-2.ensures ∙ given (codes "ltr") in
-    let wrtl = c.is_set-3.ensures ∙ given (codes "wrtl") in
-    let wltr = c.is_set-4.ensures ∙ given (codes "wltr") in
+returns-then-not-fits_script-clause-err c = λ words m.
+    let found = found_of c.args.matches.now in
     let script = c.get_str-script.ensures ∙ first_value-rows found (codes "script") ∙ ap (first_of (codes "script")) m.rows in
     let files = ap (map (λ s. s.now)) c.in-Ok.ensures.items ∙ ap (λ (s : Bor (List (Bor Text))). map (λ v. v.now) s.now) c.unwrap_or.ensures
     ∙ texts_or_none c.get_strs.result _ refl
     ∙ ap (λ texts. unwrap_or texts []) (c.get_strs.ensures ∙ raw_values-rows found (codes "files") ∙ ap (all_of (codes "files")) m.rows) in
     let isnt : c.fits_script.result ≡ false = search rules in
-    (m.taken, ap is_some (sym (c.in-Some.ensures ∙ (λ i. base_by (rtl i) (ltr i) (wrtl i) (wltr i)))), script_one c.get_str-script.result c.len.result (matches_of program _) script (omega (arith, c.len.ensures, ap length files, length-map c.in-Ok.files.items (λ (s : Bor Text). s.now))) ∙ sym c.fits_script.ensures ∙ isnt)
+    (m.taken, ap is_some (sym (c.in-Some.ensures.base ∙ ap base_of m.rows)), script_one c.get_str-script.result c.len.result (matches_of program _) script (omega (arith, c.len.ensures, ap length files, length-map c.in-Ok.files.items (λ (s : Bor Text). s.now))) ∙ sym c.fits_script.ensures ∙ isnt)

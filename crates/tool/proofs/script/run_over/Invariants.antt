@@ -3,7 +3,7 @@ use Rattle.device.specs.Device.{greatest}
 use Rattle.lines.specs.Engine.{rules_of}
 use Rattle.session.specs.Sessions.{held_at}
 use Rattle.tool.specs.Reading.{IsAt}
-use Rattle.tool.proofs.script.run_script.Given as goal
+use Rattle.tool.proofs.script.run_over.Given as goal
 
 -- the run stands between two reads
 abbrev pub invariant-loop-reading : goal.invariant-loop-reading
