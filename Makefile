@@ -24,9 +24,13 @@ program: programs = fribidi
 bench-program: programs = fribidi bench
 
 # rt proves the crates where they have changed, those that don't stand on one another side by side, and runs the programs,
-# which stay in out/. A check by several jobs takes less time than a build by one, which then finds what is proved.
+# which stay in out/. A check by several jobs takes less time than a build by one, which then finds what is proved. What
+# the program waits for is one chain: it goes first, and the other crates take the time that it leaves.
+chain = ucd bidi lines session tool fribidi
+check = $(if $(filter $*,$(chain)),rt check --jobs $(JOBS),nice rt check --jobs 2) > /dev/null
+
 all program bench-program:
-	$(MAKE) --no-print-directory --jobs=2 $(programs:%=run-%)
+	$(MAKE) --no-print-directory --jobs=$(JOBS) $(programs:%=run-%)
 	mkdir -p bin
 	for name in $(filter fribidi bench,$(programs)); do cp crates/$$name/out/$$name bin/$$name; done
 
@@ -42,10 +46,10 @@ run-bench: words = -- edits tree 1 1
 run-list_script: words = -- data/text.txt data/script
 
 lib-%:
-	cd crates/$* && rt check --jobs $(JOBS) > /dev/null && rt lib > /dev/null
+	cd crates/$* && $(check) && rt lib > /dev/null
 
 run-%:
-	cd crates/$* && rt check --jobs $(JOBS) > /dev/null && rt run $(words) > /dev/null
+	cd crates/$* && $(check) && rt run $(words) > /dev/null
 
 ucd:
 	@[ -f $(UNICODE)/extracted/DerivedBidiClass.txt ] || { apt-get update -q && apt-get install -qy unicode-data; }
