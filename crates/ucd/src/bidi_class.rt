@@ -5,9 +5,10 @@ ghost use Rattle.ucd.specs.Puts.{put_bidi_class};
 
 use crate::grammar::Property;
 use crate::properties::Properties;
+use std::fmt;
 
 /// A bidirectional class, under its short name in the Unicode Character Database.
-#[derive(Clone, Copy, Debug, PartialEq, Eq)]
+#[derive(Clone, Copy, PartialEq, Eq)]
 pub enum BidiClass {
     L,
     R,
@@ -61,6 +62,12 @@ static ALL: [BidiClass; 23] = [
     BidiClass::PDI,
 ];
 
+// The short name of each, in the order of the classes.
+static NAMES: [&str; 23] = [
+    "L", "R", "AL", "EN", "ES", "ET", "AN", "CS", "NSM", "BN", "B", "S", "WS", "ON", "LRE", "LRO",
+    "RLE", "RLO", "PDF", "LRI", "RLI", "FSI", "PDI",
+];
+
 impl BidiClass {
     /// The class with this short name.
     pub fn from_name(name: &[u8]) -> Option<BidiClass>
@@ -73,31 +80,13 @@ impl BidiClass {
     fn name(self) -> &'static [u8]
         ensures { result.now ≡ name_of self }
     {
-        match self {
-            BidiClass::L => b"L",
-            BidiClass::R => b"R",
-            BidiClass::AL => b"AL",
-            BidiClass::EN => b"EN",
-            BidiClass::ES => b"ES",
-            BidiClass::ET => b"ET",
-            BidiClass::AN => b"AN",
-            BidiClass::CS => b"CS",
-            BidiClass::NSM => b"NSM",
-            BidiClass::BN => b"BN",
-            BidiClass::B => b"B",
-            BidiClass::S => b"S",
-            BidiClass::WS => b"WS",
-            BidiClass::ON => b"ON",
-            BidiClass::LRE => b"LRE",
-            BidiClass::LRO => b"LRO",
-            BidiClass::RLE => b"RLE",
-            BidiClass::RLO => b"RLO",
-            BidiClass::PDF => b"PDF",
-            BidiClass::LRI => b"LRI",
-            BidiClass::RLI => b"RLI",
-            BidiClass::FSI => b"FSI",
-            BidiClass::PDI => b"PDI",
-        }
+        NAMES[self as usize].as_bytes()
+    }
+}
+
+impl fmt::Debug for BidiClass {
+    fn fmt<W: fmt::Write>(&self, f: &mut fmt::Formatter<W>) -> fmt::Result {
+        f.write_str(NAMES[*self as usize])
     }
 }
 

@@ -16,7 +16,7 @@ pub struct Bracket {
 }
 
 /// The character that stands in a character's place in right-to-left text (UAX #9, L4).
-#[derive(Clone, Copy, Debug, PartialEq, Eq)]
+#[derive(Clone, Copy, Debug)]
 pub struct Mirror(pub char);
 
 // The character that 4 to 6 hexadecimal digits write.

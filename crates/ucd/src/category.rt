@@ -8,7 +8,7 @@ use crate::grammar::Property;
 use crate::properties::Properties;
 
 /// A general category: Mn or Mc, Cn, or any other.
-#[derive(Clone, Copy, Debug, PartialEq, Eq)]
+#[derive(Clone, Copy)]
 pub enum Category {
     Mark,
     Unassigned,
@@ -18,10 +18,12 @@ pub enum Category {
 fn category_named(name: &[u8]) -> Category
     ensures { result ≡ category_named name.now }
 {
-    match name {
-        b"Mn" | b"Mc" => Category::Mark,
-        b"Cn" => Category::Unassigned,
-        _ => Category::Other,
+    if b"Mn".as_slice() == name || b"Mc".as_slice() == name {
+        Category::Mark
+    } else if b"Cn".as_slice() == name {
+        Category::Unassigned
+    } else {
+        Category::Other
     }
 }
 

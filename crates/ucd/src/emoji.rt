@@ -7,7 +7,7 @@ use crate::grammar::Property;
 use crate::properties::Properties;
 
 /// The property Extended_Pictographic, the only one of emoji-data.txt that says anything here.
-#[derive(Clone, Copy, Debug, PartialEq, Eq)]
+#[derive(Clone, Copy)]
 pub struct Pictograph;
 
 impl Property for Pictograph {

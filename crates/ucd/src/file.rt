@@ -9,7 +9,7 @@ use crate::range_table::RangeTable;
 use std::alloc::Global;
 
 /// A line at fault, counted from 1, and why. The line says nothing where memory ran out.
-#[derive(Clone, Copy, Debug, PartialEq, Eq)]
+#[derive(Clone, Copy)]
 pub struct LineFault {
     pub line: usize,
     pub cause: Cause,

@@ -3,17 +3,24 @@ ghost use Rattle.std.specs.Prelude.{◌≡◌, ◌<◌, ◌≤◌, length, IfSom
 ghost use Rattle.std.specs.List.{slice_split, before_first, list_all};
 ghost use Rattle.std.specs.Char.{is_ascii_hexdigit};
 ghost use Rattle.ucd.specs.Grammar.{is_mark, is_one_of, trimmed, fields_of, hex_value, code_point};
-ghost use Rattle.ucd.specs.Grammar.{points_of, by_points, by_fields, reading_of, rest_after, parts_of};
+ghost use Rattle.ucd.specs.Grammar.{both, points_of, by_points, by_fields, reading_of, rest_after, parts_of};
 
 use crate::fault::Cause;
 use crate::properties::Properties;
+use std::alloc::AllocError;
 
 /// The code points from `first` to `last`, and what the file says of them.
-#[derive(Clone, Copy, Debug, PartialEq, Eq)]
+#[derive(Copy)]
 pub struct Entry<V> {
     pub first: u32,
     pub last: u32,
     pub value: V,
+}
+
+impl<V: Copy> Clone for Entry<V> {
+    fn clone(&self) -> Result<Self, AllocError> {
+        Ok(*self)
+    }
 }
 
 /// What a file says of a character, and how its lines say it.
@@ -104,21 +111,28 @@ pub(crate) fn code_point(digits: &[u8]) -> Option<u32>
     hex_number(digits).filter(|&number| number <= 0x10FFFF)
 }
 
+// Both, if there are both.
+fn both(first: Option<u32>, last: Option<u32>) -> Option<(u32, u32)>
+    ensures { result ≡ both first last }
+{
+    Some((first?, last?))
+}
+
 // The first and the last code point of a field, `X` or `X..Y`.
 fn points(field: &[u8], has_ranges: bool) -> Option<(u32, u32)>
     ensures { result ≡ points_of has_ranges field.now }
 {
     let (front, rest) = cut(field, b'.');
     let Some(rest) = rest else {
-        let point = code_point(front)?;
-        return Some((point, point));
+        let point = code_point(front);
+        return both(point, point);
     };
     let (between, last) = cut(rest, b'.');
     let last = last?;
     if !has_ranges || !between.is_empty() {
         return None;
     }
-    Some((code_point(front)?, code_point(last)?))
+    both(code_point(front), code_point(last))
 }
 
 fn entry_of<V: Property>(

@@ -5,9 +5,10 @@ ghost use Rattle.ucd.specs.Puts.{put_line_class};
 
 use crate::grammar::Property;
 use crate::properties::Properties;
+use std::fmt;
 
 /// A line breaking class, under its short name in the Unicode Character Database.
-#[derive(Clone, Copy, Debug, PartialEq, Eq)]
+#[derive(Clone, Copy, PartialEq, Eq)]
 pub enum LineClass {
     BK,
     CM,
@@ -101,6 +102,13 @@ static ALL: [LineClass; 43] = [
     LineClass::XX,
 ];
 
+// The short name of each, in the order of the classes.
+static NAMES: [&str; 43] = [
+    "BK", "CM", "CR", "GL", "LF", "NL", "SP", "WJ", "ZW", "ZWJ", "B2", "BA", "BB", "CB", "HY",
+    "CL", "CP", "EX", "IN", "NS", "OP", "QU", "IS", "NU", "PO", "PR", "SY", "AI", "AL", "CJ", "EB",
+    "EM", "H2", "H3", "HL", "ID", "JL", "JT", "JV", "RI", "SA", "SG", "XX",
+];
+
 impl LineClass {
     /// The class with this short name.
     pub fn from_name(name: &[u8]) -> Option<LineClass>
@@ -113,51 +121,13 @@ impl LineClass {
     fn name(self) -> &'static [u8]
         ensures { result.now ≡ name_of self }
     {
-        match self {
-            LineClass::BK => b"BK",
-            LineClass::CM => b"CM",
-            LineClass::CR => b"CR",
-            LineClass::GL => b"GL",
-            LineClass::LF => b"LF",
-            LineClass::NL => b"NL",
-            LineClass::SP => b"SP",
-            LineClass::WJ => b"WJ",
-            LineClass::ZW => b"ZW",
-            LineClass::ZWJ => b"ZWJ",
-            LineClass::B2 => b"B2",
-            LineClass::BA => b"BA",
-            LineClass::BB => b"BB",
-            LineClass::CB => b"CB",
-            LineClass::HY => b"HY",
-            LineClass::CL => b"CL",
-            LineClass::CP => b"CP",
-            LineClass::EX => b"EX",
-            LineClass::IN => b"IN",
-            LineClass::NS => b"NS",
-            LineClass::OP => b"OP",
-            LineClass::QU => b"QU",
-            LineClass::IS => b"IS",
-            LineClass::NU => b"NU",
-            LineClass::PO => b"PO",
-            LineClass::PR => b"PR",
-            LineClass::SY => b"SY",
-            LineClass::AI => b"AI",
-            LineClass::AL => b"AL",
-            LineClass::CJ => b"CJ",
-            LineClass::EB => b"EB",
-            LineClass::EM => b"EM",
-            LineClass::H2 => b"H2",
-            LineClass::H3 => b"H3",
-            LineClass::HL => b"HL",
-            LineClass::ID => b"ID",
-            LineClass::JL => b"JL",
-            LineClass::JT => b"JT",
-            LineClass::JV => b"JV",
-            LineClass::RI => b"RI",
-            LineClass::SA => b"SA",
-            LineClass::SG => b"SG",
-            LineClass::XX => b"XX",
-        }
+        NAMES[self as usize].as_bytes()
+    }
+}
+
+impl fmt::Debug for LineClass {
+    fn fmt<W: fmt::Write>(&self, f: &mut fmt::Formatter<W>) -> fmt::Result {
+        f.write_str(NAMES[*self as usize])
     }
 }
 

@@ -15,7 +15,7 @@ pub const CODE_POINTS: usize = 0x110000;
 
 /// The entries of a file. No two share a character, and a place for each code point tells whether one
 /// names it: so a line costs what it names, in whatever order the lines are.
-#[derive(Debug, Drop)]
+#[derive(Drop)]
 pub struct RangeTable<V> {
     entries: Vec<Entry<V>>,
     named: Vec<bool>,
@@ -132,7 +132,7 @@ impl<V: Copy> RangeTable<V> {
 }
 
 /// Entries of which no two share a character.
-#[derive(Debug, Drop)]
+#[derive(Drop)]
 pub struct ApartEntries<V> {
     entries: Vec<Entry<V>>,
 }

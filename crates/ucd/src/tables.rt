@@ -148,8 +148,34 @@ struct Entries {
     breaks: BreakEntries,
 }
 
+// Drops the entries, which is written out here and nowhere else.
+fn let_go(_entries: Entries) {}
+
 impl Entries {
     ghost use Rattle.ucd.specs.Said.{AreSaid, contents_of};
+
+    // Reads the files.
+    fn read(alloc: Global, files: &UcdFiles<'_>) -> Result<Entries, TableFault>
+        ensures bidi_classes { IfOk result (λ e.
+            HoldsFile bidi_class_form (lines_of files.now.bidi_class.now) e.bidi.classes) }
+        ensures brackets { IfOk result (λ e.
+            HoldsFile bracket_form (lines_of files.now.bidi_brackets.now) e.bidi.brackets) }
+        ensures mirrors { IfOk result (λ e.
+            HoldsFile mirror_form (lines_of files.now.bidi_mirroring.now) e.bidi.mirrors) }
+        ensures line_classes { IfOk result (λ e.
+            HoldsFile line_class_form (lines_of files.now.line_break.now) e.breaks.classes) }
+        ensures categories { IfOk result (λ e.
+            HoldsFile category_form (lines_of files.now.general_category.now) e.breaks.categories) }
+        ensures widths { IfOk result (λ e.
+            HoldsFile width_form (lines_of files.now.east_asian_width.now) e.breaks.widths) }
+        ensures pictographs { IfOk result (λ e.
+            HoldsFile emoji_form (lines_of files.now.emoji_data.now) e.breaks.pictographs) }
+        ensures err { IfErr result (IsFaultOf files.now) }
+    {
+        let bidi = read_bidi(alloc, files)?;
+        let breaks = read_breaks(alloc, files)?;
+        Ok(Entries { bidi, breaks })
+    }
 
     // What they say of all code points.
     fn points(&self, alloc: Global) -> Result<Vec<Properties>, AllocError>
@@ -179,10 +205,10 @@ impl Tables {
         ensures ok { IfOk result (AreTablesOf files.now) }
         ensures err { IfErr result (IsFaultOf files.now) }
     {
-        let bidi = read_bidi(alloc, files)?;
-        let breaks = read_breaks(alloc, files)?;
-        let entries = Entries { bidi, breaks };
-        match Tables::paged(alloc, &entries) {
+        let entries = Entries::read(alloc, files)?;
+        let tables = Tables::paged(alloc, &entries);
+        let_go(entries);
+        match tables {
             Ok(tables) => Ok(tables),
             Err(_) => Err(TableFault::memory()),
         }

@@ -8,7 +8,7 @@ use crate::grammar::Property;
 use crate::properties::Properties;
 
 /// An East Asian width: F, W or H, or any other.
-#[derive(Clone, Copy, Debug, PartialEq, Eq)]
+#[derive(Clone, Copy)]
 pub enum Width {
     Wide,
     Other,

@@ -3,8 +3,5 @@ use Rattle.std.proofs.lemmas.Grind.{common_steps}
 use Rattle.ucd.proofs.Parts.{points_last}
 use Rattle.ucd.proofs.grammar.points.Goals as goal
 
-pub returns-in_err-code_point-2 : goal.returns-in_err-code_point-2
-returns-in_err-code_point-2 c = grind (arith, common_steps, points_last c.cut.result.0.now c.in_ok-last.last.now)
-
 pub returns : goal.returns
 returns c = grind (arith, common_steps, points_last c.cut.result.0.now c.in_ok-last.last.now)

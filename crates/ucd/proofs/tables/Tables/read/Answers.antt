@@ -6,13 +6,13 @@ use Rattle.ucd.proofs.tables.Tables.read.Goals as goal
 pub returns-in-Ok-clause-ok : goal.returns-in-Ok-clause-ok
 unfolding class_of bracket_of mirror_of line_class_of is_wide_in is_mark_in is_future_pictograph_in
 returns-in-Ok-clause-ok c =
-    let bidi_classes = c.in_ok-bidi.ensures.classes in
-    let brackets = c.in_ok-bidi.ensures.brackets in
-    let mirrors = c.in_ok-bidi.ensures.mirrors in
-    let line_classes = c.in_ok-breaks.ensures.classes in
-    let categories = c.in_ok-breaks.ensures.categories in
-    let widths = c.in_ok-breaks.ensures.widths in
-    let pictographs = c.in_ok-breaks.ensures.pictographs in
+    let bidi_classes = c.in_ok-entries.ensures.bidi_classes in
+    let brackets = c.in_ok-entries.ensures.brackets in
+    let mirrors = c.in_ok-entries.ensures.mirrors in
+    let line_classes = c.in_ok-entries.ensures.line_classes in
+    let categories = c.in_ok-entries.ensures.categories in
+    let widths = c.in_ok-entries.ensures.widths in
+    let pictographs = c.in_ok-entries.ensures.pictographs in
     record {
       good = record {
         bidi_class = bidi_classes.good;
