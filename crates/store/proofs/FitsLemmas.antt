@@ -1,6 +1,6 @@
 -- What a list's sums are for its parts.
-use Rattle.std.proofs.Common.{ℕ, ◌≤◌, List, ◌++◌, length, take, drop, sum_by, arith, length-append, length-take, length-drop}
-use Rattle.std.proofs.lemmas.List.Sums.{sum_by-append, sum_by-take-drop}
+use Rattle.std.proofs.Common.{ℕ, ◌≤◌, List, ◌++◌, ◌∷◌, length, take, drop, sum_by, arith, length-append, length-take, length-drop}
+use Rattle.std.proofs.lemmas.List.Sums.{sum_by-append, sum_by-cons, sum_by-take-drop}
 use Rattle.store.specs.Subtrees.{Fits}
 
 module _ {P : Type 0} (chars lines : P → ℕ) where
@@ -21,6 +21,14 @@ module _ {P : Type 0} (chars lines : P → ℕ) where
   pub fits_back : (xs ys : List P) → Fits chars lines (xs ++ ys) → Fits chars lines ys
   fits_back xs ys f =
       fits_less (xs ++ ys) ys (omega (arith, length-append xs ys)) (omega (arith, sum_by-append chars xs ys)) (omega (arith, sum_by-append lines xs ys)) f
+
+  pub fits_rest : (xs ys : List P) (x : P) → Fits chars lines (xs ++ x ∷ ys) → Fits chars lines ys
+  fits_rest xs ys x f =
+      fits_less (xs ++ x ∷ ys) ys
+      (omega (arith, length-append xs (x ∷ ys)))
+      (omega (arith, sum_by-append chars xs (x ∷ ys), sum_by-cons chars x ys))
+      (omega (arith, sum_by-append lines xs (x ∷ ys), sum_by-cons lines x ys))
+      f
 
   -- without some of the first items
   pub fits_behind : (xs ys : List P) (n : ℕ) → Fits chars lines (xs ++ ys) → Fits chars lines (drop n xs ++ ys)

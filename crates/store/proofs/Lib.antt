@@ -1,6 +1,7 @@
 mod ExchangeLemmas
 mod FindLemmas
 mod FitsLemmas
+mod JoinLemmas
 pub mod ListLemmas
 mod SubtreeLemmas
 mod TreeLemmas

@@ -1,12 +1,14 @@
 //! Balanced trees that are joined and split: no memory is taken, and the work is that of their heights.
 ghost use Rattle.std.specs.Prelude.{◌≡◌, ◌+◌, ◌^◌, ◌<◌, ◌≤◌, ◌∷◌, ◌++◌};
 ghost use Rattle.std.specs.Prelude.{ℕ, length, sum_by, [], take, drop, max};
-ghost use Rattle.std.specs.Prelude.{map, reverse, MatchOption, vec_capacity, ◌-◌};
+ghost use Rattle.std.specs.Prelude.{map, reverse, slice_range, MatchOption, vec_capacity, ◌-◌};
+ghost use Rattle.std.specs.List.{splice};
 ghost use Rattle.store.specs.Subtrees.{Fits};
 ghost use Rattle.store.specs.Trees.{Empty, Fork, height, in_order, IsBalanced};
 
 use crate::measured::Measured;
 use crate::subtree::{Spare, Subtree};
+use std::mem;
 
 /// A tree of the items of two trees with one more between them.
 pub(crate) fn join<P: Measured>(left: Subtree<P>, spare: Spare<P>, right: Subtree<P>) -> Subtree<P>
@@ -67,10 +69,7 @@ fn lean_left<P: Measured>(left: Subtree<P>, spare: Spare<P>, right: Subtree<P>) 
     if outer.height() >= inner.height() {
         return top.over(outer, spare.over(inner, right));
     }
-    let Some((first, middle, second)) = inner.open() else {
-        unreachable!()
-    };
-    middle.over(top.over(outer, first), spare.over(second, right))
+    lift(outer, top, inner, spare, right)
 }
 
 // The same where the right tree is higher by 2.
@@ -87,14 +86,31 @@ fn lean_right<P: Measured>(left: Subtree<P>, spare: Spare<P>, right: Subtree<P>)
     if outer.height() >= inner.height() {
         return top.over(spare.over(left, inner), outer);
     }
+    lift(left, spare, inner, top, outer)
+}
+
+// A tree that is higher by 1 than those on both sides of it, with its root lifted over them: two rotations.
+fn lift<P: Measured>(
+    left: Subtree<P>,
+    before: Spare<P>,
+    inner: Subtree<P>,
+    behind: Spare<P>,
+    right: Subtree<P>,
+) -> Subtree<P>
+    requires fits { Fits P.chars P.lines
+        (in_order left ++ before ∷ in_order inner ++ behind ∷ in_order right) }
+    requires higher { (height inner ≡ height left + 1) × (height inner ≡ height right + 1) }
+    ensures items { in_order result ≡ in_order left ++ before ∷ in_order inner ++ behind ∷ in_order right }
+    ensures height { height result ≡ height inner + 1 }
+{
     let Some((first, middle, second)) = inner.open() else {
         unreachable!()
     };
-    middle.over(spare.over(left, first), top.over(second, outer))
+    middle.over(before.over(left, first), behind.over(second, right))
 }
 
-/// Trees of the items before a place, and of those from it on.
-pub(crate) fn split<P: Measured>(tree: Subtree<P>, at: usize) -> (Subtree<P>, Subtree<P>)
+// Trees of the items before a place, and of those from it on.
+fn split<P: Measured>(tree: Subtree<P>, at: usize) -> (Subtree<P>, Subtree<P>)
     requires { at ≤ length (in_order tree) }
     ensures front { in_order result.0 ≡ take at (in_order tree) }
     ensures behind { in_order result.1 ≡ drop at (in_order tree) }
@@ -122,8 +138,8 @@ fn take_first<P: Measured>(tree: Subtree<P>) -> Option<(Spare<P>, Subtree<P>)>
     Some((first, join(rest, top, right)))
 }
 
-/// A tree of the items of two trees.
-pub(crate) fn append<P: Measured>(left: Subtree<P>, right: Subtree<P>) -> Subtree<P>
+// A tree of the items of two trees.
+fn append<P: Measured>(left: Subtree<P>, right: Subtree<P>) -> Subtree<P>
     requires { Fits P.chars P.lines (in_order left ++ in_order right) }
     ensures { in_order result ≡ in_order left ++ in_order right }
 {
@@ -133,8 +149,20 @@ pub(crate) fn append<P: Measured>(left: Subtree<P>, right: Subtree<P>) -> Subtre
     join(left, first, rest)
 }
 
-/// A tree of the last nodes of a list, from the last one back.
-pub(crate) fn build<P: Measured>(spares: &mut Vec<Spare<P>>, count: usize) -> Subtree<P>
+// A tree of the nodes of a list, from the last one back.
+fn build_all<P: Measured>(spares: Vec<Spare<P>>) -> Subtree<P>
+    requires { Fits P.chars P.lines (reverse spares.items) }
+    ensures { in_order result ≡ reverse spares.items }
+{
+    let mut spares = spares;
+    let count = spares.len();
+    let tree = build(&mut spares, count);
+    spares.destroy_empty();
+    tree
+}
+
+// A tree of the last nodes of a list, from the last one back.
+fn build<P: Measured>(spares: &mut Vec<Spare<P>>, count: usize) -> Subtree<P>
     requires enough { count ≤ length spares.old.items }
     requires fits { Fits P.chars P.lines (reverse spares.old.items) }
     ensures left { spares.new.items ≡ take (length spares.old.items - count) spares.old.items }
@@ -148,6 +176,28 @@ pub(crate) fn build<P: Measured>(spares: &mut Vec<Spare<P>>, count: usize) -> Su
     let top = spares.take_last();
     let right = build(spares, count - before - 1);
     join(left, top, right)
+}
+
+/// Puts the items of a list of nodes, from the last one back, in place of those in a range, of which it answers
+/// a tree. The items of the list come in.
+pub(crate) fn put_in<P: Measured>(
+    tree: &mut Subtree<P>,
+    first: usize,
+    second: usize,
+    spares: Vec<Spare<P>>,
+) -> Subtree<P>
+    requires order { (first ≤ second) × (second ≤ length (in_order tree.old)) }
+    requires fits { Fits P.chars P.lines
+        (splice (in_order tree.old) first second (reverse spares.items)) }
+    ensures items { in_order tree.new ≡ splice (in_order tree.old) first second (reverse spares.items) }
+    ensures gone { in_order result ≡ slice_range (in_order tree.old) first second }
+{
+    let whole = mem::replace(tree, Subtree::empty());
+    let (front, rest) = split(whole, first);
+    let (gone, behind) = split(rest, second - first);
+    let middle = build_all(spares);
+    mem::replace(tree, append(append(front, middle), behind)).discard();
+    gone
 }
 
 /// Moves the items behind those of a list that has room for them, and lets go of the nodes.

@@ -2,7 +2,7 @@
 ghost use Rattle.std.specs.Prelude.{◌≡◌, ℕ, ◌+◌, ◌^◌, ◌<◌, ◌≤◌, length, sum_by, ◌∷◌, ◌++◌, max, Option};
 ghost use Rattle.std.specs.Prelude.{IfOk, IfErr, MatchOption};
 ghost use Rattle.store.specs.Finding.{measure};
-ghost use Rattle.store.specs.Subtrees.{Fits};
+ghost use Rattle.store.specs.Subtrees.{Fits, IsSummed};
 ghost use Rattle.store.specs.Trees.{Empty, Fork, height, in_order, IsBalanced};
 
 use crate::found::Unit;
@@ -196,17 +196,30 @@ impl<P: Measured> Spare<P> {
         ensures { result ≡ Fork left self right }
     {
         let mut node = self.node;
-        node.height = left.height().max(right.height()) + 1;
-        node.count = left.count() + 1 + right.count();
-        node.chars = left.chars() + node.item.chars() + right.chars();
-        node.lines = left.lines() + node.item.lines() + right.lines();
-        mem::replace(&mut node.left, left).discard();
-        mem::replace(&mut node.right, right).discard();
+        node.hang(left, right);
         Subtree { root: Some(node) }
     }
 }
 
 impl<P: Measured> Node<P> {
+    // Hangs two trees of about the same height below a node without any, and sums up what they have.
+    fn hang(&mut self, left: Subtree<P>, right: Subtree<P>)
+        requires empty { (self.old.left ≡ Empty) × (self.old.right ≡ Empty) }
+        requires fits { Fits P.chars P.lines (in_order left ++ self.old.item ∷ in_order right) }
+        requires near { (height left ≤ height right + 1) × (height right ≤ height left + 1) }
+        ensures left { self.new.left ≡ left }
+        ensures item { self.new.item ≡ self.old.item }
+        ensures right { self.new.right ≡ right }
+        ensures summed { IsSummed P.chars P.lines self.new }
+    {
+        self.height = left.height().max(right.height()) + 1;
+        self.count = left.count() + 1 + right.count();
+        self.chars = left.chars() + self.item.chars() + right.chars();
+        self.lines = left.lines() + self.item.lines() + right.lines();
+        mem::replace(&mut self.left, left).discard();
+        mem::replace(&mut self.right, right).discard();
+    }
+
     // The item of a node that hangs nowhere.
     fn into_item(self) -> P
         requires left { self.left ≡ Empty }

@@ -9,7 +9,7 @@ ghost use Rattle.store.specs.Finding.{Finds};
 ghost use Rattle.store.specs.Trees.{fewest_nodes, height, in_order, IsBalanced, nodes_to, Tree};
 
 use crate::found::{Found, Unit};
-use crate::joining::{append, build, move_items, split};
+use crate::joining::{move_items, put_in};
 use crate::measured::{Exchanger, Measured};
 use crate::paragraph_store::ParagraphStore;
 use crate::subtree::{Spare, Subtree};
@@ -84,6 +84,33 @@ fn take_down<P: Measured>(spares: Vec<Spare<P>>, items: &mut Vec<P>)
     spares.destroy_empty();
 }
 
+// Takes what a replacement needs: room for the old items, and a node for each of the new ones, if they can be
+// counted together with those that are kept.
+fn take_memory<P: Measured>(
+    alloc: Global,
+    kept: usize,
+    removed: usize,
+    items: &mut Vec<P>,
+) -> Result<(Vec<P>, Vec<Spare<P>>), AllocError>
+    ensures old { IfOk result (λ p. (p.0.items ≡ []) × (removed ≤ vec_capacity p.0)) }
+    ensures spares { IfOk result (λ p. p.1.items ≡ reverse items.old.items) }
+    ensures count { OnOk result (kept + length items.old.items < 2 ^ 64) }
+    ensures left { OnOk result (items.new.items ≡ []) }
+    ensures err { OnErr result (items.new.items ≡ items.old.items) }
+{
+    if items.len() > usize::MAX - kept {
+        return Err(AllocError);
+    }
+    let old = Vec::with_capacity(alloc, removed)?;
+    match hang(alloc, items) {
+        Ok(spares) => Ok((old, spares)),
+        Err(failed) => {
+            old.destroy_empty();
+            Err(failed)
+        }
+    }
+}
+
 impl<P: Measured> ParagraphStore<P> for TreeStore<P> {
     ghost items = { in_order };
 
@@ -156,27 +183,14 @@ impl<P: Measured> ParagraphStore<P> for TreeStore<P> {
         ensures back { IfErr result (λ e. e.0.items ≡ new_items.items) }
     {
         let mut new_items = new_items;
-        let added = new_items.len();
         let removed = range.end - range.start;
-        if added > usize::MAX - (self.root.count() - removed) {
-            return Err((new_items, AllocError));
-        }
-        let Ok(mut old) = Vec::with_capacity(self.alloc, removed) else {
-            return Err((new_items, AllocError));
-        };
-        let Ok(mut spares) = hang(self.alloc, &mut new_items) else {
-            old.destroy_empty();
+        let kept = self.root.count() - removed;
+        let Ok((mut old, spares)) = take_memory(self.alloc, kept, removed, &mut new_items) else {
             return Err((new_items, AllocError));
         };
         new_items.destroy_empty();
         // From here on no memory is taken.
-        let root = mem::replace(&mut self.root, Subtree::empty());
-        let (front, rest) = split(root, range.start);
-        let (gone, behind) = split(rest, removed);
-        let middle = build(&mut spares, added);
-        spares.destroy_empty();
-        let root = append(append(front, middle), behind);
-        mem::replace(&mut self.root, root).discard();
+        let gone = put_in(&mut self.root, range.start, range.end, spares);
         move_items(gone, &mut old);
         Ok(old)
     }
