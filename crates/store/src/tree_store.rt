@@ -20,10 +20,16 @@ use std::ops::Range;
 
 /// A store that is a balanced tree: the heights of two subtrees differ by at most 1. A search and
 /// `replace` go down from the root, and take time by the height.
-#[derive(Debug, Drop)]
+#[derive(Debug)]
 pub struct TreeStore<P: Measured> {
     root: Subtree<P>,
     alloc: Global,
+}
+
+impl<P: Measured + Drop> Drop for TreeStore<P> {
+    fn drop(self) {
+        let TreeStore { root: _, alloc: _ } = self;
+    }
 }
 
 impl<P: Measured> Model for TreeStore<P> {

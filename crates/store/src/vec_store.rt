@@ -15,12 +15,23 @@ use std::marker::Model;
 use std::ops::Range;
 
 /// A store that is a list. A search walks over the items, and `replace` moves those behind the range.
-#[derive(Debug, Drop)]
+#[derive(Debug)]
 pub struct VecStore<P: Measured> {
     items: Vec<P>,
     chars: usize,
     lines: usize,
     alloc: Global,
+}
+
+impl<P: Measured + Drop> Drop for VecStore<P> {
+    fn drop(self) {
+        let VecStore {
+            items: _,
+            chars: _,
+            lines: _,
+            alloc: _,
+        } = self;
+    }
 }
 
 impl<P: Measured> Model for VecStore<P> {
