@@ -112,12 +112,8 @@ impl Work {
         ensures within { OnOk result (AreWithin (length text.now) (held_lines kept.new.lines)) }
         ensures lines_len { OnOk result (length kept.new.lines.levels.items ≡ length text.now) }
     {
-        take_properties(tables, text, &mut self.properties)?;
+        let base = self.resolve(tables, options, text, &mut kept.levels)?;
         let properties = self.properties.as_slice();
-        make_room(&mut kept.levels, text.len())?;
-        let base = self
-            .resolver
-            .resolve(tables, text, properties, options.base, &mut kept.levels)?;
         make_room(&mut kept.marks, text.len())?;
         marks_into(
             tables,
@@ -141,6 +137,28 @@ impl Work {
             &mut kept.lines,
         )?;
         Ok(base)
+    }
+
+    // The base level of a paragraph, and its levels, put into a list. What the tables say of its characters is
+    // looked up for it, and stays.
+    fn resolve(
+        &mut self,
+        tables: &Tables,
+        options: Options,
+        text: &[char],
+        levels: &mut Vec<u8>,
+    ) -> Result<u8, AllocError>
+        ensures base { IfOk result (λ base.
+            base ≡ base_of (record { tables = tables.now; options = options }) text.now) }
+        ensures levels { OnOk result (levels.new.items ≡ levels_of tables.now text.now options.base) }
+        ensures len { OnOk result (length levels.new.items ≡ length text.now) }
+        ensures properties { OnOk result
+            (self.new.properties.items ≡ map (properties_of tables.now) text.now) }
+    {
+        take_properties(tables, text, &mut self.properties)?;
+        make_room(levels, text.len())?;
+        self.resolver
+            .resolve(tables, text, &self.properties, options.base, levels)
     }
 
     /// The extents of the lines of a paragraph whose marks are known.
