@@ -23,12 +23,8 @@ all: programs = fribidi bench refused list_script
 program: programs = fribidi
 bench-program: programs = fribidi bench
 
-# rt proves the crates where they have changed, those that don't stand on one another side by side, and runs the programs,
-# which stay in out/. A check by several jobs takes less time than a build by one, which then finds what is proved. What
-# the program waits for is one chain: it goes first, and the other crates take the time that it leaves.
-chain = ucd bidi lines session tool fribidi
-check = $(if $(filter $*,$(chain)),rt check --jobs $(JOBS),nice rt check --jobs 2) > /dev/null
-
+# The crates are proved where they have changed, those that don't stand on one another side by side, and the programs run,
+# which stay in out/.
 all program bench-program:
 	$(MAKE) --no-print-directory --jobs=$(JOBS) $(programs:%=run-%)
 	mkdir -p bin
@@ -46,10 +42,10 @@ run-bench: words = -- edits tree 1 1
 run-list_script: words = -- data/text.txt data/script
 
 lib-%:
-	cd crates/$* && $(check) && rt lib > /dev/null
+	.ci/prove $* lib
 
 run-%:
-	cd crates/$* && $(check) && rt run $(words) > /dev/null
+	.ci/prove $* run $(words)
 
 ucd:
 	@[ -f $(UNICODE)/extracted/DerivedBidiClass.txt ] || { apt-get update -q && apt-get install -qy unicode-data; }
