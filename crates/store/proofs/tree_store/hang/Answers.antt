@@ -1,3 +1,4 @@
+use Rattle.std.proofs.lemmas.Grind.{common_steps}
 use Rattle.std.proofs.Common.{◌∷◌, ◌++◌, [], reverse, sym, ap, ◌∙◌, arith}
 use Rattle.store.proofs.ListLemmas.{length_both, one_over, room_behind}
 use Rattle.store.proofs.tree_store.hang.Goals as goal
@@ -33,3 +34,9 @@ loop-preserved g c = (
   omega arith,
   omega arith,
 )
+
+pub returns-clause-ok : goal.returns-clause-ok
+returns-clause-ok g c = grind (arith, common_steps)
+
+pub returns-clause-left : goal.returns-clause-left
+returns-clause-left g c = grind (arith, common_steps)

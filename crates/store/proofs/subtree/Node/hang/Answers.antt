@@ -1,3 +1,4 @@
+use Rattle.std.proofs.lemmas.Grind.{common_steps}
 use Rattle.std.proofs.Common.{◌∷◌, arith, length-append}
 use Rattle.std.proofs.lemmas.List.Sums.{sum_by-append, sum_by-cons}
 use Rattle.store.specs.Trees.{in_order}
@@ -25,3 +26,12 @@ overflow_add-self-5 g c =
       sum_by-append g.P.Measured.chars (in_order c.args.left) (x ∷ in_order c.args.right),
       sum_by-cons g.P.Measured.chars x (in_order c.args.right),
     )
+
+pub overflow_add-self-2 : goal.overflow_add-self-2
+overflow_add-self-2 g c = grind (arith, common_steps)
+
+pub overflow_add-self-4 : goal.overflow_add-self-4
+overflow_add-self-4 g c = grind (arith, common_steps)
+
+pub returns-clause-summed : goal.returns-clause-summed
+returns-clause-summed g c = grind (arith, common_steps)
