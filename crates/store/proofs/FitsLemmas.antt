@@ -1,5 +1,5 @@
--- What a list's sums are for its parts.
-use Rattle.std.proofs.Common.{ℕ, ◌≤◌, List, ◌++◌, ◌∷◌, length, take, drop, sum_by, arith, length-append, length-take, length-drop}
+-- What the sums of a list are for its parts.
+use Rattle.std.proofs.Common.{ℕ, ◌≤◌, List, ◌++◌, ◌∷◌, length, take, drop, sum_by, arith, length-append, append_assoc, subst, sym, length-take, length-drop}
 use Rattle.std.proofs.lemmas.List.Sums.{sum_by-append, sum_by-cons, sum_by-take-drop}
 use Rattle.store.specs.Subtrees.{Fits}
 
@@ -47,3 +47,15 @@ module _ {P : Type 0} (chars lines : P → ℕ) where
       (omega (arith, sum_by-append chars xs ys, sum_by-append chars xs (take n ys), sum_by-take-drop chars ys n))
       (omega (arith, sum_by-append lines xs ys, sum_by-append lines xs (take n ys), sum_by-take-drop lines ys n))
       f
+
+  -- the parts of a list into which others were put
+  pub record FitSpliced (front new back : List P) : Type 0 where
+    pub new_fits : Fits chars lines new
+    pub front_fits : Fits chars lines (front ++ new)
+    pub all_fit : Fits chars lines ((front ++ new) ++ back)
+
+  pub fit_spliced : (front new back : List P) → Fits chars lines (front ++ (new ++ back)) → FitSpliced front new back
+  fit_spliced front new back f =
+      let all = subst (Fits chars lines) (sym (append_assoc front new back)) f in
+      let first = fits_front (front ++ new) back all in
+      record { new_fits = fits_back front new first; front_fits = first; all_fit = all }

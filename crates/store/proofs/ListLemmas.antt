@@ -4,7 +4,7 @@ use Rattle.std.specs.List.{splice}
 use Rattle.std.proofs.lemmas.List.Sums.{sum_by-append}
 use Rattle.std.proofs.Math.Seq.{take-append_seam, drop-append_seam, take-append-add, drop-append-add, drop-cons, get_or-append_right}
 use Rattle.std.proofs.Math.ListN.{drop_of_length-le}
-use Rattle.std.proofs.lemmas.List.{append-nil, reverse-append, take_all, take-append-drop, length-take-le, drop-drop, take-append-le, drop-append-le, take-take, take_more, set_split, get_or-drop}
+use Rattle.std.proofs.lemmas.List.{append-nil, reverse-append, length-reverse, take_all, take-append-drop, length-take-le, drop-drop, take-append-le, drop-append-le, take-take, take_more, set_split, get_or-drop}
 
 module _ {A : Type 0} where
   -- a list is what stands before, at and behind one of its places
@@ -13,12 +13,15 @@ module _ {A : Type 0} where
       let f : drop i xs ≡ get_or xs i x ∷ drop (i + 1) xs = rw (add-one) (drop-cons xs i x h) in
       sym (take-append-drop i xs) ∙ ap (λ ys. take i xs ++ ys) (f ∙ ap (λ y. y ∷ drop (i + 1) xs) (sym e))
 
+  pub drop_range : (xs : List A) (i j : ℕ) → i ≤ j → drop (j - i) (drop i xs) ≡ drop j xs
+  drop_range xs i j h =
+      let e : i + (j - i) ≡ j = omega arith in
+      drop-drop (j - i) i xs ∙ ap (λ k. drop k xs) e
+
   -- a list is what stands before, in and behind a range
   pub at_range : (xs : List A) (i j : ℕ) → i ≤ j → xs ≡ take i xs ++ (slice_range xs i j ++ drop j xs)
   at_range xs i j h =
-      let e : i + (j - i) ≡ j = omega arith in
-      let f : drop (j - i) (drop i xs) ≡ drop j xs = drop-drop (j - i) i xs ∙ ap (λ k. drop k xs) e in
-      sym (take-append-drop i xs) ∙ ap (λ ys. take i xs ++ ys) (sym (take-append-drop (j - i) (drop i xs)) ∙ ap (λ ys. slice_range xs i j ++ ys) f)
+      sym (take-append-drop i xs) ∙ ap (λ ys. take i xs ++ ys) (sym (take-append-drop (j - i) (drop i xs)) ∙ ap (λ ys. slice_range xs i j ++ ys) (drop_range xs i j h))
 
   pub length-slice_range : (xs : List A) (i j : ℕ) → i ≤ j → j ≤ length xs → length (slice_range xs i j) ≡ j - i
   length-slice_range xs i j h k =
@@ -165,3 +168,18 @@ module _ {A : Type 0} (f : A → ℕ) where
         range_within xs old i j kept h kept_is old_is,
         sum_around_splice f xs i j ys h,
       )
+
+-- the last item of a list is put at the end of another one, which is read from behind
+pub one_over : {A : Type 0} (items front spares more all : List A) (x y : A) → items ≡ front ++ x ∷ [] → y ≡ x → more ≡ spares ++ y ∷ []
+    → items ++ reverse spares ≡ all → front ++ reverse more ≡ all
+one_over items front spares more all x y items_is y_is more_is all_is =
+    ap (λ zs. front ++ reverse zs) more_is ∙ ap (λ zs. front ++ zs) (reverse-append spares (y ∷ [])) ∙ ap (λ z. front ++ z ∷ reverse spares) y_is
+    ∙ sym (append_assoc front (x ∷ []) (reverse spares)) ∙ ap (λ zs. zs ++ reverse spares) (sym items_is) ∙ all_is
+
+pub length_both : {A : Type 0} (items spares all : List A) → items ++ reverse spares ≡ all → length items + length spares ≡ length all
+length_both items spares all e = omega (arith, ap length e, length-append items (reverse spares), length-reverse spares)
+
+-- a list has room for what was moved out of it
+pub room_behind : {A : Type 0} (items spares all now : List A) (len cap room : ℕ) → items ++ reverse spares ≡ all → now ≡ items → len ≡ length all
+    → len ≤ cap → room ≡ cap → length now + length spares ≤ room
+room_behind items spares all now len cap room e now_is len_is within room_is = omega (arith, length_both items spares all e, ap length now_is)

@@ -1,8 +1,8 @@
 -- What a node keeps where its items have exchanged their parts.
-use Rattle.std.proofs.Common.{◌≡◌, ℕ, ◌+◌, ◌∷◌, length, sum_by, arith, length-append}
+use Rattle.std.proofs.Common.{◌≡◌, ℕ, ◌+◌, ◌≤◌, ◌∷◌, ◌++◌, length, sum_by, arith, length-append}
 use Rattle.std.proofs.lemmas.List.Sums.{sum_by-append, sum_by-cons}
 use Rattle.store.specs.Subtrees.{IsSummed}
-use Rattle.store.specs.Trees.{Tree, in_order, height, IsBalanced}
+use Rattle.store.specs.Trees.{Tree, Fork, in_order, height, IsBalanced}
 use Rattle.store.specs.declared.subtree.Node.{Node}
 
 -- a subtree with other items of the same sizes but for the lines
@@ -12,10 +12,16 @@ pub record IsLike {P : Type 0} (chars : P → ℕ) (old new : Tree P) : Type 0 w
   pub count_is : length (in_order new) ≡ length (in_order old)
   pub chars_is : sum_by chars (in_order new) ≡ sum_by chars (in_order old)
 
+-- trees of the same heights are balanced as the old ones are
+pub balanced_again : {A : Type 0} (l r left right : Tree A) (x : A) → IsBalanced (Fork l x r) → IsBalanced left → IsBalanced right
+    → height left ≡ height l → height right ≡ height r
+    → IsBalanced left × IsBalanced right × (height left ≤ height right + 1) × (height right ≤ height left + 1)
+balanced_again l r left right x old b d h k = (b, d, omega (arith, old.2, h, k), omega (arith, old.3, h, k))
+
 pub summed_again : {P : Type 0} (chars lines : P → ℕ) (n m : Node P) → IsSummed chars lines n
     → IsLike chars n.left m.left → IsLike chars n.right m.right → chars m.item ≡ chars n.item
     → m.height ≡ n.height → m.count ≡ n.count → m.chars ≡ n.chars
-    → m.lines ≡ sum_by lines (in_order m.left) + lines m.item + sum_by lines (in_order m.right) → IsSummed chars lines m
+    → m.lines ≡ sum_by lines (in_order m.left ++ m.item ∷ in_order m.right) → IsSummed chars lines m
 summed_again chars lines n m s l r item_is h k c lines_is = record {
   height_is = omega (arith, s.height_is, l.height_is, r.height_is);
   count_is = omega (arith, s.count_is, l.count_is, r.count_is, length-append (in_order n.left) (n.item ∷ in_order n.right), length-append (in_order m.left) (m.item ∷ in_order m.right));
@@ -29,6 +35,6 @@ summed_again chars lines n m s l r item_is h k c lines_is = record {
     sum_by-append chars (in_order m.left) (m.item ∷ in_order m.right),
     sum_by-cons chars m.item (in_order m.right),
   );
-  lines_is = omega (arith, sum_by-append lines (in_order m.left) (m.item ∷ in_order m.right), sum_by-cons lines m.item (in_order m.right));
-  balanced = (l.balanced, r.balanced, omega (arith, s.balanced.2, l.height_is, r.height_is), omega (arith, s.balanced.3, l.height_is, r.height_is));
+  lines_is = lines_is;
+  balanced = balanced_again n.left n.right m.left m.right n.item s.balanced l.balanced r.balanced l.height_is r.height_is;
 }

@@ -119,6 +119,14 @@ impl<P: Measured> Subtree<P> {
         }
     }
 
+    /// How many lines all items have, those of one more, and those of another tree.
+    pub(crate) fn lines_with(&self, item: &P, right: &Subtree<P>) -> usize
+        requires { sum_by P.lines (in_order self.now ++ item.now ∷ in_order right.now) < 2 ^ 64 }
+        ensures { result ≡ sum_by P.lines (in_order self.now ++ item.now ∷ in_order right.now) }
+    {
+        self.lines() + item.lines() + right.lines()
+    }
+
     /// How many of the counted all items have.
     pub(crate) fn total(&self, unit: Unit) -> usize
         ensures { result ≡ sum_by (measure P.chars P.lines unit) (in_order self.now) }
@@ -215,7 +223,7 @@ impl<P: Measured> Node<P> {
         self.height = left.height().max(right.height()) + 1;
         self.count = left.count() + 1 + right.count();
         self.chars = left.chars() + self.item.chars() + right.chars();
-        self.lines = left.lines() + self.item.lines() + right.lines();
+        self.lines = left.lines_with(&self.item, &right);
         mem::replace(&mut self.left, left).discard();
         mem::replace(&mut self.right, right).discard();
     }

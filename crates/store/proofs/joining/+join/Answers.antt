@@ -1,4 +1,4 @@
-use Rattle.std.proofs.Common.{◌∷◌, length, ap, arith, length-append}
+use Rattle.std.proofs.Common.{◌∷◌, ◌++◌, length, ap, sym, ◌∙◌, arith, append_assoc, length-append}
 use Rattle.store.specs.Trees.{in_order}
 use Rattle.store.proofs.JoinLemmas.{fit_in_front, fit_behind}
 use Rattle.store.proofs.joining.+join.Goals as goal
@@ -26,3 +26,25 @@ pub balance-requires-then-right_height-left_height-clause-fits : goal.balance-re
 balance-requires-then-right_height-left_height-clause-fits g t c =
     rw c.join-then-right_height-left_height.ensures.items (fit_behind g.P.Measured.chars g.P.Measured.lines (in_order c.args.left) c.args.spare c.in-Some-open.top
     c.args.right c.in-Some-open.middle c.in-Some-open.last c.in-Some-open.ensures.parts c.requires).all_fit
+
+pub overflow_add-right_height : goal.overflow_add-right_height
+overflow_add-right_height g t c =
+    omega (arith, c.requires.count, c.height-right_height.ensures.low, length-append (in_order c.args.left) (c.args.spare ∷ in_order c.args.right))
+
+pub overflow_add-left_height : goal.overflow_add-left_height
+overflow_add-left_height g t c =
+    omega (arith, c.requires.count, c.height-left_height.ensures.low, length-append (in_order c.args.left) (c.args.spare ∷ in_order c.args.right))
+
+pub returns-then-left_height-right_height-clause-items : goal.returns-then-left_height-right_height-clause-items
+returns-then-left_height-right_height-clause-items g t c =
+    let n = c.in-Some in
+    c.balance.ensures.items ∙ ap (λ zs. in_order n.first ++ n.top ∷ zs) c.join.ensures.items
+    ∙ sym (append_assoc (in_order n.first) (n.top ∷ in_order n.middle) (c.args.spare ∷ in_order c.args.right))
+    ∙ ap (λ t. in_order t ++ c.args.spare ∷ in_order c.args.right) (sym n.ensures.parts)
+
+pub returns-then-right_height-left_height-clause-items : goal.returns-then-right_height-left_height-clause-items
+returns-then-right_height-left_height-clause-items g t c =
+    let n = c.in-Some-open in
+    c.balance-then-right_height-left_height.ensures.items ∙ ap (λ zs. zs ++ n.top ∷ in_order n.last) c.join-then-right_height-left_height.ensures.items
+    ∙ append_assoc (in_order c.args.left) (c.args.spare ∷ in_order n.middle) (n.top ∷ in_order n.last)
+    ∙ ap (λ t. in_order c.args.left ++ c.args.spare ∷ in_order t) (sym n.ensures.parts)

@@ -1,3 +1,4 @@
+use Rattle.std.proofs.lemmas.Grind.{common_steps}
 use Rattle.std.proofs.Common.{◌≡◌, ◌-◌, ◌<◌, ◌∷◌, ◌++◌, take, length, arith, ap, subst, sym, ◌∙◌, append_assoc, []}
 use Rattle.store.specs.Subtrees.{Fits}
 use Rattle.store.specs.Trees.{in_order}
@@ -37,3 +38,15 @@ returns-clause-behind g t c =
     let far : length l < c.args.at = omega arith in
     let e : in_order c.args.tree ≡ l ++ c.in-Some.top ∷ r = ap in_order c.in-Some.ensures.parts in
     c.split-middle.ensures.behind ∙ rw (e, n_is) (sym (drop_far l r c.in-Some.top c.args.at far))
+
+pub split-front-requires : goal.split-front-requires
+split-front-requires g t c κs within = grind (arith, common_steps)
+
+pub returns-then-at-before-clause-front : goal.returns-then-at-before-clause-front
+returns-then-at-before-clause-front g t c = grind (arith, common_steps)
+
+pub returns-then-at-before-clause-behind : goal.returns-then-at-before-clause-behind
+returns-then-at-before-clause-behind g t c = grind (arith, common_steps)
+
+pub split-middle-requires : goal.split-middle-requires
+split-middle-requires g t c κs within = grind (arith, common_steps)

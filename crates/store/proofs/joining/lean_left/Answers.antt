@@ -1,3 +1,5 @@
+use Rattle.std.proofs.Common.{arith}
+use Rattle.std.proofs.lemmas.Grind.{common_steps}
 use Rattle.std.proofs.Common.{◌∷◌, ◌++◌, subst}
 use Rattle.store.specs.Subtrees.{Fits}
 use Rattle.store.specs.Trees.{in_order}
@@ -17,3 +19,6 @@ over-requires-then-height-clause-fits g c =
 pub lift-requires-clause-fits : goal.lift-requires-clause-fits
 lift-requires-clause-fits g c =
     subst (λ t. Fits g.P.Measured.chars g.P.Measured.lines (in_order t ++ c.args.spare ∷ in_order c.args.right)) c.in-Some.ensures.parts c.requires.fits
+
+pub returns-then-height-clause-items : goal.returns-then-height-clause-items
+returns-then-height-clause-items g c = grind (arith, common_steps)

@@ -1,3 +1,5 @@
+use Rattle.std.proofs.Common.{arith}
+use Rattle.std.proofs.lemmas.Grind.{common_steps}
 use Rattle.store.specs.Trees.{in_order}
 use Rattle.store.proofs.JoinLemmas.{fit_behind}
 use Rattle.store.proofs.joining.lean_right.Goals as goal
@@ -16,3 +18,9 @@ pub lift-requires-clause-fits : goal.lift-requires-clause-fits
 lift-requires-clause-fits g c =
     (fit_behind g.P.Measured.chars g.P.Measured.lines (in_order c.args.left) c.args.spare c.in-Some.top
     c.args.right c.in-Some.inner c.in-Some.outer c.in-Some.ensures.parts c.requires.fits).all_fit
+
+pub returns-then-height-clause-items : goal.returns-then-height-clause-items
+returns-then-height-clause-items g c = grind (arith, common_steps)
+
+pub returns-clause-items : goal.returns-clause-items
+returns-clause-items g c = grind (arith, common_steps)

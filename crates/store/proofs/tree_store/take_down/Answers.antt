@@ -1,3 +1,4 @@
+use Rattle.std.proofs.lemmas.Grind.{common_steps}
 use Rattle.std.proofs.Common.{length, reverse, arith, ap, length-append}
 use Rattle.std.proofs.lemmas.List.{length-reverse}
 use Rattle.store.proofs.tree_store.take_down.Goals as goal
@@ -16,3 +17,9 @@ push_reserved-requires g c =
       c.loop.items.ok.0,
       c.requires,
     )
+
+pub loop-preserved : goal.loop-preserved
+loop-preserved g c = grind (arith, common_steps)
+
+pub returns : goal.returns
+returns g c = grind (arith, common_steps)

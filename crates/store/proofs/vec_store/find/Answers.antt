@@ -1,3 +1,4 @@
+use Rattle.std.proofs.lemmas.Grind.{common_steps}
 use Rattle.std.proofs.Common.{◌+◌, sym, take, drop, arith}
 use Rattle.std.proofs.lemmas.List.{length-take-le}
 use Rattle.store.proofs.ListLemmas.{at_place}
@@ -17,3 +18,12 @@ returns-then-rest-size-clause-found g c =
       within = omega (arith, c.size_of-size.ensures);
       lines_before = c.loop-index.invariant.1;
     }
+
+pub overflow_add-lines_before : goal.overflow_add-lines_before
+overflow_add-lines_before g c = grind (arith, common_steps)
+
+pub loop-index-preserved : goal.loop-index-preserved
+loop-index-preserved g c = grind (arith, common_steps)
+
+pub unreachable-requires : goal.unreachable-requires
+unreachable-requires g c = grind (arith, common_steps)

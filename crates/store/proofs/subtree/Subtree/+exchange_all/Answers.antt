@@ -2,10 +2,10 @@ use Rattle.std.proofs.Common.{◌≡◌, ◌+◌, ◌<◌, ◌++◌, ◌∷◌, 
 use Rattle.std.specs.List.{AllZip}
 use Rattle.store.specs.Exchanging.{pairwise}
 use Rattle.store.specs.Subtrees.{tree_of, tree_of_node, IsSummed, IsSound}
-use Rattle.store.specs.Trees.{in_order}
-use Rattle.std.proofs.lemmas.List.Sums.{sum_by-append, sum_by-cons}
-use Rattle.store.proofs.ExchangeLemmas.{as_many, fit_front, fit_item, fit_right, pairwise-append, pairwise_parts, sum_parts, same_sum, set_one, AreParted}
-use Rattle.store.proofs.SubtreeLemmas.{summed_again, IsLike}
+use Rattle.store.specs.Trees.{in_order, height}
+use Rattle.std.proofs.lemmas.List.Sums.{sum_by-append}
+use Rattle.store.proofs.ExchangeLemmas.{as_many, length-pairwise, fit_front, fit_item, fit_right, pairwise-append, pairwise_parts, sum_parts, same_sum, set_one, AreParted}
+use Rattle.store.proofs.SubtreeLemmas.{balanced_again, summed_again, IsLike}
 use Rattle.store.proofs.subtree.Subtree.+exchange_all.Goals as goal
 
 pub split_at_mut-first-requires : goal.split_at_mut-first-requires
@@ -145,8 +145,8 @@ returns-clause-chars g t c =
     ap (sum_by g.P.Measured.chars) (returns-clause-items g t c)
     ∙ same_sum (g.E.Exchanger.fits by) g.P.Measured.chars (g.E.Exchanger.exchanged by) (g.met.E.Exchanger.keeps_chars by) (in_order c.args.self.now) c.args.parts.now c.requires.fit
 
-pub overflow_add-node : goal.overflow_add-node
-overflow_add-node g t c =
+pub lines_with-node-requires : goal.lines_with-node-requires
+lines_with-node-requires g t c =
     let by = c.args.by.now in
     let n = c.deref_mut-node.result.now in
     let xs = in_order n.left in
@@ -168,48 +168,7 @@ overflow_add-node g t c =
     let items : in_order c.exchange_all.new.self ++ c.exchange.new.item ∷ in_order c.exchange_all-2.new.self
     ≡ pairwise (g.E.Exchanger.exchanged by) (in_order c.args.self.now) c.args.parts.now =
     rw (made, c.exchange_all.ensures.items, c.exchange.ensures.item, c.exchange_all-2.ensures.items, c.exchange.ensures.same, c.exchange_all.ensures.same) refl in
-    let sum_is : sum_by g.P.Measured.lines (in_order c.exchange_all.new.self) + (g.P.Measured.lines c.exchange.new.item + sum_by g.P.Measured.lines (in_order c.exchange_all-2.new.self))
-    ≡ sum_by g.P.Measured.lines (pairwise (g.E.Exchanger.exchanged by) (in_order c.args.self.now) c.args.parts.now) =
-    omega (
-      arith,
-      ap (sum_by g.P.Measured.lines) items,
-      sum_by-append g.P.Measured.lines (in_order c.exchange_all.new.self) (c.exchange.new.item ∷ in_order c.exchange_all-2.new.self),
-      sum_by-cons g.P.Measured.lines c.exchange.new.item (in_order c.exchange_all-2.new.self),
-    ) in
-    omega (arith, sum_is, c.requires.lines_fit, c.lines.ensures, c.lines-2.ensures)
-
-pub overflow_add-node-2 : goal.overflow_add-node-2
-overflow_add-node-2 g t c =
-    let by = c.args.by.now in
-    let n = c.deref_mut-node.result.now in
-    let xs = in_order n.left in
-    let ys = in_order n.right in
-    let ps = c.split_at_mut-first.result.0.now in
-    let rest = c.split_at_mut-first.result.1.now in
-    let one = c.split_at_mut-part.result.0.now in
-    let qs = c.split_at_mut-part.result.1.now in
-    let d = c.index-part-0.result in
-    let tree_is = sym c.self.view_is ∙ ap tree_of c.in-Some.is ∙ ap tree_of_node (sym c.deref_mut-node.ensures.value) in
-    let parted : AreParted (g.E.Exchanger.fits by) xs n.item ys ps rest one qs c.args.parts.now = record {
-      all_is = c.split_at_mut-first.ensures.value;
-      rest_is = c.split_at_mut-part.ensures.value;
-      front_len = c.split_at_mut-first.ensures.front_len ∙ c.count-before.ensures;
-      one_len = c.split_at_mut-part.ensures.front_len;
-    } in
-    let made = ap (λ zs. pairwise (g.E.Exchanger.exchanged by) zs c.args.parts.now) (ap in_order tree_is)
-    ∙ pairwise_parts (g.E.Exchanger.fits by) xs n.item ys ps rest one qs (g.E.Exchanger.exchanged by) d parted in
-    let items : in_order c.exchange_all.new.self ++ c.exchange.new.item ∷ in_order c.exchange_all-2.new.self
-    ≡ pairwise (g.E.Exchanger.exchanged by) (in_order c.args.self.now) c.args.parts.now =
-    rw (made, c.exchange_all.ensures.items, c.exchange.ensures.item, c.exchange_all-2.ensures.items, c.exchange.ensures.same, c.exchange_all.ensures.same) refl in
-    let sum_is : sum_by g.P.Measured.lines (in_order c.exchange_all.new.self) + (g.P.Measured.lines c.exchange.new.item + sum_by g.P.Measured.lines (in_order c.exchange_all-2.new.self))
-    ≡ sum_by g.P.Measured.lines (pairwise (g.E.Exchanger.exchanged by) (in_order c.args.self.now) c.args.parts.now) =
-    omega (
-      arith,
-      ap (sum_by g.P.Measured.lines) items,
-      sum_by-append g.P.Measured.lines (in_order c.exchange_all.new.self) (c.exchange.new.item ∷ in_order c.exchange_all-2.new.self),
-      sum_by-cons g.P.Measured.lines c.exchange.new.item (in_order c.exchange_all-2.new.self),
-    ) in
-    omega (arith, sum_is, c.requires.lines_fit, c.lines.ensures, c.lines-2.ensures, c.lines-3.ensures)
+    subst (λ zs. sum_by g.P.Measured.lines zs < 2 ^ 64) (sym items) c.requires.lines_fit
 
 pub invariant_of-self-2 : goal.invariant_of-self-2
 invariant_of-self-2 g t c =
@@ -247,4 +206,23 @@ invariant_of-self-2 g t c =
     let item_is = ap g.P.Measured.chars c.exchange.ensures.item
     ∙ ap (λ other. g.P.Measured.chars (g.E.Exchanger.exchanged other n.item (get_or one 0 d))) c.exchange_all.ensures.same
     ∙ g.met.E.Exchanger.keeps_chars by n.item _ (fit_item (g.E.Exchanger.fits by) xs n.item ys ps rest one qs d parted whole) in
-    summed_again g.P.Measured.chars g.P.Measured.lines n _ summed l r item_is refl refl refl (omega (arith, c.lines.ensures, c.lines-2.ensures, c.lines-3.ensures))
+    summed_again g.P.Measured.chars g.P.Measured.lines n _ summed l r item_is refl refl refl c.lines_with-node.ensures
+
+pub returns-clause-count : goal.returns-clause-count
+returns-clause-count g t c =
+    let by = c.args.by.now in
+    ap length (returns-clause-items g t c)
+    ∙ length-pairwise (g.E.Exchanger.fits by) (g.E.Exchanger.exchanged by) (in_order c.args.self.now) c.args.parts.now c.requires.fit
+
+pub returns-clause-height : goal.returns-clause-height
+returns-clause-height g t c =
+    let tree_is = sym c.self.view_is ∙ ap tree_of c.in-Some.is ∙ ap tree_of_node (sym c.deref_mut-node.ensures.value) in
+    rw (c.exchange_all.ensures.height, c.exchange_all-2.ensures.height) (sym (ap height tree_is))
+
+pub returns-clause-balanced : goal.returns-clause-balanced
+returns-clause-balanced g t c =
+    let n = c.deref_mut-node.result.now in
+    let summed : IsSummed g.P.Measured.chars g.P.Measured.lines n =
+    subst (IsSummed g.P.Measured.chars g.P.Measured.lines) (sym c.deref_mut-node.ensures.value) (subst (IsSound g.P.Measured.chars g.P.Measured.lines) c.in-Some.is c.self.invariant) in
+    balanced_again n.left n.right c.exchange_all.new.self c.exchange_all-2.new.self n.item summed.balanced
+    c.exchange_all.ensures.balanced c.exchange_all-2.ensures.balanced c.exchange_all.ensures.height c.exchange_all-2.ensures.height

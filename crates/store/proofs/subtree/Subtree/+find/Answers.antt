@@ -1,3 +1,4 @@
+use Rattle.std.proofs.lemmas.Grind.{common_steps}
 use Rattle.std.proofs.Common.{◌≡◌, ◌+◌, ◌-◌, length, sum_by, refl, sym, ap, ◌∙◌, arith}
 use Rattle.store.specs.Finding.{measure}
 use Rattle.store.specs.Subtrees.{tree_of, tree_of_node}
@@ -35,3 +36,24 @@ overflow_add-result-6 g t c =
     let n = c.deref-node.result.now in
     let tree_is = sym c.self.view_is ∙ ap tree_of c.in-Some.is ∙ ap tree_of_node (sym c.deref-node.ensures) in
     omega (arith, nodes_low n.right c.find-found-2.result.index, c.find-found-2.ensures.visits, ap height tree_is)
+
+pub find-found-requires : goal.find-found-requires
+find-found-requires g t c = grind (arith, common_steps)
+
+pub find-found-requires-2 : goal.find-found-requires-2
+find-found-requires-2 g t c = grind (arith, common_steps)
+
+pub overflow_add-result-2 : goal.overflow_add-result-2
+overflow_add-result-2 g t c = grind (arith, common_steps)
+
+pub overflow_add-result-3 : goal.overflow_add-result-3
+overflow_add-result-3 g t c = grind (arith, common_steps)
+
+pub overflow_add-result-4 : goal.overflow_add-result-4
+overflow_add-result-4 g t c = grind (arith, common_steps)
+
+pub overflow_add-result-5 : goal.overflow_add-result-5
+overflow_add-result-5 g t c = grind (arith, common_steps)
+
+pub returns-then-n-before-clause-visits : goal.returns-then-n-before-clause-visits
+returns-then-n-before-clause-visits g t c = grind (arith, common_steps)

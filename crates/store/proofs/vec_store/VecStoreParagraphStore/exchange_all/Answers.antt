@@ -26,3 +26,12 @@ invariant_of-self g c =
     let e : take c.self.inside.items.len (new ++ drop (length new) xs) ≡ new = overwritten new xs c.self.inside.items.len (grind (arith, common_steps)) (grind (arith, common_steps)) in
     let f : c.deref.result.now ≡ new = c.deref.ensures.value ∙ e in
     rw e (grind (arith, common_steps, f), grind (arith, common_steps, f))
+
+pub returns-clause-items : goal.returns-clause-items
+returns-clause-items g c = grind (arith, common_steps)
+
+pub returns-clause-parts : goal.returns-clause-parts
+returns-clause-parts g c = grind (arith, common_steps)
+
+pub sums-lines-requires-clause-lines_fit : goal.sums-lines-requires-clause-lines_fit
+sums-lines-requires-clause-lines_fit g c = grind (arith, common_steps)

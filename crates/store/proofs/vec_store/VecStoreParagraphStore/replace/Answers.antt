@@ -1,3 +1,4 @@
+use Rattle.std.proofs.lemmas.Grind.{common_steps}
 use Rattle.std.proofs.Common.{◌≡◌, ◌+◌, ◌-◌, ◌^◌, ◌<◌, ◌≤◌, sum_by, ap, sym, ◌∙◌, arith}
 use Rattle.std.specs.List.{splice}
 use Rattle.store.proofs.ListLemmas.{range_within, sum_after}
@@ -53,3 +54,9 @@ overflow_add-self-2 g c =
     c.requires.ordered (c.self.invariant.1 ∙ ap (sum_by g.P.Measured.lines) (sym c.reserve.ensures.items)) old_is c.sums-old_chars.ensures.lines c.deref.ensures.value c.sums-new_chars.ensures.lines c.put_in.ensures.items in
     let fits : c.self.inside.lines - c.sums-old_chars.result.1 + c.sums-new_chars.result.1 < 2 ^ 64 = rw (sum_is, new_is) c.requires.lines_fit in
     omega arith
+
+pub sums-new_chars-requires-clause-chars_fit : goal.sums-new_chars-requires-clause-chars_fit
+sums-new_chars-requires-clause-chars_fit g c = grind (arith, common_steps)
+
+pub sums-new_chars-requires-clause-lines_fit : goal.sums-new_chars-requires-clause-lines_fit
+sums-new_chars-requires-clause-lines_fit g c = grind (arith, common_steps)
