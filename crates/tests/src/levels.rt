@@ -2,7 +2,7 @@
 ghost use Rattle.std.specs.Prelude.{◌≡◌, map, IfOk};
 ghost use Rattle.ucd.specs.Properties.{properties_of};
 
-use crate::files::tables;
+use crate::files::{FILES, read};
 use bidi::{Base, Resolver, base_level, base_level_by, resolve};
 use plain::levels::plain_levels;
 use std::alloc::{AllocError, Global};
@@ -137,8 +137,18 @@ const LISTS: [(usize, usize); 4] = [(1, 12), (2, 144), (3, 1_728), (4, 20_736)];
 // Whether it is so of all lists of 1 to 4 characters.
 fn all_are_same(alloc: Global, tables: &Tables) -> Result<bool, AllocError> {
     let mut resolver = Resolver::new(alloc);
+    let result = all_are_same_by(alloc, &mut resolver, tables);
+    drop(resolver);
+    result
+}
+
+fn all_are_same_by(
+    alloc: Global,
+    resolver: &mut Resolver,
+    tables: &Tables,
+) -> Result<bool, AllocError> {
     for (len, lists) in &LISTS {
-        if !are_same(alloc, &mut resolver, tables, *len, *lists)? {
+        if !are_same(alloc, resolver, tables, *len, *lists)? {
             return Ok(false);
         }
     }
@@ -147,8 +157,10 @@ fn all_are_same(alloc: Global, tables: &Tables) -> Result<bool, AllocError> {
 
 #[test]
 fn walks_find_what_passes_find(rt: HostRuntime) -> Result<(), Fail> {
-    let tables = tables(rt.alloc())?;
-    assert!(rt; all_are_same(rt.alloc(), &tables)?);
+    let tables = read(rt.alloc(), &FILES)?;
+    let result = all_are_same(rt.alloc(), &tables);
+    drop(tables);
+    assert!(rt; result?);
     Ok(())
 }
 
@@ -187,8 +199,36 @@ const ROWS: [Row; 6] = [
 ];
 
 fn are_digits(levels: &[u8], digits: &[u8]) -> bool {
-    let is_digit = |(level, digit): (&u8, &u8)| level.wrapping_add(b'0') == *digit;
-    levels.len() == digits.len() && levels.iter().zip(digits).all(is_digit)
+    let mut all_right = levels.len() == digits.len();
+    for (level, digit) in levels.iter().zip(digits) {
+        all_right &= level.wrapping_add(b'0') == *digit;
+    }
+    all_right
+}
+
+// Whether a resolver finds these levels of a text.
+fn finds(
+    alloc: Global,
+    resolver: &mut Resolver,
+    tables: &Tables,
+    text: &[char],
+    digits: &str,
+) -> Result<bool, AllocError> {
+    let mut levels = Vec::new(alloc);
+    let is_base = put_levels(alloc, resolver, tables, text, Base::WeakLtr, &mut levels)?;
+    Ok(is_base && are_digits(&levels, digits.as_bytes()))
+}
+
+// Whether they are found of a text by no resolver that serves again.
+fn resolves_to(
+    alloc: Global,
+    tables: &Tables,
+    text: &[char],
+    base: Base,
+    digits: &str,
+) -> Result<bool, AllocError> {
+    let levels = resolve(alloc, tables, text, base)?;
+    Ok(are_digits(&levels, digits.as_bytes()))
 }
 
 fn has_levels(
@@ -198,17 +238,57 @@ fn has_levels(
     row: &Row,
 ) -> Result<bool, AllocError> {
     let text: Vec<char> = row.text.chars().collect(alloc)?;
-    let properties = properties_of(alloc, tables, &text)?;
-    let mut levels = Vec::new(alloc);
-    let _ = resolver.resolve(tables, &text, &properties, Base::WeakLtr, &mut levels)?;
-    let once = resolve(alloc, tables, &text, Base::WeakLtr)?;
-    Ok(are_digits(&levels, row.levels.as_bytes()) && levels.as_slice() == once.as_slice())
+    let is_found = finds(alloc, resolver, tables, &text, row.levels);
+    let is_once = resolves_to(alloc, tables, &text, Base::WeakLtr, row.levels);
+    drop(text);
+    Ok(is_found? && is_once?)
 }
 
-fn have_levels(alloc: Global, tables: &Tables, rows: &[Row]) -> Result<bool, AllocError> {
-    let mut resolver = Resolver::new(alloc);
+fn have_levels(
+    alloc: Global,
+    resolver: &mut Resolver,
+    tables: &Tables,
+    rows: &[Row],
+) -> Result<bool, AllocError> {
     for row in rows {
-        if !has_levels(alloc, &mut resolver, tables, row)? {
+        if !has_levels(alloc, resolver, tables, row)? {
+            return Ok(false);
+        }
+    }
+    Ok(true)
+}
+
+// Whether one resolver finds the levels of each row.
+fn are_found(alloc: Global, tables: &Tables, rows: &[Row]) -> Result<bool, AllocError> {
+    let mut resolver = Resolver::new(alloc);
+    let result = have_levels(alloc, &mut resolver, tables, rows);
+    drop(resolver);
+    result
+}
+
+#[test]
+fn a_resolver_serves_again(rt: HostRuntime) -> Result<(), Fail> {
+    let tables = read(rt.alloc(), &FILES)?;
+    let result = are_found(rt.alloc(), &tables, &ROWS);
+    drop(tables);
+    assert!(rt; result?);
+    Ok(())
+}
+
+// A paragraph with its separator, whose level no line shows.
+const SEPARATED: [(&[char], Base, &str); 3] = [
+    (&['\u{5D0}', '\n'], Base::WeakLtr, "11"),
+    (&['\u{202E}', 'a', '\n'], Base::WeakLtr, "010"),
+    (&['\u{2067}', 'a', '\n'], Base::WeakRtl, "141"),
+];
+
+fn all_resolve(
+    alloc: Global,
+    tables: &Tables,
+    rows: &[(&[char], Base, &str)],
+) -> Result<bool, AllocError> {
+    for (text, base, digits) in rows {
+        if !resolves_to(alloc, tables, text, *base, digits)? {
             return Ok(false);
         }
     }
@@ -216,36 +296,10 @@ fn have_levels(alloc: Global, tables: &Tables, rows: &[Row]) -> Result<bool, All
 }
 
 #[test]
-fn a_resolver_serves_again(rt: HostRuntime) -> Result<(), Fail> {
-    let tables = tables(rt.alloc())?;
-    assert!(rt; have_levels(rt.alloc(), &tables, &ROWS)?);
-    Ok(())
-}
-
-fn resolves_to(
-    alloc: Global,
-    tables: &Tables,
-    text: &str,
-    base: Base,
-    digits: &str,
-) -> Result<bool, AllocError> {
-    let text: Vec<char> = text.chars().collect(alloc)?;
-    let levels = resolve(alloc, tables, &text, base)?;
-    Ok(are_digits(&levels, digits.as_bytes()))
-}
-
-// A paragraph with its separator, whose level no line shows.
-const SEPARATED: [(&str, Base, &str); 3] = [
-    ("\u{5D0}\n", Base::WeakLtr, "11"),
-    ("\u{202E}a\n", Base::WeakLtr, "010"),
-    ("\u{2067}a\n", Base::WeakRtl, "141"),
-];
-
-#[test]
 fn levels_of_separators(rt: HostRuntime) -> Result<(), Fail> {
-    let tables = tables(rt.alloc())?;
-    for (text, base, digits) in &SEPARATED {
-        assert!(rt; resolves_to(rt.alloc(), &tables, text, *base, digits)?);
-    }
+    let tables = read(rt.alloc(), &FILES)?;
+    let result = all_resolve(rt.alloc(), &tables, &SEPARATED);
+    drop(tables);
+    assert!(rt; result?);
     Ok(())
 }

@@ -3,34 +3,50 @@
 ghost use Rattle.std.specs.Prelude.{◌≡◌, map, OnOk};
 ghost use Rattle.ucd.specs.Properties.{properties_of};
 
-use crate::files::FILES;
+use crate::files::{FILES, read};
 use breaks::{Mark, marks, marks_into};
 use plain::marks::plain_marks;
 use std::alloc::{AllocError, Global};
 use std::process::Abort;
 use std::test::Fail;
-use ucd::{Cause, LineClass, Properties, Tables, UcdFiles};
+use ucd::{LineClass, Properties, Tables, UcdFiles};
 
-fn tables(alloc: Global, files: &UcdFiles<'_>) -> Result<Tables, Fail> {
-    match Tables::read(alloc, files) {
-        Err(fault) if fault.cause == Cause::Memory => Ok(Tables::read(alloc, files)?),
-        tables => Ok(tables?),
+// The marks of a text, asked for twice.
+fn marks_of(
+    alloc: Global,
+    tables: &Tables,
+    text: &[char],
+    whole_numbers: bool,
+) -> Result<Vec<Mark>, AllocError> {
+    match marks(alloc, tables, text, whole_numbers) {
+        Ok(marks) => Ok(marks),
+        Err(_) => marks(alloc, tables, text, whole_numbers),
     }
 }
 
-// The marks of a text, in the signs of the annex.
-fn signs(alloc: Global, tables: &Tables, text: &str, whole_numbers: bool) -> Result<String, Fail> {
-    let text: Vec<char> = text.chars().collect(alloc)?;
-    let marks = match marks(alloc, tables, &text, whole_numbers) {
-        Ok(marks) => marks,
-        Err(_) => marks(alloc, tables, &text, whole_numbers)?,
-    };
-    let signs = marks.iter().map(|mark| match mark {
-        Mark::Never => '×',
-        Mark::May => '÷',
-        Mark::Must => '!',
-    });
-    Ok(signs.collect(alloc)?)
+// Whether the marks are these, in the signs of the annex.
+fn are_signs(marks: &[Mark], signs: &str) -> bool {
+    let mut all_right = marks.len() == signs.chars().count();
+    for (mark, sign) in marks.iter().zip(signs.chars()) {
+        let is = match mark {
+            Mark::Never => '×',
+            Mark::May => '÷',
+            Mark::Must => '!',
+        };
+        all_right &= is == sign;
+    }
+    all_right
+}
+
+fn has_marks(
+    alloc: Global,
+    tables: &Tables,
+    text: &[char],
+    whole_numbers: bool,
+    signs: &str,
+) -> Result<bool, AllocError> {
+    let marks = marks_of(alloc, tables, text, whole_numbers)?;
+    Ok(are_signs(&marks, signs))
 }
 
 // Texts and their marks, whether numbers stay whole or not.
@@ -93,19 +109,22 @@ const SIGNS: [(&str, &str, &str); 3] = [
 // Those of U+00A9 and a modifier, where the first is unassigned and where it isn't.
 const PICTOGRAPHS: [(&[u8], &str); 2] = [(b"", "×!"), (b"00A9;So", "÷!")];
 
+// The marks of a text without whole numbers, and with them.
 fn check(
     rt: &impl Abort,
     alloc: Global,
     tables: &Tables,
     text: &str,
-    whole_numbers: bool,
-    want: &str,
-) -> Result<(), Fail> {
-    let signs = signs(alloc, tables, text, whole_numbers)?;
-    assert_eq!(rt;
-        signs.as_str(),
-        want,
-        "{text:?}, whole numbers: {whole_numbers}"
+    [want, want_whole]: [&str; 2],
+) -> Result<(), AllocError> {
+    let chars: Vec<char> = text.chars().collect(alloc)?;
+    let has = has_marks(alloc, tables, &chars, false, want);
+    let has_whole = has_marks(alloc, tables, &chars, true, want_whole);
+    drop(chars);
+    let are_right = [has?, has_whole?];
+    assert!(rt;
+        are_right == [true, true],
+        "{text:?}, not whole and whole: {are_right:?}"
     );
     Ok(())
 }
@@ -115,10 +134,9 @@ fn check_each(
     alloc: Global,
     tables: &Tables,
     rows: &[(&str, &str)],
-) -> Result<(), Fail> {
+) -> Result<(), AllocError> {
     for (text, want) in rows {
-        check(rt, alloc, tables, text, false, want)?;
-        check(rt, alloc, tables, text, true, want)?;
+        check(rt, alloc, tables, text, [want, want])?;
     }
     Ok(())
 }
@@ -128,24 +146,36 @@ fn check_numbers(
     alloc: Global,
     tables: &Tables,
     rows: &[(&str, &str, &str)],
-) -> Result<(), Fail> {
+) -> Result<(), AllocError> {
     for (text, want, want_whole) in rows {
-        check(rt, alloc, tables, text, false, want)?;
-        check(rt, alloc, tables, text, true, want_whole)?;
+        check(rt, alloc, tables, text, [want, want_whole])?;
     }
     Ok(())
 }
 
 #[test]
 fn marks_of_rows(rt: HostRuntime) -> Result<(), Fail> {
-    let tables = tables(rt.alloc(), &FILES)?;
-    check_each(&rt, rt.alloc(), &tables, &ROWS)
+    let tables = read(rt.alloc(), &FILES)?;
+    let result = check_each(&rt, rt.alloc(), &tables, &ROWS);
+    drop(tables);
+    Ok(result?)
+}
+
+fn check_numbers_by(
+    rt: &impl Abort,
+    alloc: Global,
+    files: &UcdFiles<'_>,
+    rows: &[(&str, &str, &str)],
+) -> Result<(), Fail> {
+    let tables = read(alloc, files)?;
+    let result = check_numbers(rt, alloc, &tables, rows);
+    drop(tables);
+    Ok(result?)
 }
 
 #[test]
 fn marks_of_numbers(rt: HostRuntime) -> Result<(), Fail> {
-    let tables = tables(rt.alloc(), &FILES)?;
-    check_numbers(&rt, rt.alloc(), &tables, &NUMBERS)
+    check_numbers_by(&rt, rt.alloc(), &FILES, &NUMBERS)
 }
 
 #[test]
@@ -154,8 +184,7 @@ fn marks_of_signs(rt: HostRuntime) -> Result<(), Fail> {
         line_break: b"0020;SP\n002D;HY\n0030..0039;NU\n00A0;GL\n00B0;PO\n20AC;PR",
         ..FILES
     };
-    let tables = tables(rt.alloc(), &files)?;
-    check_numbers(&rt, rt.alloc(), &tables, &SIGNS)
+    check_numbers_by(&rt, rt.alloc(), &files, &SIGNS)
 }
 
 fn check_pictograph(
@@ -169,18 +198,16 @@ fn check_pictograph(
         general_category: categories,
         ..FILES
     };
-    check_each(
-        rt,
-        alloc,
-        &tables(alloc, &files)?,
-        &[("\u{A9}\u{1F3FB}", want)],
-    )
+    let tables = read(alloc, &files)?;
+    let result = check(rt, alloc, &tables, "\u{A9}\u{1F3FB}", [want, want]);
+    drop(tables);
+    Ok(result?)
 }
 
 // A modifier stands behind a pictograph that is unassigned, and behind no other.
 #[test]
 fn marks_behind_pictographs(rt: HostRuntime) -> Result<(), Fail> {
-    for (categories, want) in PICTOGRAPHS {
+    for (categories, want) in &PICTOGRAPHS {
         check_pictograph(&rt, rt.alloc(), categories, want)?;
     }
     Ok(())
@@ -302,7 +329,7 @@ fn check_list(
     length: usize,
     number: u64,
     kept: &mut Kept,
-) -> Result<(), Fail> {
+) -> Result<(), AllocError> {
     let agrees = match agrees_on(tables, letters, length, number, kept) {
         Ok(agrees) => agrees,
         Err(_) => agrees_on(tables, letters, length, number, kept)?,
@@ -319,7 +346,7 @@ fn check_lists(
     letters: &[char],
     length: usize,
     numbers: u64,
-) -> Result<(), Fail> {
+) -> Result<(), AllocError> {
     let mut kept = Kept::new(alloc);
     for number in 0..numbers {
         check_list(rt, tables, letters, length, number, &mut kept)?;
@@ -330,7 +357,7 @@ fn check_lists(
 // How many lists there are of so many letters.
 const LISTS: [(usize, u64); 4] = [(1, 12), (2, 144), (3, 1_728), (4, 20_736)];
 
-fn check_letters(rt: &impl Abort, alloc: Global, tables: &Tables) -> Result<(), Fail> {
+fn check_letters(rt: &impl Abort, alloc: Global, tables: &Tables) -> Result<(), AllocError> {
     for (length, numbers) in &LISTS {
         check_lists(rt, alloc, tables, &LETTERS, *length, *numbers)?;
     }
@@ -340,8 +367,10 @@ fn check_letters(rt: &impl Abort, alloc: Global, tables: &Tables) -> Result<(), 
 // Every list of 1 to 4 of the letters.
 #[test]
 fn walk_finds_the_marks_of_letters(rt: HostRuntime) -> Result<(), Fail> {
-    let tables = tables(rt.alloc(), &FILES)?;
-    check_letters(&rt, rt.alloc(), &tables)
+    let tables = read(rt.alloc(), &FILES)?;
+    let result = check_letters(&rt, rt.alloc(), &tables);
+    drop(tables);
+    Ok(result?)
 }
 
 fn class_letters(alloc: Global) -> Result<Vec<char>, AllocError> {
@@ -354,7 +383,7 @@ fn check_random(
     alloc: Global,
     tables: &Tables,
     letters: &[char],
-) -> Result<(), Fail> {
+) -> Result<(), AllocError> {
     let mut kept = Kept::new(alloc);
     let mut number: u64 = 1;
     for _ in 0..10_000 {
@@ -366,12 +395,22 @@ fn check_random(
     Ok(())
 }
 
-fn check_classes(
+fn check_classes(rt: &impl Abort, alloc: Global, tables: &Tables) -> Result<(), AllocError> {
+    let letters = match class_letters(alloc) {
+        Ok(letters) => letters,
+        Err(_) => class_letters(alloc)?,
+    };
+    let result = check_lists_of(rt, alloc, tables, &letters);
+    drop(letters);
+    result
+}
+
+fn check_lists_of(
     rt: &impl Abort,
     alloc: Global,
     tables: &Tables,
     letters: &[char],
-) -> Result<(), Fail> {
+) -> Result<(), AllocError> {
     check_lists(rt, alloc, tables, letters, 1, 86)?;
     check_lists(rt, alloc, tables, letters, 2, 7_396)?;
     check_random(rt, alloc, tables, letters)
@@ -380,10 +419,8 @@ fn check_classes(
 // Every list of 1 or 2 characters of each class, and lists of 10 that look random.
 #[test]
 fn walk_finds_the_marks_of_classes(rt: HostRuntime) -> Result<(), Fail> {
-    let tables = tables(rt.alloc(), &CLASS_FILES)?;
-    let letters = match class_letters(rt.alloc()) {
-        Ok(letters) => letters,
-        Err(_) => class_letters(rt.alloc())?,
-    };
-    check_classes(&rt, rt.alloc(), &tables, &letters)
+    let tables = read(rt.alloc(), &CLASS_FILES)?;
+    let result = check_classes(&rt, rt.alloc(), &tables);
+    drop(tables);
+    Ok(result?)
 }

@@ -81,12 +81,9 @@ fn replace<S: ParagraphStore<Item>>(
     new_items: Vec<Item>,
 ) -> Result<Vec<Item>, (Vec<Item>, AllocError)> {
     let (chars, lines) = sums(&new_items);
-    assert!(rt; chars < LIMIT);
-    assert!(rt; lines < LIMIT);
-    assert!(rt; store.total_chars() < LIMIT);
-    assert!(rt; store.total_lines() < LIMIT);
-    assert!(rt; range.start <= range.end);
-    assert!(rt; range.end <= store.count());
+    assert!(rt; chars < LIMIT && lines < LIMIT);
+    assert!(rt; store.total_chars() < LIMIT && store.total_lines() < LIMIT);
+    assert!(rt; range.start <= range.end && range.end <= store.count());
     store.replace(range, new_items)
 }
 
@@ -108,8 +105,7 @@ fn exchange_all<S: ParagraphStore<Item>>(
     by: &mut Adder,
     parts: &mut Vec<usize>,
 ) {
-    assert!(rt; sum(parts, by.more) < LIMIT);
-    assert_eq!(rt; parts.len(), store.count());
+    assert!(rt; sum(parts, by.more) < LIMIT && parts.len() == store.count());
     store.exchange_all(by, parts);
 }
 
@@ -151,36 +147,34 @@ fn small_items(alloc: Global, count: usize) -> Result<Vec<Item>, AllocError> {
     Ok(items)
 }
 
-// Where each character and each line stands, but for the visits.
-fn check_finds<S: ParagraphStore<Item>, T: ParagraphStore<Item>>(
-    rt: &impl Abort,
-    left: &S,
-    right: &T,
-) {
-    assert_eq!(rt; left.total_chars(), right.total_chars());
-    for pos in 0..left.total_chars() {
-        let found = left.find_char(pos);
-        let other = right.find_char(pos);
-        assert_eq!(rt; Found { visits: 0, ..found }, Found { visits: 0, ..other });
-    }
-    assert_eq!(rt; left.total_lines(), right.total_lines());
-    for n in 0..left.total_lines() {
-        let found = left.find_line(n);
-        let other = right.find_line(n);
-        assert_eq!(rt; Found { visits: 0, ..found }, Found { visits: 0, ..other });
-    }
+// Whether both find the same, but for the visits.
+fn is_same(found: Found, other: Found) -> bool {
+    Found { visits: 0, ..found } == Found { visits: 0, ..other }
 }
 
-fn check_items<S: ParagraphStore<Item>, T: ParagraphStore<Item>>(
-    rt: &impl Abort,
-    left: &S,
-    right: &T,
-) {
-    assert_eq!(rt; left.count(), right.count());
-    for index in 0..left.count() {
-        assert_eq!(rt; left.get(index), right.get(index));
+// Whether each character and each line stands at the same place.
+fn finds_same<S: ParagraphStore<Item>, T: ParagraphStore<Item>>(left: &S, right: &T) -> bool {
+    let (chars, lines) = (left.total_chars(), left.total_lines());
+    if right.total_chars() != chars || right.total_lines() != lines {
+        return false;
     }
-    assert_eq!(rt; left.get(left.count()), None);
+    let mut all_right = true;
+    for pos in 0..chars {
+        all_right &= is_same(left.find_char(pos), right.find_char(pos));
+    }
+    for n in 0..lines {
+        all_right &= is_same(left.find_line(n), right.find_line(n));
+    }
+    all_right
+}
+
+// Whether both have the same items, and none behind them.
+fn has_same<S: ParagraphStore<Item>, T: ParagraphStore<Item>>(left: &S, right: &T) -> bool {
+    let mut all_right = left.count() == right.count() && left.get(left.count()).is_none();
+    for index in 0..left.count() {
+        all_right &= left.get(index) == right.get(index);
+    }
+    all_right
 }
 
 // All items of a store, asked for twice.
@@ -191,21 +185,34 @@ fn list_of<S: ParagraphStore<Item>>(alloc: Global, store: &S) -> Result<Vec<&Ite
     }
 }
 
-// The items that are found in one walk are those that are got one by one.
-fn check_lists<S: ParagraphStore<Item>, T: ParagraphStore<Item>>(
-    rt: &impl Abort,
-    alloc: Global,
-    left: &S,
-    right: &T,
-) -> Result<(), Fail> {
-    let list = list_of(alloc, left)?;
-    let other = list_of(alloc, right)?;
-    assert_eq!(rt; list.as_slice(), other.as_slice());
-    assert_eq!(rt; list.len(), left.count());
+// Whether the list is that of the items that are got one by one.
+fn is_list_of<S: ParagraphStore<Item>>(store: &S, list: &[&Item]) -> bool {
+    let mut all_right = list.len() == store.count();
     for (index, item) in list.iter().enumerate() {
-        assert_eq!(rt; left.get(index), Some(*item));
+        all_right &= store.get(index) == Some(*item);
     }
-    Ok(())
+    all_right
+}
+
+// Whether the items that are found in one walk are those.
+fn lists_its_own<S: ParagraphStore<Item>>(alloc: Global, store: &S) -> Result<bool, AllocError> {
+    let list = list_of(alloc, store)?;
+    Ok(is_list_of(store, &list))
+}
+
+// Whether items are so many, named from one name on.
+fn are_named(items: &[Item], first: u32, count: usize) -> bool {
+    let mut all_right = items.len() == count;
+    let mut name = first;
+    for item in items {
+        all_right &= item.name == name;
+        name = name.wrapping_add(1);
+    }
+    all_right
+}
+
+fn size_of<S: ParagraphStore<Item>>(store: &S) -> [usize; 3] {
+    [store.count(), store.total_chars(), store.total_lines()]
 }
 
 // The replacement once more, where memory was refused. The new items, which are named from one name on, came
@@ -213,51 +220,77 @@ fn check_lists<S: ParagraphStore<Item>, T: ParagraphStore<Item>>(
 fn replace_again<S: ParagraphStore<Item>>(
     rt: &impl Abort,
     store: &mut S,
-    range: Range<usize>,
+    range: (usize, usize),
+    first: u32,
     new_items: Vec<Item>,
-) -> Result<Vec<Item>, Fail> {
-    let first = new_items.first().map_or(0, |item| item.name);
-    let added = new_items.len();
-    let sums = (store.count(), store.total_chars(), store.total_lines());
-    let (start, end) = (range.start, range.end);
-    let new_items = match replace(rt, store, range, new_items) {
-        Ok(old) => return Ok(old),
-        Err((new_items, _)) => new_items,
-    };
-    assert_eq!(rt;
-        (store.count(), store.total_chars(), store.total_lines()),
-        sums
-    );
-    assert_eq!(rt; new_items.len(), added);
-    let mut name = first;
-    for item in &new_items {
-        assert_eq!(rt; item.name, name);
-        name = name.wrapping_add(1);
-    }
-    match replace(rt, store, start..end, new_items) {
+) -> Result<Vec<Item>, AllocError> {
+    let (added, size) = (new_items.len(), size_of(store));
+    match replace(rt, store, range.0..range.1, new_items) {
         Ok(old) => Ok(old),
-        Err((_, fault)) => Err(Fail::from(fault)),
+        Err((new_items, _)) => {
+            assert!(rt; size_of(store) == size && are_named(&new_items, first, added));
+            match replace(rt, store, range.0..range.1, new_items) {
+                Ok(old) => Ok(old),
+                Err((_, fault)) => Err(fault),
+            }
+        }
+    }
+}
+
+// The items of a range, which so many others take the place of.
+fn replaced<S: ParagraphStore<Item>>(
+    rt: &impl Abort,
+    alloc: Global,
+    store: &mut S,
+    range: (usize, usize),
+    (first, count): (u32, usize),
+) -> Result<Vec<Item>, AllocError> {
+    replace_again(rt, store, range, first, items(alloc, first, count)?)
+}
+
+// Whether what a range had is the same, and as much as it had room for.
+fn are_replaced(old: &[Item], other: &[Item], (start, end): (usize, usize)) -> bool {
+    old == other && Some(old.len()) == end.checked_sub(start)
+}
+
+// Both stores, which are changed alike.
+#[derive(Drop)]
+struct Both {
+    tree: TreeStore<Item>,
+    list: VecStore<Item>,
+}
+
+impl Both {
+    fn new(alloc: Global) -> Both {
+        Both {
+            tree: TreeStore::new(alloc),
+            list: VecStore::new(alloc),
+        }
     }
 }
 
 // Replaces the items of a range by so many others, in both stores.
-fn replace_both<S: ParagraphStore<Item>, T: ParagraphStore<Item>>(
+fn replace_both(
     rt: &impl Abort,
     alloc: Global,
-    left: &mut S,
-    right: &mut T,
+    both: &mut Both,
     range: (usize, usize),
     new_items: (u32, usize),
-) -> Result<(), Fail> {
-    let (start, end) = range;
-    let (first, count) = new_items;
-    let old = replace_again(rt, left, start..end, items(alloc, first, count)?)?;
-    let other = replace_again(rt, right, start..end, items(alloc, first, count)?)?;
-    assert_eq!(rt; old.as_slice(), other.as_slice());
-    assert_eq!(rt; Some(old.len()), end.checked_sub(start));
-    check_items(rt, left, right);
-    check_lists(rt, alloc, left, right)?;
-    check_finds(rt, left, right);
+) -> Result<(), AllocError> {
+    let old = replaced(rt, alloc, &mut both.tree, range, new_items)?;
+    let other = replaced(rt, alloc, &mut both.list, range, new_items)?;
+    let are_same = are_replaced(&old, &other, range);
+    drop(old);
+    drop(other);
+    assert!(rt; are_same);
+    check_both(rt, alloc, both)
+}
+
+// Both stores have and find the same.
+fn check_both(rt: &impl Abort, alloc: Global, both: &Both) -> Result<(), AllocError> {
+    assert!(rt; has_same(&both.tree, &both.list));
+    assert!(rt; lists_its_own(alloc, &both.tree)? && lists_its_own(alloc, &both.list)?);
+    assert!(rt; finds_same(&both.tree, &both.list));
     Ok(())
 }
 
@@ -269,87 +302,135 @@ fn below(seed: u64, limit: usize) -> usize {
     ((seed.wrapping_mul(0x9E37_79B9_7F4A_7C15) >> 20) % limit as u64) as usize
 }
 
+// A range, and the first name and the count of what takes its place.
+type Row = ((usize, usize), (u32, usize));
+
+const ROWS: [Row; 10] = [
+    ((0, 0), (0, 0)),
+    ((0, 0), (1, 7)),
+    ((3, 3), (20, 0)),
+    ((0, 0), (20, 2)),
+    ((9, 9), (30, 3)),
+    ((2, 5), (40, 0)),
+    ((0, 9), (50, 40)),
+    ((0, 39), (90, 1)),
+    ((1, 2), (91, 30)),
+    ((0, 31), (0, 0)),
+];
+
+fn replace_rows(
+    rt: &impl Abort,
+    alloc: Global,
+    both: &mut Both,
+    rows: &[Row],
+) -> Result<(), AllocError> {
+    for (range, new_items) in rows {
+        replace_both(rt, alloc, both, *range, *new_items)?;
+    }
+    Ok(())
+}
+
 #[test]
 fn ranges_and_lists_that_are_empty_or_whole(rt: HostRuntime) -> Result<(), Fail> {
-    let mut tree = TreeStore::new(rt.alloc());
-    let mut list = VecStore::new(rt.alloc());
-    let rows = [
-        ((0, 0), (0, 0)),
-        ((0, 0), (1, 7)),
-        ((3, 3), (20, 0)),
-        ((0, 0), (20, 2)),
-        ((9, 9), (30, 3)),
-        ((2, 5), (40, 0)),
-        ((0, 9), (50, 40)),
-        ((0, 39), (90, 1)),
-        ((1, 2), (91, 30)),
-        ((0, 31), (0, 0)),
-    ];
-    for (range, new_items) in &rows {
-        replace_both(&rt, rt.alloc(), &mut tree, &mut list, *range, *new_items)?;
+    let mut both = Both::new(rt.alloc());
+    let result = replace_rows(&rt, rt.alloc(), &mut both, &ROWS);
+    let count = both.tree.count();
+    drop(both);
+    result?;
+    assert!(rt; count == 0);
+    Ok(())
+}
+
+fn replace_at_random(rt: &impl Abort, alloc: Global, both: &mut Both) -> Result<(), AllocError> {
+    for round in 0..400u32 {
+        let seed = u64::from(round) * 7 + 1;
+        let count = both.list.count();
+        let start = below(seed, count.saturating_add(1));
+        let most = if round % 20 == 19 { 60 } else { 4 };
+        let removed = below(seed + 1, (count - start.min(count)).min(most) + 1);
+        let added = below(seed + 2, if round % 20 == 9 { 80 } else { 4 });
+        let range = (start, start.saturating_add(removed));
+        replace_both(rt, alloc, both, range, (round * 100, added))?;
     }
-    assert_eq!(rt; tree.count(), 0);
     Ok(())
 }
 
 #[test]
 fn random_replacements(rt: HostRuntime) -> Result<(), Fail> {
-    let mut tree = TreeStore::new(rt.alloc());
-    let mut list = VecStore::new(rt.alloc());
-    for round in 0..400u32 {
-        let seed = u64::from(round) * 7 + 1;
-        let count = list.count();
-        let start = below(seed, count.saturating_add(1));
-        let most = if round % 20 == 19 { 60 } else { 4 };
-        let removed = below(seed + 1, (count - start.min(count)).min(most) + 1);
-        let added = below(seed + 2, if round % 20 == 9 { 80 } else { 4 });
-        replace_both(
-            &rt,
-            rt.alloc(),
-            &mut tree,
-            &mut list,
-            (start, start.saturating_add(removed)),
-            (round * 100, added),
-        )?;
+    let mut both = Both::new(rt.alloc());
+    let result = replace_at_random(&rt, rt.alloc(), &mut both);
+    drop(both);
+    Ok(result?)
+}
+
+const THREE_BY_TWO: [Row; 2] = [((0, 0), (1, 8)), ((2, 5), (11, 2))];
+
+// Whether the first items have these names.
+fn has_names<S: ParagraphStore<Item>>(store: &S, names: &[u32]) -> bool {
+    let mut all_right = true;
+    for (index, name) in names.iter().enumerate() {
+        all_right &= match store.get(index) {
+            Some(item) => item.name == *name,
+            None => false,
+        };
     }
-    Ok(())
+    all_right
 }
 
 #[test]
 fn three_items_by_two(rt: HostRuntime) -> Result<(), Fail> {
-    let mut tree = TreeStore::new(rt.alloc());
-    let mut list = VecStore::new(rt.alloc());
-    replace_both(&rt, rt.alloc(), &mut tree, &mut list, (0, 0), (1, 8))?;
-    replace_both(&rt, rt.alloc(), &mut tree, &mut list, (2, 5), (11, 2))?;
-    let names = [1, 2, 11, 12, 6, 7, 8];
-    for (index, name) in names.iter().enumerate() {
-        assert_eq!(rt; list.get(index).map(|item| item.name), Some(*name));
-    }
+    let mut both = Both::new(rt.alloc());
+    let result = replace_rows(&rt, rt.alloc(), &mut both, &THREE_BY_TWO);
+    let is_right = has_names(&both.list, &[1, 2, 11, 12, 6, 7, 8]);
+    drop(both);
+    result?;
+    assert!(rt; is_right);
     Ok(())
+}
+
+// Whether each item got the lines of its place and seven more, for the ones that it had.
+fn are_exchanged<S: ParagraphStore<Item>>(store: &S, parts: &[usize]) -> bool {
+    let mut all_right = parts.len() == store.count();
+    for (index, lines) in parts.iter().enumerate() {
+        all_right &= *lines == index.wrapping_add(1) % 3;
+        all_right &= match store.get(index) {
+            Some(item) => item.lines == index.wrapping_add(7),
+            None => false,
+        };
+    }
+    all_right
+}
+
+// The numbers up to 50.
+fn numbers(alloc: Global) -> Result<Vec<usize>, AllocError> {
+    let mut numbers = with_room(alloc, 50)?;
+    for number in 0..50 {
+        numbers.push(number)?;
+    }
+    Ok(numbers)
+}
+
+fn exchange_both(rt: &impl Abort, alloc: Global, both: &mut Both) -> Result<(), AllocError> {
+    replace_both(rt, alloc, both, (0, 0), (1, 50))?;
+    let mut by = Adder { more: 7 };
+    let mut parts = numbers(alloc)?;
+    exchange_all(rt, &mut both.tree, &mut by, &mut parts);
+    let is_tree_right = are_exchanged(&both.tree, &parts);
+    drop(parts);
+    let mut others = numbers(alloc)?;
+    exchange_all(rt, &mut both.list, &mut by, &mut others);
+    let is_list_right = are_exchanged(&both.list, &others);
+    drop(others);
+    assert!(rt; is_tree_right && is_list_right);
+    check_both(rt, alloc, both)
 }
 
 #[test]
 fn exchanges_in_order(rt: HostRuntime) -> Result<(), Fail> {
-    let mut tree = TreeStore::new(rt.alloc());
-    let mut list = VecStore::new(rt.alloc());
-    replace_both(&rt, rt.alloc(), &mut tree, &mut list, (0, 0), (1, 50))?;
-    let mut parts = with_room(rt.alloc(), 50)?;
-    let mut others = with_room(rt.alloc(), 50)?;
-    for index in 0..50 {
-        parts.push(index)?;
-        others.push(index)?;
-    }
-    let mut by = Adder { more: 7 };
-    exchange_all(&rt, &mut tree, &mut by, &mut parts);
-    exchange_all(&rt, &mut list, &mut by, &mut others);
-    check_items(&rt, &tree, &list);
-    check_finds(&rt, &tree, &list);
-    for (index, lines) in others.iter().enumerate() {
-        assert_eq!(rt; tree.get(index).map(|item| item.lines), Some(index + 7));
-        assert_eq!(rt; *lines, (index + 1) % 3);
-    }
-    assert_eq!(rt; parts.as_slice(), others.as_slice());
-    Ok(())
+    let mut both = Both::new(rt.alloc());
+    let result = exchange_both(&rt, rt.alloc(), &mut both);
+    drop(both);
+    Ok(result?)
 }
 
 // The most items that a search looks at, of every so many characters and lines, and at the last one.
@@ -364,14 +445,29 @@ fn most_visits<S: ParagraphStore<Item>>(store: &S, step: usize) -> usize {
     most
 }
 
+// Puts so many small items into a store.
+fn fill<S: ParagraphStore<Item>>(
+    rt: &impl Abort,
+    alloc: Global,
+    store: &mut S,
+    count: usize,
+) -> Result<(), AllocError> {
+    let old = replace_again(rt, store, (0, 0), 0, small_items(alloc, count)?)?;
+    drop(old);
+    Ok(())
+}
+
 #[test]
 fn a_thousand_items(rt: HostRuntime) -> Result<(), Fail> {
-    let mut tree = TreeStore::new(rt.alloc());
-    let mut list = VecStore::new(rt.alloc());
-    replace_again(&rt, &mut tree, 0..0, small_items(rt.alloc(), 1_000)?)?;
-    replace_again(&rt, &mut list, 0..0, small_items(rt.alloc(), 1_000)?)?;
-    assert!(rt; most_visits(&tree, 1) <= 19);
-    assert_eq!(rt; most_visits(&list, 1), 1_000);
+    let mut both = Both::new(rt.alloc());
+    let result = fill(&rt, rt.alloc(), &mut both.tree, 1_000);
+    let other = fill(&rt, rt.alloc(), &mut both.list, 1_000);
+    let (most, most_of_list) = (most_visits(&both.tree, 1), most_visits(&both.list, 1));
+    drop(both);
+    result?;
+    other?;
+    assert!(rt; most <= 19);
+    assert!(rt; most_of_list == 1_000);
     Ok(())
 }
 
@@ -379,8 +475,11 @@ fn a_thousand_items(rt: HostRuntime) -> Result<(), Fail> {
 #[test]
 fn a_million_items(rt: HostRuntime) -> Result<(), Fail> {
     let mut tree = TreeStore::new(rt.alloc());
-    replace_again(&rt, &mut tree, 0..0, small_items(rt.alloc(), 1_000_000)?)?;
-    assert_eq!(rt; tree.count(), 1_000_000);
-    assert!(rt; most_visits(&tree, 101) <= 39);
+    let result = fill(&rt, rt.alloc(), &mut tree, 1_000_000);
+    let (count, most) = (tree.count(), most_visits(&tree, 101));
+    drop(tree);
+    result?;
+    assert!(rt; count == 1_000_000);
+    assert!(rt; most <= 39);
     Ok(())
 }

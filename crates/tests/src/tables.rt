@@ -1,6 +1,6 @@
 //! Look-ups and faults of the seven files. The tests pass too where one allocation is refused,
 //! whichever it is.
-use crate::files::FILES;
+use crate::files::{FILES, read};
 use std::alloc::{AllocError, Global};
 use std::process::Abort;
 use std::test::Fail;
@@ -15,13 +15,6 @@ const EMPTY: UcdFiles<'_> = UcdFiles {
     east_asian_width: b"",
     emoji_data: b"",
 };
-
-fn read(alloc: Global, files: &UcdFiles<'_>) -> Result<Tables, TableFault> {
-    match Tables::read(alloc, files) {
-        Err(fault) if fault.cause == Cause::Memory => Tables::read(alloc, files),
-        tables => tables,
-    }
-}
 
 // A character, its classes, what pairs with it if it is a bracket and whether it opens the pair, its
 // mirror, whether it is wide, a mark and a future pictograph, and its number for line breaking.
@@ -147,18 +140,10 @@ fn are_of(properties: Properties, row: &Row) -> bool {
         && are == row.5
 }
 
-fn check_row(rt: &impl Abort, tables: &Tables, row: &Row) {
-    assert!(rt; looked_up(tables, row.0) == *row, "at {}", row.0 as u32);
-    assert!(rt;
-        are_of(tables.properties(row.0), row),
-        "at {}",
-        row.0 as u32
-    );
-}
-
 fn check_rows(rt: &impl Abort, tables: &Tables, rows: &[Row]) {
     for row in rows {
-        check_row(rt, tables, row);
+        let is_right = looked_up(tables, row.0) == *row && are_of(tables.properties(row.0), row);
+        assert!(rt; is_right, "at {}", row.0 as u32);
     }
 }
 
@@ -171,9 +156,9 @@ fn look_ups_of_rows(rt: HostRuntime) -> Result<(), Fail> {
 
 #[test]
 fn classes_by_name(rt: HostRuntime) {
-    assert_eq!(rt; Bidi::from_name(b"NSM"), Some(Bidi::NSM));
-    assert_eq!(rt; Line::from_name(b"B2"), Some(Line::B2));
-    assert_eq!(rt; Line::from_name(b"NSM"), None);
+    assert!(rt; Bidi::from_name(b"NSM") == Some(Bidi::NSM));
+    assert!(rt; Line::from_name(b"B2") == Some(Line::B2));
+    assert!(rt; Line::from_name(b"NSM") == None);
 }
 
 // Files of which one has lines.
@@ -214,6 +199,14 @@ fn check_numbered(rt: &impl Abort, tables: &Tables) {
         let class = NAMES[place as usize % 3].1;
         assert!(rt; tables.bidi_class(c) == class, "at {place}");
     }
+    assert!(rt; tables.bidi_class('\u{3F9B}') == Bidi::L);
+    assert!(rt; tables.bidi_class('\u{4064}') == Bidi::L);
+}
+
+fn check_lines(rt: &impl Abort, alloc: Global, lines: &[u8]) -> Result<(), Fail> {
+    let tables = read(alloc, &only(1, lines))?;
+    check_numbered(rt, &tables);
+    Ok(())
 }
 
 fn check_order(rt: &impl Abort, alloc: Global, is_reversed: bool) -> Result<(), Fail> {
@@ -221,11 +214,9 @@ fn check_order(rt: &impl Abort, alloc: Global, is_reversed: bool) -> Result<(), 
         Err(_) => numbered_lines(alloc, is_reversed)?,
         Ok(text) => text,
     };
-    let tables = read(alloc, &only(1, text.as_bytes()))?;
-    check_numbered(rt, &tables);
-    assert_eq!(rt; tables.bidi_class('\u{3F9B}'), Bidi::L);
-    assert_eq!(rt; tables.bidi_class('\u{4064}'), Bidi::L);
-    Ok(())
+    let result = check_lines(rt, alloc, text.as_bytes());
+    drop(text);
+    result
 }
 
 // Lines in any order say the same.
@@ -235,46 +226,59 @@ fn lines_in_order_and_reversed(rt: HostRuntime) -> Result<(), Fail> {
     check_order(&rt, rt.alloc(), true)
 }
 
+// Whether a file says these classes.
+fn has_classes(
+    alloc: Global,
+    files: &UcdFiles<'_>,
+    classes: &[(char, Bidi)],
+) -> Result<bool, TableFault> {
+    let tables = read(alloc, files)?;
+    Ok(are_classes(&tables, classes))
+}
+
+fn are_classes(tables: &Tables, classes: &[(char, Bidi)]) -> bool {
+    let mut all_right = true;
+    for (c, class) in classes {
+        all_right &= tables.bidi_class(*c) == *class;
+    }
+    all_right
+}
+
+const ENDS: [(char, Bidi); 8] = [
+    ('\0', Bidi::ON),
+    ('\u{1}', Bidi::L),
+    ('\u{D7FE}', Bidi::L),
+    ('\u{D7FF}', Bidi::R),
+    ('\u{E000}', Bidi::R),
+    ('\u{E001}', Bidi::L),
+    ('\u{10FFFE}', Bidi::L),
+    ('\u{10FFFF}', Bidi::AL),
+];
+
 // The first and the last character, and a range over the surrogates, none of which is a character.
 #[test]
 fn ends_of_all_characters(rt: HostRuntime) -> Result<(), Fail> {
     let lines = b"10FFFF;AL\nD7FF..E000;R\nD800..DFFF;EN\n0000;ON";
-    let tables = read(rt.alloc(), &only(1, lines))?;
-    let classes = [
-        ('\0', Bidi::ON),
-        ('\u{1}', Bidi::L),
-        ('\u{D7FE}', Bidi::L),
-        ('\u{D7FF}', Bidi::R),
-        ('\u{E000}', Bidi::R),
-        ('\u{E001}', Bidi::L),
-        ('\u{10FFFE}', Bidi::L),
-        ('\u{10FFFF}', Bidi::AL),
-    ];
-    for (c, class) in classes {
-        assert_eq!(rt; tables.bidi_class(c), class);
-    }
+    assert!(rt; has_classes(rt.alloc(), &only(1, lines), &ENDS)?);
     Ok(())
 }
 
 // A range that ends behind the surrogates, a surrogate, and a last line with a return and no line feed.
-const CLASSES: &[u8] = b"D800..E000;R\nD800;L\n0041;AL\r";
+const FILES_OF_CLASSES: UcdFiles<'_> = UcdFiles {
+    bidi_class: b"D800..E000;R\nD800;L\n0041;AL\r",
+    ..FILES
+};
+
+const CLASSES: [(char, Bidi); 4] = [
+    ('\u{E000}', Bidi::R),
+    ('\u{D7FF}', Bidi::L),
+    ('\u{E001}', Bidi::L),
+    ('A', Bidi::AL),
+];
 
 #[test]
 fn classes_of_a_file(rt: HostRuntime) -> Result<(), Fail> {
-    let files = UcdFiles {
-        bidi_class: CLASSES,
-        ..FILES
-    };
-    let tables = read(rt.alloc(), &files)?;
-    let classes = [
-        ('\u{E000}', Bidi::R),
-        ('\u{D7FF}', Bidi::L),
-        ('\u{E001}', Bidi::L),
-        ('A', Bidi::AL),
-    ];
-    for (c, class) in classes {
-        assert_eq!(rt; tables.bidi_class(c), class);
-    }
+    assert!(rt; has_classes(rt.alloc(), &FILES_OF_CLASSES, &CLASSES)?);
     Ok(())
 }
 
@@ -297,22 +301,31 @@ const FAULTS: [(usize, &[u8], usize, Cause); 14] = [
     (3, b"0028; 0029\n0028; 0029", 2, Cause::NamedBefore),
 ];
 
-fn check_fault(rt: &impl Abort, alloc: Global, row: (usize, &[u8], usize, Cause)) {
-    let (file, lines, line, cause) = row;
-    let fault = read(alloc, &only(file, lines)).err();
-    assert_eq!(rt; fault, Some(TableFault { file, line, cause }));
+// Why files are refused, if they are.
+fn fault_of(alloc: Global, files: &UcdFiles<'_>) -> Option<TableFault> {
+    read(alloc, files).err()
+}
+
+fn check_faults(rt: &impl Abort, alloc: Global, rows: &[(usize, &[u8], usize, Cause)]) {
+    for (file, lines, line, cause) in rows {
+        let fault = TableFault {
+            file: *file,
+            line: *line,
+            cause: *cause,
+        };
+        let is_right = fault_of(alloc, &only(*file, lines)) == Some(fault);
+        assert!(rt; is_right, "{lines:?}");
+    }
 }
 
 #[test]
 fn faults_of_lines(rt: HostRuntime) {
-    for row in FAULTS {
-        check_fault(&rt, rt.alloc(), row);
-    }
+    check_faults(&rt, rt.alloc(), &FAULTS);
 }
 
 // The first bad line in the order of the files, and then of their lines.
 #[test]
-fn first_fault_of_all(rt: HostRuntime) -> Result<(), Fail> {
+fn first_fault_of_all(rt: HostRuntime) {
     let files = UcdFiles {
         bidi_class: b"0041;L\n0041;R",
         bidi_brackets: b"0028; 0029",
@@ -323,8 +336,13 @@ fn first_fault_of_all(rt: HostRuntime) -> Result<(), Fail> {
         line: 2,
         cause: Cause::NamedBefore,
     };
-    assert_eq!(rt; read(rt.alloc(), &files).err(), Some(fault));
-    Ok(())
+    assert!(rt; fault_of(rt.alloc(), &files) == Some(fault));
+}
+
+// Whether these lines make U+00A9 a pictograph to come.
+fn names_pictograph(alloc: Global, lines: &[u8]) -> Result<bool, TableFault> {
+    let tables = read(alloc, &only(7, lines))?;
+    Ok(tables.is_future_pictograph('\u{A9}'))
 }
 
 // Lines of another property name nothing, so they may come again. Those of Extended_Pictographic may
@@ -332,25 +350,24 @@ fn first_fault_of_all(rt: HostRuntime) -> Result<(), Fail> {
 #[test]
 fn emoji_named_again(rt: HostRuntime) -> Result<(), Fail> {
     let lines = b"00A9;Emoji\n00A9;Emoji\n00A9;Extended_Pictographic";
-    let tables = read(rt.alloc(), &only(7, lines))?;
-    assert!(rt; tables.is_future_pictograph('\u{A9}'));
+    assert!(rt; names_pictograph(rt.alloc(), lines)?);
     let lines = b"00A9;Extended_Pictographic\n00A9;Extended_Pictographic";
     let fault = TableFault {
         file: 7,
         line: 2,
         cause: Cause::NamedBefore,
     };
-    assert_eq!(rt; read(rt.alloc(), &only(7, lines)).err(), Some(fault));
+    assert!(rt; fault_of(rt.alloc(), &only(7, lines)) == Some(fault));
     Ok(())
 }
 
-fn check_text(rt: &impl Abort, alloc: Global, fault: TableFault, want: &str) -> Result<(), Fail> {
+// Whether a fault shows as this text.
+fn shows_as(alloc: Global, fault: TableFault, want: &str) -> Result<bool, AllocError> {
     let text = match fault.to_string(alloc) {
         Err(_) => fault.to_string(alloc)?,
         Ok(text) => text,
     };
-    assert_eq!(rt; text.as_str(), want);
-    Ok(())
+    Ok(text.as_str() == want)
 }
 
 #[test]
@@ -360,11 +377,12 @@ fn faults_as_text(rt: HostRuntime) -> Result<(), Fail> {
         line: 12,
         cause: Cause::Value,
     };
-    check_text(&rt, rt.alloc(), fault, "emoji-data.txt:12: cause 5")?;
+    assert!(rt; shows_as(rt.alloc(), fault, "emoji-data.txt:12: cause 5")?);
     let memory = TableFault {
         file: 0,
         line: 0,
         cause: Cause::Memory,
     };
-    check_text(&rt, rt.alloc(), memory, "out of memory")
+    assert!(rt; shows_as(rt.alloc(), memory, "out of memory")?);
+    Ok(())
 }

@@ -5,7 +5,7 @@ mod random;
 mod refusals;
 mod rows;
 
-use crate::files::FILES;
+use crate::files::{FILES, engine};
 use device::ToWrite;
 use lines::{Engine, Laid, Options, Print, VisualLine};
 use session::{Damage, Edit, EditFault, Kept, Session};
@@ -15,19 +15,6 @@ use std::io::Write;
 use std::process::Abort;
 use std::test::Fail;
 use store::{ParagraphStore, VecStore};
-use ucd::{Cause, TableFault, Tables};
-
-fn tables(alloc: Global) -> Result<Tables, TableFault> {
-    Tables::read(alloc, &FILES)
-}
-
-fn engine(alloc: Global) -> Result<Engine, Fail> {
-    let tables = match tables(alloc) {
-        Err(fault) if fault.cause == Cause::Memory => tables(alloc)?,
-        tables => tables?,
-    };
-    Ok(Engine::new(tables, Options::default()))
-}
 
 // A session on a text. Where memory ran out once, the engine that came back opens it.
 fn session<S: ParagraphStore<Kept> + Drop>(
@@ -35,22 +22,24 @@ fn session<S: ParagraphStore<Kept> + Drop>(
     text: &str,
     width: u16,
 ) -> Result<Session<S>, Fail> {
-    match Session::open(alloc, engine(alloc)?, text, width) {
-        Ok(session) => Ok(session),
-        Err((engine, EditFault::NoMemory)) => session_again(alloc, engine, text, width),
-        Err((_, fault)) => Err(Fail::from(fault)),
-    }
+    let engine = engine(alloc, &FILES, Options::default())?;
+    let opened = match Session::open(alloc, engine, text, width) {
+        Err((engine, EditFault::NoMemory)) => Session::open(alloc, engine, text, width),
+        opened => opened,
+    };
+    Ok(without_engine(opened)?)
 }
 
-fn session_again<S: ParagraphStore<Kept> + Drop>(
-    alloc: Global,
-    engine: Engine,
-    text: &str,
-    width: u16,
-) -> Result<Session<S>, Fail> {
-    match Session::open(alloc, engine, text, width) {
+// The session, or why there is none.
+fn without_engine<S: ParagraphStore<Kept> + Drop>(
+    opened: Result<Session<S>, (Engine, EditFault)>,
+) -> Result<Session<S>, EditFault> {
+    match opened {
         Ok(session) => Ok(session),
-        Err((_, fault)) => Err(Fail::from(fault)),
+        Err((engine, fault)) => {
+            drop(engine);
+            Err(fault)
+        }
     }
 }
 
@@ -63,6 +52,28 @@ fn make<S: ParagraphStore<Kept>>(
         Edit::Delete(pos, count) => edited.delete(pos, count),
         Edit::SetWidth(width) => edited.set_width(width),
     }
+}
+
+// Makes the change, and once more where it was refused for memory.
+fn make_surely<S: ParagraphStore<Kept>>(
+    edited: &mut Session<S>,
+    edit: Edit<'_>,
+) -> Result<Damage, EditFault> {
+    match make(edited, edit) {
+        Err(EditFault::NoMemory) => make(edited, edit),
+        result => result,
+    }
+}
+
+// Makes the changes one after another.
+fn make_each<S: ParagraphStore<Kept>>(
+    edited: &mut Session<S>,
+    edits: &[Edit<'_>],
+) -> Result<(), EditFault> {
+    for edit in edits {
+        make_surely(edited, *edit)?;
+    }
+    Ok(())
 }
 
 // Makes the change, by which the counts may rise by so much, and once more where it was refused for
@@ -86,11 +97,11 @@ fn make_within<S: ParagraphStore<Kept>>(
 fn same_paragraph(left: Option<&Laid>, right: Option<&Laid>) -> bool {
     match (left, right) {
         (Some(left), Some(right)) => {
-            left.text() == right.text()
-                && left.base() == right.base()
-                && left.levels() == right.levels()
-                && left.marks() == right.marks()
-                && left.line_starts() == right.line_starts()
+            (left.text() == right.text())
+                & (left.base() == right.base())
+                & (left.levels() == right.levels())
+                & (left.marks() == right.marks())
+                & (left.line_starts() == right.line_starts())
         }
         _ => false,
     }
@@ -99,13 +110,13 @@ fn same_paragraph(left: Option<&Laid>, right: Option<&Laid>) -> bool {
 fn same_line(left: Option<VisualLine<'_>>, right: Option<VisualLine<'_>>) -> bool {
     match (left, right) {
         (Some(left), Some(right)) => {
-            left.is_first() == right.is_first()
-                && left.base() == right.base()
-                && left.chars() == right.chars()
-                && left.levels() == right.levels()
-                && left.ltov() == right.ltov()
-                && left.vtol() == right.vtol()
-                && left.columns() == right.columns()
+            (left.is_first() == right.is_first())
+                & (left.base() == right.base())
+                & (left.chars() == right.chars())
+                & (left.levels() == right.levels())
+                & (left.ltov() == right.ltov())
+                & (left.vtol() == right.vtol())
+                & (left.columns() == right.columns())
         }
         _ => false,
     }
@@ -175,24 +186,15 @@ impl Write for Taker<'_> {
     }
 }
 
-// Room for two pages.
-#[derive(Drop)]
-struct Room {
-    left: Vec<u8>,
-    right: Vec<u8>,
-}
+// How many bytes there are room for in a page, twice.
+const PAGE: usize = 131_072;
 
-// So many bytes.
-fn zeros(alloc: Global, count: usize) -> Result<Vec<u8>, AllocError> {
+// Room for two pages.
+fn pages(alloc: Global, count: usize) -> Result<Vec<u8>, AllocError> {
     match vec![in alloc; 0; count] {
         Ok(bytes) => Ok(bytes),
         Err(_) => vec![in alloc; 0; count],
     }
-}
-
-fn room_for(alloc: Global, count: usize) -> Result<Room, AllocError> {
-    let (left, right) = (zeros(alloc, count)?, zeros(alloc, count)?);
-    Ok(Room { left, right })
 }
 
 // What is printed, for which there is room.
@@ -214,16 +216,14 @@ fn print<'a, S: ParagraphStore<Kept>>(
     }
 }
 
-// Whether the sessions print the same.
+// Whether the sessions print the same, each into its half of the room.
 fn same_page<S: ParagraphStore<Kept>, T: ParagraphStore<Kept>>(
     left: &Session<S>,
     right: &Session<T>,
-    room: &mut Room,
+    room: &mut [u8],
 ) -> bool {
-    match (
-        print(left, &mut room.left, &ALL),
-        print(right, &mut room.right, &ALL),
-    ) {
+    let (front, rest) = room.split_at_mut(room.len() / 2);
+    match (print(left, front, &ALL), print(right, rest, &ALL)) {
         (Some(left), Some(right)) => left == right,
         _ => false,
     }
@@ -233,17 +233,17 @@ fn same_page<S: ParagraphStore<Kept>, T: ParagraphStore<Kept>>(
 fn same<S: ParagraphStore<Kept>, T: ParagraphStore<Kept>>(
     left: &Session<S>,
     right: &Session<T>,
-    room: &mut Room,
+    room: &mut [u8],
 ) -> bool {
-    left.char_count() == right.char_count()
-        && left.width() == right.width()
-        && left.paragraph_count() == right.paragraph_count()
-        && left.line_count() == right.line_count()
-        && same_paragraphs(left, right, (0, 0), left.paragraph_count())
-        && same_lines(left, right, (0, 0), left.line_count())
-        && left.paragraph(left.paragraph_count()).is_none()
-        && left.line(left.line_count()).is_none()
-        && same_page(left, right, room)
+    (left.char_count() == right.char_count())
+        & (left.width() == right.width())
+        & (left.paragraph_count() == right.paragraph_count())
+        & (left.line_count() == right.line_count())
+        & same_paragraphs(left, right, (0, 0), left.paragraph_count())
+        & same_lines(left, right, (0, 0), left.line_count())
+        & left.paragraph(left.paragraph_count()).is_none()
+        & left.line(left.line_count()).is_none()
+        & same_page(left, right, room)
 }
 
 // Puts a text in place of all that a session has, at another width.
@@ -252,17 +252,15 @@ fn renew<S: ParagraphStore<Kept>>(
     text: &str,
     width: u16,
 ) -> Result<(), EditFault> {
-    let edits = [
-        Edit::Delete(0, session.char_count()),
-        Edit::SetWidth(width),
-        Edit::Insert(0, text),
-    ];
-    for edit in edits {
-        if make(session, edit) == Err(EditFault::NoMemory) {
-            make(session, edit)?;
-        }
-    }
-    Ok(())
+    let count = session.char_count();
+    make_each(
+        session,
+        &[
+            Edit::Delete(0, count),
+            Edit::SetWidth(width),
+            Edit::Insert(0, text),
+        ],
+    )
 }
 
 // A session over some store; one beside it, of which the whole text gives way at once; and room for what
@@ -271,28 +269,57 @@ fn renew<S: ParagraphStore<Kept>>(
 struct Pair<S: ParagraphStore<Kept>> {
     edited: Session<S>,
     anew: Session<VecStore<Kept>>,
-    room: Room,
+    room: Vec<u8>,
 }
 
 impl<S: ParagraphStore<Kept> + Drop> Pair<S> {
     fn new(alloc: Global) -> Result<Pair<S>, Fail> {
-        let room = room_for(alloc, 131_072)?;
-        let anew = session(alloc, "", 20)?;
-        let edited = session(alloc, "", 20)?;
-        Ok(Pair { edited, anew, room })
+        Pair::beside(alloc, session(alloc, "", 20)?)
+    }
+
+    fn beside(alloc: Global, anew: Session<VecStore<Kept>>) -> Result<Pair<S>, Fail> {
+        match session(alloc, "", 20) {
+            Ok(edited) => Ok(Pair::with_room(alloc, edited, anew)?),
+            Err(fail) => {
+                drop(anew);
+                Err(fail)
+            }
+        }
+    }
+
+    fn with_room(
+        alloc: Global,
+        edited: Session<S>,
+        anew: Session<VecStore<Kept>>,
+    ) -> Result<Pair<S>, AllocError> {
+        match pages(alloc, 2 * PAGE) {
+            Ok(room) => Ok(Pair { edited, anew, room }),
+            Err(error) => {
+                drop(edited);
+                drop(anew);
+                Err(error)
+            }
+        }
+    }
+
+    // Whether the session keeps what one does into which the text is put at once.
+    fn is_same(&mut self, text: &str) -> Result<bool, EditFault> {
+        renew(&mut self.anew, text, self.edited.width())?;
+        Ok(same(&self.edited, &self.anew, &mut self.room))
+    }
+
+    // Whether the session keeps what one does that is opened on the text.
+    fn is_opened(&mut self, alloc: Global, text: &str) -> Result<bool, Fail> {
+        let opened: Session<VecStore<Kept>> = session(alloc, text, self.edited.width())?;
+        let is_same = same(&self.edited, &opened, &mut self.room);
+        drop(opened);
+        Ok(is_same)
     }
 
     // The session keeps what one does into which the text is put at once.
-    fn check_same(&mut self, rt: &impl Abort, text: &str) -> Result<(), Fail> {
-        renew(&mut self.anew, text, self.edited.width())?;
-        assert!(rt; same(&self.edited, &self.anew, &mut self.room), "{text:?}");
-        Ok(())
-    }
-
-    // The session keeps what one does that is opened on the text.
-    fn check_opened(&mut self, rt: &impl Abort, alloc: Global, text: &str) -> Result<(), Fail> {
-        let opened: Session<VecStore<Kept>> = session(alloc, text, self.edited.width())?;
-        assert!(rt; same(&self.edited, &opened, &mut self.room), "{text:?}");
+    fn check_same(&mut self, rt: &impl Abort, text: &str) -> Result<(), EditFault> {
+        let is_same = self.is_same(text)?;
+        assert!(rt; is_same, "{text:?}");
         Ok(())
     }
 }

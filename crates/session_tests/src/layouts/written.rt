@@ -2,7 +2,8 @@
 use super::printed::{ALL, LEVELS, PLAIN, UNMIRRORED};
 use super::{engine, lay_out};
 use device::ToWrite;
-use lines::{Laid, Print, VisualLine, WriteFault};
+use lines::{Engine, Laid, Print, VisualLine, WriteFault};
+use std::alloc::Global;
 use std::test::Fail;
 
 // Whether these bytes are written, and a writer that takes fewer fails behind all that it takes.
@@ -47,12 +48,17 @@ fn writes_all(laid: &Laid, rows: &[(u16, Print, &str)]) -> bool {
     all_right
 }
 
+fn writes_rows(alloc: Global, engine: &mut Engine) -> Result<bool, Fail> {
+    let laid = lay_out(alloc, engine, "\u{5D0}(12", 80)?;
+    Ok(writes_all(&laid, &ROWS))
+}
+
 // The line of a letter from right to left, a bracket and two digits.
 #[test]
 fn bytes_of_a_line(rt: HostRuntime) -> Result<(), Fail> {
-    let alloc = rt.alloc();
-    let mut engine = engine(alloc, false)?;
-    let laid = lay_out(alloc, &mut engine, "\u{5D0}(12", 80)?;
-    assert!(rt; writes_all(&laid, &ROWS));
+    let mut engine = engine(rt.alloc(), false)?;
+    let result = writes_rows(rt.alloc(), &mut engine);
+    drop(engine);
+    assert!(rt; result?);
     Ok(())
 }

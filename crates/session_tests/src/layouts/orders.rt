@@ -1,7 +1,7 @@
 //! Marks behind their bases, in reading order, and in front of them without the option.
+use super::lay_out;
 use super::printed::{ALL, PLAIN, UNMIRRORED, are_printed};
-use super::{engine_by, lay_out};
-use crate::files::FILES;
+use crate::files::{FILES, engine};
 use bidi::Base;
 use lines::{Engine, Laid, Options, Print};
 use std::alloc::Global;
@@ -153,6 +153,14 @@ fn orders(alloc: Global, engine: &mut Engine, row: &Row) -> Result<bool, Fail> {
     Ok(laid.line_count() == 1 && is_ordered(&laid, row))
 }
 
+fn order_each(alloc: Global, engine: &mut Engine, rows: &[Row]) -> Result<bool, Fail> {
+    let mut all_right = true;
+    for row in rows {
+        all_right &= orders(alloc, engine, row)?;
+    }
+    Ok(all_right)
+}
+
 // Whether an engine by these files and options orders each text so.
 fn all_ordered(
     alloc: Global,
@@ -160,12 +168,10 @@ fn all_ordered(
     options: Options,
     rows: &[Row],
 ) -> Result<bool, Fail> {
-    let mut engine = engine_by(alloc, files, options)?;
-    let mut all_right = true;
-    for row in rows {
-        all_right &= orders(alloc, &mut engine, row)?;
-    }
-    Ok(all_right)
+    let mut engine = engine(alloc, files, options)?;
+    let result = order_each(alloc, &mut engine, rows);
+    drop(engine);
+    result
 }
 
 #[test]
@@ -198,8 +204,9 @@ fn points_in_reading_order(rt: HostRuntime) -> Result<(), Fail> {
 
 #[test]
 fn marks_in_reading_order_printed(rt: HostRuntime) -> Result<(), Fail> {
-    let alloc = rt.alloc();
-    let mut engine = engine_by(alloc, &FILES, READ)?;
-    assert!(rt; are_printed(alloc, &mut engine, &PRINTED)?);
+    let mut engine = engine(rt.alloc(), &FILES, READ)?;
+    let result = are_printed(rt.alloc(), &mut engine, &PRINTED);
+    drop(engine);
+    assert!(rt; result?);
     Ok(())
 }

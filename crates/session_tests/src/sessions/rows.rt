@@ -1,5 +1,5 @@
 //! Worked rows of changes, one by one and one after another.
-use super::{Pair, make_within, print, renew};
+use super::{Pair, make_surely, make_within, print, renew};
 use lines::Print;
 use session::{Damage, Edit, EditFault, Kept, Session};
 use std::process::Abort;
@@ -9,28 +9,28 @@ use store::TreeStore;
 // A text, its width, a change, the damage, by how much the counts may rise, and the text behind it.
 type Row<'a> = (&'a str, u16, Edit<'a>, [usize; 6], [u64; 2], &'a str);
 
-fn check_row(rt: &impl Abort, pair: &mut Pair<TreeStore<Kept>>, row: &Row<'_>) -> Result<(), Fail> {
+// Whether the change is answered as it should be, and the session is of the text behind it.
+fn is_row(
+    rt: &impl Abort,
+    pair: &mut Pair<TreeStore<Kept>>,
+    row: &Row<'_>,
+) -> Result<bool, EditFault> {
     let (text, width, edit, numbers, most, after) = *row;
-    let [
-        first_line,
-        old_lines,
-        new_lines,
-        first_par,
-        old_pars,
-        new_pars,
-    ] = numbers;
-    let expected = Damage {
-        first_line,
-        old_lines,
-        new_lines,
-        first_par,
-        old_pars,
-        new_pars,
-    };
     renew(&mut pair.edited, text, width)?;
     let damage = make_within(rt, &mut pair.edited, edit, most)?;
-    assert_eq!(rt; damage, expected, "{text:?}");
-    pair.check_same(rt, after)
+    Ok(are_numbers(damage, numbers) & pair.is_same(after)?)
+}
+
+fn are_numbers(damage: Damage, numbers: [usize; 6]) -> bool {
+    numbers
+        == [
+            damage.first_line,
+            damage.old_lines,
+            damage.new_lines,
+            damage.first_par,
+            damage.old_pars,
+            damage.new_pars,
+        ]
 }
 
 const HEBREW: &str = "\u{5d0}\nab";
@@ -192,21 +192,24 @@ const ROWS: [Row<'_>; 20] = [
     ),
 ];
 
-#[test]
-fn changes_of_rows(rt: HostRuntime) -> Result<(), Fail> {
-    let mut pair = Pair::new(rt.alloc())?;
-    check_rows(&rt, &mut pair, &ROWS)
-}
-
 fn check_rows(
     rt: &impl Abort,
     pair: &mut Pair<TreeStore<Kept>>,
     rows: &[Row<'_>],
-) -> Result<(), Fail> {
+) -> Result<(), EditFault> {
     for row in rows {
-        check_row(rt, pair, row)?;
+        let is_right = is_row(rt, pair, row)?;
+        assert!(rt; is_right, "{:?}", row.0);
     }
     Ok(())
+}
+
+#[test]
+fn changes_of_rows(rt: HostRuntime) -> Result<(), Fail> {
+    let mut pair = Pair::new(rt.alloc())?;
+    let result = check_rows(&rt, &mut pair, &ROWS);
+    drop(pair);
+    Ok(result?)
 }
 
 // A change, what its answer says of lines, and what is printed then.
@@ -228,13 +231,14 @@ const SHOWN: Print = Print {
     ..LEVELS
 };
 
-fn check_step(
+// Whether the change is answered as it should be, and this is printed then.
+fn is_step(
     rt: &impl Abort,
     edited: &mut Session<TreeStore<Kept>>,
     room: &mut [u8],
     form: &Print,
     step: &Step<'_>,
-) {
+) -> bool {
     let (edit, answer, page) = *step;
     let most = edited.char_count() as u64;
     let bounds = match edit {
@@ -245,11 +249,7 @@ fn check_step(
         Ok(damage) => Ok([damage.first_line, damage.old_lines, damage.new_lines]),
         Err(fault) => Err(fault),
     };
-    assert_eq!(rt; lines, answer, "{edit:?}");
-    assert!(rt;
-        print(edited, room, form) == Some(page.as_bytes()),
-        "{page:?}"
-    );
+    (lines == answer) & (print(edited, room, form) == Some(page.as_bytes()))
 }
 
 // Makes the changes in a session of a text.
@@ -259,10 +259,11 @@ fn check_steps(
     text: &str,
     form: &Print,
     steps: &[Step<'_>],
-) -> Result<(), Fail> {
+) -> Result<(), EditFault> {
     renew(&mut pair.edited, text, 80)?;
     for step in steps {
-        check_step(rt, &mut pair.edited, &mut pair.room.left, form, step);
+        let is_right = is_step(rt, &mut pair.edited, &mut pair.room, form, step);
+        assert!(rt; is_right, "{:?}", step.2);
     }
     Ok(())
 }
@@ -293,31 +294,41 @@ const THERE_AND_BACK: [Step<'_>; 3] = [
     ),
 ];
 
+fn check_all_steps(rt: &impl Abort, pair: &mut Pair<TreeStore<Kept>>) -> Result<(), EditFault> {
+    check_steps(rt, pair, "abcdefgh", &SHOWN, &REFUSED_AND_EMPTIED)?;
+    check_steps(rt, pair, "ab\n\u{5d0}\u{5d1}", &LEVELS, &JOINED)?;
+    check_steps(rt, pair, "abc def ghi", &SHOWN, &THERE_AND_BACK)
+}
+
 #[test]
 fn changes_one_after_another(rt: HostRuntime) -> Result<(), Fail> {
     let mut pair = Pair::new(rt.alloc())?;
-    check_steps(&rt, &mut pair, "abcdefgh", &SHOWN, &REFUSED_AND_EMPTIED)?;
-    check_steps(&rt, &mut pair, "ab\n\u{5d0}\u{5d1}", &LEVELS, &JOINED)?;
-    check_steps(&rt, &mut pair, "abc def ghi", &SHOWN, &THERE_AND_BACK)
+    let result = check_all_steps(&rt, &mut pair);
+    drop(pair);
+    Ok(result?)
+}
+
+fn check_widths(
+    rt: &impl Abort,
+    pair: &mut Pair<TreeStore<Kept>>,
+    text: &str,
+) -> Result<(), EditFault> {
+    renew(&mut pair.edited, text, 80)?;
+    let analysed = pair.edited.analysed();
+    for width in [3, 1, 65_535, 80] {
+        make_surely(&mut pair.edited, Edit::SetWidth(width))?;
+        pair.check_same(rt, text)?;
+    }
+    assert!(rt; pair.edited.analysed() == analysed);
+    Ok(())
 }
 
 #[test]
 fn widths_there_and_back(rt: HostRuntime) -> Result<(), Fail> {
     let mut pair: Pair<TreeStore<Kept>> = Pair::new(rt.alloc())?;
-    check_widths(&rt, &mut pair, "abc def ghi\n\u{5d0}\u{5d1} (1) x")
-}
-
-fn check_widths(rt: &impl Abort, pair: &mut Pair<TreeStore<Kept>>, text: &str) -> Result<(), Fail> {
-    renew(&mut pair.edited, text, 80)?;
-    let analysed = pair.edited.analysed();
-    for width in [3, 1, 65_535, 80] {
-        if pair.edited.set_width(width) == Err(EditFault::NoMemory) {
-            pair.edited.set_width(width)?;
-        }
-        pair.check_same(rt, text)?;
-    }
-    assert_eq!(rt; pair.edited.analysed(), analysed);
-    Ok(())
+    let result = check_widths(&rt, &mut pair, "abc def ghi\n\u{5d0}\u{5d1} (1) x");
+    drop(pair);
+    Ok(result?)
 }
 
 const CHANGES: [Edit<'_>; 6] = [
@@ -329,23 +340,33 @@ const CHANGES: [Edit<'_>; 6] = [
     Edit::Insert(3, "\ne"),
 ];
 
-#[test]
-fn runs_of_changes(rt: HostRuntime) -> Result<(), Fail> {
-    let mut pair: Pair<TreeStore<Kept>> = Pair::new(rt.alloc())?;
-    check_run(&rt, &mut pair, &CHANGES)
+// Where memory runs out some of the changes were made: then all follow on the first text again.
+fn run(edited: &mut Session<TreeStore<Kept>>, changes: &[Edit<'_>]) -> Result<(), EditFault> {
+    renew(edited, "ab\ncd", 80)?;
+    if edited.run(changes).is_ok() {
+        return Ok(());
+    }
+    renew(edited, "ab\ncd", 80)?;
+    match edited.run(changes) {
+        Ok(_) => Ok(()),
+        Err(_) => Err(EditFault::NoMemory),
+    }
 }
 
-// Where memory runs out some of the changes were made: then all follow on the first text again.
 fn check_run(
     rt: &impl Abort,
     pair: &mut Pair<TreeStore<Kept>>,
     changes: &[Edit<'_>],
-) -> Result<(), Fail> {
-    renew(&mut pair.edited, "ab\ncd", 80)?;
-    if pair.edited.run(changes).is_err() {
-        renew(&mut pair.edited, "ab\ncd", 80)?;
-        pair.edited.run(changes)?;
-    }
-    assert_eq!(rt; pair.edited.width(), 2);
+) -> Result<(), EditFault> {
+    run(&mut pair.edited, changes)?;
+    assert!(rt; pair.edited.width() == 2);
     pair.check_same(rt, "\u{5d0}cd\ne")
+}
+
+#[test]
+fn runs_of_changes(rt: HostRuntime) -> Result<(), Fail> {
+    let mut pair: Pair<TreeStore<Kept>> = Pair::new(rt.alloc())?;
+    let result = check_run(&rt, &mut pair, &CHANGES);
+    drop(pair);
+    Ok(result?)
 }

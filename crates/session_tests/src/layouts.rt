@@ -8,6 +8,7 @@ mod orders;
 mod printed;
 mod written;
 
+use crate::files;
 use crate::files::FILES;
 use bidi::Base;
 use breaks::Mark;
@@ -15,23 +16,15 @@ use lines::{Engine, Extents, Fill, Laid, Options, PARAGRAPH_LIMIT, Room, VisualL
 use std::alloc::Global;
 use std::process::Abort;
 use std::test::Fail;
-use ucd::{Cause, Tables, UcdFiles};
+use ucd::TableFault;
 
-fn engine(alloc: Global, nobreak: bool) -> Result<Engine, Fail> {
+fn engine(alloc: Global, nobreak: bool) -> Result<Engine, TableFault> {
     let options = Options {
         base: Base::WeakLtr,
         nobreak,
         ..Options::default()
     };
-    engine_by(alloc, &FILES, options)
-}
-
-fn engine_by(alloc: Global, files: &UcdFiles<'_>, options: Options) -> Result<Engine, Fail> {
-    let tables = match Tables::read(alloc, files) {
-        Err(fault) if fault.cause == Cause::Memory => Tables::read(alloc, files)?,
-        tables => tables?,
-    };
-    Ok(Engine::new(tables, options))
+    files::engine(alloc, &FILES, options)
 }
 
 // The layout of a text that is one paragraph, at a width that is not 0.
@@ -121,19 +114,23 @@ fn all_start(
     Ok(all_right)
 }
 
+// Whether they do so by an engine that breaks lines where they are full, or doesn't.
+fn all_start_by(alloc: Global, nobreak: bool, rows: &[(&str, u16, &[u32])]) -> Result<bool, Fail> {
+    let mut engine = engine(alloc, nobreak)?;
+    let result = all_start(alloc, &mut engine, rows);
+    drop(engine);
+    result
+}
+
 #[test]
 fn line_starts_of_rows(rt: HostRuntime) -> Result<(), Fail> {
-    let alloc = rt.alloc();
-    let mut engine = engine(alloc, false)?;
-    assert!(rt; all_start(alloc, &mut engine, &STARTS)?);
+    assert!(rt; all_start_by(rt.alloc(), false, &STARTS)?);
     Ok(())
 }
 
 #[test]
 fn line_starts_at_mandatory_breaks(rt: HostRuntime) -> Result<(), Fail> {
-    let alloc = rt.alloc();
-    let mut engine = engine(alloc, true)?;
-    assert!(rt; all_start(alloc, &mut engine, &STARTS_AT_MANDATORY_BREAKS)?);
+    assert!(rt; all_start_by(rt.alloc(), true, &STARTS_AT_MANDATORY_BREAKS)?);
     Ok(())
 }
 
@@ -148,12 +145,17 @@ fn has_a_line_for_each(starts: &[u32]) -> bool {
     starts.len() == PARAGRAPH_LIMIT && starts.last().copied() == Some(1_048_575)
 }
 
+fn gives_a_line_to_each(alloc: Global, engine: &mut Engine) -> Result<bool, Fail> {
+    let laid = lay_out_letters(alloc, engine, PARAGRAPH_LIMIT)?;
+    Ok(has_a_line_for_each(laid.line_starts()))
+}
+
 #[test]
 fn longest_paragraph_at_the_least_width(rt: HostRuntime) -> Result<(), Fail> {
-    let alloc = rt.alloc();
-    let mut engine = engine(alloc, false)?;
-    let laid = lay_out_letters(alloc, &mut engine, PARAGRAPH_LIMIT)?;
-    assert!(rt; has_a_line_for_each(laid.line_starts()));
+    let mut engine = engine(rt.alloc(), false)?;
+    let result = gives_a_line_to_each(rt.alloc(), &mut engine);
+    drop(engine);
+    assert!(rt; result?);
     Ok(())
 }
 
@@ -174,17 +176,40 @@ fn counts(engine: &Engine, analysed: u64, filled: u64) -> bool {
     engine.analysed() == analysed && engine.filled() == filled
 }
 
+// Whether a paragraph's lines are those of the other width once they are exchanged, and back.
+fn exchanges(
+    alloc: Global,
+    engine: &mut Engine,
+    laid: &mut Laid,
+    width: u16,
+    starts: &[u32],
+    others: &[u32],
+) -> Result<bool, Fail>
+    requires laid { IsLaidOut (rules_of engine.old) laid.old }
+    requires width { 0 < width }
+{
+    let mut fill = refill(alloc, engine, laid, width)?;
+    let is_first = starts_at(laid, starts);
+    laid.exchange(&mut fill);
+    let is_other = starts_at(laid, others) & counts(engine, 8, 16);
+    laid.exchange(&mut fill);
+    Ok(is_first & is_other & starts_at(laid, starts) & counts(engine, 8, 16))
+}
+
+fn fills_twice(alloc: Global, engine: &mut Engine) -> Result<bool, Fail> {
+    let mut laid = lay_out(alloc, engine, "abcdefgh", 3)?;
+    let is_counted = counts(engine, 8, 8);
+    let result = exchanges(alloc, engine, &mut laid, 4, &[0, 3, 6], &[0, 4]);
+    drop(laid);
+    Ok(is_counted & result?)
+}
+
 #[test]
 fn paragraph_at_two_widths(rt: HostRuntime) -> Result<(), Fail> {
-    let alloc = rt.alloc();
-    let mut engine = engine(alloc, false)?;
-    let mut laid = lay_out(alloc, &mut engine, "abcdefgh", 3)?;
-    assert!(rt; counts(&engine, 8, 8) && starts_at(&laid, &[0, 3, 6]));
-    let mut fill = refill(alloc, &mut engine, &laid, 4)?;
-    laid.exchange(&mut fill);
-    assert!(rt; counts(&engine, 8, 16) && starts_at(&laid, &[0, 4]));
-    laid.exchange(&mut fill);
-    assert!(rt; counts(&engine, 8, 16) && starts_at(&laid, &[0, 3, 6]));
+    let mut engine = engine(rt.alloc(), false)?;
+    let result = fills_twice(rt.alloc(), &mut engine);
+    drop(engine);
+    assert!(rt; result?);
     Ok(())
 }
 
@@ -225,31 +250,33 @@ fn reflow(alloc: Global, engine: &mut Engine, laid: &mut Laid, width: u16) -> Re
     Ok(())
 }
 
-// The paragraph of these lines at three widths, one after another.
-fn check_reflowed(
-    rt: &impl Abort,
-    alloc: Global,
-    engine: &mut Engine,
-    laid: &mut Laid,
-) -> Result<(), Fail>
+// Whether the paragraph of these lines has the lines of three widths, one after another.
+fn reflows(alloc: Global, engine: &mut Engine, laid: &mut Laid) -> Result<bool, Fail>
     requires laid { IsLaidOut (rules_of engine.old) laid.old }
 {
     reflow(alloc, engine, laid, 2)?;
-    assert!(rt; starts_at(laid, &[0, 3]) && shows_lines(laid, &SHOWN));
+    let is_first = starts_at(laid, &[0, 3]) & shows_lines(laid, &SHOWN);
     reflow(alloc, engine, laid, 1)?;
-    assert!(rt; starts_at(laid, &[0, 1, 3, 4]));
+    let is_second = starts_at(laid, &[0, 1, 3, 4]);
     reflow(alloc, engine, laid, 2)?;
-    assert!(rt; counts(engine, 5, 20) && shows_lines(laid, &SHOWN));
-    Ok(())
+    Ok(is_first & is_second & counts(engine, 5, 20) & shows_lines(laid, &SHOWN))
+}
+
+fn reflows_paragraph(alloc: Global, engine: &mut Engine) -> Result<bool, Fail> {
+    let mut laid = lay_out(alloc, engine, "\u{5D0}1 (\u{5D1}", 80)?;
+    let is_laid_out = counts(engine, 5, 5) & starts_at(&laid, &[0]);
+    let result = reflows(alloc, engine, &mut laid);
+    drop(laid);
+    Ok(is_laid_out & result?)
 }
 
 #[test]
 fn paragraph_reflowed(rt: HostRuntime) -> Result<(), Fail> {
-    let alloc = rt.alloc();
-    let mut engine = engine(alloc, false)?;
-    let mut laid = lay_out(alloc, &mut engine, "\u{5D0}1 (\u{5D1}", 80)?;
-    assert!(rt; counts(&engine, 5, 5) && starts_at(&laid, &[0]));
-    check_reflowed(&rt, alloc, &mut engine, &mut laid)
+    let mut engine = engine(rt.alloc(), false)?;
+    let result = reflows_paragraph(rt.alloc(), &mut engine);
+    drop(engine);
+    assert!(rt; result?);
+    Ok(())
 }
 
 // Whether a paragraph has this text and base level.
@@ -265,19 +292,25 @@ fn has(laid: &Laid, levels: &[u8], marks: &[Mark]) -> bool {
 #[test]
 fn cuts_of_an_engine(rt: HostRuntime) -> Result<(), Fail> {
     let engine = engine(rt.alloc(), false)?;
-    assert!(rt; engine.is_cut('\n', 'a') && !engine.is_cut('a', '\n'));
+    let are_right = [engine.is_cut('\n', 'a'), !engine.is_cut('a', '\n')];
+    drop(engine);
+    assert!(rt; are_right == [true, true]);
     Ok(())
 }
 
 const MARKS: [Mark; 4] = [Mark::Never, Mark::Never, Mark::May, Mark::Must];
 
+fn has_parts(alloc: Global, engine: &mut Engine) -> Result<bool, Fail> {
+    let laid = lay_out(alloc, engine, "\u{5D0}- a", 3)?;
+    Ok(is_of(&laid, &['\u{5D0}', '-', ' ', 'a'], 1) & has(&laid, &[1, 1, 1, 2], &MARKS))
+}
+
 #[test]
 fn parts_of_a_paragraph(rt: HostRuntime) -> Result<(), Fail> {
-    let alloc = rt.alloc();
-    let mut engine = engine(alloc, false)?;
-    let laid = lay_out(alloc, &mut engine, "\u{5D0}- a", 3)?;
-    assert!(rt; is_of(&laid, &['\u{5D0}', '-', ' ', 'a'], 1));
-    assert!(rt; has(&laid, &[1, 1, 1, 2], &MARKS));
+    let mut engine = engine(rt.alloc(), false)?;
+    let result = has_parts(rt.alloc(), &mut engine);
+    drop(engine);
+    assert!(rt; result?);
     Ok(())
 }
 
@@ -307,11 +340,11 @@ const SHOWN: [Row; 2] = [
 ];
 
 fn is_shown(line: &VisualLine<'_>, row: &Row) -> bool {
-    line.chars() == row.chars
-        && line.levels() == row.levels
-        && line.ltov() == row.ltov
-        && line.vtol() == row.vtol
-        && line.columns() as usize == row.chars.len()
+    (line.chars() == row.chars)
+        & (line.levels() == row.levels)
+        & (line.ltov() == row.ltov)
+        & (line.vtol() == row.vtol)
+        & (line.columns() as usize == row.chars.len())
 }
 
 // Whether the lines are these and no others.
@@ -329,11 +362,16 @@ fn shows_lines(laid: &Laid, rows: &[Row]) -> bool {
     all_right
 }
 
+fn shows_paragraph(alloc: Global, engine: &mut Engine) -> Result<bool, Fail> {
+    let laid = lay_out(alloc, engine, "\u{5D0}1 (\u{5D1}", 2)?;
+    Ok(shows_lines(&laid, &SHOWN))
+}
+
 #[test]
 fn lines_as_they_are_shown(rt: HostRuntime) -> Result<(), Fail> {
-    let alloc = rt.alloc();
-    let mut engine = engine(alloc, false)?;
-    let laid = lay_out(alloc, &mut engine, "\u{5D0}1 (\u{5D1}", 2)?;
-    assert!(rt; shows_lines(&laid, &SHOWN));
+    let mut engine = engine(rt.alloc(), false)?;
+    let result = shows_paragraph(rt.alloc(), &mut engine);
+    drop(engine);
+    assert!(rt; result?);
     Ok(())
 }

@@ -67,14 +67,18 @@ fn refusal(text: &str, edit: Edit<'_>) -> Option<EditFault> {
 fn changed(alloc: Global, text: &str, edit: Edit<'_>) -> Result<String, AllocError> {
     let (pos, count, piece) = parts(edit);
     let mut new = String::new(alloc);
-    for c in text.chars().take(pos) {
-        new.push(c)?;
-    }
+    push_part(&mut new, text, 0, pos)?;
     new.push_str(piece)?;
-    for c in text.chars().skip(pos).skip(count) {
+    push_part(&mut new, text, pos.wrapping_add(count), usize::MAX)?;
+    Ok(new)
+}
+
+// Adds so many characters of a text, from a place on.
+fn push_part(new: &mut String, text: &str, start: usize, count: usize) -> Result<(), AllocError> {
+    for c in text.chars().skip(start).take(count) {
         new.push(c)?;
     }
-    Ok(new)
+    Ok(())
 }
 
 // What a change names that touches the paragraphs whose closed spans meet the closed range from `pos` to
@@ -171,65 +175,74 @@ fn stays<S: ParagraphStore<Kept>>(
         && same_paragraphs(old, new, behind_pars, rest_pars)
 }
 
-// The change and its answer, beside the session of the text as it was.
-fn check_answer<S: ParagraphStore<Kept>>(
-    rt: &impl Abort,
-    edited: &mut Session<S>,
+// Whether a change was to be answered so, beside the session of the text as it was.
+fn is_right<S: ParagraphStore<Kept>>(
+    edited: &Session<S>,
     old: &Session<VecStore<Kept>>,
     edit: Edit<'_>,
+    answer: Result<Damage, EditFault>,
     refusal: Option<EditFault>,
-) {
-    let most = if refusal.is_none() {
-        bounds(old, edit)
-    } else {
-        [0, 0]
-    };
-    match make_within(rt, edited, edit, most) {
+) -> bool {
+    match answer {
         Ok(damage) => {
-            assert_eq!(rt; refusal, None);
-            assert_eq!(rt; damage, damage_of(old, edited, edit));
-            assert!(rt; stays(old, edited, damage));
+            refusal.is_none()
+                && damage == damage_of(old, edited, edit)
+                && stays(old, edited, damage)
         }
-        Err(fault) => assert_eq!(rt; Some(fault), refusal),
+        Err(fault) => Some(fault) == refusal,
     }
 }
 
-// Makes a change in a session of this text, and answers the text behind it.
+// Makes a change in a session of this text, which becomes the text behind it.
 fn check_change<S: ParagraphStore<Kept> + Drop>(
     rt: &impl Abort,
     alloc: Global,
     pair: &mut Pair<S>,
-    text: String,
+    text: &mut String,
     edit: Edit<'_>,
-) -> Result<String, Fail> {
+) -> Result<(), Fail> {
     let refusal = refusal(text.as_str(), edit);
-    check_answer(rt, &mut pair.edited, &pair.anew, edit, refusal);
-    let new = if refusal.is_some() {
-        text
+    let most = if refusal.is_none() {
+        bounds(&pair.anew, edit)
     } else {
-        match changed(alloc, text.as_str(), edit) {
-            Ok(new) => new,
-            Err(_) => changed(alloc, text.as_str(), edit)?,
-        }
+        [0, 0]
     };
-    pair.check_same(rt, new.as_str())?;
-    Ok(new)
+    let answer = make_within(rt, &mut pair.edited, edit, most);
+    assert!(rt;
+        is_right(&pair.edited, &pair.anew, edit, answer, refusal),
+        "{edit:?}"
+    );
+    if refusal.is_none() {
+        change(alloc, text, edit)?;
+    }
+    Ok(pair.check_same(rt, text.as_str())?)
 }
 
-// Makes the next change, and answers the text behind it.
+// Puts the text behind the change in its place.
+fn change(alloc: Global, text: &mut String, edit: Edit<'_>) -> Result<(), AllocError> {
+    *text = match changed(alloc, text.as_str(), edit) {
+        Ok(new) => new,
+        Err(_) => changed(alloc, text.as_str(), edit)?,
+    };
+    Ok(())
+}
+
+// Makes the next change in a session of this text.
 fn check_next<S: ParagraphStore<Kept> + Drop>(
     rt: &impl Abort,
     alloc: Global,
     pair: &mut Pair<S>,
     numbers: &mut Numbers,
-    text: String,
-) -> Result<String, Fail> {
+    text: &mut String,
+) -> Result<(), Fail> {
     let piece = match random_piece(alloc, numbers) {
         Ok(piece) => piece,
         Err(_) => random_piece(alloc, numbers)?,
     };
     let edit = random_edit(numbers, pair.edited.char_count(), piece.as_str());
-    check_change(rt, alloc, pair, text, edit)
+    let result = check_change(rt, alloc, pair, text, edit);
+    drop(piece);
+    result
 }
 
 fn check_each<S: ParagraphStore<Kept> + Drop>(
@@ -237,12 +250,13 @@ fn check_each<S: ParagraphStore<Kept> + Drop>(
     alloc: Global,
     pair: &mut Pair<S>,
     numbers: &mut Numbers,
+    text: &mut String,
 ) -> Result<(), Fail> {
-    let mut text = String::new(alloc);
     for turn in 0..2_000 {
-        text = check_next(rt, alloc, pair, numbers, text)?;
+        check_next(rt, alloc, pair, numbers, text)?;
         if turn % 500 == 0 {
-            pair.check_opened(rt, alloc, text.as_str())?;
+            let is_opened = pair.is_opened(alloc, text.as_str())?;
+            assert!(rt; is_opened, "turn {turn}");
         }
     }
     Ok(())
@@ -254,7 +268,11 @@ fn check_changes<S: ParagraphStore<Kept> + Drop>(
     seed: u64,
 ) -> Result<(), Fail> {
     let mut pair: Pair<S> = Pair::new(alloc)?;
-    check_each(rt, alloc, &mut pair, &mut Numbers(seed))
+    let mut text = String::new(alloc);
+    let result = check_each(rt, alloc, &mut pair, &mut Numbers(seed), &mut text);
+    drop(text);
+    drop(pair);
+    result
 }
 
 #[test]

@@ -144,6 +144,22 @@ fn fills(
     result == wanted && holds(&taken, &bytes[..room.min(bytes.len())])
 }
 
+// The room for all of it, with some more and with none, and for its first half.
+fn fills_each(
+    alloc: Global,
+    engine: &mut Engine,
+    text: &[char],
+    width: u16,
+    print: &Print,
+    bytes: &[u8],
+) -> bool {
+    let mut all_right = true;
+    for room in [64, bytes.len(), bytes.len() / 2] {
+        all_right &= fills(alloc, engine, text, width, print, bytes, room);
+    }
+    all_right
+}
+
 fn is_printed(
     alloc: Global,
     engine: &mut Engine,
@@ -153,14 +169,10 @@ fn is_printed(
     bytes: &[u8],
 ) -> Result<bool, Fail> {
     let laid = lay_out(alloc, engine, text, width)?;
-    let text = laid.text();
-    let all = bytes.len();
-    Ok(
-        is_written(&laid, width, print, bytes)
-            && fills(alloc, engine, text, width, print, bytes, 64)
-            && fills(alloc, engine, text, width, print, bytes, all)
-            && fills(alloc, engine, text, width, print, bytes, all / 2),
-    )
+    let are_written = is_written(&laid, width, print, bytes);
+    let are_filled = fills_each(alloc, engine, laid.text(), width, print, bytes);
+    drop(laid);
+    Ok(are_written & are_filled)
 }
 
 pub(super) fn are_printed(
@@ -177,8 +189,9 @@ pub(super) fn are_printed(
 
 #[test]
 fn paragraphs_printed_each_way(rt: HostRuntime) -> Result<(), Fail> {
-    let alloc = rt.alloc();
-    let mut engine = engine(alloc, false)?;
-    assert!(rt; are_printed(alloc, &mut engine, &ROWS)?);
+    let mut engine = engine(rt.alloc(), false)?;
+    let result = are_printed(rt.alloc(), &mut engine, &ROWS);
+    drop(engine);
+    assert!(rt; result?);
     Ok(())
 }

@@ -1,0 +1,9 @@
+//! The tests of layouts and of sessions, by public calls.
+#![tactic(auto)]
+
+#[cfg(test)]
+mod files;
+#[cfg(test)]
+mod layouts;
+#[cfg(test)]
+mod sessions;

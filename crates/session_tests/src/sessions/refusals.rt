@@ -1,0 +1,127 @@
+//! Changes and sessions that are refused.
+use super::{Pair, make, make_each, renew, session, without_engine};
+use crate::files::{FILES, engine};
+use lines::{Engine, Options};
+use session::{Edit, EditFault, Kept, Session};
+use std::alloc::{AllocError, Global};
+use std::process::Abort;
+use std::test::Fail;
+use store::{ParagraphStore, TreeStore, VecStore};
+
+const REFUSED: [(Edit<'_>, EditFault); 7] = [
+    (Edit::Delete(6, 0), EditFault::OutOfRange),
+    (Edit::Delete(3, 3), EditFault::OutOfRange),
+    (Edit::Delete(0, 6), EditFault::OutOfRange),
+    (Edit::Delete(1, usize::MAX), EditFault::OutOfRange),
+    (Edit::Delete(usize::MAX, 1), EditFault::OutOfRange),
+    (Edit::Insert(6, "x"), EditFault::OutOfRange),
+    (Edit::SetWidth(0), EditFault::WidthOutOfRange),
+];
+
+// Whether each change is refused so.
+fn refuses<S: ParagraphStore<Kept>>(
+    edited: &mut Session<S>,
+    rows: &[(Edit<'_>, EditFault)],
+) -> bool {
+    let mut all_right = true;
+    for (edit, fault) in rows {
+        all_right &= make(edited, *edit) == Err(*fault);
+    }
+    all_right
+}
+
+// Whether a session refuses the changes, and is as before.
+fn is_unchanged(pair: &mut Pair<TreeStore<Kept>>) -> Result<bool, EditFault> {
+    renew(&mut pair.edited, "ab\ncd", 7)?;
+    let before = [pair.edited.analysed(), pair.edited.filled()];
+    let are_refused = refuses(&mut pair.edited, &REFUSED);
+    let behind = [pair.edited.analysed(), pair.edited.filled()];
+    Ok(are_refused & (behind == before) & pair.is_same("ab\ncd")?)
+}
+
+#[test]
+fn changes_that_are_refused(rt: HostRuntime) -> Result<(), Fail> {
+    let mut pair = Pair::new(rt.alloc())?;
+    let result = is_unchanged(&mut pair);
+    drop(pair);
+    assert!(rt; result?);
+    Ok(())
+}
+
+fn letters(alloc: Global, count: usize) -> Result<Vec<u8>, AllocError> {
+    vec![in alloc; b'a'; count]
+}
+
+fn str_of(bytes: &[u8]) -> &str {
+    std::str::from_utf8(bytes).unwrap_or("")
+}
+
+// Why no session is opened on a text.
+fn fault_of(alloc: Global, text: &str, width: u16) -> Result<Option<EditFault>, Fail> {
+    let engine = engine(alloc, &FILES, Options::default())?;
+    let opened: Result<Session<VecStore<Kept>>, (Engine, EditFault)> = Session::open(
+        alloc, engine, text, width,
+    );
+    Ok(without_engine(opened).err())
+}
+
+// A text of so many letters, on which no session is opened.
+fn check_open(
+    rt: &impl Abort,
+    alloc: Global,
+    count: usize,
+    width: u16,
+    fault: EditFault,
+) -> Result<(), Fail> {
+    let Ok(text) = letters(alloc, count) else {
+        return Ok(());
+    };
+    let found = fault_of(alloc, str_of(&text), width);
+    drop(text);
+    let is_right = found? == Some(fault);
+    assert!(rt; is_right, "{count} letters");
+    Ok(())
+}
+
+#[test]
+fn sessions_that_are_refused(rt: HostRuntime) -> Result<(), Fail> {
+    let alloc = rt.alloc();
+    check_open(&rt, alloc, 16_777_217, 0, EditFault::WidthOutOfRange)?;
+    check_open(&rt, alloc, 16_777_217, 80, EditFault::TextTooLong)?;
+    check_open(&rt, alloc, 16_777_216, 80, EditFault::ParagraphTooLong)?;
+    check_open(&rt, alloc, 1_048_577, 80, EditFault::ParagraphTooLong)
+}
+
+// Whether a paragraph of the greatest length in front of a separator takes no more.
+fn is_full(edited: &mut Session<VecStore<Kept>>, long: &str) -> Result<bool, EditFault> {
+    let edit = Edit::Insert(1, long);
+    let is_refused = refuses(edited, &[(edit, EditFault::ParagraphTooLong)]);
+    let is_untouched = edited.analysed() == 5;
+    make_each(edited, &[Edit::Insert(0, "\n"), Edit::Delete(1, 5), edit])?;
+    let is_long = edited.char_count() == 1_048_577;
+    let more = [(Edit::Insert(2, "a"), EditFault::ParagraphTooLong)];
+    Ok(is_refused & is_untouched & is_long & refuses(edited, &more))
+}
+
+// Whether that is so of a session of two short paragraphs, where memory didn't run out.
+fn becomes_full(alloc: Global, edited: &mut Session<VecStore<Kept>>) -> Result<bool, EditFault> {
+    let Ok(long) = letters(alloc, 1_048_576) else {
+        return Ok(true);
+    };
+    let result = if edited.analysed() == 5 {
+        is_full(edited, str_of(&long))
+    } else {
+        Ok(true)
+    };
+    drop(long);
+    result
+}
+
+#[test]
+fn changes_of_long_paragraphs(rt: HostRuntime) -> Result<(), Fail> {
+    let mut edited = session(rt.alloc(), "ab\ncd", 80)?;
+    let result = becomes_full(rt.alloc(), &mut edited);
+    drop(edited);
+    assert!(rt; result?);
+    Ok(())
+}
