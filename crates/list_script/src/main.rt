@@ -7,7 +7,6 @@ use device::{FromRead, ToWrite};
 use lines::{Engine, Options, Print};
 use session::{Kept, Session};
 use std::alloc::Global;
-use std::env::Args;
 use std::fs::File;
 use std::process::ExitCode;
 use std::{env, fs};
@@ -51,20 +50,31 @@ fn run(rt: &HostRuntime) -> Result<(), ProgramFault> {
         return Err(UNREAD);
     };
     let _ = words.next();
-    let session = opened(rt, &mut words)?;
-    obey(rt, &mut words, session)
+    let Some(text) = words.next() else {
+        return Err(UNREAD);
+    };
+    let Some(script) = words.next() else {
+        return Err(UNREAD);
+    };
+    run_files(rt, &text, &script)
 }
 
-// A session on the text of the file that the next word names.
-fn opened(rt: &HostRuntime, words: &mut Args) -> Result<Session<VecStore<Kept>>, ProgramFault> {
-    let engine = engine(rt.alloc())?;
-    let Some(path) = words.next() else {
+// Runs the script of one file over the text of another.
+fn run_files(rt: &HostRuntime, text: &str, script: &str) -> Result<(), ProgramFault> {
+    let Ok(text) = fs::read(rt, text) else {
         return Err(UNREAD);
     };
-    let Ok(text) = fs::read(rt, path.as_str()) else {
+    let Ok(script) = File::open(rt, script) else {
         return Err(UNREAD);
     };
-    open_text(rt.alloc(), engine, &text, 80).map_err(ProgramFault::Run)
+    run_script_over(rt, &text, script)
+}
+
+fn run_script_over(rt: &HostRuntime, text: &[u8], script: File) -> Result<(), ProgramFault> {
+    match open_text(rt.alloc(), engine(rt.alloc())?, text, 80) {
+        Ok(session) => obey_lines(rt, script, session),
+        Err(fault) => Err(ProgramFault::Run(fault)),
+    }
 }
 
 fn engine(alloc: Global) -> Result<Engine, ProgramFault> {
@@ -72,21 +82,6 @@ fn engine(alloc: Global) -> Result<Engine, ProgramFault> {
         Ok(tables) => Ok(Engine::new(tables, Options::default())),
         Err(fault) => Err(ProgramFault::Table(fault)),
     }
-}
-
-// The script of the file that the next word names.
-fn obey(
-    rt: &HostRuntime,
-    words: &mut Args,
-    session: Session<VecStore<Kept>>,
-) -> Result<(), ProgramFault> {
-    let Some(path) = words.next() else {
-        return Err(UNREAD);
-    };
-    let Ok(script) = File::open(rt, path.as_str()) else {
-        return Err(UNREAD);
-    };
-    obey_lines(rt, script, session)
 }
 
 fn obey_lines(
