@@ -60,7 +60,7 @@ fn lay_out_characters(
 }
 
 // A paragraph, a width, and where its lines start.
-const STARTS: [(&str, u16, &[u32]); 13] = [
+static STARTS: [(&str, u16, &[u32]); 13] = [
     ("abcdefgh", 3, &[0, 3, 6]),
     ("abc   def", 3, &[0, 6]),
     ("ab cd ef", 5, &[0, 6]),
@@ -77,7 +77,7 @@ const STARTS: [(&str, u16, &[u32]); 13] = [
 ];
 
 // The same where lines end at mandatory breaks only.
-const STARTS_AT_MANDATORY_BREAKS: [(&str, u16, &[u32]); 5] = [
+static STARTS_AT_MANDATORY_BREAKS: [(&str, u16, &[u32]); 5] = [
     ("abcdefgh", 3, &[0]),
     ("ab cd ef", 1, &[0]),
     ("a\u{2028}b", 80, &[0, 2]),
@@ -324,7 +324,7 @@ struct Row {
 
 // Of U+05D0, `1`, a space, `(` and U+05D1 at a width of 2. The first line's space counts for nothing
 // at its end; the bracket is mirrored on the second.
-const SHOWN: [Row; 2] = [
+static SHOWN: [Row; 2] = [
     Row {
         chars: &['1', '\u{5D0}'],
         levels: &[1, 2],

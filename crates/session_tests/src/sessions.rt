@@ -14,7 +14,7 @@ use std::io;
 use std::io::Write;
 use std::process::Abort;
 use std::test::Fail;
-use store::{ParagraphStore, VecStore};
+use store::{ParagraphStore, TreeStore, VecStore};
 
 // A session on a text. Where memory ran out once, the engine that came back opens it.
 fn session<S: ParagraphStore<Kept> + Drop>(
@@ -266,18 +266,18 @@ fn renew<S: ParagraphStore<Kept>>(
 // A session over some store; one beside it, of which the whole text gives way at once; and room for what
 // they print.
 #[derive(Drop)]
-struct Pair<S: ParagraphStore<Kept>> {
+struct Pair<S: ParagraphStore<Kept>, T: ParagraphStore<Kept>> {
     edited: Session<S>,
-    anew: Session<VecStore<Kept>>,
+    anew: Session<T>,
     room: Vec<u8>,
 }
 
-impl<S: ParagraphStore<Kept> + Drop> Pair<S> {
-    fn new(alloc: Global) -> Result<Pair<S>, Fail> {
+impl<S: ParagraphStore<Kept> + Drop, T: ParagraphStore<Kept> + Drop> Pair<S, T> {
+    fn new(alloc: Global) -> Result<Pair<S, T>, Fail> {
         Pair::beside(alloc, session(alloc, "", 20)?)
     }
 
-    fn beside(alloc: Global, anew: Session<VecStore<Kept>>) -> Result<Pair<S>, Fail> {
+    fn beside(alloc: Global, anew: Session<T>) -> Result<Pair<S, T>, Fail> {
         match session(alloc, "", 20) {
             Ok(edited) => Ok(Pair::with_room(alloc, edited, anew)?),
             Err(fail) => {
@@ -290,8 +290,8 @@ impl<S: ParagraphStore<Kept> + Drop> Pair<S> {
     fn with_room(
         alloc: Global,
         edited: Session<S>,
-        anew: Session<VecStore<Kept>>,
-    ) -> Result<Pair<S>, AllocError> {
+        anew: Session<T>,
+    ) -> Result<Pair<S, T>, AllocError> {
         match pages(alloc, 2 * PAGE) {
             Ok(room) => Ok(Pair { edited, anew, room }),
             Err(error) => {
@@ -310,7 +310,7 @@ impl<S: ParagraphStore<Kept> + Drop> Pair<S> {
 
     // Whether the session keeps what one does that is opened on the text.
     fn is_opened(&mut self, alloc: Global, text: &str) -> Result<bool, Fail> {
-        let opened: Session<VecStore<Kept>> = session(alloc, text, self.edited.width())?;
+        let opened: Session<T> = session(alloc, text, self.edited.width())?;
         let is_same = same(&self.edited, &opened, &mut self.room);
         drop(opened);
         Ok(is_same)
@@ -322,4 +322,44 @@ impl<S: ParagraphStore<Kept> + Drop> Pair<S> {
         assert!(rt; is_same, "{text:?}");
         Ok(())
     }
+
+    // Checks what is asked for.
+    fn check(&mut self, rt: &impl Abort, alloc: Global, what: Check) -> Result<(), Fail> {
+        match what {
+            Check::Rows => Ok(rows::check_rows(rt, self, &rows::ROWS)?),
+            Check::Steps => Ok(rows::check_all_steps(rt, self)?),
+            Check::Widths => Ok(rows::check_widths(rt, self)?),
+            Check::Run => Ok(rows::check_run(rt, self, &rows::CHANGES)?),
+            Check::Refusals => Ok(refusals::check_refused(rt, self)?),
+            Check::Random(seed) => random::check_changes(rt, alloc, self, seed),
+        }
+    }
+}
+
+// What a pair is checked by.
+#[derive(Clone, Copy)]
+enum Check {
+    Rows,
+    Steps,
+    Widths,
+    Run,
+    Refusals,
+    Random(u64),
+}
+
+// A pair is made and let go of here alone.
+fn check_over<S: ParagraphStore<Kept> + Drop, T: ParagraphStore<Kept> + Drop>(
+    rt: &impl Abort,
+    alloc: Global,
+    what: Check,
+) -> Result<(), Fail> {
+    let mut pair: Pair<S, T> = Pair::new(alloc)?;
+    let result = pair.check(rt, alloc, what);
+    drop(pair);
+    result
+}
+
+// Checks a session over a tree.
+fn check_in_tree(rt: &impl Abort, alloc: Global, what: Check) -> Result<(), Fail> {
+    check_over::<TreeStore<Kept>, VecStore<Kept>>(rt, alloc, what)
 }

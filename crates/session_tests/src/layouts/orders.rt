@@ -35,7 +35,7 @@ type Row = (
 );
 
 // With the option. The last two: a mark of another level, and one behind a space at the line's end.
-const READ_ROWS: [Row; 7] = [
+static READ_ROWS: [Row; 7] = [
     (
         "\u{5D0}\u{300}\u{5D1}",
         &['\u{5D1}', '\u{5D0}', '\u{300}'],
@@ -81,7 +81,7 @@ const READ_ROWS: [Row; 7] = [
 ];
 
 // The same texts without it, where they differ.
-const REVERSED_ROWS: [Row; 5] = [
+static REVERSED_ROWS: [Row; 5] = [
     (
         "\u{5D0}\u{300}\u{5D1}",
         &['\u{5D1}', '\u{300}', '\u{5D0}'],
@@ -115,9 +115,9 @@ const REVERSED_ROWS: [Row; 5] = [
 ];
 
 // At an even level a mark stands behind its base anyway.
-const RTL_ROWS: [Row; 1] = [("a\u{300}", &['a', '\u{300}'], &[0, 1], &[0, 1])];
+static RTL_ROWS: [Row; 1] = [("a\u{300}", &['a', '\u{300}'], &[0, 1], &[0, 1])];
 
-const POINT_ROWS: [Row; 1] = [(
+static POINT_ROWS: [Row; 1] = [(
     "\u{5D0}\u{5B8}\u{5E9}",
     &['\u{5E9}', '\u{5D0}', '\u{5B8}'],
     &[1, 2, 0],
@@ -125,7 +125,7 @@ const POINT_ROWS: [Row; 1] = [(
 )];
 
 // A paragraph, a width, what is printed, and the bytes.
-const PRINTED: [(&str, u16, Print, &str); 3] = [
+static PRINTED: [(&str, u16, Print, &str); 3] = [
     (
         "\u{5D0}\u{300}(\u{5D1}",
         4,

@@ -47,7 +47,7 @@ const DIRECTION: Print = Print {
 
 // A paragraph, a width, what is printed, and the bytes. Shorter ones stand behind longer ones, whose lists
 // are used again.
-const ROWS: [(&str, u16, Print, &str); 10] = [
+static ROWS: [(&str, u16, Print, &str); 10] = [
     ("abcdefgh ij kl", 3, PLAIN, "abc\ndef\ngh\nij\nkl\n"),
     (
         "\u{5D0}1 (\u{5D1}",

@@ -29,7 +29,7 @@ fn writes(line: &VisualLine<'_>, width: u16, print: &Print, bytes: &[u8]) -> boo
 }
 
 // A width, what is printed, and the bytes of the line.
-const ROWS: [(u16, Print, &str); 5] = [
+static ROWS: [(u16, Print, &str); 5] = [
     (4, PLAIN, "12)\u{5D0}\n"),
     (7, PLAIN, "   12)\u{5D0}\n"),
     (6, ALL, "  12)\u{5D0}\nRTL\n3 2 0 1\n2 3 1 0\n1 1 2 2\n"),

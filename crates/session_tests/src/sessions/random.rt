@@ -1,11 +1,11 @@
 //! Changes at random places, over both stores. Each is compared with a session whose whole text gives
 //! way to the new one at once, and some with one that is opened on it.
-use super::{Pair, make_within, same_lines, same_paragraphs};
+use super::{Check, Pair, check_in_tree, check_over, make_within, same_lines, same_paragraphs};
 use session::{Damage, Edit, EditFault, Kept, Session};
 use std::alloc::{AllocError, Global};
 use std::process::Abort;
 use std::test::Fail;
-use store::{ParagraphStore, TreeStore, VecStore};
+use store::{ParagraphStore, VecStore};
 
 // Numbers that look random, from a fixed seed.
 #[derive(Clone, Copy)]
@@ -83,7 +83,7 @@ fn push_part(new: &mut String, text: &str, start: usize, count: usize) -> Result
 
 // What a change names that touches the paragraphs whose closed spans meet the closed range from `pos` to
 // `end`, without what stands in their place; and how many characters these have.
-fn touched(old: &Session<VecStore<Kept>>, pos: usize, end: usize) -> (Damage, usize) {
+fn touched<T: ParagraphStore<Kept>>(old: &Session<T>, pos: usize, end: usize) -> (Damage, usize) {
     let (mut first_line, mut old_lines, mut first_par, mut old_pars) = (0, 0, 0, 0);
     let (mut start, mut chars) = (0usize, 0usize);
     for i in 0..old.paragraph_count() {
@@ -112,7 +112,7 @@ fn touched(old: &Session<VecStore<Kept>>, pos: usize, end: usize) -> (Damage, us
     (damage, chars)
 }
 
-fn touched_by(old: &Session<VecStore<Kept>>, edit: Edit<'_>) -> (Damage, usize) {
+fn touched_by<T: ParagraphStore<Kept>>(old: &Session<T>, edit: Edit<'_>) -> (Damage, usize) {
     let (pos, count, _) = parts(edit);
     match edit {
         Edit::SetWidth(_) => touched(old, 0, usize::MAX),
@@ -121,7 +121,7 @@ fn touched_by(old: &Session<VecStore<Kept>>, edit: Edit<'_>) -> (Damage, usize) 
 }
 
 // By how much the counts may rise.
-fn bounds(old: &Session<VecStore<Kept>>, edit: Edit<'_>) -> [u64; 2] {
+fn bounds<T: ParagraphStore<Kept>>(old: &Session<T>, edit: Edit<'_>) -> [u64; 2] {
     let (_, count, piece) = parts(edit);
     let (_, chars) = touched_by(old, edit);
     let fresh = chars
@@ -134,8 +134,8 @@ fn bounds(old: &Session<VecStore<Kept>>, edit: Edit<'_>) -> [u64; 2] {
 }
 
 // The damage that made one session of another.
-fn damage_of<S: ParagraphStore<Kept>>(
-    old: &Session<VecStore<Kept>>,
+fn damage_of<S: ParagraphStore<Kept>, T: ParagraphStore<Kept>>(
+    old: &Session<T>,
     new: &Session<S>,
     edit: Edit<'_>,
 ) -> Damage {
@@ -154,8 +154,8 @@ fn damage_of<S: ParagraphStore<Kept>>(
 }
 
 // Whether all that the damage doesn't name stayed.
-fn stays<S: ParagraphStore<Kept>>(
-    old: &Session<VecStore<Kept>>,
+fn stays<S: ParagraphStore<Kept>, T: ParagraphStore<Kept>>(
+    old: &Session<T>,
     new: &Session<S>,
     damage: Damage,
 ) -> bool {
@@ -176,9 +176,9 @@ fn stays<S: ParagraphStore<Kept>>(
 }
 
 // Whether a change was to be answered so, beside the session of the text as it was.
-fn is_right<S: ParagraphStore<Kept>>(
+fn is_right<S: ParagraphStore<Kept>, T: ParagraphStore<Kept>>(
     edited: &Session<S>,
-    old: &Session<VecStore<Kept>>,
+    old: &Session<T>,
     edit: Edit<'_>,
     answer: Result<Damage, EditFault>,
     refusal: Option<EditFault>,
@@ -194,10 +194,10 @@ fn is_right<S: ParagraphStore<Kept>>(
 }
 
 // Makes a change in a session of this text, which becomes the text behind it.
-fn check_change<S: ParagraphStore<Kept> + Drop>(
+fn check_change<S: ParagraphStore<Kept> + Drop, T: ParagraphStore<Kept> + Drop>(
     rt: &impl Abort,
     alloc: Global,
-    pair: &mut Pair<S>,
+    pair: &mut Pair<S, T>,
     text: &mut String,
     edit: Edit<'_>,
 ) -> Result<(), Fail> {
@@ -228,10 +228,10 @@ fn change(alloc: Global, text: &mut String, edit: Edit<'_>) -> Result<(), AllocE
 }
 
 // Makes the next change in a session of this text.
-fn check_next<S: ParagraphStore<Kept> + Drop>(
+fn check_next<S: ParagraphStore<Kept> + Drop, T: ParagraphStore<Kept> + Drop>(
     rt: &impl Abort,
     alloc: Global,
-    pair: &mut Pair<S>,
+    pair: &mut Pair<S, T>,
     numbers: &mut Numbers,
     text: &mut String,
 ) -> Result<(), Fail> {
@@ -245,10 +245,10 @@ fn check_next<S: ParagraphStore<Kept> + Drop>(
     result
 }
 
-fn check_each<S: ParagraphStore<Kept> + Drop>(
+fn check_each<S: ParagraphStore<Kept> + Drop, T: ParagraphStore<Kept> + Drop>(
     rt: &impl Abort,
     alloc: Global,
-    pair: &mut Pair<S>,
+    pair: &mut Pair<S, T>,
     numbers: &mut Numbers,
     text: &mut String,
 ) -> Result<(), Fail> {
@@ -262,25 +262,24 @@ fn check_each<S: ParagraphStore<Kept> + Drop>(
     Ok(())
 }
 
-fn check_changes<S: ParagraphStore<Kept> + Drop>(
+pub(super) fn check_changes<S: ParagraphStore<Kept> + Drop, T: ParagraphStore<Kept> + Drop>(
     rt: &impl Abort,
     alloc: Global,
+    pair: &mut Pair<S, T>,
     seed: u64,
 ) -> Result<(), Fail> {
-    let mut pair: Pair<S> = Pair::new(alloc)?;
     let mut text = String::new(alloc);
-    let result = check_each(rt, alloc, &mut pair, &mut Numbers(seed), &mut text);
+    let result = check_each(rt, alloc, pair, &mut Numbers(seed), &mut text);
     drop(text);
-    drop(pair);
     result
 }
 
 #[test]
 fn changes_at_random_in_a_tree(rt: HostRuntime) -> Result<(), Fail> {
-    check_changes::<TreeStore<Kept>>(&rt, rt.alloc(), 15)
+    check_in_tree(&rt, rt.alloc(), Check::Random(15))
 }
 
 #[test]
 fn changes_at_random_in_a_list(rt: HostRuntime) -> Result<(), Fail> {
-    check_changes::<VecStore<Kept>>(&rt, rt.alloc(), 16)
+    check_over::<VecStore<Kept>, VecStore<Kept>>(&rt, rt.alloc(), Check::Random(16))
 }

@@ -1,14 +1,14 @@
 //! Changes and sessions that are refused.
-use super::{Pair, make, make_each, renew, session, without_engine};
+use super::{Check, Pair, check_in_tree, make, make_each, renew, session, without_engine};
 use crate::files::{FILES, engine};
 use lines::{Engine, Options};
 use session::{Edit, EditFault, Kept, Session};
 use std::alloc::{AllocError, Global};
 use std::process::Abort;
 use std::test::Fail;
-use store::{ParagraphStore, TreeStore, VecStore};
+use store::{ParagraphStore, VecStore};
 
-const REFUSED: [(Edit<'_>, EditFault); 7] = [
+static REFUSED: [(Edit<'_>, EditFault); 7] = [
     (Edit::Delete(6, 0), EditFault::OutOfRange),
     (Edit::Delete(3, 3), EditFault::OutOfRange),
     (Edit::Delete(0, 6), EditFault::OutOfRange),
@@ -30,22 +30,22 @@ fn refuses<S: ParagraphStore<Kept>>(
     all_right
 }
 
-// Whether a session refuses the changes, and is as before.
-fn is_unchanged(pair: &mut Pair<TreeStore<Kept>>) -> Result<bool, EditFault> {
+// A session refuses the changes, and is as before.
+pub(super) fn check_refused<S: ParagraphStore<Kept> + Drop, T: ParagraphStore<Kept> + Drop>(
+    rt: &impl Abort,
+    pair: &mut Pair<S, T>,
+) -> Result<(), EditFault> {
     renew(&mut pair.edited, "ab\ncd", 7)?;
     let before = [pair.edited.analysed(), pair.edited.filled()];
     let are_refused = refuses(&mut pair.edited, &REFUSED);
     let behind = [pair.edited.analysed(), pair.edited.filled()];
-    Ok(are_refused & (behind == before) & pair.is_same("ab\ncd")?)
+    assert!(rt; are_refused & (behind == before));
+    pair.check_same(rt, "ab\ncd")
 }
 
 #[test]
 fn changes_that_are_refused(rt: HostRuntime) -> Result<(), Fail> {
-    let mut pair = Pair::new(rt.alloc())?;
-    let result = is_unchanged(&mut pair);
-    drop(pair);
-    assert!(rt; result?);
-    Ok(())
+    check_in_tree(&rt, rt.alloc(), Check::Refusals)
 }
 
 fn letters(alloc: Global, count: usize) -> Result<Vec<u8>, AllocError> {
@@ -93,7 +93,10 @@ fn sessions_that_are_refused(rt: HostRuntime) -> Result<(), Fail> {
 }
 
 // Whether a paragraph of the greatest length in front of a separator takes no more.
-fn is_full(edited: &mut Session<VecStore<Kept>>, long: &str) -> Result<bool, EditFault> {
+fn is_full<S: ParagraphStore<Kept>>(
+    edited: &mut Session<S>,
+    long: &str,
+) -> Result<bool, EditFault> {
     let edit = Edit::Insert(1, long);
     let is_refused = refuses(edited, &[(edit, EditFault::ParagraphTooLong)]);
     let is_untouched = edited.analysed() == 5;
@@ -104,7 +107,10 @@ fn is_full(edited: &mut Session<VecStore<Kept>>, long: &str) -> Result<bool, Edi
 }
 
 // Whether that is so of a session of two short paragraphs, where memory didn't run out.
-fn becomes_full(alloc: Global, edited: &mut Session<VecStore<Kept>>) -> Result<bool, EditFault> {
+fn becomes_full<S: ParagraphStore<Kept>>(
+    alloc: Global,
+    edited: &mut Session<S>,
+) -> Result<bool, EditFault> {
     let Ok(long) = letters(alloc, 1_048_576) else {
         return Ok(true);
     };
@@ -119,7 +125,7 @@ fn becomes_full(alloc: Global, edited: &mut Session<VecStore<Kept>>) -> Result<b
 
 #[test]
 fn changes_of_long_paragraphs(rt: HostRuntime) -> Result<(), Fail> {
-    let mut edited = session(rt.alloc(), "ab\ncd", 80)?;
+    let mut edited: Session<VecStore<Kept>> = session(rt.alloc(), "ab\ncd", 80)?;
     let result = becomes_full(rt.alloc(), &mut edited);
     drop(edited);
     assert!(rt; result?);

@@ -1,18 +1,18 @@
 //! Worked rows of changes, one by one and one after another.
-use super::{Pair, make_surely, make_within, print, renew};
+use super::{Check, Pair, check_in_tree, make_surely, make_within, print, renew};
 use lines::Print;
 use session::{Damage, Edit, EditFault, Kept, Session};
 use std::process::Abort;
 use std::test::Fail;
-use store::TreeStore;
+use store::ParagraphStore;
 
 // A text, its width, a change, the damage, by how much the counts may rise, and the text behind it.
 type Row<'a> = (&'a str, u16, Edit<'a>, [usize; 6], [u64; 2], &'a str);
 
 // Whether the change is answered as it should be, and the session is of the text behind it.
-fn is_row(
+fn is_row<S: ParagraphStore<Kept> + Drop, T: ParagraphStore<Kept> + Drop>(
     rt: &impl Abort,
-    pair: &mut Pair<TreeStore<Kept>>,
+    pair: &mut Pair<S, T>,
     row: &Row<'_>,
 ) -> Result<bool, EditFault> {
     let (text, width, edit, numbers, most, after) = *row;
@@ -35,7 +35,7 @@ fn are_numbers(damage: Damage, numbers: [usize; 6]) -> bool {
 
 const HEBREW: &str = "\u{5d0}\nab";
 
-const ROWS: [Row<'_>; 20] = [
+pub(super) static ROWS: [Row<'_>; 20] = [
     (
         "a\r",
         80,
@@ -192,9 +192,9 @@ const ROWS: [Row<'_>; 20] = [
     ),
 ];
 
-fn check_rows(
+pub(super) fn check_rows<S: ParagraphStore<Kept> + Drop, T: ParagraphStore<Kept> + Drop>(
     rt: &impl Abort,
-    pair: &mut Pair<TreeStore<Kept>>,
+    pair: &mut Pair<S, T>,
     rows: &[Row<'_>],
 ) -> Result<(), EditFault> {
     for row in rows {
@@ -206,10 +206,7 @@ fn check_rows(
 
 #[test]
 fn changes_of_rows(rt: HostRuntime) -> Result<(), Fail> {
-    let mut pair = Pair::new(rt.alloc())?;
-    let result = check_rows(&rt, &mut pair, &ROWS);
-    drop(pair);
-    Ok(result?)
+    check_in_tree(&rt, rt.alloc(), Check::Rows)
 }
 
 // A change, what its answer says of lines, and what is printed then.
@@ -232,9 +229,9 @@ const SHOWN: Print = Print {
 };
 
 // Whether the change is answered as it should be, and this is printed then.
-fn is_step(
+fn is_step<S: ParagraphStore<Kept>>(
     rt: &impl Abort,
-    edited: &mut Session<TreeStore<Kept>>,
+    edited: &mut Session<S>,
     room: &mut [u8],
     form: &Print,
     step: &Step<'_>,
@@ -253,9 +250,9 @@ fn is_step(
 }
 
 // Makes the changes in a session of a text.
-fn check_steps(
+fn check_steps<S: ParagraphStore<Kept> + Drop, T: ParagraphStore<Kept> + Drop>(
     rt: &impl Abort,
-    pair: &mut Pair<TreeStore<Kept>>,
+    pair: &mut Pair<S, T>,
     text: &str,
     form: &Print,
     steps: &[Step<'_>],
@@ -268,7 +265,7 @@ fn check_steps(
     Ok(())
 }
 
-const REFUSED_AND_EMPTIED: [Step<'_>; 3] = [
+static REFUSED_AND_EMPTIED: [Step<'_>; 3] = [
     (
         Edit::Delete(5, 10),
         Err(EditFault::OutOfRange),
@@ -278,13 +275,13 @@ const REFUSED_AND_EMPTIED: [Step<'_>; 3] = [
     (Edit::Insert(0, "x"), Ok([0, 0, 1]), "x\n"),
 ];
 
-const JOINED: [Step<'_>; 1] = [(
+static JOINED: [Step<'_>; 1] = [(
     Edit::Delete(2, 1),
     Ok([0, 2, 1]),
     "ab\u{5d1}\u{5d0}\n0 0 1 1\n",
 )];
 
-const THERE_AND_BACK: [Step<'_>; 3] = [
+static THERE_AND_BACK: [Step<'_>; 3] = [
     (Edit::SetWidth(3), Ok([0, 1, 3]), "abc\ndef\nghi\n"),
     (Edit::SetWidth(80), Ok([0, 3, 1]), "abc def ghi\n"),
     (
@@ -294,7 +291,10 @@ const THERE_AND_BACK: [Step<'_>; 3] = [
     ),
 ];
 
-fn check_all_steps(rt: &impl Abort, pair: &mut Pair<TreeStore<Kept>>) -> Result<(), EditFault> {
+pub(super) fn check_all_steps<S: ParagraphStore<Kept> + Drop, T: ParagraphStore<Kept> + Drop>(
+    rt: &impl Abort,
+    pair: &mut Pair<S, T>,
+) -> Result<(), EditFault> {
     check_steps(rt, pair, "abcdefgh", &SHOWN, &REFUSED_AND_EMPTIED)?;
     check_steps(rt, pair, "ab\n\u{5d0}\u{5d1}", &LEVELS, &JOINED)?;
     check_steps(rt, pair, "abc def ghi", &SHOWN, &THERE_AND_BACK)
@@ -302,17 +302,14 @@ fn check_all_steps(rt: &impl Abort, pair: &mut Pair<TreeStore<Kept>>) -> Result<
 
 #[test]
 fn changes_one_after_another(rt: HostRuntime) -> Result<(), Fail> {
-    let mut pair = Pair::new(rt.alloc())?;
-    let result = check_all_steps(&rt, &mut pair);
-    drop(pair);
-    Ok(result?)
+    check_in_tree(&rt, rt.alloc(), Check::Steps)
 }
 
-fn check_widths(
+pub(super) fn check_widths<S: ParagraphStore<Kept> + Drop, T: ParagraphStore<Kept> + Drop>(
     rt: &impl Abort,
-    pair: &mut Pair<TreeStore<Kept>>,
-    text: &str,
+    pair: &mut Pair<S, T>,
 ) -> Result<(), EditFault> {
+    let text = "abc def ghi\n\u{5d0}\u{5d1} (1) x";
     renew(&mut pair.edited, text, 80)?;
     let analysed = pair.edited.analysed();
     for width in [3, 1, 65_535, 80] {
@@ -325,13 +322,10 @@ fn check_widths(
 
 #[test]
 fn widths_there_and_back(rt: HostRuntime) -> Result<(), Fail> {
-    let mut pair: Pair<TreeStore<Kept>> = Pair::new(rt.alloc())?;
-    let result = check_widths(&rt, &mut pair, "abc def ghi\n\u{5d0}\u{5d1} (1) x");
-    drop(pair);
-    Ok(result?)
+    check_in_tree(&rt, rt.alloc(), Check::Widths)
 }
 
-const CHANGES: [Edit<'_>; 6] = [
+pub(super) static CHANGES: [Edit<'_>; 6] = [
     Edit::Insert(3, "\u{5d0}"),
     Edit::Delete(5, 10),
     Edit::SetWidth(2),
@@ -341,7 +335,10 @@ const CHANGES: [Edit<'_>; 6] = [
 ];
 
 // Where memory runs out some of the changes were made: then all follow on the first text again.
-fn run(edited: &mut Session<TreeStore<Kept>>, changes: &[Edit<'_>]) -> Result<(), EditFault> {
+fn run<S: ParagraphStore<Kept>>(
+    edited: &mut Session<S>,
+    changes: &[Edit<'_>],
+) -> Result<(), EditFault> {
     renew(edited, "ab\ncd", 80)?;
     if edited.run(changes).is_ok() {
         return Ok(());
@@ -353,9 +350,9 @@ fn run(edited: &mut Session<TreeStore<Kept>>, changes: &[Edit<'_>]) -> Result<()
     }
 }
 
-fn check_run(
+pub(super) fn check_run<S: ParagraphStore<Kept> + Drop, T: ParagraphStore<Kept> + Drop>(
     rt: &impl Abort,
-    pair: &mut Pair<TreeStore<Kept>>,
+    pair: &mut Pair<S, T>,
     changes: &[Edit<'_>],
 ) -> Result<(), EditFault> {
     run(&mut pair.edited, changes)?;
@@ -365,8 +362,5 @@ fn check_run(
 
 #[test]
 fn runs_of_changes(rt: HostRuntime) -> Result<(), Fail> {
-    let mut pair: Pair<TreeStore<Kept>> = Pair::new(rt.alloc())?;
-    let result = check_run(&rt, &mut pair, &CHANGES);
-    drop(pair);
-    Ok(result?)
+    check_in_tree(&rt, rt.alloc(), Check::Run)
 }
