@@ -132,7 +132,7 @@ fn are_same(
 }
 
 // How many lists there are of so many characters.
-const LISTS: [(usize, usize); 4] = [(1, 12), (2, 144), (3, 1_728), (4, 20_736)];
+static LISTS: [(usize, usize); 4] = [(1, 12), (2, 144), (3, 1_728), (4, 20_736)];
 
 // Whether it is so of all lists of 1 to 4 characters.
 fn all_are_same(alloc: Global, tables: &Tables) -> Result<bool, AllocError> {
@@ -171,7 +171,7 @@ struct Row {
 }
 
 // Paragraphs that are no sequence as they stand, and some that are, long and short in turn.
-const ROWS: [Row; 6] = [
+static ROWS: [Row; 6] = [
     Row {
         text: "a\u{202B}b\u{202C}c",
         levels: "00220",
@@ -276,7 +276,7 @@ fn a_resolver_serves_again(rt: HostRuntime) -> Result<(), Fail> {
 }
 
 // A paragraph with its separator, whose level no line shows.
-const SEPARATED: [(&[char], Base, &str); 3] = [
+static SEPARATED: [(&[char], Base, &str); 3] = [
     (&['\u{5D0}', '\n'], Base::WeakLtr, "11"),
     (&['\u{202E}', 'a', '\n'], Base::WeakLtr, "010"),
     (&['\u{2067}', 'a', '\n'], Base::WeakRtl, "141"),

@@ -50,7 +50,7 @@ fn has_marks(
 }
 
 // Texts and their marks, whether numbers stay whole or not.
-const ROWS: [(&str, &str); 15] = [
+static ROWS: [(&str, &str); 15] = [
     ("", ""),
     ("a b", "×÷!"),
     ("a-b", "×÷!"),
@@ -72,7 +72,7 @@ const ROWS: [(&str, &str); 15] = [
 ];
 
 // Texts and their marks without whole numbers, and with them.
-const NUMBERS: [(&str, &str, &str); 23] = [
+static NUMBERS: [(&str, &str, &str); 23] = [
     ("$(1", "××!", "××!"),
     ("$(a", "××!", "÷×!"),
     ("$(", "×!", "÷!"),
@@ -100,14 +100,14 @@ const NUMBERS: [(&str, &str, &str); 23] = [
 
 // The same of a degree sign and a euro sign. A line may end behind a space, inside what would else be a
 // number, but not behind one that is no break.
-const SIGNS: [(&str, &str, &str); 3] = [
+static SIGNS: [(&str, &str, &str); 3] = [
     ("-5\u{B0}", "××!", "××!"),
     ("\u{20AC}\u{A0}30", "×××!", "×××!"),
     ("\u{20AC} 30", "×÷×!", "×÷×!"),
 ];
 
 // Those of U+00A9 and a modifier, where the first is unassigned and where it isn't.
-const PICTOGRAPHS: [(&[u8], &str); 2] = [(b"", "×!"), (b"00A9;So", "÷!")];
+static PICTOGRAPHS: [(&[u8], &str); 2] = [(b"", "×!"), (b"00A9;So", "÷!")];
 
 // The marks of a text without whole numbers, and with them.
 fn check(
@@ -121,11 +121,8 @@ fn check(
     let has = has_marks(alloc, tables, &chars, false, want);
     let has_whole = has_marks(alloc, tables, &chars, true, want_whole);
     drop(chars);
-    let are_right = [has?, has_whole?];
-    assert!(rt;
-        are_right == [true, true],
-        "{text:?}, not whole and whole: {are_right:?}"
-    );
+    let are_right = has? & has_whole?;
+    assert!(rt; are_right, "{text:?}");
     Ok(())
 }
 
@@ -299,7 +296,7 @@ const CLASS_FILES: UcdFiles<'_> = UcdFiles {
     ..FILES
 };
 
-const LETTERS: [char; 12] = [
+static LETTERS: [char; 12] = [
     'a', '\u{5D0}', '\u{627}', '1', '\u{660}', '+', ',', '$', '\u{300}', '(', ')', ' ',
 ];
 
@@ -355,7 +352,7 @@ fn check_lists(
 }
 
 // How many lists there are of so many letters.
-const LISTS: [(usize, u64); 4] = [(1, 12), (2, 144), (3, 1_728), (4, 20_736)];
+static LISTS: [(usize, u64); 4] = [(1, 12), (2, 144), (3, 1_728), (4, 20_736)];
 
 fn check_letters(rt: &impl Abort, alloc: Global, tables: &Tables) -> Result<(), AllocError> {
     for (length, numbers) in &LISTS {

@@ -255,25 +255,16 @@ fn are_replaced(old: &[Item], other: &[Item], (start, end): (usize, usize)) -> b
 
 // Both stores, which are changed alike.
 #[derive(Drop)]
-struct Both {
-    tree: TreeStore<Item>,
-    list: VecStore<Item>,
-}
-
-impl Both {
-    fn new(alloc: Global) -> Both {
-        Both {
-            tree: TreeStore::new(alloc),
-            list: VecStore::new(alloc),
-        }
-    }
+struct Both<S: ParagraphStore<Item>, T: ParagraphStore<Item>> {
+    tree: S,
+    list: T,
 }
 
 // Replaces the items of a range by so many others, in both stores.
-fn replace_both(
+fn replace_both<S: ParagraphStore<Item>, T: ParagraphStore<Item>>(
     rt: &impl Abort,
     alloc: Global,
-    both: &mut Both,
+    both: &mut Both<S, T>,
     range: (usize, usize),
     new_items: (u32, usize),
 ) -> Result<(), AllocError> {
@@ -287,7 +278,11 @@ fn replace_both(
 }
 
 // Both stores have and find the same.
-fn check_both(rt: &impl Abort, alloc: Global, both: &Both) -> Result<(), AllocError> {
+fn check_both<S: ParagraphStore<Item>, T: ParagraphStore<Item>>(
+    rt: &impl Abort,
+    alloc: Global,
+    both: &Both<S, T>,
+) -> Result<(), AllocError> {
     assert!(rt; has_same(&both.tree, &both.list));
     assert!(rt; lists_its_own(alloc, &both.tree)? && lists_its_own(alloc, &both.list)?);
     assert!(rt; finds_same(&both.tree, &both.list));
@@ -305,7 +300,7 @@ fn below(seed: u64, limit: usize) -> usize {
 // A range, and the first name and the count of what takes its place.
 type Row = ((usize, usize), (u32, usize));
 
-const ROWS: [Row; 10] = [
+static ROWS: [Row; 10] = [
     ((0, 0), (0, 0)),
     ((0, 0), (1, 7)),
     ((3, 3), (20, 0)),
@@ -318,10 +313,10 @@ const ROWS: [Row; 10] = [
     ((0, 31), (0, 0)),
 ];
 
-fn replace_rows(
+fn replace_rows<S: ParagraphStore<Item>, T: ParagraphStore<Item>>(
     rt: &impl Abort,
     alloc: Global,
-    both: &mut Both,
+    both: &mut Both<S, T>,
     rows: &[Row],
 ) -> Result<(), AllocError> {
     for (range, new_items) in rows {
@@ -330,18 +325,26 @@ fn replace_rows(
     Ok(())
 }
 
-#[test]
-fn ranges_and_lists_that_are_empty_or_whole(rt: HostRuntime) -> Result<(), Fail> {
-    let mut both = Both::new(rt.alloc());
-    let result = replace_rows(&rt, rt.alloc(), &mut both, &ROWS);
-    let count = both.tree.count();
-    drop(both);
-    result?;
-    assert!(rt; count == 0);
+fn check_rows<S: ParagraphStore<Item>, T: ParagraphStore<Item>>(
+    rt: &impl Abort,
+    alloc: Global,
+    both: &mut Both<S, T>,
+) -> Result<(), AllocError> {
+    replace_rows(rt, alloc, both, &ROWS)?;
+    assert!(rt; both.tree.count() == 0);
     Ok(())
 }
 
-fn replace_at_random(rt: &impl Abort, alloc: Global, both: &mut Both) -> Result<(), AllocError> {
+#[test]
+fn ranges_and_lists_that_are_empty_or_whole(rt: HostRuntime) -> Result<(), Fail> {
+    Ok(check_stores(&rt, rt.alloc(), Check::Rows)?)
+}
+
+fn replace_at_random<S: ParagraphStore<Item>, T: ParagraphStore<Item>>(
+    rt: &impl Abort,
+    alloc: Global,
+    both: &mut Both<S, T>,
+) -> Result<(), AllocError> {
     for round in 0..400u32 {
         let seed = u64::from(round) * 7 + 1;
         let count = both.list.count();
@@ -357,13 +360,10 @@ fn replace_at_random(rt: &impl Abort, alloc: Global, both: &mut Both) -> Result<
 
 #[test]
 fn random_replacements(rt: HostRuntime) -> Result<(), Fail> {
-    let mut both = Both::new(rt.alloc());
-    let result = replace_at_random(&rt, rt.alloc(), &mut both);
-    drop(both);
-    Ok(result?)
+    Ok(check_stores(&rt, rt.alloc(), Check::Random)?)
 }
 
-const THREE_BY_TWO: [Row; 2] = [((0, 0), (1, 8)), ((2, 5), (11, 2))];
+static THREE_BY_TWO: [Row; 2] = [((0, 0), (1, 8)), ((2, 5), (11, 2))];
 
 // Whether the first items have these names.
 fn has_names<S: ParagraphStore<Item>>(store: &S, names: &[u32]) -> bool {
@@ -377,15 +377,19 @@ fn has_names<S: ParagraphStore<Item>>(store: &S, names: &[u32]) -> bool {
     all_right
 }
 
+fn check_names<S: ParagraphStore<Item>, T: ParagraphStore<Item>>(
+    rt: &impl Abort,
+    alloc: Global,
+    both: &mut Both<S, T>,
+) -> Result<(), AllocError> {
+    replace_rows(rt, alloc, both, &THREE_BY_TWO)?;
+    assert!(rt; has_names(&both.list, &[1, 2, 11, 12, 6, 7, 8]));
+    Ok(())
+}
+
 #[test]
 fn three_items_by_two(rt: HostRuntime) -> Result<(), Fail> {
-    let mut both = Both::new(rt.alloc());
-    let result = replace_rows(&rt, rt.alloc(), &mut both, &THREE_BY_TWO);
-    let is_right = has_names(&both.list, &[1, 2, 11, 12, 6, 7, 8]);
-    drop(both);
-    result?;
-    assert!(rt; is_right);
-    Ok(())
+    Ok(check_stores(&rt, rt.alloc(), Check::ThreeByTwo)?)
 }
 
 // Whether each item got the lines of its place and seven more, for the ones that it had.
@@ -410,7 +414,11 @@ fn numbers(alloc: Global) -> Result<Vec<usize>, AllocError> {
     Ok(numbers)
 }
 
-fn exchange_both(rt: &impl Abort, alloc: Global, both: &mut Both) -> Result<(), AllocError> {
+fn exchange_both<S: ParagraphStore<Item>, T: ParagraphStore<Item>>(
+    rt: &impl Abort,
+    alloc: Global,
+    both: &mut Both<S, T>,
+) -> Result<(), AllocError> {
     replace_both(rt, alloc, both, (0, 0), (1, 50))?;
     let mut by = Adder { more: 7 };
     let mut parts = numbers(alloc)?;
@@ -427,10 +435,7 @@ fn exchange_both(rt: &impl Abort, alloc: Global, both: &mut Both) -> Result<(), 
 
 #[test]
 fn exchanges_in_order(rt: HostRuntime) -> Result<(), Fail> {
-    let mut both = Both::new(rt.alloc());
-    let result = exchange_both(&rt, rt.alloc(), &mut both);
-    drop(both);
-    Ok(result?)
+    Ok(check_stores(&rt, rt.alloc(), Check::Exchanges)?)
 }
 
 // The most items that a search looks at, of every so many characters and lines, and at the last one.
@@ -457,29 +462,75 @@ fn fill<S: ParagraphStore<Item>>(
     Ok(())
 }
 
+// Whether a search in the tree looks at few of a thousand items, and one in the list at all.
+fn check_thousand<S: ParagraphStore<Item>, T: ParagraphStore<Item>>(
+    rt: &impl Abort,
+    alloc: Global,
+    both: &mut Both<S, T>,
+) -> Result<(), AllocError> {
+    fill(rt, alloc, &mut both.tree, 1_000)?;
+    fill(rt, alloc, &mut both.list, 1_000)?;
+    assert!(rt; most_visits(&both.tree, 1) <= 19);
+    assert!(rt; most_visits(&both.list, 1) == 1_000);
+    Ok(())
+}
+
 #[test]
 fn a_thousand_items(rt: HostRuntime) -> Result<(), Fail> {
-    let mut both = Both::new(rt.alloc());
-    let result = fill(&rt, rt.alloc(), &mut both.tree, 1_000);
-    let other = fill(&rt, rt.alloc(), &mut both.list, 1_000);
-    let (most, most_of_list) = (most_visits(&both.tree, 1), most_visits(&both.list, 1));
-    drop(both);
-    result?;
-    other?;
-    assert!(rt; most <= 19);
-    assert!(rt; most_of_list == 1_000);
+    Ok(check_stores(&rt, rt.alloc(), Check::Thousand)?)
+}
+
+fn check_million<S: ParagraphStore<Item>>(
+    rt: &impl Abort,
+    alloc: Global,
+    store: &mut S,
+) -> Result<(), AllocError> {
+    fill(rt, alloc, store, 1_000_000)?;
+    assert!(rt; store.count() == 1_000_000);
+    assert!(rt; most_visits(store, 101) <= 39);
     Ok(())
 }
 
 // Dropping the store goes down no deeper than its height.
 #[test]
 fn a_million_items(rt: HostRuntime) -> Result<(), Fail> {
-    let mut tree = TreeStore::new(rt.alloc());
-    let result = fill(&rt, rt.alloc(), &mut tree, 1_000_000);
-    let (count, most) = (tree.count(), most_visits(&tree, 101));
-    drop(tree);
-    result?;
-    assert!(rt; count == 1_000_000);
-    assert!(rt; most <= 39);
-    Ok(())
+    Ok(check_stores(&rt, rt.alloc(), Check::Million)?)
+}
+
+// What both stores are checked by.
+#[derive(Clone, Copy)]
+enum Check {
+    Rows,
+    Random,
+    ThreeByTwo,
+    Exchanges,
+    Thousand,
+    Million,
+}
+
+fn check_by<S: ParagraphStore<Item>, T: ParagraphStore<Item>>(
+    rt: &impl Abort,
+    alloc: Global,
+    both: &mut Both<S, T>,
+    what: Check,
+) -> Result<(), AllocError> {
+    match what {
+        Check::Rows => check_rows(rt, alloc, both),
+        Check::Random => replace_at_random(rt, alloc, both),
+        Check::ThreeByTwo => check_names(rt, alloc, both),
+        Check::Exchanges => exchange_both(rt, alloc, both),
+        Check::Thousand => check_thousand(rt, alloc, both),
+        Check::Million => check_million(rt, alloc, &mut both.tree),
+    }
+}
+
+// Both stores are made and let go of here alone.
+fn check_stores(rt: &impl Abort, alloc: Global, what: Check) -> Result<(), AllocError> {
+    let mut both = Both {
+        tree: TreeStore::new(alloc),
+        list: VecStore::new(alloc),
+    };
+    let result = check_by(rt, alloc, &mut both, what);
+    drop(both);
+    result
 }
