@@ -139,8 +139,8 @@ impl Work {
         Ok(base)
     }
 
-    // The base level of a paragraph, and its levels, put into a list. What the tables say of its characters is
-    // looked up for it, and stays.
+    // The base level of a paragraph, and its levels, put into a list. What the tables say of its characters
+    // is looked up for it, and stays.
     fn resolve(
         &mut self,
         tables: &Tables,

@@ -178,8 +178,8 @@ fn build<P: Measured>(spares: &mut Vec<Spare<P>>, count: usize) -> Subtree<P>
     join(left, top, right)
 }
 
-/// Puts the items of a list of nodes, from the last one back, in place of those in a range, and hands out a tree
-/// of the old ones.
+/// Puts the items of a list of nodes, from the last one back, in place of those in a range, and hands out a
+/// tree of the old ones.
 pub(crate) fn put_in<P: Measured>(
     tree: &mut Subtree<P>,
     first: usize,

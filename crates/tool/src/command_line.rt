@@ -1,5 +1,6 @@
 //! The command line: its words, read with `clap`, and what they ask for.
-ghost use Rattle.std.specs.Prelude.{◌≡◌, List, codes, fold, map, option_map, true, false, is_some, IfOk, IfErr, IfSome};
+ghost use Rattle.std.specs.Prelude.{◌≡◌, List, codes, fold, map, option_map, true, false, is_some};
+ghost use Rattle.std.specs.Prelude.{IfOk, IfErr, IfSome};
 ghost use Rattle.clap.specs.Words.{Text, app_of, found_of, rows_of, rule_of, with_rule};
 ghost use Rattle.clap.specs.Takes.{is_given};
 ghost use Rattle.tool.specs.CommandLine.{program, ucd_rule, width_rule, script_rule, files_rule, flag_rule};
