@@ -106,6 +106,7 @@ impl<P: Measured> Subtree<P> {
         node.left.exchange_all(by, first);
         by.exchange(&mut node.item, &mut part[0]);
         node.right.exchange_all(by, last);
-        node.lines = node.left.lines_with(&node.item, &node.right);
+        let lines = node.left.lines_with(&node.item, &node.right);
+        node.lines = lines;
     }
 }

@@ -145,8 +145,8 @@ returns-clause-chars g t c =
     ap (sum_by g.P.Measured.chars) (returns-clause-items g t c)
     ∙ same_sum (g.E.Exchanger.fits by) g.P.Measured.chars (g.E.Exchanger.exchanged by) (g.met.E.Exchanger.keeps_chars by) (in_order c.args.self.now) c.args.parts.now c.requires.fit
 
-pub lines_with-node-requires : goal.lines_with-node-requires
-lines_with-node-requires g t c =
+pub lines_with-lines-requires : goal.lines_with-lines-requires
+lines_with-lines-requires g t c =
     let by = c.args.by.now in
     let n = c.deref_mut-node.result.now in
     let xs = in_order n.left in
@@ -206,7 +206,7 @@ invariant_of-self-2 g t c =
     let item_is = ap g.P.Measured.chars c.exchange.ensures.item
     ∙ ap (λ other. g.P.Measured.chars (g.E.Exchanger.exchanged other n.item (get_or one 0 d))) c.exchange_all.ensures.same
     ∙ g.met.E.Exchanger.keeps_chars by n.item _ (fit_item (g.E.Exchanger.fits by) xs n.item ys ps rest one qs d parted whole) in
-    summed_again g.P.Measured.chars g.P.Measured.lines n _ summed l r item_is refl refl refl c.lines_with-node.ensures
+    summed_again g.P.Measured.chars g.P.Measured.lines n _ summed l r item_is refl refl refl c.lines_with-lines.ensures
 
 pub returns-clause-count : goal.returns-clause-count
 returns-clause-count g t c =
