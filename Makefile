@@ -33,7 +33,8 @@ all program bench-program:
 lib-bidi lib-breaks: lib-ucd
 lib-lines: lib-device lib-bidi lib-breaks
 lib-session: lib-lines lib-store
-lib-tool: lib-session
+lib-command_line: lib-lines
+lib-tool: lib-session lib-command_line
 run-fribidi run-refused run-list_script: lib-tool
 run-bench: lib-session
 

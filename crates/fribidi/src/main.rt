@@ -3,6 +3,7 @@
 
 ghost use Rattle.std.specs.Prelude.{◌<◌};
 
+use command_line::{LineFault, Settings, settings};
 use device::{FromRead, ToWrite};
 use lines::{Engine, Print};
 use session::{Kept, Session};
@@ -12,9 +13,7 @@ use std::io::{ErrorKind, Read, Stdout};
 use std::process::ExitCode;
 use std::{env, fs, io};
 use store::TreeStore;
-use tool::{
-    LineFault, ProgramFault, RunFault, Settings, open_text, run_script, run_text, settings,
-};
+use tool::{ProgramFault, RunFault, open_text, run_script, run_text};
 use ucd::{FILE_NAMES, Tables, UcdFiles};
 
 fn main(rt: HostRuntime) -> ExitCode {

@@ -1,5 +1,3 @@
-pub mod CommandLineLemmas
-pub mod DefaultLemmas
 pub mod EscapeLemmas
 pub mod Fronts
 pub mod Devices

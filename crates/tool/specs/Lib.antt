@@ -1,4 +1,3 @@
-pub mod CommandLine
 pub mod Commands
 pub mod Pages
 pub mod Program

@@ -2,7 +2,7 @@
 ghost use Rattle.std.specs.Prelude.{◌≡◌};
 
 use crate::faults::RunFault;
-use crate::options::LineFault;
+use command_line::LineFault;
 use thiserror::Error;
 use ucd::TableFault;
 
@@ -29,11 +29,7 @@ impl ProgramFault {
         ensures { result ≡ status_of self.now }
     {
         match self {
-            ProgramFault::Line(LineFault::Words(error)) => {
-                if error.use_stderr() { 2 } else { 0 }
-            }
-            ProgramFault::Line(LineFault::Directions) => 2,
-            ProgramFault::Line(LineFault::ScriptFiles) => 2,
+            ProgramFault::Line(fault) => fault.status(),
             _ => 1,
         }
     }

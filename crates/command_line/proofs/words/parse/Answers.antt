@@ -3,8 +3,8 @@ use denote.Enum.Bare.{sameb}
 use Rattle.clap.specs.contracts.error.kind.ErrorKind.{the_type}
 use Rattle.clap.specs.declared.error.kind.ErrorKind.TheVariants.{OutOfMemory}
 use Rattle.clap.specs.Words.{IsAmong, fault_of, kind_of, is_simple, is_simple_and_free, matches_of}
-use Rattle.tool.proofs.CommandLineLemmas.{program_is_free, program_is_simple, required_there}
-use Rattle.tool.proofs.command_line.parse.Goals as goal
+use Rattle.command_line.proofs.CommandLineLemmas.{program_is_free, program_is_simple, required_there}
+use Rattle.command_line.proofs.words.parse.Goals as goal
 
 pub returns-in-Ok-try_get_matches_from-clause-ok : goal.returns-in-Ok-try_get_matches_from-clause-ok
 returns-in-Ok-try_get_matches_from-clause-ok c =

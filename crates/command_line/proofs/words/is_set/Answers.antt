@@ -7,7 +7,7 @@ use Rattle.clap.specs.declared.parser.matches.ValueSource.{ValueSource}
 use Rattle.clap.specs.declared.parser.matches.ValueSource.TheVariants.{DefaultValue, CommandLine}
 use Rattle.clap.specs.contracts.parser.matches.ValueSourcePartialEq.TheImpl.{eq-value}
 use Rattle.clap.proofs.TakesLemmas.{present_row}
-use Rattle.tool.proofs.command_line.is_set.Goals as goal
+use Rattle.command_line.proofs.words.is_set.Goals as goal
 
 -- no default is what the words outweigh
 differs : (s : Option ValueSource) → not (option_eq eq-value.it s (Some DefaultValue)) ≡ explicit_source s

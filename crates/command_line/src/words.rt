@@ -1,11 +1,11 @@
-//! The command line: its words, read with `clap`, and what they ask for.
+//! The words, as `clap` is told of them, and what their matches are.
 ghost use Rattle.std.specs.Prelude.{◌≡◌, List, codes, fold, map, option_map, true, false, is_some};
 ghost use Rattle.std.specs.Prelude.{IfOk, IfErr, IfSome};
 ghost use Rattle.clap.specs.Words.{Text, app_of, found_of, rows_of, rule_of, with_rule};
 ghost use Rattle.clap.specs.Takes.{is_given};
-ghost use Rattle.tool.specs.CommandLine.{program, ucd_rule, width_rule, script_rule, files_rule, flag_rule};
-ghost use Rattle.tool.specs.CommandLine.{AreMatches, AreSettings, IsLineFault, base_by, base_of, fits_script};
-ghost use Rattle.tool.specs.CommandLine.{layout_rules, print_rules};
+ghost use Rattle.command_line.specs.CommandLine.{program, ucd_rule, width_rule, script_rule, files_rule, flag_rule};
+ghost use Rattle.command_line.specs.CommandLine.{AreMatches, AreSettings, IsLineFault, base_by, base_of, fits_script};
+ghost use Rattle.command_line.specs.CommandLine.{layout_rules, print_rules};
 
 use crate::options::{LineFault, Settings};
 use bidi::Base;

@@ -2,9 +2,9 @@ use Rattle.std.proofs.Common.{ap, ◌∙◌, ◌≡◌, fold, true}
 use Rattle.std.proofs.lemmas.Result.{IfOk-weaker}
 use Rattle.clap.specs.Words.{app_of, with_rule}
 use Rattle.clap.specs.Simple.{app_of_fields, on_top}
-use Rattle.tool.specs.CommandLine.{layout_rules, print_rules, program, start}
-use Rattle.tool.proofs.CommandLineLemmas.{with_arg}
-use Rattle.tool.proofs.command_line.command.Goals as goal
+use Rattle.command_line.specs.CommandLine.{layout_rules, print_rules, program, start}
+use Rattle.command_line.proofs.CommandLineLemmas.{with_arg}
+use Rattle.command_line.proofs.words.command.Goals as goal
 
 pub returns : goal.returns
 unfolding program

@@ -1,4 +1,6 @@
 //! What a command line asks for, and why one is refused.
+ghost use Rattle.std.specs.Prelude.{◌≡◌};
+
 use lines::{Options, Print};
 use thiserror::Error;
 
@@ -31,4 +33,20 @@ pub enum LineFault {
     ScriptFiles,
     #[error("fribidi: out of memory")]
     NoMemory,
+}
+
+impl LineFault {
+    ghost use Rattle.command_line.specs.Status.{status_of_line};
+
+    /// The exit status: 0 for help, 1 where memory ran out, and else 2.
+    pub fn status(&self) -> u8
+        ensures { result ≡ status_of_line self.now }
+    {
+        match self {
+            LineFault::Words(error) => { if error.use_stderr() { 2 } else { 0 } }
+            LineFault::NoMemory => 1,
+            LineFault::Directions => 2,
+            LineFault::ScriptFiles => 2,
+        }
+    }
 }

@@ -9,9 +9,9 @@ use Rattle.clap.specs.Takes.{is_given}
 use Rattle.clap.specs.declared.builder.action.ArgAction.TheVariants.{Append, Set, SetTrue}
 use Rattle.clap.specs.declared.builder.value_parser.ValueParser.TheVariants.{Signed}
 use Rattle.clap.specs.declared.parser.matches.ArgMatches.{ArgMatches}
-use Rattle.tool.specs.declared.options.LineFault.{LineFault}
-use Rattle.tool.specs.declared.options.LineFault.TheVariants.{Words, Directions, ScriptFiles, NoMemory}
-use Rattle.tool.specs.declared.options.Settings.{Settings}
+use Rattle.command_line.specs.declared.options.LineFault.{LineFault}
+use Rattle.command_line.specs.declared.options.LineFault.TheVariants.{Words, Directions, ScriptFiles, NoMemory}
+use Rattle.command_line.specs.declared.options.Settings.{Settings}
 
 -- an option without a value, named by its long name
 abbrev pub flag_rule : Text → Rule

@@ -2,8 +2,8 @@ use Rattle.std.proofs.Common.{◌≡◌, ◌<◌, ◌+◌, ◌∙◌, ℕ, Bor, 
 use Rattle.std.proofs.lemmas.List.{map_more, take_all}
 use Rattle.std.proofs.lemmas.List.Sums.{fold-append}
 use Rattle.clap.specs.Words.{App, Rule, app_of, with_rule}
-use Rattle.tool.specs.CommandLine.{flag_rule}
-use Rattle.tool.proofs.command_line.with_flags.Goals as goal
+use Rattle.command_line.specs.CommandLine.{flag_rule}
+use Rattle.command_line.proofs.words.with_flags.Goals as goal
 
 abbrev rule : Bor (List ℕ) × Bor (List ℕ) → Rule
 rule f = flag_rule f.0.now

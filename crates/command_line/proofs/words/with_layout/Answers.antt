@@ -1,9 +1,9 @@
 use Rattle.std.proofs.Common.{◌∙◌, ap, fold, map, refl, ◌∷◌, [], codes}
 use Rattle.std.proofs.lemmas.Result.{IfOk-weaker}
 use Rattle.clap.specs.Words.{with_rule}
-use Rattle.tool.specs.CommandLine.{flag_rule}
-use Rattle.tool.proofs.CommandLineLemmas.{with_arg}
-use Rattle.tool.proofs.command_line.with_layout.Goals as goal
+use Rattle.command_line.specs.CommandLine.{flag_rule}
+use Rattle.command_line.proofs.CommandLineLemmas.{with_arg}
+use Rattle.command_line.proofs.words.with_layout.Goals as goal
 
 pub returns : goal.returns
 returns c =

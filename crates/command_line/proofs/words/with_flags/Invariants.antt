@@ -1,7 +1,7 @@
 use Rattle.std.proofs.Common.{◌≡◌, fold, map, take}
 use Rattle.clap.specs.Words.{app_of, with_rule}
-use Rattle.tool.specs.CommandLine.{flag_rule}
-use Rattle.tool.proofs.command_line.with_flags.Given as goal
+use Rattle.command_line.specs.CommandLine.{flag_rule}
+use Rattle.command_line.proofs.words.with_flags.Given as goal
 
 -- the command has the options so far
 abbrev pub invariant-loop-name : goal.invariant-loop-name

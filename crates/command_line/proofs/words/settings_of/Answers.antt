@@ -4,10 +4,10 @@ use Rattle.clap.specs.declared.parser.matches.Found.{Found}
 use Rattle.clap.specs.Takes.{is_given}
 use Rattle.clap.proofs.WalkLemmas.{first_value-rows, one_text-rows, raw_values-rows}
 use Rattle.std.specs.Str.Parse.{ParsesUnsigned, ExplainsUnsignedError, HasUnsignedDigitsIfOk}
-use Rattle.tool.specs.CommandLine.{HasWidth, base_of, fits_script, number_of, program, script_fits, texts_of}
+use Rattle.command_line.specs.CommandLine.{HasWidth, base_of, fits_script, number_of, program, script_fits, texts_of}
 use Rattle.std.proofs.lemmas.List.{length-map}
-use Rattle.tool.proofs.DefaultLemmas.{number_read}
-use Rattle.tool.proofs.command_line.settings_of.Goals as goal
+use Rattle.command_line.proofs.DefaultLemmas.{number_read}
+use Rattle.command_line.proofs.words.settings_of.Goals as goal
 
 -- the texts of a list that may be missing
 texts_or_none : (o : Option (Bor (List (Bor Text)))) (none : Bor (List (Bor Text))) → none.now ≡ []

@@ -24,8 +24,8 @@ use Rattle.clap.specs.Texts.{items_of}
 use Rattle.clap.specs.Walk.{texts}
 use Rattle.clap.specs.declared.builder.value_parser.ValueParser.TheVariants.{Signed}
 use Rattle.clap.proofs.WalkLemmas.{one_text-rows}
-use Rattle.tool.specs.CommandLine.{HasWidth, program, ucd_rule, width_rule}
-use Rattle.tool.proofs.DefaultLemmas.{HasValue, default_value, number_in}
+use Rattle.command_line.specs.CommandLine.{HasWidth, program, ucd_rule, width_rule}
+use Rattle.command_line.proofs.DefaultLemmas.{HasValue, default_value, number_in}
 
 pub program_is_simple : is_simple program ≡ true
 unfolding program
