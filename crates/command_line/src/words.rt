@@ -3,8 +3,10 @@ ghost use Rattle.std.specs.Prelude.{◌≡◌, List, codes, fold, map, option_ma
 ghost use Rattle.std.specs.Prelude.{IfOk, IfErr, IfSome};
 ghost use Rattle.clap.specs.Words.{Text, app_of, found_of, rows_of, rule_of, with_rule};
 ghost use Rattle.clap.specs.Takes.{is_given};
-ghost use Rattle.command_line.specs.CommandLine.{program, ucd_rule, width_rule, script_rule, files_rule, flag_rule};
-ghost use Rattle.command_line.specs.CommandLine.{AreMatches, AreSettings, IsLineFault, base_by, base_of, fits_script};
+ghost use Rattle.command_line.specs.CommandLine.{program, ucd_rule, width_rule, script_rule};
+ghost use Rattle.command_line.specs.CommandLine.{files_rule, flag_rule};
+ghost use Rattle.command_line.specs.CommandLine.{AreMatches, AreSettings, IsLineFault};
+ghost use Rattle.command_line.specs.CommandLine.{base_by, base_of, fits_script};
 ghost use Rattle.command_line.specs.CommandLine.{layout_rules, print_rules};
 
 use crate::options::{LineFault, Settings};
