@@ -19,7 +19,7 @@ OPTIONS = --width 44 --basedir
 
 .PHONY: all program ucd demo check test attack bench-program conformance bench
 
-all: programs = fribidi bench refused list_script
+all: programs = fribidi bench refused
 program: programs = fribidi
 bench-program: programs = fribidi bench
 
@@ -33,14 +33,13 @@ all program bench-program:
 lib-bidi lib-breaks: lib-ucd
 lib-lines: lib-device lib-bidi lib-breaks
 lib-session: lib-lines lib-store
-lib-command_line: lib-lines
-lib-tool: lib-session lib-command_line
-run-fribidi run-refused run-list_script: lib-tool
+lib-command_line lib-text_run: lib-lines
+lib-tool: lib-session lib-command_line lib-text_run
+run-fribidi run-refused: lib-tool
 run-bench: lib-session
 
 run-fribidi: words = -- --help
 run-bench: words = -- edits tree 1 1
-run-list_script: words = -- data/text.txt data/script
 
 lib-%:
 	.ci/prove $* lib

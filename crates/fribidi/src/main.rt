@@ -13,7 +13,8 @@ use std::io::{ErrorKind, Read, Stdout};
 use std::process::ExitCode;
 use std::{env, fs, io};
 use store::TreeStore;
-use tool::{ProgramFault, RunFault, open_text, run_script, run_text};
+use text_run::{RunFault, run_text};
+use tool::{ProgramFault, open_text, run_script};
 use ucd::{FILE_NAMES, Tables, UcdFiles};
 
 fn main(rt: HostRuntime) -> ExitCode {

@@ -1,8 +1,14 @@
-//! Makes each call that can want memory, and tells how each went. A call that is refused has to leave all
-//! as it was, or to give back what it was given, and is then made again, so what is printed is the same
-//! whichever one allocation is refused: the gate has each refused in turn (`faults/run`).
+//! What the gate asks of the libraries in a program beside the command.
+//!
+//! `refused` makes each call that can want memory, and tells how each went. A call that is refused has to
+//! leave all as it was, or to give back what it was given, and is then made again, so what is printed is the
+//! same whichever one allocation is refused: the gate has each refused in turn (`faults/run`).
+//!
+//! `refused TEXT SCRIPT`, two files, runs an edit script over a text that is kept in a list: `cases/run` runs
+//! the worked scripts over both stores.
 #![tactic(auto)]
 
+mod list_script;
 mod page;
 mod paragraphs;
 mod runs;
@@ -22,10 +28,21 @@ pub type Wrong = &'static str;
 // Where something is wrong the status is the same and what is printed is not. A refusal of what isn't
 // tried here, as of a line's printing, may end the program with another status.
 fn main(rt: HostRuntime) -> ExitCode {
+    if let Some((text, script)) = list_script::files(&rt) {
+        return obey(&rt, &text, &script);
+    }
     match print_all(&rt) {
         Ok(()) => ExitCode::SUCCESS,
         Err(_) => ExitCode::FAILURE,
     }
+}
+
+fn obey(rt: &HostRuntime, text: &str, script: &str) -> ExitCode {
+    let Err(fault) = list_script::run(rt, text, script) else {
+        return ExitCode::SUCCESS;
+    };
+    let _ = eprintln!(rt; "{fault}");
+    ExitCode::from(fault.status())
 }
 
 // What is tried.

@@ -9,7 +9,8 @@ use lines::{Engine, Print};
 use session::{Kept, Session};
 use std::alloc::Global;
 use store::ParagraphStore;
-use tool::{RunFault, run_script, run_text};
+use text_run::{RunFault, run_text};
+use tool::run_script;
 
 const LINES: Print = Print {
     basedir: false,

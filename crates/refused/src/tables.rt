@@ -4,7 +4,8 @@ use lines::{Engine, Options};
 use std::alloc::Global;
 use ucd::{Cause, TableFault, Tables, UcdFiles};
 
-const FILES: UcdFiles<'_> = UcdFiles {
+/// The test tables.
+pub const FILES: UcdFiles<'_> = UcdFiles {
     bidi_class: excerpt::BIDI_CLASS,
     bidi_brackets: excerpt::BIDI_BRACKETS,
     bidi_mirroring: excerpt::BIDI_MIRRORING,

@@ -1,13 +1,6 @@
 pub mod EscapeLemmas
-pub mod Fronts
-pub mod Devices
 pub mod NumberLemmas
 pub mod OrderLemmas
-pub mod PieceLemmas
-pub mod PushLemmas
 pub mod ScriptLemmas
 pub mod ScriptStepLemmas
 pub mod StartLemmas
-pub mod StepLemmas
-pub mod StreamLemmas
-pub mod Utf8Lemmas

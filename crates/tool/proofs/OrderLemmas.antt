@@ -13,7 +13,7 @@ use Rattle.session.specs.declared.edits.EditFault.TheVariants as e
 use Rattle.tool.specs.Reading.{Changed, Obeys, Stops, change_text, lacks_memory}
 use Rattle.tool.specs.ScriptRun.{after_order, answer_by, answer_to, obeyed, obeyed_text, order_refusal}
 use Rattle.tool.specs.Scripts.{Order}
-use Rattle.tool.specs.declared.faults.RunFault.{RunFault}
+use Rattle.text_run.specs.declared.faults.RunFault.{RunFault}
 
 module _ (rules : Rules) (print : Print) (order : Order) (old new : Held) where
   -- what became of the text and the width, and what is answered

@@ -13,12 +13,12 @@ use Rattle.session.specs.Changes.{Held}
 use Rattle.tool.specs.Reading.{Ends, FailsAt, NoEnd}
 use Rattle.tool.specs.Scripts.{is_line_end, lines_among, order_of_line, script_lines}
 use Rattle.tool.specs.ScriptRun.{after_line, after_lines, answer_line, answers, good_lines, input_fault, is_good, line_read_ahead, script_fault, with_ends, LinesReadAhead}
-use Rattle.tool.specs.TextRun.{Gave}
-use Rattle.tool.specs.declared.faults.RunFault.{RunFault}
-use Rattle.tool.specs.declared.faults.RunFault.TheVariants as f
-use Rattle.tool.specs.declared.text.Ending.{Ending}
-use Rattle.tool.specs.declared.text.Ending.TheVariants.{AtEnd, AtFailure}
-use Rattle.tool.proofs.StreamLemmas.{Took-append}
+use Rattle.text_run.specs.TextRun.{Gave}
+use Rattle.text_run.specs.declared.faults.RunFault.{RunFault}
+use Rattle.text_run.specs.declared.faults.RunFault.TheVariants as f
+use Rattle.text_run.specs.declared.text.Ending.{Ending}
+use Rattle.text_run.specs.declared.text.Ending.TheVariants.{AtEnd, AtFailure}
+use Rattle.text_run.proofs.StreamLemmas.{Took-append}
 
 -- ---- lines
 

@@ -15,15 +15,15 @@ use Rattle.session.specs.Changes.{Held}
 use Rattle.tool.specs.Reading.{EndsIn, EndsLine, Ends, FailsAt, FailsIn, GoesOn, IsAt, NoEnd, ObeysLine, Steps, Takes}
 use Rattle.tool.specs.Scripts.{is_last_line, is_line_end, line_limit, lines_among, order_of_line, script_lines}
 use Rattle.tool.specs.ScriptRun.{after_line, after_lines, answer_line, answers, is_good, with_ends}
-use Rattle.tool.specs.TextRun.{Gave}
-use Rattle.tool.specs.declared.faults.RunFault.{RunFault}
-use Rattle.tool.specs.declared.faults.RunFault.TheVariants as f
+use Rattle.text_run.specs.TextRun.{Gave}
+use Rattle.text_run.specs.declared.faults.RunFault.{RunFault}
+use Rattle.text_run.specs.declared.faults.RunFault.TheVariants as f
 use Rattle.tool.specs.declared.script.Reading.{Reading}
-use Rattle.tool.specs.declared.text.Ending.{Ending}
-use Rattle.tool.specs.declared.text.Ending.TheVariants.{AtEnd, AtFailure}
-use Rattle.tool.proofs.Devices.{Took-nothing}
+use Rattle.text_run.specs.declared.text.Ending.{Ending}
+use Rattle.text_run.specs.declared.text.Ending.TheVariants.{AtEnd, AtFailure}
+use Rattle.text_run.proofs.Devices.{Took-nothing}
 use Rattle.tool.proofs.ScriptLemmas.{IsDone, after_more, answers_more, ends_at_failure, ends_line, ends_short, ends_whole, first_part, lines_behind, parts_some}
-use Rattle.tool.proofs.StreamLemmas.{Consumes-append, Consumes-kept, Wrote-append, had, had_all}
+use Rattle.text_run.proofs.StreamLemmas.{Consumes-append, Consumes-kept, Wrote-append, had, had_all}
 
 with_ends_more : (ls : List (List ℕ)) (l : List ℕ) → length (with_ends (ls ++ l ∷ [])) ≡ length (with_ends ls) + (length l + 1)
 with_ends_more [] l = omega (arith, length-append (l ++ 10 ∷ []) [], length-append l (10 ∷ []))

@@ -1,9 +1,6 @@
 pub mod Commands
-pub mod Pages
 pub mod Program
 pub mod Reading
 pub mod ScriptRun
 pub mod Scripts
 pub mod Starts
-pub mod Streaming
-pub mod TextRun

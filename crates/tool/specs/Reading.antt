@@ -12,8 +12,8 @@ use Rattle.session.specs.declared.edits.EditFault.{EditFault}
 use Rattle.session.specs.declared.edits.EditFault.TheVariants.{NoMemory}
 use Rattle.tool.specs.Scripts.{Order, is_line_end, line_limit, order_of_line}
 use Rattle.tool.specs.ScriptRun.{after_line, after_lines, answer_line, answer_to, after_order, answers, damage_text, is_good, obeyed, obeyed_text, order_refusal, refusal_text, with_ends, IsScriptRun, LinesReadAhead}
-use Rattle.tool.specs.declared.faults.RunFault.{RunFault}
-use Rattle.tool.specs.declared.faults.RunFault.TheVariants as f
+use Rattle.text_run.specs.declared.faults.RunFault.{RunFault}
+use Rattle.text_run.specs.declared.faults.RunFault.TheVariants as f
 use Rattle.tool.specs.declared.script.Reading.{Reading}
 
 -- a change was made, and this is its damage; or it was refused, and all stays

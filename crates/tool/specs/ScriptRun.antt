@@ -13,11 +13,11 @@ use Rattle.session.specs.Touched.{first_touched, touched_count}
 use Rattle.session.specs.declared.edits.EditFault.{EditFault}
 use Rattle.session.specs.declared.edits.EditFault.TheVariants as refused
 use Rattle.tool.specs.Scripts.{Order, Insertion, Deletion, Filling, Showing, order_of_line, script_lines}
-use Rattle.tool.specs.TextRun.{EndsWith, Gave, HasReadAll, fault_of}
-use Rattle.tool.specs.declared.faults.RunFault.{RunFault}
-use Rattle.tool.specs.declared.faults.RunFault.TheVariants as fault
-use Rattle.tool.specs.declared.text.Ending.{Ending}
-use Rattle.tool.specs.declared.text.Ending.TheVariants.{AtEnd, AtFailure}
+use Rattle.text_run.specs.TextRun.{EndsWith, Gave, HasReadAll, fault_of}
+use Rattle.text_run.specs.declared.faults.RunFault.{RunFault}
+use Rattle.text_run.specs.declared.faults.RunFault.TheVariants as fault
+use Rattle.text_run.specs.declared.text.Ending.{Ending}
+use Rattle.text_run.specs.declared.text.Ending.TheVariants.{AtEnd, AtFailure}
 
 -- ---- one order
 

@@ -5,8 +5,8 @@ use Rattle.std.specs.Cmp.Lexicographic.{pointwise}
 use Rattle.std.specs.List.{after_first, before_first, list_all, position_or_len, slice_split}
 use Rattle.std.specs.Str.{chars}
 use Rattle.std.specs.Str.Lossy.{utf8_valid_len}
-use Rattle.tool.specs.declared.text.Ending.{Ending}
-use Rattle.tool.specs.declared.text.Ending.TheVariants.{AtEnd, AtFailure}
+use Rattle.text_run.specs.declared.text.Ending.{Ending}
+use Rattle.text_run.specs.declared.text.Ending.TheVariants.{AtEnd, AtFailure}
 
 -- ---- lines
 

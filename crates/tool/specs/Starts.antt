@@ -8,8 +8,8 @@ use Rattle.session.specs.Changes.{text_refusal}
 use Rattle.session.specs.Sessions.{State, Opens}
 use Rattle.session.specs.declared.edits.EditFault.{EditFault}
 use Rattle.session.specs.declared.edits.EditFault.TheVariants as e
-use Rattle.tool.specs.declared.faults.RunFault.{RunFault}
-use Rattle.tool.specs.declared.faults.RunFault.TheVariants as f
+use Rattle.text_run.specs.declared.faults.RunFault.{RunFault}
+use Rattle.text_run.specs.declared.faults.RunFault.TheVariants as f
 
 -- the bytes are UTF-8, and a session was opened on their characters
 pub record Starts (engine : Engine) (bytes : List ℕ) (width : ℕ) (state : State) : Type 0 where

@@ -1,8 +1,8 @@
 //! Why the program ends before its work is done: what it then says, and its exit status.
 ghost use Rattle.std.specs.Prelude.{◌≡◌};
 
-use crate::faults::RunFault;
 use command_line::LineFault;
+use text_run::RunFault;
 use thiserror::Error;
 use ucd::TableFault;
 

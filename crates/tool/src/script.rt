@@ -14,20 +14,18 @@ ghost use Rattle.tool.specs.Commands.{order_of};
 ghost use Rattle.tool.specs.Reading.{CanFeed, Changed, Ends, EndsIn, FailsAt, FailsIn, Feeds, IsAt};
 ghost use Rattle.tool.specs.Reading.{NoEnd, Obeys, ObeysLine, Steps, Stops, Takes, change_text, lacks_memory};
 ghost use Rattle.tool.specs.ScriptRun.{answer_to, IsScriptRun, LinesReadAhead};
-ghost use Rattle.tool.specs.TextRun.{TellsReads};
+ghost use Rattle.text_run.specs.TextRun.{TellsReads};
 ghost use Rattle.tool.specs.Scripts.{Order, Deletion, Filling, Insertion, Showing};
 ghost use Rattle.tool.specs.Scripts.{order_of_line};
 
 use crate::answers::push_answer;
 use crate::commands::{Command, read_command};
-use crate::faults::RunFault;
-use crate::pieces::decode;
-use crate::text::{PIECE, room};
 use device::{Sink, Source, write_all};
 use lines::Print;
 use session::{Damage, EditFault, Kept, Session};
 use std::alloc::{AllocError, Global};
 use store::ParagraphStore;
+use text_run::{PIECE, RunFault, decode, room};
 
 /// How many bytes a line may have, without its end.
 const LINE_LIMIT: usize = 1_048_576;

@@ -3,12 +3,11 @@ ghost use Rattle.std.specs.Prelude.{◌≡◌, ◌<◌, IfOk, IfErr};
 ghost use Rattle.lines.specs.Engine.{rules_of};
 ghost use Rattle.tool.specs.Starts.{IsStartFault, Starts, start_fault};
 
-use crate::faults::RunFault;
-use crate::pieces::front;
 use lines::Engine;
 use session::{EditFault, Kept, Session};
 use std::alloc::Global;
 use store::ParagraphStore;
+use text_run::{RunFault, front};
 
 /// A session on the text that some bytes are, at a width in columns, which is not 0.
 pub fn open_text<S: ParagraphStore<Kept> + Drop>(

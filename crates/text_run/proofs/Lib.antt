@@ -1,0 +1,7 @@
+pub mod Devices
+pub mod Fronts
+pub mod PieceLemmas
+pub mod PushLemmas
+pub mod StepLemmas
+pub mod StreamLemmas
+pub mod Utf8Lemmas

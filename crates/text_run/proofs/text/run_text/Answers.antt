@@ -1,0 +1,53 @@
+use Rattle.std.proofs.Common.{◌≡◌, ◌∙◌, Bool, true, false, Ok, Err, ap, refl, sym}
+use Rattle.lines.specs.Engine.{rules_of}
+use Rattle.text_run.proofs.StepLemmas.{ends_at_once, stands_at_start, stepped_as}
+use Rattle.text_run.proofs.text.run_text.Goals as goal
+
+-- memory ran out before anything was read
+pub returns-in_default-clause-run : goal.returns-in_default-clause-run
+returns-in_default-clause-run g c = (ends_at_once (rules_of c.args.engine.now) c.args.width c.args.print.now (g.R.Source.state c.args.reader.now) (g.W.Sink.state c.args.writer.now)).run
+
+pub returns-in_default-clause-ahead : goal.returns-in_default-clause-ahead
+returns-in_default-clause-ahead g c = (ends_at_once (rules_of c.args.engine.now) c.args.width c.args.print.now (g.R.Source.state c.args.reader.now) (g.W.Sink.state c.args.writer.now)).ahead
+
+pub loop-held-init : goal.loop-held-init
+loop-held-init g c =
+    let start = c.in-Ok.ensures in
+    record {
+      kept = refl;
+      stands = stands_at_start (rules_of c.args.engine.now) c.args.width c.args.print.now (g.R.Source.state c.args.reader.now) (g.W.Sink.state c.args.writer.now) c.in-Ok.held
+          start.waiting.0 start.waiting.1 start.waiting.2 start.text start.page start.room;
+    }
+
+pub loop-held-preserved : goal.loop-held-preserved
+loop-held-preserved g c =
+    let kept = c.loop-held.invariant.kept in
+    record {
+      kept = c.step.ensures.rules ∙ kept;
+      stands = stepped_as (rules_of c.args.engine.now) (rules_of c.loop-held.engine) c.args.width c.args.print.now _ _ _ _ _ _ c.loop-held.held c.step.new.held kept c.loop-held.invariant.stands c.step.result
+          (c.step.ensures.steps (g.R.Source.state c.args.reader.now) (g.W.Sink.state c.args.writer.now)) (Ok true) (c.in-Ok-true.is ∙ ap (λ (b : Bool). Ok b) c.in-Ok-true.field-0-test);
+    }
+
+pub returns-in-Ok-false-clause-run : goal.returns-in-Ok-false-clause-run
+returns-in-Ok-false-clause-run g c =
+    (stepped_as (rules_of c.args.engine.now) (rules_of c.loop-held.engine) c.args.width c.args.print.now _ _ _ _ _ _ c.loop-held.held c.step.new.held c.loop-held.invariant.kept c.loop-held.invariant.stands c.step.result
+    (c.step.ensures.steps (g.R.Source.state c.args.reader.now) (g.W.Sink.state c.args.writer.now)) (Ok false) (c.in-Ok-false.is ∙ ap (λ (b : Bool). Ok b) c.in-Ok-false.field-0-test)).run
+
+pub returns-in-Err-clause-run : goal.returns-in-Err-clause-run
+returns-in-Err-clause-run g c =
+    (stepped_as (rules_of c.args.engine.now) (rules_of c.loop-held.engine) c.args.width c.args.print.now _ _ _ _ _ _ c.loop-held.held c.step.new.held c.loop-held.invariant.kept c.loop-held.invariant.stands c.step.result
+    (c.step.ensures.steps (g.R.Source.state c.args.reader.now) (g.W.Sink.state c.args.writer.now)) (Err c.in-Err.fault) c.in-Err.is).run
+
+pub returns-in-Err-clause-ahead : goal.returns-in-Err-clause-ahead
+returns-in-Err-clause-ahead g c =
+    (stepped_as (rules_of c.args.engine.now) (rules_of c.loop-held.engine) c.args.width c.args.print.now _ _ _ _ _ _ c.loop-held.held c.step.new.held c.loop-held.invariant.kept c.loop-held.invariant.stands c.step.result
+    (c.step.ensures.steps (g.R.Source.state c.args.reader.now) (g.W.Sink.state c.args.writer.now)) (Err c.in-Err.fault) c.in-Err.is).ahead
+
+-- a step that ends otherwise than by a failed read adds no failure, and those before it added none
+pub returns-in-Ok-false-clause-reads : goal.returns-in-Ok-false-clause-reads
+returns-in-Ok-false-clause-reads g c = λ other.
+    c.step.ensures.reads (λ e. cc (e, c.in-Ok-false.is)) ∙ c.loop-held.invariant.stands.is_at.failures
+
+pub returns-in-Err-clause-reads : goal.returns-in-Err-clause-reads
+returns-in-Err-clause-reads g c = λ other.
+    c.step.ensures.reads (λ e. other (cc (e, c.in-Err.is))) ∙ c.loop-held.invariant.stands.is_at.failures

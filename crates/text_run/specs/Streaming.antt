@@ -1,0 +1,144 @@
+-- Where the run of a text stands between two reads. Only the code speaks of these.
+use Rattle.std.specs.Prelude.{◌≡◌, ℕ, ◌+◌, ◌<◌, ◌≤◌, ◌==◌, Bool, true, false, List, [], ◌∷◌, ◌++◌, length, take, drop, vec_len, Option, None, Some, Result, Ok, Err, OnErr, encode_utf8_all, IsUtf8, MatchBool, if◌then◌else◌}
+use Rattle.std.specs.List.{concat}
+use Rattle.std.specs.Str.{chars}
+use Rattle.std.specs.Str.Lossy.{utf8_valid_len, utf8_error_len}
+use Rattle.std.specs.Io.KnownBytes.{Consumes}
+use Rattle.bidi.specs.Cuts.{SplitsAt, paragraphs}
+use Rattle.device.specs.Device.{Device, Gives, Wrote, StoppedAt}
+use Rattle.lines.specs.Layouts.{Rules, cut_by}
+use Rattle.lines.specs.Pages.{page}
+use Rattle.lines.specs.declared.print.Print.{Print}
+use Rattle.text_run.specs.TextRun.{are_within, is_within, front_of, is_bad, read_ahead, IsTextRun, ReadsAhead}
+use Rattle.text_run.specs.declared.faults.RunFault.{RunFault}
+use Rattle.text_run.specs.declared.faults.RunFault.TheVariants as f
+use Rattle.text_run.specs.declared.text.Held.{Held}
+
+module _ (is_cut : ℕ → ℕ → Bool) where
+  -- these are the first paragraphs of a text, whatever follows it, and the rest is left, which is empty only where the text is
+  pub record IsFront (pars : List (List ℕ)) (text rest : List ℕ) : Type 0 where
+    pub whole : text ≡ concat pars ++ rest
+    pub cuts : (more : List ℕ) → paragraphs is_cut (text ++ more) ≡ pars ++ paragraphs is_cut (rest ++ more)
+    pub within : are_within pars ≡ true
+    pub filled : 0 < length text → 0 < length rest
+
+  -- the first paragraph of a text is too long, whatever follows the text
+  pub record StartsLong (text : List ℕ) : Type 0 where
+    pub first : List ℕ → List ℕ
+    pub others : List ℕ → List (List ℕ)
+    pub splits : (more : List ℕ) → paragraphs is_cut (text ++ more) ≡ first more ∷ others more
+    pub long : (more : List ℕ) → is_within (first more) ≡ false
+
+  -- a text has no cut, and isn't too long for a paragraph
+  pub record IsOpen (text : List ℕ) : Type 0 where
+    pub uncut : SplitsAt is_cut text None
+    pub short : length text ≤ 1048576
+
+-- the lines of the first paragraphs of a text are put to a page, up to the first that is too long
+pub record Pushed (rules : Rules) (width : ℕ) (print : Print) (text rest : List ℕ) (is_long : Bool) (before after : List ℕ) : Type 0 where
+  pub pars : List (List ℕ)
+  pub front : IsFront (cut_by rules) pars text rest
+  pub lines : after ≡ before ++ page rules width print pars
+  pub left : MatchBool is_long (StartsLong (cut_by rules) rest) (IsOpen (cut_by rules) rest)
+
+-- bytes are the beginning of a character, or none
+pub record IsBeginning (bytes : List ℕ) : Type 0 where
+  pub none : utf8_valid_len bytes ≡ 0
+  pub fault : utf8_error_len bytes ≡ None
+  pub few : length bytes < 4
+
+-- n bytes were read to a place of a list
+pub record IsReadTo (place n : ℕ) (old new : List ℕ) (reader_old reader_new : Device) : Type 0 where
+  pub buffer : List ℕ
+  pub gives : Gives reader_old reader_new n buffer
+  pub within : n ≤ length buffer
+  pub small : place + n ≤ length old
+  pub piece : take (place + n) new ≡ take place old ++ take n buffer
+
+-- n bytes were read behind those that wait
+pub record IsRead (n : ℕ) (old new : Held) (reader_old reader_new : Device) : Type 0 where
+  pub read : IsReadTo old.waiting n old.piece.items new.piece.items reader_old reader_new
+  pub small : old.waiting + n ≤ vec_len old.piece
+  pub room : vec_len new.piece ≡ vec_len old.piece
+  pub same : new ≡ record old { piece = new.piece }
+
+-- Some bytes were decoded, and the lines of the paragraphs that are known to end then were gathered. The run ends with a fault, or
+-- the bytes behind the characters wait.
+pub record Gathers (rules : Rules) (width : ℕ) (print : Print) (bytes : List ℕ) (old new : Held) (fault : Option RunFault) : Type 0 where
+  pub is_long : Bool
+  pub pushed : Pushed rules width print (old.text.items ++ front_of bytes) new.text.items is_long old.page.bytes.items new.page.bytes.items
+  pub fault_is : fault ≡ (if is_long then Some f.ParagraphTooLong else (if is_bad bytes then Some (f.NotUtf8 new.decoded) else None))
+  pub decoded : new.decoded ≡ old.decoded + utf8_valid_len bytes
+  pub waiting : take new.waiting new.piece.items ≡ drop (utf8_valid_len bytes) bytes
+  pub few : new.waiting + utf8_valid_len bytes ≡ length bytes
+  pub beginning : is_bad bytes ≡ false → length bytes < utf8_valid_len bytes + 4
+  pub written : new.written ≡ old.written
+  pub room : vec_len new.piece ≡ vec_len old.piece
+
+-- what is written at the end of a text, of which some bytes are held
+abbrev pub last_lines : Rules → ℕ → Print → Held → List ℕ
+last_lines rules width print held =
+    held.page.bytes.items ++ page rules width print (if length held.text.items == 0 then [] else held.text.items ∷ [])
+
+-- the lines of the last paragraph, if there is one, were gathered
+pub record GathersLast (rules : Rules) (width : ℕ) (print : Print) (old new : Held) : Type 0 where
+  pub lines : new.page.bytes.items ≡ last_lines rules width print old
+  pub written : new.written ≡ old.written
+
+-- the lines were written
+pub record Writes (old new : Held) (writer_old writer_new : Device) : Type 0 where
+  pub wrote : Wrote old.page.bytes.items writer_old writer_new
+  pub empty : new.page.bytes.items ≡ []
+  pub rest : new ≡ record old { page = new.page; written = old.written + length old.page.bytes.items }
+
+-- or the sink failed within them
+abbrev pub StopsWriting : Held → RunFault → Device → Device → Type 0
+StopsWriting held fault writer_old writer_new =
+    (n : ℕ) × (fault ≡ f.Write (held.written + n)) × StoppedAt n held.page.bytes.items writer_old writer_new
+
+-- the end of a text
+abbrev pub Finishes : Rules → ℕ → Print → Held → Device → Device → Result (Unit {0}) RunFault → Type 0
+Finishes rules width print held old new (Ok done) = (held.waiting ≡ 0) × Wrote (last_lines rules width print held) old new
+Finishes rules width print held old new (Err (f.NotUtf8 n)) = (0 < held.waiting) × (n ≡ held.decoded) × (new ≡ old)
+Finishes rules width print held old new (Err (f.Write n)) =
+    (held.waiting ≡ 0) × ((m : ℕ) × (n ≡ held.written + m) × StoppedAt m (last_lines rules width print held) old new)
+Finishes rules width print held old new (Err f.Memory) = new ≡ old
+Finishes rules width print held old new (Err fault) = ⊥
+
+-- Between two states of its devices a run has read some bytes and written the lines of some paragraphs. It waits with some bytes at
+-- the end, and holds the characters behind the last cut, and lines that aren't written yet.
+pub record IsAt (rules : Rules) (width : ℕ) (print : Print) (reader_old reader_new writer_old writer_new : Device) (waiting text lines : List ℕ) : Type 0 where
+  pub decoded : List ℕ
+  pub sent : List (List ℕ)
+  pub gathered : List (List ℕ)
+  pub read : Consumes reader_old.bytes reader_new.bytes (decoded ++ waiting)
+  pub passed : reader_new.passed ≡ reader_old.passed + length (decoded ++ waiting)
+  pub failures : reader_new.failures ≡ reader_old.failures
+  pub utf8 : IsUtf8 decoded
+  pub front : IsFront (cut_by rules) (sent ++ gathered) (chars decoded) text
+  pub wrote : Wrote (page rules width print sent) writer_old writer_new
+  pub lines_are : lines ≡ page rules width print gathered
+  pub ahead : reader_new.passed ≤ reader_old.passed + length (encode_utf8_all (concat sent)) + read_ahead
+
+-- so it does between two reads, where all lines are written
+pub record Stands (rules : Rules) (width : ℕ) (print : Print) (reader_old writer_old reader_new writer_new : Device) (held : Held) : Type 0 where
+  pub is_at : IsAt rules width print reader_old reader_new writer_old writer_new (take held.waiting held.piece.items) held.text.items []
+  pub all_sent : is_at.gathered ≡ []
+  pub decoded : held.decoded ≡ length is_at.decoded
+  pub written : held.written ≡ length (page rules width print is_at.sent)
+  pub text : IsOpen (cut_by rules) held.text.items
+  pub lines : held.page.bytes.items ≡ []
+  pub beginning : IsBeginning (take held.waiting held.piece.items)
+  pub room : vec_len held.piece ≡ 65536
+  pub waits : length (take held.waiting held.piece.items) ≡ held.waiting
+
+-- the run ends so
+pub record Ends (rules : Rules) (width : ℕ) (print : Print) (reader_old writer_old reader_new writer_new : Device) (result : Result (Unit {0}) RunFault) : Type 0 where
+  pub run : IsTextRun rules width print reader_old reader_new writer_old writer_new result
+  pub ahead : OnErr result (ReadsAhead rules width print reader_old reader_new writer_old writer_new)
+
+-- a step goes on, or ends the run
+abbrev pub Steps : Rules → ℕ → Print → Device → Device → Device → Device → Held → Result Bool RunFault → Type 0
+Steps rules width print reader_old writer_old reader_new writer_new held (Ok true) = Stands rules width print reader_old writer_old reader_new writer_new held
+Steps rules width print reader_old writer_old reader_new writer_new held (Ok false) = Ends rules width print reader_old writer_old reader_new writer_new (Ok tt)
+Steps rules width print reader_old writer_old reader_new writer_new held (Err fault) = Ends rules width print reader_old writer_old reader_new writer_new (Err fault)

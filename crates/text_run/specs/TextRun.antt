@@ -1,0 +1,96 @@
+-- What is written for a text, and how its run ends.
+use Rattle.std.specs.Prelude.{◌≡◌, ◌≢◌, ℕ, ◌+◌, ◌-◌, ◌==◌, nat_le, Bool, List, ◌++◌, ◌≤◌, length, take, drop, take_while, encode_utf8_all, Option, Some, None, IfSome, ⊤, is_some, is_none, Result, Ok, Err, if◌then◌else◌}
+use Rattle.std.specs.List.{concat, list_all}
+use Rattle.std.specs.Str.{chars}
+use Rattle.std.specs.Str.Lossy.{utf8_valid_len, utf8_error_len}
+use Rattle.std.specs.Io.KnownBytes.{Consumes, IsAtEnd}
+use Rattle.bidi.specs.Cuts.{paragraphs}
+use Rattle.lines.specs.Layouts.{Rules, cut_by}
+use Rattle.lines.specs.Pages.{page}
+use Rattle.lines.specs.declared.print.Print.{Print}
+use Rattle.text_run.specs.declared.faults.RunFault.{RunFault}
+use Rattle.text_run.specs.declared.faults.RunFault.TheVariants as fault
+use Rattle.text_run.specs.declared.text.Ending.{Ending}
+use Rattle.text_run.specs.declared.text.Ending.TheVariants.{AtEnd, AtFailure}
+use Rattle.device.specs.Device.{Device, FailedLast, Took, Wrote, StoppedAt}
+
+-- the characters in front of the first byte that is not UTF-8
+abbrev pub front_of : List ℕ → List ℕ
+front_of bytes = chars (take (utf8_valid_len bytes) bytes)
+
+-- whether the bytes behind the front can begin no character, whatever follows them
+abbrev pub is_bad : List ℕ → Bool
+is_bad bytes = is_some (utf8_error_len (drop (utf8_valid_len bytes) bytes))
+
+-- What is wrong with an input: bytes that are not UTF-8, which a beginning of a character is too where the input ended, or a read that failed.
+abbrev pub input_fault : Ending → List ℕ → Option RunFault
+input_fault AtEnd bytes =
+    if utf8_valid_len bytes == length bytes then None else Some (fault.NotUtf8 (utf8_valid_len bytes))
+input_fault AtFailure bytes = if is_bad bytes then Some (fault.NotUtf8 (utf8_valid_len bytes)) else Some fault.Read
+
+-- a paragraph's length is limited
+abbrev pub is_within : List ℕ → Bool
+is_within paragraph = nat_le (length paragraph) 1048576
+
+abbrev pub are_within : List (List ℕ) → Bool
+are_within pars = list_all is_within pars
+
+-- The paragraphs that are written: those in front of the first that is too long; else all, or all but the last where the input isn't whole.
+abbrev pub written_of : List (List ℕ) → Bool → List (List ℕ)
+written_of pars is_whole =
+    if are_within pars then (if is_whole then pars else take (length pars - 1) pars) else take_while is_within pars
+
+-- the fault that ends the run
+abbrev pub ending_of : List (List ℕ) → Option RunFault → Option RunFault
+ending_of pars wrong = if are_within pars then wrong else Some fault.ParagraphTooLong
+
+-- the paragraphs of the front of an input
+abbrev pub front_paragraphs : Rules → List ℕ → List (List ℕ)
+front_paragraphs rules bytes = paragraphs (cut_by rules) (front_of bytes)
+
+-- what a source gave between two states: all that it had, or, where it failed, the bytes that passed before
+abbrev pub Gave : Device → Device → Ending → List ℕ → Type 0
+Gave old new AtEnd bytes = IfSome old.bytes (λ all. all ≡ bytes) × (new.failures ≡ old.failures)
+Gave old new AtFailure bytes = Consumes old.bytes new.bytes bytes × (new.passed ≡ old.passed + length bytes) × FailedLast old new
+
+-- The run ended so: without a fault or with the input's, the whole page of the written paragraphs was taken; at a failed write,
+-- a beginning of it, whose length is told; where memory ran out, the page of some of these paragraphs, from the first on.
+abbrev pub EndsWith : (List (List ℕ) → List ℕ) → List (List ℕ) → Option RunFault → Device → Device → Option RunFault → Type 0
+EndsWith page_of written wrong old new (Some (fault.Write n)) = StoppedAt n (page_of written) old new
+EndsWith page_of written wrong old new (Some fault.Memory) = (k : ℕ) × Wrote (page_of (take k written)) old new
+EndsWith page_of written wrong old new end = (end ≡ wrong) × Wrote (page_of written) old new
+
+abbrev pub fault_of : Result (Unit {0}) RunFault → Option RunFault
+fault_of (Ok done) = None
+fault_of (Err wrong) = Some wrong
+
+-- a run without a fault has read all
+abbrev pub HasReadAll : Option RunFault → Device → Device → List ℕ → Type 0
+HasReadAll None old new bytes = IsAtEnd new.bytes × (new.passed ≡ old.passed + length bytes)
+HasReadAll (Some wrong) old new bytes = ⊤
+
+-- The run of a text: what the reader gave has a front, whose paragraphs are written as far as they go.
+abbrev pub IsTextRun : Rules → ℕ → Print → Device → Device → Device → Device → Result (Unit {0}) RunFault → Type 0
+IsTextRun rules width print reader_old reader_new writer_old writer_new result =
+    (ending : Ending) × (bytes : List ℕ) × Gave reader_old reader_new ending bytes
+    × HasReadAll (fault_of result) reader_old reader_new bytes
+    × (let pars = front_paragraphs rules bytes in
+    let wrong = input_fault ending bytes in
+    EndsWith (page rules width print) (written_of pars (is_none wrong)) (ending_of pars wrong) writer_old writer_new (fault_of result))
+
+-- a failed read is answered as one: where it isn't the answer, no call of the source failed
+abbrev pub TellsReads : {A : Type 0} → Result A RunFault → Device → Device → Type 0
+TellsReads result old new = result ≢ Err fault.Read → new.failures ≡ old.failures
+
+-- how many bytes a run reads behind the paragraphs that it has written, at most: 1,048,577 characters, and one piece of 65,536 bytes
+abbrev pub read_ahead : ℕ
+read_ahead = 4259844
+
+-- Where a run ended with a fault, the lines of the first k paragraphs of what the reader gave were written, and n bytes of the next
+-- one's. At most so many bytes behind these k paragraphs were read.
+abbrev pub ReadsAhead : Rules → ℕ → Print → Device → Device → Device → Device → Type 0
+ReadsAhead rules width print reader_old reader_new writer_old writer_new =
+    (ending : Ending) × (bytes : List ℕ) × Gave reader_old reader_new ending bytes
+    × (let pars = front_paragraphs rules bytes in
+    (k : ℕ) × (n : ℕ) × Took writer_old writer_new (page rules width print (take k pars) ++ take n (page rules width print (take 1 (drop k pars))))
+    × (reader_new.passed ≤ reader_old.passed + length (encode_utf8_all (concat (take k pars))) + read_ahead))

@@ -1,0 +1,84 @@
+//! What is written for a text, gathered in memory: so the writer gets it in large pieces, however
+//! short the lines are.
+ghost use Rattle.std.specs.Prelude.{◌≡◌, ◌++◌, ◌<◌, [], OnOk};
+ghost use Rattle.lines.specs.Engine.{rules_of, SameRules};
+ghost use Rattle.lines.specs.Layouts.{IsParagraph};
+ghost use Rattle.lines.specs.Pages.{paragraph_bytes};
+
+use device::Sink;
+use lines::{Engine, Print};
+use std::alloc::{AllocError, Global};
+use std::io::ErrorKind;
+
+/// A sink in memory. It fails only where memory runs out.
+#[derive(Debug, Drop)]
+pub struct Page {
+    pub(crate) bytes: Vec<u8>,
+    failures: u64,
+    failed_at: u64,
+}
+
+impl Page {
+    /// An empty page.
+    pub fn new(alloc: Global) -> Page
+        ensures { result.bytes.items ≡ [] }
+    {
+        Page {
+            bytes: Vec::new(alloc),
+            failures: 0,
+            failed_at: 0,
+        }
+    }
+
+    /// Empties it.
+    pub fn clear(&mut self)
+        ensures { self.new.bytes.items ≡ [] }
+    {
+        self.bytes.clear();
+    }
+
+    /// What it holds.
+    pub fn bytes(&self) -> &[u8]
+        ensures { result.now ≡ self.now.bytes.items }
+    {
+        &self.bytes
+    }
+}
+
+impl Sink for Page {
+    ghost use Rattle.text_run.specs.Pages.{page_state};
+
+    ghost state = { page_state };
+
+    fn write(&mut self, bytes: &[u8]) -> Result<usize, ErrorKind> {
+        match self.bytes.extend_from_slice(bytes) {
+            Ok(()) => Ok(bytes.len()),
+            Err(_) => {
+                self.failures = self.failures.saturating_add(1);
+                self.failed_at = self.bytes.len() as u64;
+                Err(ErrorKind::OutOfMemory)
+            }
+        }
+    }
+}
+
+/// Adds the lines of one paragraph.
+pub fn push_paragraph(
+    alloc: Global,
+    page: &mut Page,
+    engine: &mut Engine,
+    width: u16,
+    print: &Print,
+    paragraph: &[char],
+) -> Result<(), AllocError>
+    requires paragraph { IsParagraph (rules_of engine.old) paragraph.now }
+    requires width { 0 < width }
+    ensures ok { OnOk result (page.new.bytes.items ≡ page.old.bytes.items
+        ++ paragraph_bytes (rules_of engine.old) width print.now paragraph.now) }
+    ensures rules { SameRules engine.old engine.new }
+{
+    match engine.write_paragraph(alloc, paragraph, width, print, page) {
+        Ok(()) => Ok(()),
+        Err(_) => Err(AllocError),
+    }
+}

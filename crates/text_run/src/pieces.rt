@@ -1,0 +1,105 @@
+//! The characters of a text whose bytes come in pieces, each of which may end inside a character.
+ghost use Rattle.std.specs.Prelude.{◌≡◌, ◌+◌, ◌++◌, ◌<◌, ◌≤◌, false, true, None, length, take, IfOk, OnOk};
+ghost use Rattle.std.specs.Str.{chars};
+ghost use Rattle.std.specs.Str.Lossy.{utf8_valid_len, utf8_error_len};
+ghost use Rattle.text_run.specs.TextRun.{front_of, is_bad};
+
+use simdutf8::compat::from_utf8;
+use std::alloc::AllocError;
+
+/// Adds the characters of the longest front of some bytes that is UTF-8. Says how many bytes these are, and
+/// whether the bytes behind them can begin no character, whatever follows.
+pub fn decode(bytes: &[u8], characters: &mut Vec<char>) -> Result<(usize, bool), AllocError>
+    ensures len { IfOk result (λ r. r.0 ≡ utf8_valid_len bytes.now) }
+    ensures bad { IfOk result (λ r. r.1 ≡ is_bad bytes.now) }
+    ensures few { IfOk result (λ r. r.1 ≡ false → length bytes.now < r.0 + 4) }
+    ensures characters { OnOk result (characters.new.items ≡ characters.old.items ++ front_of bytes.now) }
+{
+    let (text, is_bad) = front(bytes);
+    push_characters(text, characters)?;
+    Ok((text.len(), is_bad))
+}
+
+fn push_characters(text: &str, characters: &mut Vec<char>) -> Result<(), AllocError>
+    ensures { OnOk result (characters.new.items ≡ characters.old.items ++ chars text.now) }
+{
+    for c in text.chars() {
+        characters.push(c)?;
+    }
+    Ok(())
+}
+
+/// The longest front of some bytes that is UTF-8, and whether what stands behind it can begin no character.
+pub fn front(bytes: &[u8]) -> (&str, bool)
+    ensures text { result.0.now ≡ take (utf8_valid_len bytes.now) bytes.now }
+    ensures bad { result.1 ≡ is_bad bytes.now }
+    ensures few { result.1 ≡ false → length bytes.now < utf8_valid_len bytes.now + 4 }
+{
+    // A piece ends inside a character more often than not: so its bytes are looked at once then, too.
+    let (whole, cut) = bytes.split_at(whole_len(bytes));
+    match from_utf8(whole) {
+        Ok(text) if is_beginning(cut) => (text, false),
+        _ => checked(bytes),
+    }
+}
+
+// The same, of any bytes.
+fn checked(bytes: &[u8]) -> (&str, bool)
+    ensures text { result.0.now ≡ take (utf8_valid_len bytes.now) bytes.now }
+    ensures bad { result.1 ≡ is_bad bytes.now }
+    ensures few { result.1 ≡ false → length bytes.now < utf8_valid_len bytes.now + 4 }
+{
+    let error = match from_utf8(bytes) {
+        Ok(text) => return (text, false),
+        Err(error) => error,
+    };
+    match from_utf8(&bytes[..error.valid_up_to()]) {
+        Ok(text) => (text, error.error_len().is_some()),
+        Err(_) => unreachable!(),
+    }
+}
+
+// Whether some bytes are the beginning of a character and no more, or none at all. It may say no of
+// such bytes.
+fn is_beginning(bytes: &[u8]) -> bool
+    ensures none { result ≡ true → utf8_valid_len bytes.now ≡ 0 }
+    ensures fault { result ≡ true → utf8_error_len bytes.now ≡ None }
+    ensures few { result ≡ true → length bytes.now < 4 }
+{
+    match from_utf8(bytes) {
+        Ok(_) => bytes.is_empty(),
+        Err(error) => error.valid_up_to() == 0 && error.error_len().is_none(),
+    }
+}
+
+// Where the last character of some bytes begins, if it seems to be cut off, and else the end.
+fn whole_len(bytes: &[u8]) -> usize
+    ensures { result ≤ length bytes.now }
+{
+    for behind in 1..4 {
+        if behind > bytes.len() {
+            break;
+        }
+        let at = bytes.len() - behind;
+        // The bytes behind the first one of a character are below 0xC0.
+        if bytes[at] >= 0xc0 {
+            return if behind < char_len(bytes[at]) {
+                at
+            } else {
+                bytes.len()
+            };
+        }
+    }
+    bytes.len()
+}
+
+// How many bytes a character has that begins with this one, which isn't ASCII.
+fn char_len(first: u8) -> usize {
+    if first < 0xe0 {
+        2
+    } else if first < 0xf0 {
+        3
+    } else {
+        4
+    }
+}

@@ -1,0 +1,335 @@
+//! The run of a text: its bytes are read piece by piece, its paragraphs are laid out as soon as it is known
+//! where they end, and their lines are written before more is read. What is written and how the run ends is
+//! one function of what the source gives.
+ghost use Rattle.std.specs.Prelude.{◌≡◌, ◌+◌, ◌-◌, ◌<◌, ◌≤◌, ◌^◌, [], true, None, Some, Ok};
+ghost use Rattle.std.specs.Prelude.{take, drop, length, vec_len};
+ghost use Rattle.std.specs.Prelude.{IfOk, IfErr, OnOk, OnErr, if◌then◌else◌};
+ghost use Rattle.bidi.specs.Cuts.{SplitsAt};
+ghost use Rattle.device.specs.Device.{Device, Fails};
+ghost use Rattle.lines.specs.Engine.{rules_of, SameRules};
+ghost use Rattle.lines.specs.Layouts.{cut_by};
+ghost use Rattle.text_run.specs.Streaming.{Finishes, Gathers, GathersLast, IsRead, IsReadTo};
+ghost use Rattle.text_run.specs.Streaming.{Stands, Steps, StopsWriting, Writes};
+ghost use Rattle.text_run.specs.TextRun.{IsTextRun, ReadsAhead, TellsReads};
+
+use crate::faults::RunFault;
+use crate::page::{Page, push_paragraph};
+use crate::paragraphs::push_paragraphs;
+use crate::pieces::decode;
+use device::{Sink, Source, write_all};
+use lines::{Engine, Print};
+use std::alloc::{AllocError, Global};
+use std::io::ErrorKind;
+
+/// How many bytes are asked of a source at a time.
+pub const PIECE: usize = 65_536;
+
+/// How an input ended: the source had no more, or it failed.
+#[derive(Clone, Copy, Debug, PartialEq, Eq)]
+pub enum Ending {
+    AtEnd,
+    AtFailure,
+}
+
+/// What a run holds between two reads.
+#[derive(Debug)]
+struct Held {
+    // What was read last, and how many bytes at its front are the beginning of a character.
+    piece: Vec<u8>,
+    waiting: usize,
+    // How many bytes in front of these were decoded.
+    decoded: u64,
+    // The characters behind the last cut.
+    text: Vec<char>,
+    // The lines that aren't written yet, and how many bytes are written.
+    page: Page,
+    written: u64,
+}
+
+impl Drop for Held {
+    fn drop(self) {
+        let Held {
+            piece: _,
+            waiting: _,
+            decoded: _,
+            text: _,
+            page: _,
+            written: _,
+        } = self;
+    }
+}
+
+/// Room for so many bytes.
+pub fn room(alloc: Global, len: usize) -> Result<Vec<u8>, AllocError>
+    ensures { IfOk result (λ piece. vec_len piece ≡ len) }
+{
+    vec![in alloc; 0; len]
+}
+
+// Reads bytes to a place of a buffer, and says how many.
+fn read_to<R: Source>(reader: &mut R, buffer: &mut [u8], place: usize) -> Result<usize, ErrorKind>
+    requires { place < length buffer.old }
+    ensures ok { IfOk result (λ n.
+        IsReadTo place n buffer.old buffer.new (R.state reader.old) (R.state reader.new)) }
+    ensures err { OnErr result (Fails (R.state reader.old) (R.state reader.new)) }
+    ensures len { length buffer.new ≡ length buffer.old }
+{
+    let (_, behind) = buffer.split_at_mut(place);
+    match reader.read(behind) {
+        Ok(n) => Ok(n),
+        Err(error) => Err(error),
+    }
+}
+
+// What ends a run that has decoded so many bytes: a paragraph that is too long, or else bytes that
+// are no text.
+fn fault_of(is_long: bool, is_bad: bool, decoded: u64) -> Option<RunFault>
+    ensures { result ≡ (if is_long then Some RunFault.ParagraphTooLong else
+        (if is_bad then Some (RunFault.NotUtf8 decoded) else None)) }
+{
+    if is_long {
+        Some(RunFault::ParagraphTooLong)
+    } else if is_bad {
+        Some(RunFault::NotUtf8(decoded))
+    } else {
+        None
+    }
+}
+
+impl Held {
+    fn new(alloc: Global) -> Result<Held, AllocError>
+        ensures room { IfOk result (λ held. vec_len held.piece ≡ 65536) }
+        ensures waiting { IfOk result (λ held. (held.waiting ≡ 0) × (held.decoded ≡ 0) × (held.written ≡ 0)) }
+        ensures text { IfOk result (λ held. held.text.items ≡ []) }
+        ensures page { IfOk result (λ held. held.page.bytes.items ≡ []) }
+    {
+        Ok(Held {
+            piece: room(alloc, PIECE)?,
+            waiting: 0,
+            decoded: 0,
+            text: Vec::new(alloc),
+            page: Page::new(alloc),
+            written: 0,
+        })
+    }
+
+    // Reads bytes behind those that wait, and says how many.
+    fn read<R: Source>(&mut self, reader: &mut R) -> Result<usize, ErrorKind>
+        requires { self.old.waiting < vec_len self.old.piece }
+        ensures ok { IfOk result (λ n.
+            IsRead n self.old self.new (R.state reader.old) (R.state reader.new)) }
+        ensures err { OnErr result (Fails (R.state reader.old) (R.state reader.new)) }
+    {
+        read_to(reader, &mut self.piece, self.waiting)
+    }
+
+    // Decodes the bytes that wait and `len` more, and gathers the lines of the paragraphs that are known to
+    // end then. Says what is wrong with the text, if anything.
+    fn gather(
+        &mut self,
+        alloc: Global,
+        engine: &mut Engine,
+        width: u16,
+        print: &Print,
+        len: usize,
+    ) -> Result<Option<RunFault>, AllocError>
+        requires width { 0 < width }
+        requires uncut { SplitsAt (cut_by (rules_of engine.old)) self.old.text.items None }
+        requires len { self.old.waiting + len ≤ vec_len self.old.piece }
+        requires counted { self.old.decoded + (self.old.waiting + len) ≤ 2 ^ 64 - 1 }
+        ensures gathers { IfOk result (Gathers (rules_of engine.old) width print.now
+            (take (self.old.waiting + len) self.old.piece.items) self.old self.new) }
+        ensures rules { SameRules engine.old engine.new }
+    {
+        let seen = self.text.len();
+        let filled = self.waiting + len;
+        let (front, is_bad) = decode(&self.piece[..filled], &mut self.text)?;
+        let text = self.text.as_slice();
+        let (rest, is_long) = push_paragraphs(
+            alloc,
+            &mut self.page,
+            engine,
+            width,
+            print,
+            text,
+            seen,
+        )?;
+        let rest = rest.len();
+        self.keep_text(rest);
+        self.keep_bytes(front, filled);
+        Ok(fault_of(is_long, is_bad, self.decoded))
+    }
+
+    // Gathers the lines of the last paragraph of a text, if there is one.
+    fn gather_last(
+        &mut self,
+        alloc: Global,
+        engine: &mut Engine,
+        width: u16,
+        print: &Print,
+    ) -> Result<(), AllocError>
+        requires width { 0 < width }
+        requires uncut { SplitsAt (cut_by (rules_of engine.old)) self.old.text.items None }
+        requires short { length self.old.text.items ≤ 1048576 }
+        ensures lines { OnOk result (GathersLast (rules_of engine.old) width print.now self.old self.new) }
+        ensures rules { SameRules engine.old engine.new }
+    {
+        if self.text.is_empty() {
+            return Ok(());
+        }
+        push_paragraph(alloc, &mut self.page, engine, width, print, &self.text)?;
+        Ok(())
+    }
+
+    // Writes the lines that were gathered.
+    fn write<W: Sink>(&mut self, writer: &mut W) -> Result<(), RunFault>
+        requires { self.old.written ≤ (W.state writer.old).passed }
+        ensures ok { OnOk result (Writes self.old self.new (W.state writer.old) (W.state writer.new)) }
+        ensures err { IfErr result (λ fault.
+            StopsWriting self.old fault (W.state writer.old) (W.state writer.new)) }
+    {
+        match write_all(writer, self.page.bytes()) {
+            Ok(()) => {
+                self.written += self.page.bytes().len() as u64;
+                self.page.clear();
+                Ok(())
+            }
+            Err(written) => Err(RunFault::Write(self.written + written as u64)),
+        }
+    }
+
+    // Keeps so many characters at the end, which no cut ends.
+    fn keep_text(&mut self, len: usize)
+        requires { len ≤ length self.old.text.items }
+        ensures text { self.new.text.items ≡ drop (length self.old.text.items - len) self.old.text.items }
+        ensures same { self.new ≡ record self.old { text = self.new.text } }
+    {
+        if len == self.text.len() {
+            return;
+        }
+        let start = self.text.len() - len;
+        self.text.copy_within(start.., 0);
+        self.text.truncate(len);
+    }
+
+    // Keeps the bytes between two places, which are no characters yet.
+    fn keep_bytes(&mut self, start: usize, end: usize)
+        requires within { (start ≤ end) × (end ≤ vec_len self.old.piece) }
+        requires counted { self.old.decoded + start ≤ 2 ^ 64 - 1 }
+        ensures bytes { take self.new.waiting self.new.piece.items
+            ≡ drop start (take end self.old.piece.items) }
+        ensures waiting { self.new.waiting ≡ end - start }
+        ensures decoded { self.new.decoded ≡ self.old.decoded + start }
+        ensures room { vec_len self.new.piece ≡ vec_len self.old.piece }
+        ensures text { self.new.text ≡ self.old.text }
+        ensures page { self.new.page ≡ self.old.page }
+        ensures written { self.new.written ≡ self.old.written }
+    {
+        self.piece.copy_within(start..end, 0);
+        self.waiting = end - start;
+        self.decoded += start as u64;
+    }
+}
+
+// Ends a text of which no more comes.
+fn finish<W: Sink>(
+    alloc: Global,
+    writer: &mut W,
+    engine: &mut Engine,
+    width: u16,
+    print: &Print,
+    held: &mut Held,
+) -> Result<(), RunFault>
+    requires width { 0 < width }
+    requires uncut { SplitsAt (cut_by (rules_of engine.old)) held.old.text.items None }
+    requires short { length held.old.text.items ≤ 1048576 }
+    requires counted { held.old.written ≤ (W.state writer.old).passed }
+    ensures ends { Finishes (rules_of engine.old) width print.now held.old
+        (W.state writer.old) (W.state writer.new) result }
+    ensures rules { SameRules engine.old engine.new }
+{
+    if held.waiting > 0 {
+        return Err(RunFault::NotUtf8(held.decoded));
+    }
+    let Ok(()) = held.gather_last(alloc, engine, width, print) else {
+        return Err(RunFault::Memory);
+    };
+    held.write(writer)
+}
+
+// Reads a piece, and writes the lines of the paragraphs that are known to end then. Says whether the text
+// goes on.
+fn step<R: Source, W: Sink>(
+    alloc: Global,
+    reader: &mut R,
+    writer: &mut W,
+    engine: &mut Engine,
+    width: u16,
+    print: &Print,
+    held: &mut Held,
+) -> Result<bool, RunFault>
+    requires width { 0 < width }
+    requires stands { (reader_start : Device) × (writer_start : Device)
+        × Stands (rules_of engine.old) width print.now reader_start writer_start
+        (R.state reader.old) (W.state writer.old) held.old }
+    ensures steps { (reader_start : Device) (writer_start : Device)
+        → Stands (rules_of engine.old) width print.now reader_start writer_start
+        (R.state reader.old) (W.state writer.old) held.old
+        → Steps (rules_of engine.old) width print.now reader_start writer_start
+        (R.state reader.new) (W.state writer.new) held.new result }
+    ensures reads { TellsReads result (R.state reader.old) (R.state reader.new) }
+    ensures rises { result ≡ Ok true → (R.state reader.old).passed < (R.state reader.new).passed }
+    ensures counted { result ≡ Ok true → (R.state reader.new).passed ≤ 2 ^ 64 - 1 }
+    ensures rules { SameRules engine.old engine.new }
+{
+    let len = match held.read(reader) {
+        Ok(len) => len,
+        Err(_) => return Err(RunFault::Read),
+    };
+    if len == 0 {
+        return match finish(alloc, writer, engine, width, print, held) {
+            Ok(()) => Ok(false),
+            Err(fault) => Err(fault),
+        };
+    }
+    let Ok(fault) = held.gather(alloc, engine, width, print, len) else {
+        return Err(RunFault::Memory);
+    };
+    if let Err(fault) = held.write(writer) {
+        return Err(fault);
+    }
+    match fault {
+        Some(fault) => Err(fault),
+        None => Ok(true),
+    }
+}
+
+/// Writes the lines of a text's paragraphs at a width in columns, which is not 0. What is known to end is
+/// written before more is read: of the input, no more is held than its last paragraph and one piece.
+pub fn run_text<R: Source, W: Sink>(
+    alloc: Global,
+    reader: &mut R,
+    writer: &mut W,
+    engine: &mut Engine,
+    width: u16,
+    print: &Print,
+) -> Result<(), RunFault>
+    requires { 0 < width }
+    ensures run { IsTextRun (rules_of engine.old) width print.now
+        (R.state reader.old) (R.state reader.new) (W.state writer.old) (W.state writer.new) result }
+    ensures reads { TellsReads result (R.state reader.old) (R.state reader.new) }
+    ensures ahead { OnErr result (ReadsAhead (rules_of engine.old) width print.now
+        (R.state reader.old) (R.state reader.new) (W.state writer.old) (W.state writer.new)) }
+    ensures rules { SameRules engine.old engine.new }
+{
+    let Ok(mut held) = Held::new(alloc) else {
+        return Err(RunFault::Memory);
+    };
+    loop {
+        match step(alloc, reader, writer, engine, width, print, &mut held) {
+            Ok(true) => (),
+            Ok(false) => return Ok(()),
+            Err(fault) => return Err(fault),
+        }
+    }
+}
