@@ -31,11 +31,15 @@ all program bench-program:
 	for name in $(filter fribidi bench,$(programs)); do cp crates/$$name/out/$$name bin/$$name; done
 
 lib-bidi lib-breaks: lib-ucd
+# (not above bidi, but proved beside lines, since nothing else is ready then)
+lib-store: lib-bidi
 lib-lines: lib-device lib-bidi lib-breaks
 lib-session: lib-lines lib-store
 lib-command_line lib-text_run: lib-lines
 lib-tool: lib-session lib-command_line lib-text_run
+lib-trials: lib-session
 run-fribidi run-refused: lib-tool
+run-refused: lib-trials
 run-bench: lib-session
 
 run-fribidi: words = -- --help
@@ -71,7 +75,7 @@ check: ucd
 	.ci/check
 
 test:
-	@log=$$(mktemp) && bash -o pipefail -c "rt ci | tee $$log && cases/run $$log | tee -a $$log && faults/run $$log"; status=$$?; rm -f $$log; exit $$status
+	@log=$$(mktemp) && bash -o pipefail -c "RT_JOBS=$$(.ci/lanes) rt ci | tee $$log && cases/run $$log | tee -a $$log && faults/run $$log"; status=$$?; rm -f $$log; exit $$status
 
 attack:
 	attack/run $(CRATES)

@@ -1,6 +1,5 @@
 //! Runs an edit script over a text whose paragraphs are kept in a list, where the command keeps them in a
 //! tree, by the test tables and at 80 columns.
-use crate::tables::FILES;
 use device::{FromRead, ToWrite};
 use lines::{Engine, Options, Print};
 use session::{Kept, Session};
@@ -10,6 +9,7 @@ use std::{env, fs};
 use store::VecStore;
 use text_run::RunFault;
 use tool::{ProgramFault, open_text, run_script};
+use trials::tables::FILES;
 use ucd::Tables;
 
 // The lines alone, as the command prints them where no option asks for more.
@@ -72,5 +72,8 @@ fn obey_lines(
 ) -> Result<(), ProgramFault> {
     let mut reader = FromRead::new(script);
     let mut writer = ToWrite::new(rt.stdout());
-    run_script(rt.alloc(), &mut reader, &mut writer, session, &LINES).map_err(ProgramFault::Run)
+    match run_script(rt.alloc(), &mut reader, &mut writer, session, &LINES) {
+        Ok(()) => Ok(()),
+        Err(fault) => Err(ProgramFault::Run(fault)),
+    }
 }

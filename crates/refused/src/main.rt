@@ -9,21 +9,14 @@
 #![tactic(auto)]
 
 mod list_script;
-mod page;
-mod paragraphs;
 mod runs;
-mod sessions;
-mod stores;
-mod tables;
 
 use session::Kept;
 use std::alloc::Global;
 use std::io;
 use std::process::ExitCode;
 use store::{ParagraphStore, TreeStore, VecStore};
-
-/// What is wrong with an answer.
-pub type Wrong = &'static str;
+use trials::{Wrong, paragraphs, sessions, stores, tables};
 
 // Where something is wrong the status is the same and what is printed is not. A refusal of what isn't
 // tried here, as of a line's printing, may end the program with another status.

@@ -1,9 +1,5 @@
 //! The runs of the command: what is written before memory was wanting is the output of whole paragraphs, or
 //! of whole lines of a script.
-use crate::Wrong;
-use crate::page::{Page, Writer};
-use crate::sessions::{ALL, open};
-use crate::tables::{engine, let_go};
 use device::{FromRead, ToWrite};
 use lines::{Engine, Print};
 use session::{Kept, Session};
@@ -11,6 +7,9 @@ use std::alloc::Global;
 use store::ParagraphStore;
 use text_run::{RunFault, run_text};
 use tool::run_script;
+use trials::sessions::{ALL, open};
+use trials::tables::{engine, let_go};
+use trials::{Page, Writer, Wrong};
 
 const LINES: Print = Print {
     basedir: false,

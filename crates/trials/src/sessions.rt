@@ -130,6 +130,14 @@ fn try_change_in<S: ParagraphStore<Kept>>(
     Ok(())
 }
 
+// What a change that has to be made answers.
+fn made(change: Result<Damage, EditFault>) -> Result<Damage, Wrong> {
+    match change {
+        Ok(damage) => Ok(damage),
+        Err(_) => Err("refused twice"),
+    }
+}
+
 // Makes a change, and once more where it was refused.
 fn make_twice<S: ParagraphStore<Kept>>(
     session: &mut Session<S>,
@@ -140,9 +148,9 @@ fn make_twice<S: ParagraphStore<Kept>>(
     let result = make(session, change.edit);
     if result == Err(EditFault::NoMemory) {
         check_unchanged(session, untouched, before, change.most)?;
-        return make(session, change.edit).map_err(|_| "refused twice");
+        return made(make(session, change.edit));
     }
-    result.map_err(|_| "refused twice")
+    made(result)
 }
 
 fn check_unchanged<S: ParagraphStore<Kept>>(

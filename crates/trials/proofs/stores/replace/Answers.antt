@@ -1,7 +1,7 @@
 use Rattle.std.proofs.Common.{arith}
-use Rattle.refused.specs.declared.stores.Item.{Item}
-use Rattle.refused.proofs.StoreLemmas.{sum_of_splice}
-use Rattle.refused.proofs.stores.replace.Goals as goal
+use Rattle.trials.specs.declared.stores.Item.{Item}
+use Rattle.trials.proofs.StoreLemmas.{sum_of_splice}
+use Rattle.trials.proofs.stores.replace.Goals as goal
 
 pub replace-requires-clause-chars_fit : goal.replace-requires-clause-chars_fit
 replace-requires-clause-chars_fit g c =
