@@ -7,7 +7,7 @@ ghost use Rattle.bidi.specs.Classes.{class_in, is_initiator, is_pdi, is_strong};
 use ucd::{BidiClass, Properties, Tables};
 
 /// How the base level of a paragraph is found.
-#[derive(Clone, Copy, Debug, Default, PartialEq, Eq)]
+#[derive(Clone, Copy, Debug, PartialEq, Eq)]
 pub enum Base {
     /// Level 1, whatever the text.
     Rtl,
@@ -16,8 +16,18 @@ pub enum Base {
     /// By the first strong character, and level 1 where there is none.
     WeakRtl,
     /// By the first strong character, and level 0 where there is none.
-    #[default]
     WeakLtr,
+}
+
+impl Default for Base {
+    ghost use Rattle.bidi.specs.declared.base.Base.TheVariants.{WeakLtr};
+
+    // That of a command line that names no direction.
+    ghost is_default = { λ base. base ≡ WeakLtr };
+
+    fn default() -> Base {
+        Base::WeakLtr
+    }
 }
 
 /// The base level of one paragraph, 0 or 1.

@@ -1,5 +1,5 @@
 -- A file's lines, read one after another into entries.
-use Rattle.std.proofs.Common.{◌≡◌, ℕ, zero, suc, ◌+◌, ◌<◌, ◌≤◌, Bool, true, false, ◌&&◌, List, [], ◌∷◌, ◌++◌, length, get_or, take, drop, Option, Some, None, IsSome, IfSome, option_map, Result, Ok, Err, ◌⊎◌, inl, inr, IsTrue, add-one, refl, sym, ◌∙◌, ap, subst, if◌then◌else◌, arith}
+use Rattle.std.proofs.Common.{◌≡◌, ℕ, zero, suc, ◌+◌, ◌<◌, ◌≤◌, ◌==◌, nat_lt, not, Bool, true, false, ◌&&◌, List, [], ◌∷◌, ◌++◌, length, get_or, take, drop, Option, Some, None, IsSome, IfSome, option_map, Result, Ok, Err, ◌⊎◌, inl, inr, IsTrue, add-one, refl, sym, ◌∙◌, ap, subst, if◌then◌else◌, arith}
 use Rattle.std.specs.Char.{IsScalar}
 use Rattle.std.proofs.Math.Utf8.{scalar}
 use Rattle.std.proofs.lemmas.Bool.{false≢true, and_parts, cases_Bool, cases_lt, cond-true, cond-false}
@@ -7,8 +7,10 @@ use Rattle.std.proofs.lemmas.List.{length-drop, take_more, take_all}
 use Rattle.ucd.specs.declared.fault.Cause.{Cause}
 use Rattle.ucd.specs.declared.fault.Cause.TheVariants as cause
 use Rattle.ucd.specs.declared.grammar.Entry.{Entry}
-use Rattle.ucd.specs.Grammar.{Form, reading_of, lines_of, parts_of}
-use Rattle.ucd.specs.Entries.{covers, value_at}
+use Rattle.std.specs.List.{list_all}
+use Rattle.std.specs.Char.{is_ascii}
+use Rattle.ucd.specs.Grammar.{Form, before_comment, content_of, fields_of, points_of, by_value, by_points, by_fields, reading_of, lines_of, parts_of}
+use Rattle.ucd.specs.Entries.{covers, value_at, IsTaken}
 use Rattle.ucd.specs.Files.{given_by, given, or_else, value_in, line_at, HasFault, IsFirstFault, AddsReading, AddsLine, IsReadingCause, IsLineCause, HoldsFile, IsFaultFor}
 
 -- the lines that are left
@@ -37,6 +39,44 @@ at_drop [] zero d y ys is = cc
 at_drop [] (suc k) d y ys is = cc
 at_drop (x ∷ xs) zero d y ys is = (omega arith, cc, cc)
 at_drop (x ∷ xs) (suc k) d y ys is = let rest = at_drop xs k d y ys is in (omega arith, rest.1, rw add-one (rw add-one at rest.2))
+
+-- no line reads as want of memory
+module _ {V : Type 0} (form : Form V) where
+  value_reads : (first last : ℕ) (value : Option (Option V)) → ¬ (by_value form first last value ≡ Err cause.Memory)
+  value_reads first last None is = cc
+  value_reads first last (Some None) is = cc
+  value_reads first last (Some (Some v)) is = cc
+
+  points_read : (points : Option (ℕ × ℕ)) (value : Option (Option V)) → ¬ (by_points form points value ≡ Err cause.Memory)
+  points_read None value is = cc
+  points_read (Some (first, last)) value is = go (nat_lt last first) is
+    where
+      go : (b : Bool) → ¬ ((if b then Err cause.Reversed else by_value form first last value) ≡ Err cause.Memory)
+      go true err = cc
+      go false err = value_reads first last value err
+
+  fields_read : (fields : List (List ℕ)) → ¬ (by_fields form fields ≡ Err cause.Memory)
+  fields_read [] is = cc
+  fields_read (a ∷ []) is = cc
+  fields_read (a ∷ b ∷ []) is = go form.has_third is
+    where
+      go : (third : Bool) → ¬ ((if third then Err cause.FieldCount else by_points form (points_of form.has_ranges a) (form.value b [])) ≡ Err cause.Memory)
+      go true err = cc
+      go false err = points_read (points_of form.has_ranges a) (form.value b []) err
+  fields_read (a ∷ b ∷ c ∷ []) is = go form.has_third is
+    where
+      go : (third : Bool) → ¬ ((if third then by_points form (points_of form.has_ranges a) (form.value b c) else Err cause.FieldCount) ≡ Err cause.Memory)
+      go true err = points_read (points_of form.has_ranges a) (form.value b c) err
+      go false err = cc
+  fields_read (a ∷ b ∷ c ∷ d ∷ more) is = cc
+
+  reads_no_memory : (line : List ℕ) → ¬ (reading_of form line ≡ Err cause.Memory)
+  reads_no_memory line is = go (list_all is_ascii (before_comment line)) (length (content_of line) == 0) is
+    where
+      go : (ascii empty : Bool) → ¬ ((if not ascii then Err cause.NotAscii else (if empty then Ok None else by_fields form (fields_of (content_of line)))) ≡ Err cause.Memory)
+      go false empty err = cc
+      go true true err = cc
+      go true false err = fields_read (fields_of (content_of line)) err
 
 module _ {V : Type 0} (form : Form V) where
   or_else_None : (o : Option V) → or_else form o None ≡ o
@@ -130,8 +170,23 @@ module _ {V : Type 0} (form : Form V) where
     }
 
     fault_for : (why : Cause) → HasFault form lines k why → IsFaultFor form lines (k + 1) why
-    fault_for cause.Memory fault = tt
+    fault_for cause.Memory (inl err) = absurd (reads_no_memory form (line_at form lines k) err)
+    fault_for cause.Memory (inr (named, again)) = absurd (let no : ⊥ = cc in no)
     fault_for why fault = (omega arith, subst (λ n. IsFirstFault form lines n why) {x = k} (omega arith) (record { in_range = within; fault = fault; earlier = held.good }))
+
+    -- memory ran out at the next line, which names no character that has a value
+    not_named : (e : Entry V) → reading_of form (line_at form lines k) ≡ Ok (Some e) → ¬ (IsTaken es e) → (why : Cause) → ¬ (HasFault form lines k why)
+    not_named e is free why (inl err) = cc
+    not_named e is free why (inr (named, (j, c, lt, before, here))) =
+        let names = entry_gives e c (rw is at here) in
+        let some = value_of_line lines k j c lt (omega arith) before in
+        free (c, names.0, names.1, rw (held.values c names.0) some)
+
+    memory_at : (e : Entry V) → reading_of form (line_at form lines k) ≡ Ok (Some e) → ¬ (IsTaken es e) → IsFaultFor form lines (k + 1) cause.Memory
+    memory_at e is free j why lt fault = elim (cases_lt j k) [
+      | inl before ↦ held.good j why before fault
+      | inr from ↦ let here : j ≡ k = omega arith in not_named e is free why (rw here at fault)
+    ]
 
     -- the next line is refused
     refused : (r : Result (Option (Entry V)) Cause) → reading_of form (line_at form lines k) ≡ r → (why : Cause) → IsReadingCause form r es why → IsFaultFor form lines (k + 1) why
@@ -140,8 +195,8 @@ module _ {V : Type 0} (form : Form V) where
         let line = line_of_value lines k c (rw (held.values c character) at some) in
         let here : IsSome (given form (line_at form lines k) c) = rw is (entry_given e c character covered) in
         fault_for cause.NamedBefore (inr (refl, (line.0, c, line.1, line.2, here)))
-    refused (Ok (Some e)) is cause.Memory because = tt
-    refused (Ok (Some e)) is why because = absurd (let no : ⊥ = cc in no)
+    refused (Ok (Some e)) is cause.Memory free = memory_at e is free
+    refused (Ok (Some e)) is why because = absurd because
     refused (Err other) is why because = fault_for why (inl (is ∙ ap Err (sym because)))
 
     fault_here : (why : Cause) → IsLineCause form es (line_at form lines k) why → IsFaultFor form lines (k + 1) why

@@ -9,7 +9,7 @@ use Rattle.std.proofs.lemmas.Option.{slice_get_within, get_or_from_slice_get}
 use Rattle.ucd.specs.Answers.{Answers}
 use Rattle.ucd.specs.Puts.{put_by}
 use Rattle.ucd.specs.declared.grammar.Entry.{Entry}
-use Rattle.ucd.specs.Entries.{covers, value_at, AddsEntry, AreApart, AreNamed}
+use Rattle.ucd.specs.Entries.{covers, value_at, AddsEntry, AreApart, AreNamed, IsFree}
 
 module _ {V : Type 0} where
   -- the value of a code point with one more entry
@@ -31,15 +31,20 @@ module _ {V : Type 0} where
     | inr (end, same) ↦ inr (omega arith, same)
   ]
 
-  module _ (es : List (Entry V)) (named : List Bool) (e : Entry V) (apart : AreApart es) (are : AreNamed es named) (whole : e.first ≤ e.last) (within : e.last < 1114112)
-      (none : (c : ℕ) → e.first ≤ c → c < e.last + 1 → get_or named c false ≡ false) where
-    -- no entry names what the new one names
-    free : (c : ℕ) → IsTrue (covers e c) → value_at es c ≡ None
-    free c covered =
-        let from : e.first ≤ c = grind (arith, nat_tests) in
-        let to : c ≤ e.last = grind (arith, nat_tests) in
-        not_some (value_at es c) (sym (are.each c (omega arith)) ∙ none c from (omega arith))
+  -- no entry names what no place names
+  pub free_from : (es : List (Entry V)) (named : List Bool) (e : Entry V) → AreNamed es named → e.last < 1114112 → ((c : ℕ) → e.first ≤ c → c < e.last + 1 → get_or named c false ≡ false) → IsFree es e
+  free_from es named e are within none c covered =
+      let from : e.first ≤ c = grind (arith, nat_tests) in
+      let to : c ≤ e.last = grind (arith, nat_tests) in
+      not_some (value_at es c) (sym (are.each c (omega arith)) ∙ none c from (omega arith))
 
+  -- what an entry leaves free that stands behind another one
+  pub free_behind : (old mid : List (Entry V)) (one other : Entry V) → AddsEntry old mid one → one.last < other.first → IsFree old other → IsFree mid other
+  free_behind old mid one other adds lt free c covered =
+      let outside : covers one c ≡ false = grind (arith, nat_tests) in
+      adds.values c ∙ cond-false (covers one c) (Some one.value) (value_at old c) outside ∙ free c covered
+
+  module _ (es : List (Entry V)) (named : List Bool) (e : Entry V) (apart : AreApart es) (are : AreNamed es named) (whole : e.first ≤ e.last) (within : e.last < 1114112) (free : IsFree es e) where
     pub adds_push : AddsEntry es (es ++ e ∷ []) e
     adds_push = record { free = free; values = λ c. value_push es e c (free c) }
 

@@ -28,10 +28,18 @@ module _ {V : Type 0} where
     pub free : (c : ℕ) → IsTrue (covers e c) → value_at old c ≡ None
     pub values : (c : ℕ) → value_at new c ≡ (if covers e c then Some e.value else value_at old c)
 
+  -- first one entry's, and then the other's
+  abbrev pub AddsBoth : List (Entry V) → List (Entry V) → Entry V → Entry V → Type 0
+  AddsBoth old new one other = (mid : List (Entry V)) × AddsEntry old mid one × AddsEntry mid new other
+
   -- the same, of the entry's characters alone
   pub record AddsCharacters (old new : List (Entry V)) (e : Entry V) : Type 0 where
     pub free : (c : ℕ) → IsScalar c → IsTrue (covers e c) → value_at old c ≡ None
     pub values : (c : ℕ) → IsScalar c → value_at new c ≡ (if covers e c then Some e.value else value_at old c)
+
+  -- none of the entry's code points has a value
+  abbrev pub IsFree : List (Entry V) → Entry V → Type 0
+  IsFree es e = (c : ℕ) → IsTrue (covers e c) → value_at es c ≡ None
 
   -- a code point of the entry has a value already
   abbrev pub IsMet : List (Entry V) → Entry V → Type 0

@@ -58,11 +58,12 @@ module _ {V : Type 0} (form : Form V) where
   abbrev pub AddsLine : List (Entry V) → List (Entry V) → List ℕ → Type 0
   AddsLine old new line = AddsReading (reading_of form line) old new
 
-  -- why a line cannot be added
+  -- why a line cannot be added; where memory ran out, nothing else is wrong with it
   abbrev pub IsReadingCause : Result (Option (Entry V)) Cause → List (Entry V) → Cause → Type 0
   IsReadingCause (Ok None) es why = ⊥
   IsReadingCause (Ok (Some e)) es cause.NamedBefore = IsTaken es e
-  IsReadingCause (Ok (Some e)) es why = why ≡ cause.Memory
+  IsReadingCause (Ok (Some e)) es cause.Memory = ¬ (IsTaken es e)
+  IsReadingCause (Ok (Some e)) es why = ⊥
   IsReadingCause (Err other) es why = why ≡ other
 
   abbrev pub IsLineCause : List (Entry V) → List ℕ → Cause → Type 0
@@ -73,9 +74,9 @@ module _ {V : Type 0} (form : Form V) where
     pub good : IsGood lines
     pub values : (c : ℕ) → IsScalar c → value_at es c ≡ value_in lines c
 
-  -- a line, counted from 1, is the first that is refused; where memory ran out, none need be
+  -- a line, counted from 1, is the first that is refused; where memory ran out, neither it nor one in front of it is
   abbrev pub IsFaultFor : List (List ℕ) → ℕ → Cause → Type 0
-  IsFaultFor lines line cause.Memory = Unit {0}
+  IsFaultFor lines line cause.Memory = (j : ℕ) (why : Cause) → j < line → ¬ (HasFault lines j why)
   IsFaultFor lines line why = (0 < line) × IsFirstFault lines (line - 1) why
 
   abbrev pub IsLineFault : List (List ℕ) → LineFault → Type 0

@@ -3,7 +3,8 @@ ghost use Rattle.std.specs.Prelude.{◌≡◌, ◌<◌, ◌≤◌, nat_le, nat_l
 ghost use Rattle.std.specs.Prelude.{ℕ, List, [], true, false, length, slice_index_or};
 ghost use Rattle.std.specs.Prelude.{IfOk, IfErr, OnOk, ◌⊎◌, IsErrOf};
 ghost use Rattle.ucd.specs.declared.grammar.Entry.{Entry};
-ghost use Rattle.ucd.specs.Entries.{AddsEntry, AddsCharacters, AreApart, AreNamed, IsMet, IsTaken};
+ghost use Rattle.ucd.specs.Entries.{AddsBoth, AddsEntry, AddsCharacters, AreApart, AreNamed};
+ghost use Rattle.ucd.specs.Entries.{IsFree, IsMet, IsTaken};
 
 use crate::fault::Cause;
 use crate::grammar::Entry;
@@ -86,48 +87,74 @@ impl<V: Copy> RangeTable<V> {
         }
     }
 
-    // Adds an entry, unless one of its code points has a value already. One that ends before it
-    // begins has none, and adds nothing.
-    fn insert(&mut self, entry: Entry<V>) -> Result<(), Cause>
+    // Whether one of the entry's code points has a value. One that ends before it begins has none.
+    fn meets(&self, entry: Entry<V>) -> bool
         requires { entry.last < 1114112 }
-        ensures ok { OnOk result (AddsEntry self.old self.new entry) }
-        ensures met { IsErrOf result Cause.NamedBefore → IsMet self.old entry }
-        ensures only { IfErr result (λ why. (why ≡ Cause.NamedBefore) ⊎ (why ≡ Cause.Memory)) }
+        ensures some { IsTrue result → IsMet self.now entry }
+        ensures none { result ≡ false → IsFree self.now entry }
+    {
+        let first = entry.first as usize;
+        entry.first <= entry.last && has_named(&self.named, first, entry.last as usize + 1)
+    }
+
+    // Adds an entry of which no code point has a value. One that ends before it begins adds nothing.
+    fn insert(&mut self, entry: Entry<V>) -> Result<(), AllocError>
+        requires within { entry.last < 1114112 }
+        requires free { IsFree self.old entry }
+        ensures { OnOk result (AddsEntry self.old self.new entry) }
     {
         if entry.last < entry.first {
             return Ok(());
         }
         let first = entry.first as usize;
         let end = entry.last as usize + 1;
-        if has_named(&self.named, first, end) {
-            return Err(Cause::NamedBefore);
-        }
         match self.entries.push(entry) {
             Ok(()) => {
                 name_all(&mut self.named, first, end);
                 Ok(())
             }
-            Err(_) => Err(Cause::Memory),
+            Err(_) => Err(AllocError),
         }
     }
 
+    // Adds two entries of which no code point has a value, one below the surrogates and one above them.
+    fn insert_both(&mut self, below: Entry<V>, above: Entry<V>) -> Result<(), AllocError>
+        requires below { (below.last < 55296) × IsFree self.old below }
+        requires above { (55296 ≤ above.first) × (above.last < 1114112) × IsFree self.old above }
+        ensures { OnOk result (AddsBoth self.old self.new below above) }
+    {
+        self.insert(below)?;
+        self.insert(above)
+    }
+
     /// Gives the entry's value to each character from its first code point to its last, unless one
-    /// of them has a value already. Surrogates are passed over, since they are no characters. After
-    /// an `Err` the table is of no use.
+    /// of them has a value already, which is answered whether there is memory or not. Surrogates are passed
+    /// over, since they are no characters. After an `Err` the table is of no use.
     pub fn add(&mut self, entry: Entry<V>) -> Result<(), Cause>
         ensures ok { OnOk result (AddsCharacters self.old self.new entry) }
         ensures taken { IsErrOf result Cause.NamedBefore → IsTaken self.old entry }
+        ensures memory { IsErrOf result Cause.Memory → ¬ (IsTaken self.old entry) }
         ensures only { IfErr result (λ why. (why ≡ Cause.NamedBefore) ⊎ (why ≡ Cause.Memory)) }
     {
-        self.insert(Entry {
+        let below = Entry {
             last: entry.last.min(FIRST_SURROGATE - 1),
             ..entry
-        })?;
-        self.insert(Entry {
+        };
+        let above = Entry {
             first: entry.first.max(LAST_SURROGATE + 1),
             last: entry.last.min(LAST_CHARACTER),
             ..entry
-        })
+        };
+        if self.meets(below) {
+            return Err(Cause::NamedBefore);
+        }
+        if self.meets(above) {
+            return Err(Cause::NamedBefore);
+        }
+        match self.insert_both(below, above) {
+            Ok(()) => Ok(()),
+            Err(_) => Err(Cause::Memory),
+        }
     }
 }
 
