@@ -1,4 +1,4 @@
-//! Worked rows. The tests pass too where one allocation is refused, whichever it is.
+//! Worked rows. The tests pass too where one allocation is refused, whichever it is, but for `refill`.
 ghost use Rattle.std.specs.Prelude.{◌≡◌, ◌<◌, IfOk, OnOk};
 ghost use Rattle.lines.specs.Engine.{rules_of, SameRules};
 ghost use Rattle.lines.specs.Extents.{extents_of};
@@ -159,16 +159,14 @@ fn longest_paragraph_at_the_least_width(rt: HostRuntime) -> Result<(), Fail> {
     Ok(())
 }
 
-// The lines of a paragraph at another width.
+// The lines of a paragraph at another width. They are asked for once, so that a body that refuses for no
+// reason fails.
 fn refill(alloc: Global, engine: &mut Engine, laid: &Laid, width: u16) -> Result<Fill, Fail>
     requires laid { IsLaidOut (rules_of engine.old) laid.now }
     requires width { 0 < width }
     ensures { IfOk result (AreLinesOf (rules_of engine.old) laid.now.text) }
 {
-    match engine.refill(alloc, laid, width) {
-        Ok(fill) => Ok(fill),
-        Err(_) => Ok(engine.refill(alloc, laid, width)?),
-    }
+    Ok(engine.refill(alloc, laid, width)?)
 }
 
 // Whether the engine counts so many characters.

@@ -1,6 +1,6 @@
 //! Worked rows, and long lists of changes against sessions made anew, over both stores. The tests pass
 //! too where one allocation is refused, whichever it is: a change that is refused for memory leaves all
-//! as it was, and is made when it is asked for again.
+//! as it was, and is made when it is asked for again. A `run` alone is asked for once.
 mod random;
 mod refusals;
 mod rows;

@@ -334,15 +334,11 @@ pub(super) static CHANGES: [Edit<'_>; 6] = [
     Edit::Insert(3, "\ne"),
 ];
 
-// Where memory runs out some of the changes were made: then all follow on the first text again.
+// Asked for once, so that a body that refuses for no reason fails.
 fn run<S: ParagraphStore<Kept>>(
     edited: &mut Session<S>,
     changes: &[Edit<'_>],
 ) -> Result<(), EditFault> {
-    renew(edited, "ab\ncd", 80)?;
-    if edited.run(changes).is_ok() {
-        return Ok(());
-    }
     renew(edited, "ab\ncd", 80)?;
     match edited.run(changes) {
         Ok(_) => Ok(()),
