@@ -91,8 +91,10 @@ pub record Exchanges (old new : Layout) (fill_old fill_new : Filled) : Type 0 wh
       → (new ≡ layout_of rules other old.text) × (fill_new ≡ fill_of rules width old.text)
   pub stay : (rules : Rules) → IsLaidOut rules old → AreLinesOf rules old.text fill_old → IsLaidOut rules new × AreLinesOf rules new.text fill_new
 
--- what an engine shows: the rules that it goes by, and how many characters it analysed and filled
+-- What an engine shows: the rules that it goes by, how many characters it analysed, how many it filled into lines, and of how many it
+-- wrote the lines.
 pub record State : Type 0 where
   pub rules : Rules
   pub analysed : ℕ
   pub filled : ℕ
+  pub written : ℕ

@@ -1,4 +1,4 @@
-//! What lays paragraphs out: the tables and options, and how much was analysed and filled.
+//! What lays paragraphs out: the tables and options, and how much was analysed, filled and written.
 ghost use Rattle.std.specs.Prelude.{◌≡◌, ◌<◌, ◌≤◌, ℕ, [], true, false, length, map};
 ghost use Rattle.std.specs.Prelude.{IfOk, IfErr, IsErrOf, OnOk};
 ghost use Rattle.std.specs.Prelude.{if◌then◌else◌};
@@ -35,6 +35,7 @@ pub struct Engine {
     options: Options,
     analysed: u64,
     filled: u64,
+    written: u64,
     // Made for the first paragraph, and kept for the next ones.
     work: Option<Work>,
     // What the last paragraph that was written consisted of.
@@ -48,6 +49,7 @@ impl Drop for Engine {
             options: _,
             analysed: _,
             filled: _,
+            written: _,
             work: _,
             kept: _,
         } = self;
@@ -63,6 +65,7 @@ impl Model for Engine {
       rules = record { tables = e.tables; options = e.options };
       analysed = e.analysed;
       filled = e.filled;
+      written = e.written;
     } };
 }
 
@@ -73,20 +76,23 @@ impl Engine {
     ghost use Rattle.lines.specs.Extents.{extents_in, extents_of, reflowed};
     ghost use Rattle.lines.specs.Layouts.{base_of, cut_by, fill_of, layout_of};
     ghost use Rattle.lines.specs.Layouts.{AreLinesOf, AreWithin, IsLaidOut, IsParagraph};
-    ghost use Rattle.lines.specs.Engine.{rules_of, analysed_of, filled_of, SameRules};
-    ghost use Rattle.lines.specs.Engine.{Fills, FillsAtMost, LaysOut, LaysOutAtMost, Prints};
+    ghost use Rattle.lines.specs.Engine.{rules_of, analysed_of, filled_of, written_of, SameRules};
+    ghost use Rattle.lines.specs.Engine.{Fills, FillsAtMost, FindsExtents, FindsExtentsAtMost};
+    ghost use Rattle.lines.specs.Engine.{LaysOut, LaysOutAtMost, Prints, Rewrites};
 
     /// An engine that has not worked yet.
     pub fn new(tables: Tables, options: Options) -> Engine
         ensures rules { rules_of result ≡ record { tables = tables; options = options } }
         ensures analysed { analysed_of result ≡ 0 }
         ensures filled { filled_of result ≡ 0 }
+        ensures written { written_of result ≡ 0 }
     {
         Engine {
             tables,
             options,
             analysed: 0,
             filled: 0,
+            written: 0,
             work: None,
             kept: None,
         }
@@ -121,6 +127,13 @@ impl Engine {
         self.filled
     }
 
+    /// Of how many characters the lines were written, up to the greatest `u64`, at which the count stays.
+    pub fn written(&self) -> u64
+        ensures { result ≡ written_of self.now }
+    {
+        self.written
+    }
+
     /// Lays out one paragraph at a width in columns, which is not 0. Where there is no memory, the
     /// text comes back.
     pub fn lay_out(
@@ -139,7 +152,7 @@ impl Engine {
         ensures rules { SameRules self.old self.new }
     {
         self.analysed = self.analysed.saturating_add(text.len() as u64);
-        self.filled = self.filled.saturating_add(text.len() as u64);
+        self.count_lines(text.len());
         match self.parts(alloc, &text, width) {
             Ok(parts) => Ok(Laid {
                 text,
@@ -165,7 +178,7 @@ impl Engine {
     {
         let text = laid.text();
         let fill = self.fill(alloc, text, laid.base(), laid.levels(), laid.marks(), width)?;
-        self.filled = self.filled.saturating_add(text.len() as u64);
+        self.count_lines(text.len());
         Ok(fill)
     }
 
@@ -190,17 +203,17 @@ impl Engine {
         ensures counts { OnOk result (Prints (length text.now) print.now self.old self.new) }
         ensures at_most { LaysOutAtMost (length text.now) self.old self.new }
 
-        // Also after a fault: what is not laid out into lines is not counted as filled.
-        ensures skipped { skips_lines print.now ≡ true → filled_of self.new ≡ filled_of self.old }
+        // Also after a fault: what is not laid out into lines is not counted as filled or written.
+        ensures skipped { skips_lines print.now ≡ true → (filled_of self.new ≡ filled_of self.old)
+            × (written_of self.new ≡ written_of self.old) }
         ensures rules { SameRules self.old self.new }
     {
-        let len = text.len() as u64;
-        self.analysed = self.analysed.saturating_add(len);
+        self.analysed = self.analysed.saturating_add(text.len() as u64);
         if print.skips_lines() {
             marks_are_as_many(&self.tables, text, self.options.whole_numbers);
             return self.write_base(text, print, writer);
         }
-        self.filled = self.filled.saturating_add(len);
+        self.count_lines(text.len());
         self.write_lines(alloc, text, width, print, writer)
     }
 
@@ -211,8 +224,9 @@ impl Engine {
         requires width { 0 < width }
         ensures ok { IfOk result (λ extents. extents
             ≡ extents_of (rules_of self.old) width laid.now.text) }
-        ensures counts { IfOk result (λ extents. Fills (length laid.now.text) self.old self.new) }
-        ensures at_most { FillsAtMost (length laid.now.text) self.old self.new }
+        ensures counts { IfOk result (λ extents.
+            FindsExtents (length laid.now.text) self.old self.new) }
+        ensures at_most { FindsExtentsAtMost (length laid.now.text) self.old self.new }
         ensures rules { SameRules self.old self.new }
     {
         let text = laid.text();
@@ -231,17 +245,29 @@ impl Engine {
     /// Writes the lines of a paragraph at another width over those that it has: by their extents at that
     /// width, which are handed out as those of the old lines. The paragraph is laid out by this engine's
     /// rules, and there is room for it. No memory is taken.
-    pub fn reflow(&self, laid: &mut Laid, extents: &mut Extents, room: &mut Room)
-        requires laid { IsLaidOut (rules_of self.now) laid.old }
+    pub fn reflow(&mut self, laid: &mut Laid, extents: &mut Extents, room: &mut Room)
+        requires laid { IsLaidOut (rules_of self.old) laid.old }
         requires extents { (width : ℕ)
-            × (extents.old ≡ extents_of (rules_of self.now) width laid.old.text) }
+            × (extents.old ≡ extents_of (rules_of self.old) width laid.old.text) }
         requires room { length laid.old.text ≤ room.old }
-        ensures laid { laid.new ≡ reflowed (rules_of self.now) laid.old extents.old }
-        ensures laid_out { IsLaidOut (rules_of self.now) laid.new }
+        ensures laid { laid.new ≡ reflowed (rules_of self.old) laid.old extents.old }
+        ensures laid_out { IsLaidOut (rules_of self.new) laid.new }
         ensures extents { extents.new ≡ extents_in laid.old.lines }
         ensures room { room.new ≡ room.old }
+        ensures counts { Rewrites (length laid.old.text) self.old self.new }
+        ensures rules { SameRules self.old self.new }
     {
+        self.written = self.written.saturating_add(laid.text().len() as u64);
         laid.reflow(&self.tables, self.options, extents, room);
+    }
+
+    // Counts characters that are filled into lines, and these written.
+    fn count_lines(&mut self, len: usize)
+        ensures counts { Fills len self.old self.new }
+        ensures rules { SameRules self.old self.new }
+    {
+        self.filled = self.filled.saturating_add(len as u64);
+        self.written = self.written.saturating_add(len as u64);
     }
 
     // Writes the lines of a paragraph.
