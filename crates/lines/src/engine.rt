@@ -151,8 +151,10 @@ impl Engine {
         ensures at_most { LaysOutAtMost (length text.items) self.old self.new }
         ensures rules { SameRules self.old self.new }
     {
-        self.analysed = self.analysed.saturating_add(text.len() as u64);
-        self.count_lines(text.len());
+        let len = text.len() as u64;
+        self.analysed = self.analysed.saturating_add(len);
+        self.filled = self.filled.saturating_add(len);
+        self.written = self.written.saturating_add(len);
         match self.parts(alloc, &text, width) {
             Ok(parts) => Ok(Laid {
                 text,
@@ -178,7 +180,9 @@ impl Engine {
     {
         let text = laid.text();
         let fill = self.fill(alloc, text, laid.base(), laid.levels(), laid.marks(), width)?;
-        self.count_lines(text.len());
+        let len = text.len() as u64;
+        self.filled = self.filled.saturating_add(len);
+        self.written = self.written.saturating_add(len);
         Ok(fill)
     }
 
@@ -208,12 +212,14 @@ impl Engine {
             × (written_of self.new ≡ written_of self.old) }
         ensures rules { SameRules self.old self.new }
     {
-        self.analysed = self.analysed.saturating_add(text.len() as u64);
+        let len = text.len() as u64;
+        self.analysed = self.analysed.saturating_add(len);
         if print.skips_lines() {
             marks_are_as_many(&self.tables, text, self.options.whole_numbers);
             return self.write_base(text, print, writer);
         }
-        self.count_lines(text.len());
+        self.filled = self.filled.saturating_add(len);
+        self.written = self.written.saturating_add(len);
         self.write_lines(alloc, text, width, print, writer)
     }
 
@@ -259,15 +265,6 @@ impl Engine {
     {
         self.written = self.written.saturating_add(laid.text().len() as u64);
         laid.reflow(&self.tables, self.options, extents, room);
-    }
-
-    // Counts characters that are filled into lines, and these written.
-    fn count_lines(&mut self, len: usize)
-        ensures counts { Fills len self.old self.new }
-        ensures rules { SameRules self.old self.new }
-    {
-        self.filled = self.filled.saturating_add(len as u64);
-        self.written = self.written.saturating_add(len as u64);
     }
 
     // Writes the lines of a paragraph.
