@@ -69,6 +69,11 @@ pub record Rewrites (n : ℕ) (old new : Engine) : Type 0 where
   pub filled : filled_of new ≡ filled_of old
   pub written : written_of new ≡ counted (written_of old) n
 
+pub record RewritesAtMost (n : ℕ) (old new : Engine) : Type 0 where
+  pub analysed : analysed_of new ≡ analysed_of old
+  pub filled : filled_of new ≡ filled_of old
+  pub written : RisesBy n (written_of old) (written_of new)
+
 -- n characters were printed: all of them were analysed, and filled and their lines written too, unless no line is printed
 pub record Prints (n : ℕ) (print : Print) (old new : Engine) : Type 0 where
   pub analysed : analysed_of new ≡ counted (analysed_of old) n

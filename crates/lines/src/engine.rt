@@ -76,9 +76,10 @@ impl Engine {
     ghost use Rattle.lines.specs.Extents.{extents_in, extents_of, reflowed};
     ghost use Rattle.lines.specs.Layouts.{base_of, cut_by, fill_of, layout_of};
     ghost use Rattle.lines.specs.Layouts.{AreLinesOf, AreWithin, IsLaidOut, IsParagraph};
-    ghost use Rattle.lines.specs.Engine.{rules_of, analysed_of, filled_of, written_of, SameRules};
+    ghost use Rattle.lines.specs.Engine.{rules_of, analysed_of, filled_of, written_of, counted};
     ghost use Rattle.lines.specs.Engine.{Fills, FillsAtMost, FindsExtents, FindsExtentsAtMost};
-    ghost use Rattle.lines.specs.Engine.{LaysOut, LaysOutAtMost, Prints, Rewrites};
+    ghost use Rattle.lines.specs.Engine.{LaysOut, LaysOutAtMost, Prints, Rewrites, RewritesAtMost};
+    ghost use Rattle.lines.specs.Engine.{SameRules};
 
     /// An engine that has not worked yet.
     pub fn new(tables: Tables, options: Options) -> Engine
@@ -243,28 +244,37 @@ impl Engine {
 
     /// Room in which the lines of any paragraph of at most so many characters can be written.
     pub fn room(&self, alloc: Global, len: usize) -> Result<Room, AllocError>
-        ensures { IfOk result (λ room. room ≡ len) }
+        ensures { IfOk result (λ room. room ≡ record { len = len; written = 0 }) }
     {
         Room::new(alloc, &self.tables, len)
     }
 
     /// Writes the lines of a paragraph at another width over those that it has: by their extents at that
     /// width, which are handed out as those of the old lines. The paragraph is laid out by this engine's
-    /// rules, and there is room for it. No memory is taken.
-    pub fn reflow(&mut self, laid: &mut Laid, extents: &mut Extents, room: &mut Room)
-        requires laid { IsLaidOut (rules_of self.old) laid.old }
+    /// rules, and there is room for it, which counts the characters. No memory is taken.
+    pub fn reflow(&self, laid: &mut Laid, extents: &mut Extents, room: &mut Room)
+        requires laid { IsLaidOut (rules_of self.now) laid.old }
         requires extents { (width : ℕ)
-            × (extents.old ≡ extents_of (rules_of self.old) width laid.old.text) }
-        requires room { length laid.old.text ≤ room.old }
-        ensures laid { laid.new ≡ reflowed (rules_of self.old) laid.old extents.old }
-        ensures laid_out { IsLaidOut (rules_of self.new) laid.new }
+            × (extents.old ≡ extents_of (rules_of self.now) width laid.old.text) }
+        requires room { length laid.old.text ≤ room.old.len }
+        ensures laid { laid.new ≡ reflowed (rules_of self.now) laid.old extents.old }
+        ensures laid_out { IsLaidOut (rules_of self.now) laid.new }
         ensures extents { extents.new ≡ extents_in laid.old.lines }
-        ensures room { room.new ≡ room.old }
-        ensures counts { Rewrites (length laid.old.text) self.old self.new }
+        ensures room { room.new ≡ record room.old {
+            written = counted room.old.written (length laid.old.text) } }
+        ensures least { room.old.written ≤ room.new.written }
+    {
+        laid.reflow(&self.tables, self.options, extents, room);
+    }
+
+    /// Takes room back, and counts the characters whose lines were written in it. There is no other way to
+    /// let go of it.
+    pub fn take_back(&mut self, room: Room)
+        ensures counts { Rewrites room.written self.old self.new }
+        ensures at_most { RewritesAtMost room.written self.old self.new }
         ensures rules { SameRules self.old self.new }
     {
-        self.written = self.written.saturating_add(laid.text().len() as u64);
-        laid.reflow(&self.tables, self.options, extents, room);
+        self.written = self.written.saturating_add(room.end());
     }
 
     // Writes the lines of a paragraph.
