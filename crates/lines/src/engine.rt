@@ -286,7 +286,7 @@ impl Engine {
         print: &Print,
         writer: &mut W,
     ) -> Result<(), PrintFault>
-        requires { length text.now ≤ 1048576 }
+        requires { length text.now ≤ PARAGRAPH_LIMIT }
         ensures ok { OnOk result (Wrote (paragraph_bytes (rules_of self.old) width print.now text.now)
             (W.state writer.old) (W.state writer.new)) }
         ensures err { IfErr result (λ fault.
@@ -326,7 +326,7 @@ impl Engine {
 
     // What a paragraph's layout consists of beside its text.
     fn parts(&mut self, alloc: Global, text: &[char], width: u16) -> Result<Parts, AllocError>
-        requires { length text.now ≤ 1048576 }
+        requires { length text.now ≤ PARAGRAPH_LIMIT }
         ensures base { IfOk result (λ parts.
             parts.base ≡ (layout_of (rules_of self.old) width text.now).base) }
         ensures levels { IfOk result (λ parts.
@@ -360,7 +360,7 @@ impl Engine {
     ) -> Result<Extents, AllocError>
         requires marks { marks.now ≡ marks_of (rules_of self.old).tables
             (rules_of self.old).options.whole_numbers text.now }
-        requires within { length text.now ≤ 1048576 }
+        requires within { length text.now ≤ PARAGRAPH_LIMIT }
         ensures extents { IfOk result (λ extents. extents
             ≡ extents_of (rules_of self.old) width text.now) }
         ensures same { self.new ≡ self.old }
@@ -385,7 +385,7 @@ impl Engine {
         requires len { length levels.now ≡ length text.now }
         requires marks { marks.now ≡ marks_of (rules_of self.old).tables
             (rules_of self.old).options.whole_numbers text.now }
-        requires within { length text.now ≤ 1048576 }
+        requires within { length text.now ≤ PARAGRAPH_LIMIT }
         ensures lines { IfOk result (λ fill. fill ≡ fill_of (rules_of self.old) width text.now) }
         ensures within { IfOk result (λ fill. AreWithin (length text.now) fill.lines) }
         ensures same { self.new ≡ self.old }

@@ -58,7 +58,7 @@ impl Model for Laid {
 impl Laid {
     ghost use Rattle.lines.specs.Engine.{counted};
     ghost use Rattle.lines.specs.Extents.{extents_in, extents_of, reflowed};
-    ghost use Rattle.lines.specs.Layouts.{is_line_within, lines_of, start_of};
+    ghost use Rattle.lines.specs.Layouts.{is_line_within, lines_of, start_of, visuals};
     ghost use Rattle.lines.specs.Layouts.{AreLinesOf, Exchanges, IsLaidOut, Rules};
     ghost use Rattle.lines.specs.Pages.{layout_bytes};
     ghost use Rattle.lines.specs.Visual.{visual_of};
@@ -121,7 +121,9 @@ impl Laid {
 
     /// A line, counted from 0.
     pub fn line(&self, n: usize) -> Option<VisualLine<'_>>
-        ensures { result ≡ option_map (visual_of self.now.base self.now.text n) (slice_get self.now.lines n) }
+        ensures line { result
+            ≡ option_map (visual_of self.now.base self.now.text n) (slice_get self.now.lines n) }
+        ensures nth { result ≡ slice_get (visuals self.now) n }
     {
         self.lines.line(&self.text, self.base, n)
     }

@@ -200,14 +200,7 @@ cost_of_each (l ∷ kept) (part ∷ parts) =
 pub cost_of_all : (kept : List Layout) (parts : List (Option Spans)) → total_cost {P = Layout} {Part = Option Spans} (λ l part. length l.text) kept parts ≤ length (text_of kept)
 cost_of_all kept parts = omega (arith, cost_of_each kept parts, length-text kept)
 
--- the extents were found, and then perhaps the lines written
-pub FillsAtMost-found : (n : ℕ) (old new : Engine) → FindsExtentsAtMost n old new → FillsAtMost n old new
-FillsAtMost-found n old new found = record {
-  analysed = found.analysed;
-  filled = found.filled;
-  written = record { least = omega (arith, found.written); most = omega (arith, found.written) };
-}
-
+-- the extents were found, and then the lines written
 pub FillsAtMost-written : (n m : ℕ) (old found new : Engine) → FindsExtentsAtMost n old found → m ≤ n → RewritesAtMost m found new → FillsAtMost n old new
 FillsAtMost-written n m old found new finds within writes = record {
   analysed = writes.analysed ∙ finds.analysed;
