@@ -195,8 +195,12 @@ cost_of_each : (kept : List Layout) (parts : List (Option Spans)) → total_cost
 cost_of_each [] parts = omega arith
 cost_of_each (l ∷ kept) [] = omega arith
 cost_of_each (l ∷ kept) (part ∷ parts) =
-    omega (arith, cost_of_each kept parts, sum_by-cons chars_of l kept,
-    sum_by-cons (λ (n : ℕ). n) (length l.text) (pairwise {P = Layout} {Part = Option Spans} {A = ℕ} (λ m part. length m.text) kept parts))
+    omega (
+      arith,
+      cost_of_each kept parts,
+      sum_by-cons chars_of l kept,
+      sum_by-cons (λ (n : ℕ). n) (length l.text) (pairwise {P = Layout} {Part = Option Spans} {A = ℕ} (λ m part. length m.text) kept parts),
+    )
 
 pub cost_of_all : (kept : List Layout) (parts : List (Option Spans)) → total_cost {P = Layout} {Part = Option Spans} (λ l part. length l.text) kept parts ≤ length (text_of kept)
 cost_of_all kept parts = omega (arith, cost_of_each kept parts, length-text kept)

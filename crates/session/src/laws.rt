@@ -18,7 +18,7 @@ pub fn texts_are_laid_out_in_parts()
         → IsCutAt (cut_by rules) front rest
         → page rules width print (paragraphs (cut_by rules) (front ++ rest))
         ≡ page rules width print (paragraphs (cut_by rules) front)
-            ++ page rules width print (paragraphs (cut_by rules) rest) }
+        ++ page rules width print (paragraphs (cut_by rules) rest) }
 {
     paragraphs_are_pieces();
 }

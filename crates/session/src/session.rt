@@ -23,8 +23,9 @@ use crate::printing::write_store;
 use crate::width::change_width;
 use bidi::paragraphs_are_pieces;
 use device::Sink;
-use lines::{Engine, Laid, Print, VisualLine, WriteFault};
-use lines::{lines_are_few, paragraphs_print_their_lines};
+use lines::{
+    Engine, Laid, Print, VisualLine, WriteFault, lines_are_few, paragraphs_print_their_lines,
+};
 use std::alloc::{AllocError, Global};
 use std::marker::Model;
 use store::ParagraphStore;
