@@ -1,7 +1,6 @@
 use Rattle.std.proofs.Common.{◌≡◌, ◌-◌, [], vec_len}
 use Rattle.device.specs.Device.{greatest}
 use Rattle.lines.specs.Engine.{rules_of}
-use Rattle.session.specs.Sessions.{held_at}
 use Rattle.tool.specs.Reading.{IsAt}
 use Rattle.tool.proofs.script.run_over.Given as goal
 
@@ -13,7 +12,7 @@ invariant-loop-reading g l =
     record {
       kept : rules_of l.session.engine ≡ rules_of l.fn.session.engine;
       room : vec_len l.piece ≡ 65536;
-      stands : IsAt (rules_of l.fn.session.engine) l.print (held_at l.fn.session) (reader l.fn.reader) (reader l.reader) (writer l.fn.writer) (writer l.writer) (held_at l.session) l.reading [];
+      stands : IsAt (rules_of l.fn.session.engine) l.print l.fn.session (reader l.fn.reader) (reader l.reader) (writer l.fn.writer) (writer l.writer) l.session l.reading [];
     }
 
 abbrev pub decreases-loop-reading : goal.decreases-loop-reading
