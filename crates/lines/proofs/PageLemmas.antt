@@ -1,12 +1,14 @@
 -- The bytes of a paragraph's lines, one line after the other.
-use Rattle.std.proofs.Common.{◌≡◌, ◌∙◌, ℕ, ◌+◌, ◌<◌, ◌≤◌, List, [], ◌∷◌, ◌++◌, length, map, take, get_or, Option, Some, None, refl, sym, ap, arith}
+use Rattle.std.proofs.Common.{◌≡◌, ◌∙◌, ℕ, zero, suc, ◌+◌, ◌<◌, ◌≤◌, List, [], ◌∷◌, ◌++◌, length, map, take, get_or, Option, Some, None, refl, sym, ap, arith}
 use Rattle.std.specs.Prelude.{option_map, slice_get}
 use Rattle.std.specs.List.{concat, enumerate_from, flat_map}
 use Rattle.std.proofs.lemmas.List.{get_or-map, length-map, take_all}
+use Rattle.std.proofs.lemmas.List.Folds.{flat_map-map}
 use Rattle.std.proofs.lemmas.List.FromFn.{get_or-enumerate_from, length-enumerate_from}
 use Rattle.std.proofs.lemmas.Option.{get_or_from_slice_get}
 use Rattle.lines.specs.Bytes.{line_bytes}
-use Rattle.lines.specs.Pages.{lines_bytes}
+use Rattle.lines.specs.Layouts.{Layout, visuals}
+use Rattle.lines.specs.Pages.{layout_bytes, lines_bytes}
 use Rattle.lines.specs.Visual.{Line, Visual, visual_of}
 use Rattle.lines.specs.declared.print.Print.{Print}
 
@@ -16,6 +18,23 @@ line_with lines k line within got =
     let place : 0 + k ≡ k = omega arith in
     let there : get_or lines k line ≡ line = get_or_from_slice_get lines k line line got in
     get_or-enumerate_from 0 lines k (0, line) within ∙ rw (place, there) refl
+
+-- an item of a list whose items are numbered
+slice_get_numbered : {A B : Type 0} (f : ℕ → A → B) (k : ℕ) (xs : List A) (i : ℕ) → slice_get (map (λ nth. f nth.0 nth.1) (enumerate_from k xs)) i ≡ option_map (f (k + i)) (slice_get xs i)
+slice_get_numbered f k [] i = refl
+slice_get_numbered f k (x ∷ xs) zero = let same : k ≡ k + 0 = omega arith in ap (λ n. Some (f n x)) same
+slice_get_numbered f k (x ∷ xs) (suc i) = let same : k + 1 + i ≡ k + suc i = omega arith in slice_get_numbered f (k + 1) xs i ∙ ap (λ n. option_map (f n) (slice_get xs i)) same
+
+-- the n-th line as it is shown
+pub visual_at : (layout : Layout) (n : ℕ) → option_map (visual_of layout.base layout.text n) (slice_get layout.lines n) ≡ slice_get (visuals layout) n
+visual_at layout n =
+    let same : n ≡ 0 + n = omega arith in
+    ap (λ k. option_map (visual_of layout.base layout.text k) (slice_get layout.lines n)) same ∙ sym (slice_get_numbered (visual_of layout.base layout.text) 0 layout.lines n)
+
+-- the bytes of a paragraph are those of its lines as they are shown
+pub layout_by_lines : (width : ℕ) (print : Print) (layout : Layout) → layout_bytes width print layout ≡ flat_map (line_bytes width print) (visuals layout)
+layout_by_lines width print layout =
+    sym (flat_map-map (line_bytes width print) (λ (nth : ℕ × Line). visual_of layout.base layout.text nth.0 nth.1) (enumerate_from 0 layout.lines))
 
 module _ (width : ℕ) (print : Print) (base : ℕ) (text : List ℕ) where
   abbrev pub bytes_at : ℕ × Line → List ℕ

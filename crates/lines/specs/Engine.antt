@@ -14,6 +14,9 @@ analysed_of engine = engine.analysed
 abbrev pub filled_of : Engine → ℕ
 filled_of engine = engine.filled
 
+abbrev pub written_of : Engine → ℕ
+written_of engine = engine.written
+
 -- an engine keeps its rules
 abbrev pub SameRules : Engine → Engine → Type 0
 SameRules old new = rules_of new ≡ rules_of old
@@ -27,25 +30,52 @@ pub record RisesBy (n old new : ℕ) : Type 0 where
   pub least : old ≤ new
   pub most : new ≤ old + n
 
--- n characters were analysed and filled
+-- n characters were analysed, filled into lines, and these lines written
 pub record LaysOut (n : ℕ) (old new : Engine) : Type 0 where
   pub analysed : analysed_of new ≡ counted (analysed_of old) n
   pub filled : filled_of new ≡ counted (filled_of old) n
+  pub written : written_of new ≡ counted (written_of old) n
 
 pub record LaysOutAtMost (n : ℕ) (old new : Engine) : Type 0 where
   pub analysed : RisesBy n (analysed_of old) (analysed_of new)
   pub filled : RisesBy n (filled_of old) (filled_of new)
+  pub written : RisesBy n (written_of old) (written_of new)
 
--- n characters were filled, and none analysed
+-- n characters were filled and their lines written, and none analysed
 pub record Fills (n : ℕ) (old new : Engine) : Type 0 where
   pub analysed : analysed_of new ≡ analysed_of old
   pub filled : filled_of new ≡ counted (filled_of old) n
+  pub written : written_of new ≡ counted (written_of old) n
 
 pub record FillsAtMost (n : ℕ) (old new : Engine) : Type 0 where
   pub analysed : analysed_of new ≡ analysed_of old
   pub filled : RisesBy n (filled_of old) (filled_of new)
+  pub written : RisesBy n (written_of old) (written_of new)
 
--- n characters were printed: all of them were analysed, and filled too, unless no line is printed
+-- n characters were filled, so that it is known where their lines stand, and no line was written
+pub record FindsExtents (n : ℕ) (old new : Engine) : Type 0 where
+  pub analysed : analysed_of new ≡ analysed_of old
+  pub filled : filled_of new ≡ counted (filled_of old) n
+  pub written : written_of new ≡ written_of old
+
+pub record FindsExtentsAtMost (n : ℕ) (old new : Engine) : Type 0 where
+  pub analysed : analysed_of new ≡ analysed_of old
+  pub filled : RisesBy n (filled_of old) (filled_of new)
+  pub written : written_of new ≡ written_of old
+
+-- the lines of n characters were written anew, and no more was done
+pub record Rewrites (n : ℕ) (old new : Engine) : Type 0 where
+  pub analysed : analysed_of new ≡ analysed_of old
+  pub filled : filled_of new ≡ filled_of old
+  pub written : written_of new ≡ counted (written_of old) n
+
+pub record RewritesAtMost (n : ℕ) (old new : Engine) : Type 0 where
+  pub analysed : analysed_of new ≡ analysed_of old
+  pub filled : filled_of new ≡ filled_of old
+  pub written : RisesBy n (written_of old) (written_of new)
+
+-- n characters were printed: all of them were analysed, and filled and their lines written too, unless no line is printed
 pub record Prints (n : ℕ) (print : Print) (old new : Engine) : Type 0 where
   pub analysed : analysed_of new ≡ counted (analysed_of old) n
   pub filled : filled_of new ≡ (if skips_lines print then filled_of old else counted (filled_of old) n)
+  pub written : written_of new ≡ (if skips_lines print then written_of old else counted (written_of old) n)

@@ -42,3 +42,8 @@ abbrev pub reflowed : Rules → Layout → Spans → Layout
 reflowed rules l extents =
     let places = places_of rules.tables rules.options.whole_numbers l.text in
     record l { lines = lines_from rules.tables rules.options l.base l.text l.levels places extents.starts }
+
+-- room in which lines are written: for how many characters, and of how many the lines were written in it
+pub record Space : Type 0 where
+  pub len : ℕ
+  pub written : ℕ

@@ -1,5 +1,6 @@
 -- The layout of a paragraph, as what it consists of.
 use Rattle.std.specs.Prelude.{◌≡◌, ℕ, ◌+◌, ◌≤◌, nat_le, Bool, false, List, [], ◌∷◌, length, map, All}
+use Rattle.std.specs.List.{enumerate_from}
 use Rattle.ucd.specs.Tables.{class_of}
 use Rattle.ucd.specs.declared.tables.Tables.{Tables}
 use Rattle.bidi.specs.Base.{base_level_of}
@@ -9,7 +10,8 @@ use Rattle.breaks.specs.Marks.{marks_of}
 use Rattle.breaks.specs.declared.mark.Mark.{Mark}
 use Rattle.lines.specs.Filling.{line_starts_of}
 use Rattle.lines.specs.Places.{places_of}
-use Rattle.lines.specs.Visual.{Line, lines_from}
+use Rattle.lines.specs.Visual.{Line, Visual, lines_from, visual_of}
+use Rattle.lines.specs.declared.engine.TheConstants.{PARAGRAPH_LIMIT}
 use Rattle.lines.specs.declared.options.Options.{Options}
 
 -- what a layout goes by
@@ -43,6 +45,10 @@ layout_of rules width text = record {
   lines = lines_of rules width text;
 }
 
+-- its lines as they are shown
+abbrev pub visuals : Layout → List Visual
+visuals layout = map (λ nth. visual_of layout.base layout.text nth.0 nth.1) (enumerate_from 0 layout.lines)
+
 -- lines alone, and how many characters their paragraph has
 pub record Filled : Type 0 where
   pub lines : List Line
@@ -70,7 +76,7 @@ cut_by rules = cut (class_of rules.tables)
 -- a text is one paragraph, of a length that is allowed
 pub record IsParagraph (rules : Rules) (text : List ℕ) : Type 0 where
   pub whole : paragraphs (cut_by rules) text ≡ text ∷ []
-  pub within : length text ≤ 1048576
+  pub within : length text ≤ PARAGRAPH_LIMIT
 
 -- a layout is that of its text, which is one paragraph, at some width
 pub record IsLaidOut (rules : Rules) (layout : Layout) : Type 0 where
@@ -91,8 +97,10 @@ pub record Exchanges (old new : Layout) (fill_old fill_new : Filled) : Type 0 wh
       → (new ≡ layout_of rules other old.text) × (fill_new ≡ fill_of rules width old.text)
   pub stay : (rules : Rules) → IsLaidOut rules old → AreLinesOf rules old.text fill_old → IsLaidOut rules new × AreLinesOf rules new.text fill_new
 
--- what an engine shows: the rules that it goes by, and how many characters it analysed and filled
+-- What an engine shows: the rules that it goes by, how many characters it analysed, how many it filled into lines, and of how many it
+-- wrote the lines.
 pub record State : Type 0 where
   pub rules : Rules
   pub analysed : ℕ
   pub filled : ℕ
+  pub written : ℕ

@@ -1,4 +1,4 @@
-//! What lays paragraphs out: the tables and options, and how much was analysed and filled.
+//! What lays paragraphs out: the tables and options, and how much was analysed, filled and written.
 ghost use Rattle.std.specs.Prelude.{◌≡◌, ◌<◌, ◌≤◌, ℕ, [], true, false, length, map};
 ghost use Rattle.std.specs.Prelude.{IfOk, IfErr, IsErrOf, OnOk};
 ghost use Rattle.std.specs.Prelude.{if◌then◌else◌};
@@ -35,6 +35,7 @@ pub struct Engine {
     options: Options,
     analysed: u64,
     filled: u64,
+    written: u64,
     // Made for the first paragraph, and kept for the next ones.
     work: Option<Work>,
     // What the last paragraph that was written consisted of.
@@ -48,6 +49,7 @@ impl Drop for Engine {
             options: _,
             analysed: _,
             filled: _,
+            written: _,
             work: _,
             kept: _,
         } = self;
@@ -63,6 +65,7 @@ impl Model for Engine {
       rules = record { tables = e.tables; options = e.options };
       analysed = e.analysed;
       filled = e.filled;
+      written = e.written;
     } };
 }
 
@@ -73,20 +76,24 @@ impl Engine {
     ghost use Rattle.lines.specs.Extents.{extents_in, extents_of, reflowed};
     ghost use Rattle.lines.specs.Layouts.{base_of, cut_by, fill_of, layout_of};
     ghost use Rattle.lines.specs.Layouts.{AreLinesOf, AreWithin, IsLaidOut, IsParagraph};
-    ghost use Rattle.lines.specs.Engine.{rules_of, analysed_of, filled_of, SameRules};
-    ghost use Rattle.lines.specs.Engine.{Fills, FillsAtMost, LaysOut, LaysOutAtMost, Prints};
+    ghost use Rattle.lines.specs.Engine.{rules_of, analysed_of, filled_of, written_of, counted};
+    ghost use Rattle.lines.specs.Engine.{Fills, FillsAtMost, FindsExtents, FindsExtentsAtMost};
+    ghost use Rattle.lines.specs.Engine.{LaysOut, LaysOutAtMost, Prints, Rewrites, RewritesAtMost};
+    ghost use Rattle.lines.specs.Engine.{SameRules};
 
     /// An engine that has not worked yet.
     pub fn new(tables: Tables, options: Options) -> Engine
         ensures rules { rules_of result ≡ record { tables = tables; options = options } }
         ensures analysed { analysed_of result ≡ 0 }
         ensures filled { filled_of result ≡ 0 }
+        ensures written { written_of result ≡ 0 }
     {
         Engine {
             tables,
             options,
             analysed: 0,
             filled: 0,
+            written: 0,
             work: None,
             kept: None,
         }
@@ -121,6 +128,13 @@ impl Engine {
         self.filled
     }
 
+    /// Of how many characters the lines were written, up to the greatest `u64`, at which the count stays.
+    pub fn written(&self) -> u64
+        ensures { result ≡ written_of self.now }
+    {
+        self.written
+    }
+
     /// Lays out one paragraph at a width in columns, which is not 0. Where there is no memory, the
     /// text comes back.
     pub fn lay_out(
@@ -138,8 +152,10 @@ impl Engine {
         ensures at_most { LaysOutAtMost (length text.items) self.old self.new }
         ensures rules { SameRules self.old self.new }
     {
-        self.analysed = self.analysed.saturating_add(text.len() as u64);
-        self.filled = self.filled.saturating_add(text.len() as u64);
+        let len = text.len() as u64;
+        self.analysed = self.analysed.saturating_add(len);
+        self.filled = self.filled.saturating_add(len);
+        self.written = self.written.saturating_add(len);
         match self.parts(alloc, &text, width) {
             Ok(parts) => Ok(Laid {
                 text,
@@ -165,7 +181,9 @@ impl Engine {
     {
         let text = laid.text();
         let fill = self.fill(alloc, text, laid.base(), laid.levels(), laid.marks(), width)?;
-        self.filled = self.filled.saturating_add(text.len() as u64);
+        let len = text.len() as u64;
+        self.filled = self.filled.saturating_add(len);
+        self.written = self.written.saturating_add(len);
         Ok(fill)
     }
 
@@ -190,8 +208,9 @@ impl Engine {
         ensures counts { OnOk result (Prints (length text.now) print.now self.old self.new) }
         ensures at_most { LaysOutAtMost (length text.now) self.old self.new }
 
-        // Also after a fault: what is not laid out into lines is not counted as filled.
-        ensures skipped { skips_lines print.now ≡ true → filled_of self.new ≡ filled_of self.old }
+        // Also after a fault: what is not laid out into lines is not counted as filled or written.
+        ensures skipped { skips_lines print.now ≡ true → (filled_of self.new ≡ filled_of self.old)
+            × (written_of self.new ≡ written_of self.old) }
         ensures rules { SameRules self.old self.new }
     {
         let len = text.len() as u64;
@@ -201,6 +220,7 @@ impl Engine {
             return self.write_base(text, print, writer);
         }
         self.filled = self.filled.saturating_add(len);
+        self.written = self.written.saturating_add(len);
         self.write_lines(alloc, text, width, print, writer)
     }
 
@@ -211,8 +231,9 @@ impl Engine {
         requires width { 0 < width }
         ensures ok { IfOk result (λ extents. extents
             ≡ extents_of (rules_of self.old) width laid.now.text) }
-        ensures counts { IfOk result (λ extents. Fills (length laid.now.text) self.old self.new) }
-        ensures at_most { FillsAtMost (length laid.now.text) self.old self.new }
+        ensures counts { IfOk result (λ extents.
+            FindsExtents (length laid.now.text) self.old self.new) }
+        ensures at_most { FindsExtentsAtMost (length laid.now.text) self.old self.new }
         ensures rules { SameRules self.old self.new }
     {
         let text = laid.text();
@@ -223,25 +244,37 @@ impl Engine {
 
     /// Room in which the lines of any paragraph of at most so many characters can be written.
     pub fn room(&self, alloc: Global, len: usize) -> Result<Room, AllocError>
-        ensures { IfOk result (λ room. room ≡ len) }
+        ensures { IfOk result (λ room. room ≡ record { len = len; written = 0 }) }
     {
         Room::new(alloc, &self.tables, len)
     }
 
     /// Writes the lines of a paragraph at another width over those that it has: by their extents at that
     /// width, which are handed out as those of the old lines. The paragraph is laid out by this engine's
-    /// rules, and there is room for it. No memory is taken.
+    /// rules, and there is room for it, which counts the characters. No memory is taken.
     pub fn reflow(&self, laid: &mut Laid, extents: &mut Extents, room: &mut Room)
         requires laid { IsLaidOut (rules_of self.now) laid.old }
         requires extents { (width : ℕ)
             × (extents.old ≡ extents_of (rules_of self.now) width laid.old.text) }
-        requires room { length laid.old.text ≤ room.old }
+        requires room { length laid.old.text ≤ room.old.len }
         ensures laid { laid.new ≡ reflowed (rules_of self.now) laid.old extents.old }
         ensures laid_out { IsLaidOut (rules_of self.now) laid.new }
         ensures extents { extents.new ≡ extents_in laid.old.lines }
-        ensures room { room.new ≡ room.old }
+        ensures room { room.new ≡ record room.old {
+            written = counted room.old.written (length laid.old.text) } }
+        ensures least { room.old.written ≤ room.new.written }
     {
         laid.reflow(&self.tables, self.options, extents, room);
+    }
+
+    /// Takes room back, and counts the characters whose lines were written in it. There is no other way to
+    /// let go of it.
+    pub fn take_back(&mut self, room: Room)
+        ensures counts { Rewrites room.written self.old self.new }
+        ensures at_most { RewritesAtMost room.written self.old self.new }
+        ensures rules { SameRules self.old self.new }
+    {
+        self.written = self.written.saturating_add(room.end());
     }
 
     // Writes the lines of a paragraph.
@@ -253,7 +286,7 @@ impl Engine {
         print: &Print,
         writer: &mut W,
     ) -> Result<(), PrintFault>
-        requires { length text.now ≤ 1048576 }
+        requires { length text.now ≤ PARAGRAPH_LIMIT }
         ensures ok { OnOk result (Wrote (paragraph_bytes (rules_of self.old) width print.now text.now)
             (W.state writer.old) (W.state writer.new)) }
         ensures err { IfErr result (λ fault.
@@ -293,7 +326,7 @@ impl Engine {
 
     // What a paragraph's layout consists of beside its text.
     fn parts(&mut self, alloc: Global, text: &[char], width: u16) -> Result<Parts, AllocError>
-        requires { length text.now ≤ 1048576 }
+        requires { length text.now ≤ PARAGRAPH_LIMIT }
         ensures base { IfOk result (λ parts.
             parts.base ≡ (layout_of (rules_of self.old) width text.now).base) }
         ensures levels { IfOk result (λ parts.
@@ -327,7 +360,7 @@ impl Engine {
     ) -> Result<Extents, AllocError>
         requires marks { marks.now ≡ marks_of (rules_of self.old).tables
             (rules_of self.old).options.whole_numbers text.now }
-        requires within { length text.now ≤ 1048576 }
+        requires within { length text.now ≤ PARAGRAPH_LIMIT }
         ensures extents { IfOk result (λ extents. extents
             ≡ extents_of (rules_of self.old) width text.now) }
         ensures same { self.new ≡ self.old }
@@ -352,7 +385,7 @@ impl Engine {
         requires len { length levels.now ≡ length text.now }
         requires marks { marks.now ≡ marks_of (rules_of self.old).tables
             (rules_of self.old).options.whole_numbers text.now }
-        requires within { length text.now ≤ 1048576 }
+        requires within { length text.now ≤ PARAGRAPH_LIMIT }
         ensures lines { IfOk result (λ fill. fill ≡ fill_of (rules_of self.old) width text.now) }
         ensures within { IfOk result (λ fill. AreWithin (length text.now) fill.lines) }
         ensures same { self.new ≡ self.old }

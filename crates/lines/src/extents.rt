@@ -1,6 +1,6 @@
 //! What there is to find of the lines of a paragraph at a width before they are written, and the room in
 //! which they can be written without memory.
-ghost use Rattle.std.specs.Prelude.{◌≡◌, length, map, IfOk};
+ghost use Rattle.std.specs.Prelude.{◌≡◌, ◌≤◌, length, map, IfOk};
 ghost use Rattle.ucd.specs.Properties.{properties_of};
 
 use crate::visual::Shown;
@@ -24,29 +24,55 @@ impl Model for Extents {
     ghost view = { λ e. record { starts = e.starts.items; shown = e.shown.items } };
 }
 
-/// Room for what the tables say of each character of a paragraph.
-#[derive(Debug, Drop)]
+/// Room for what the tables say of each character of a paragraph. It counts the characters whose lines are
+/// written in it, so it is no `Drop`: it goes back to an engine.
+#[derive(Debug)]
 pub struct Room {
     pub(crate) properties: Vec<Properties>,
+    written: u64,
 }
 
 impl Model for Room {
-    ghost use Rattle.std.specs.Prelude.{ℕ, length};
+    ghost use Rattle.std.specs.Prelude.{length};
+    ghost use Rattle.lines.specs.Extents.{Space};
 
-    ghost Value = { ℕ };
+    ghost Value = { Space };
 
-    // For how many characters.
-    ghost view = { λ r. length r.properties.items };
+    ghost view = { λ r. record { len = length r.properties.items; written = r.written } };
 }
 
 impl Room {
+    ghost use Rattle.lines.specs.Engine.{counted};
+
     /// Room for so many characters.
     pub(crate) fn new(alloc: Global, tables: &Tables, len: usize) -> Result<Room, AllocError>
-        ensures { IfOk result (λ room. room ≡ len) }
+        ensures { IfOk result (λ room. room ≡ record { len = len; written = 0 }) }
     {
         let mut properties = Vec::new(alloc);
         properties.resize(len, tables.properties('\0'))?;
-        Ok(Room { properties })
+        Ok(Room {
+            properties,
+            written: 0,
+        })
+    }
+
+    /// Counts so many characters more.
+    pub(crate) fn count(&mut self, len: usize)
+        ensures counts { self.new ≡ record self.old { written = counted self.old.written len } }
+        ensures least { self.old.written ≤ self.new.written }
+    {
+        self.written = self.written.saturating_add(len as u64);
+    }
+
+    /// Lets go of it, and says of how many characters the lines were written.
+    pub(crate) fn end(self) -> u64
+        ensures { result ≡ self.written }
+    {
+        let Room {
+            properties: _,
+            written,
+        } = self;
+        written
     }
 }
 

@@ -8,6 +8,7 @@ ghost use Rattle.lines.specs.Filling.{is_break, is_must, line_len, line_starts_o
 ghost use Rattle.lines.specs.Kept.{AreStarts};
 ghost use Rattle.lines.specs.Sums.{sums_behind};
 ghost use Rattle.lines.specs.declared.places.Place.{Place};
+ghost use Rattle.lines.specs.declared.engine.TheConstants.{PARAGRAPH_LIMIT};
 
 use crate::clusters::mark_clusters;
 use crate::places::Place;
@@ -25,7 +26,7 @@ pub fn line_starts(
     starts: &mut Vec<u32>,
 ) -> Result<(), AllocError>
     requires len { length places.old ≡ length text.now }
-    requires within { length places.old ≤ 1048576 }
+    requires within { length places.old ≤ PARAGRAPH_LIMIT }
     ensures lines { OnOk result (starts.new.items
         ≡ line_starts_of nobreak width (with_ends places.old (cluster_ends text.now))) }
     ensures starts { OnOk result (AreStarts (length text.now) starts.new.items) }
@@ -54,7 +55,7 @@ fn line_len(
     width: u16,
     nobreak: bool,
 ) -> Result<(usize, bool), AllocError>
-    requires start { (start < length places.old) × (length places.old ≤ 1048576) }
+    requires start { (start < length places.old) × (length places.old ≤ PARAGRAPH_LIMIT) }
     requires len { length places.old ≡ length text.now }
     requires known { IsTrue is_known → places.old ≡ with_ends places.old (cluster_ends text.now) }
     ensures line { IfOk result (λ line.
@@ -75,7 +76,7 @@ fn line_len(
 
 // How many characters the first line takes, if it ends at a break: so clusters don't matter.
 fn broken_len(rest: &[Place], width: u16, nobreak: bool) -> Option<usize>
-    requires { (0 < length rest.now) × (length rest.now ≤ 1048576) }
+    requires { (0 < length rest.now) × (length rest.now ≤ PARAGRAPH_LIMIT) }
     ensures len { (known : List Place) → AreAlike rest.now known
         → IfSome result (λ len. len ≡ line_len nobreak width known) }
     ensures within { IfSome result (λ len. (0 < len) × (len ≤ length rest.now)) }
@@ -141,7 +142,7 @@ fn first_end(rest: &[Place]) -> usize
 
 // The last character of the first line.
 fn line_end(rest: &[Place], width: u16) -> usize
-    requires { (0 < length rest.now) × (length rest.now ≤ 1048576) }
+    requires { (0 < length rest.now) × (length rest.now ≤ PARAGRAPH_LIMIT) }
     ensures end { result ≡ line_end width rest.now }
     ensures within { result < length rest.now }
 {
@@ -155,7 +156,7 @@ fn line_end(rest: &[Place], width: u16) -> usize
 // The last characters, up to the first behind which a line must end, up to which a line fits: of
 // those behind which it may end, and of those behind which a cluster ends.
 fn fitting_ends(rest: &[Place], width: u16) -> (Option<usize>, Option<usize>)
-    requires { (0 < length rest.now) × (length rest.now ≤ 1048576) }
+    requires { (0 < length rest.now) × (length rest.now ≤ PARAGRAPH_LIMIT) }
     ensures by_break { result.0 ≡ by_break width rest.now }
     ensures by_cluster { result.1 ≡ by_cluster width rest.now }
 {

@@ -56,8 +56,9 @@ impl Model for Laid {
 }
 
 impl Laid {
+    ghost use Rattle.lines.specs.Engine.{counted};
     ghost use Rattle.lines.specs.Extents.{extents_in, extents_of, reflowed};
-    ghost use Rattle.lines.specs.Layouts.{is_line_within, lines_of, start_of};
+    ghost use Rattle.lines.specs.Layouts.{is_line_within, lines_of, start_of, visuals};
     ghost use Rattle.lines.specs.Layouts.{AreLinesOf, Exchanges, IsLaidOut, Rules};
     ghost use Rattle.lines.specs.Pages.{layout_bytes};
     ghost use Rattle.lines.specs.Visual.{visual_of};
@@ -120,7 +121,9 @@ impl Laid {
 
     /// A line, counted from 0.
     pub fn line(&self, n: usize) -> Option<VisualLine<'_>>
-        ensures { result ≡ option_map (visual_of self.now.base self.now.text n) (slice_get self.now.lines n) }
+        ensures line { result
+            ≡ option_map (visual_of self.now.base self.now.text n) (slice_get self.now.lines n) }
+        ensures nth { result ≡ slice_get (visuals self.now) n }
     {
         self.lines.line(&self.text, self.base, n)
     }
@@ -173,13 +176,16 @@ impl Laid {
         requires laid { IsLaidOut (record { tables = tables.now; options = options }) self.old }
         requires extents { (width : ℕ) × (extents.old
             ≡ extents_of (record { tables = tables.now; options = options }) width self.old.text) }
-        requires room { length self.old.text ≤ room.old }
+        requires room { length self.old.text ≤ room.old.len }
         ensures laid { self.new
             ≡ reflowed (record { tables = tables.now; options = options }) self.old extents.old }
         ensures extents { extents.new ≡ extents_in self.old.lines }
-        ensures room { room.new ≡ room.old }
+        ensures room { room.new ≡ record room.old {
+            written = counted room.old.written (length self.old.text) } }
+        ensures least { room.old.written ≤ room.new.written }
     {
         let text = self.text.as_slice();
+        room.count(text.len());
         let properties = &mut room.properties[..text.len()];
         look_up(tables, text, properties);
         self.lines.reflow(

@@ -24,7 +24,7 @@ pub use bytes::WriteFault;
 pub use engine::{Engine, PARAGRAPH_LIMIT};
 pub use extents::{Extents, Room};
 pub use laid::Laid;
-pub use laws::lines_are_few;
+pub use laws::{lines_are_few, paragraphs_print_their_lines};
 pub use options::Options;
 pub use order::{groups_stand_together, maps_are_inverse, others_stay};
 pub use print::{Print, PrintFault};

@@ -10,6 +10,7 @@ ghost use Rattle.bidi.specs.Classes.{class_in};
 ghost use Rattle.lines.specs.Groups.{is_bound, AreBound, IsAlone, IsGroup, StandsTogether};
 ghost use Rattle.lines.specs.Order.{has_base, highest, is_at_least, is_mark_at, is_odd, lowest_odd, ltov_of};
 ghost use Rattle.lines.specs.Order.{order_of, reverse_runs, reverse_with_next, vtol_of, AreInverse};
+ghost use Rattle.lines.specs.declared.engine.TheConstants.{PARAGRAPH_LIMIT};
 
 use ucd::{BidiClass, Properties};
 
@@ -26,7 +27,7 @@ pub fn order(
     requires line { length levels.now ≤ length line.now }
     requires vtol { length vtol.old ≡ length levels.now }
     requires ltov { length ltov.old ≡ length levels.now }
-    requires within { length levels.now ≤ 1048576 }
+    requires within { length levels.now ≤ PARAGRAPH_LIMIT }
     ensures vtol { vtol.new ≡ vtol_of reordernsm (map class_in line.now) levels.now }
     ensures ltov { ltov.new ≡ ltov_of reordernsm (map class_in line.now) levels.now }
     ensures within { AreWithin (length levels.now) vtol.new }
@@ -59,7 +60,7 @@ pub fn others_stay()
 
 /// Writes 0, 1, and so on.
 pub fn identity(items: &mut [u32])
-    requires { length items.old ≤ 1048576 }
+    requires { length items.old ≤ PARAGRAPH_LIMIT }
     ensures { items.new ≡ range_with_len 0 (length items.old) }
 {
     for (k, item) in items.iter_mut().enumerate() {
@@ -221,7 +222,7 @@ fn run_len(levels: &[u8], level: u8, items: &[u32]) -> usize
 fn invert(vtol: &[u32], ltov: &mut [u32])
     requires places { IsPermutation (range_with_len 0 (length vtol.now)) vtol.now }
     requires len { length ltov.old ≡ length vtol.now }
-    requires within { length vtol.now ≤ 1048576 }
+    requires within { length vtol.now ≤ PARAGRAPH_LIMIT }
     ensures ltov { ltov.new
         ≡ map (λ k. position_or_len (λ i. i == k) vtol.now) (range_with_len 0 (length vtol.now)) }
     ensures inverse { AreInverse (length vtol.now) vtol.now ltov.new }

@@ -16,6 +16,7 @@ ghost use Rattle.lines.specs.Order.{is_odd, ltov_of, vtol_of};
 ghost use Rattle.lines.specs.Showing.{end_of, AreShown, IsShown};
 ghost use Rattle.lines.specs.Visual.{lines_from};
 ghost use Rattle.lines.specs.declared.places.Place.{Place};
+ghost use Rattle.lines.specs.declared.engine.TheConstants.{PARAGRAPH_LIMIT};
 
 use crate::extents::Extents;
 use crate::mirror::visual_chars;
@@ -110,7 +111,7 @@ impl Fill {
     )
         requires len { self.old.len ≡ length text.now }
         requires properties { properties.now ≡ map (properties_of tables.now) text.now }
-        requires text { length text.now ≤ 1048576 }
+        requires text { length text.now ≤ PARAGRAPH_LIMIT }
         requires levels { length levels.now ≡ length text.now }
         requires starts { AreStarts (length text.now) extents.old.starts }
         requires shown { (places : List Place)
@@ -200,7 +201,7 @@ pub(crate) fn show_lines(
     lists: &mut Lists,
 ) -> Result<(), AllocError>
     requires properties { properties.now ≡ map (properties_of tables.now) text.now }
-    requires text { (length text.now ≡ length places.now) × (length text.now ≤ 1048576) }
+    requires text { (length text.now ≡ length places.now) × (length text.now ≤ PARAGRAPH_LIMIT) }
     requires levels { length levels.now ≡ length text.now }
     requires starts { AreStarts (length text.now) lists.old.starts.items }
     ensures sound { OnOk result (AreSound lists.new) }
@@ -261,7 +262,7 @@ pub(crate) fn take_shown(
     starts: &[u32],
     shown: &mut Vec<Shown>,
 ) -> Result<(), AllocError>
-    requires len { length places.now ≤ 1048576 }
+    requires len { length places.now ≤ PARAGRAPH_LIMIT }
     requires starts { AreStarts (length places.now) starts.now }
     ensures { OnOk result (shown.new.items ≡ shown_from (length places.now) places.now starts.now) }
 {
@@ -292,7 +293,7 @@ fn show_each(
     chars: &mut [char],
 )
     requires properties { properties.now ≡ map (properties_of tables.now) text.now }
-    requires text { length text.now ≤ 1048576 }
+    requires text { length text.now ≤ PARAGRAPH_LIMIT }
     requires starts { AreStarts (length text.now) starts.now }
     requires shown { (places : List Place) × (shown.now ≡ shown_from (length text.now) places starts.now) }
     requires levels { length levels.old ≡ length text.now }
@@ -350,7 +351,7 @@ fn show_line(
     chars: &mut [char],
 )
     requires properties { properties.now ≡ map (properties_of tables.now) line.now }
-    requires line { length line.now ≤ 1048576 }
+    requires line { length line.now ≤ PARAGRAPH_LIMIT }
     requires shown { shown.len ≤ length line.now }
     requires levels { length levels.old ≡ length line.now }
     requires ltov { length ltov.old ≡ length line.now }
@@ -419,7 +420,7 @@ fn is_plain(levels: &[u8], is_flat: bool) -> bool
 
 // Writes what belongs to the shown part of a line without an odd level: it is its own order.
 fn show_plain(part: &[char], ltov: &mut [u32], vtol: &mut [u32], chars: &mut [char])
-    requires part { length part.now ≤ 1048576 }
+    requires part { length part.now ≤ PARAGRAPH_LIMIT }
     requires ltov { length ltov.old ≡ length part.now }
     requires vtol { length vtol.old ≡ length part.now }
     requires chars { length chars.old ≡ length part.now }
@@ -444,7 +445,7 @@ fn show_part(
     vtol: &mut [u32],
     chars: &mut [char],
 )
-    requires levels { (length levels.now ≡ length part.now) × (length part.now ≤ 1048576) }
+    requires levels { (length levels.now ≡ length part.now) × (length part.now ≤ PARAGRAPH_LIMIT) }
     requires line { length levels.now ≤ length line.now }
     requires properties { take (length part.now) line.now ≡ map (properties_of tables.now) part.now }
     requires flat { is_flat ≡ true → (k : ℕ) → slice_index levels.now k ≡ 0 }
@@ -467,7 +468,7 @@ fn show_part(
 
 // How much of a line is shown: all but its tail.
 fn shown_of(line: &[Place]) -> Shown
-    requires { length line.now ≤ 1048576 }
+    requires { length line.now ≤ PARAGRAPH_LIMIT }
     ensures len { result.len ≡ length (shown line.now) }
     ensures columns { result.columns ≡ columns (shown line.now) }
     ensures within { result.len ≤ length line.now }

@@ -11,6 +11,7 @@ ghost use Rattle.lines.specs.Layouts.{AreWithin, base_of, lines_of};
 ghost use Rattle.lines.specs.Lists.{held_lines, AreSound};
 ghost use Rattle.lines.specs.Places.{places_of};
 ghost use Rattle.lines.specs.Visual.{lines_from};
+ghost use Rattle.lines.specs.declared.engine.TheConstants.{PARAGRAPH_LIMIT};
 
 use crate::extents::Extents;
 use crate::filling::line_starts;
@@ -98,7 +99,7 @@ impl Work {
         width: u16,
         kept: &mut Kept,
     ) -> Result<u8, AllocError>
-        requires { length text.now ≤ 1048576 }
+        requires { length text.now ≤ PARAGRAPH_LIMIT }
         ensures base { IfOk result (λ base. base ≡ (layout_of
             (record { tables = tables.now; options = options }) width text.now).base) }
         ensures levels { OnOk result (kept.new.levels.items ≡ (layout_of
@@ -172,7 +173,7 @@ impl Work {
         width: u16,
     ) -> Result<Extents, AllocError>
         requires marks { marks.now ≡ marks_of tables.now options.whole_numbers text.now }
-        requires within { length text.now ≤ 1048576 }
+        requires within { length text.now ≤ PARAGRAPH_LIMIT }
         ensures { IfOk result (λ extents. extents
             ≡ extents_of (record { tables = tables.now; options = options }) width text.now) }
     {
@@ -200,7 +201,7 @@ impl Work {
         requires levels { levels.now ≡ levels_of tables.now text.now options.base }
         requires len { length levels.now ≡ length text.now }
         requires marks { marks.now ≡ marks_of tables.now options.whole_numbers text.now }
-        requires within { length text.now ≤ 1048576 }
+        requires within { length text.now ≤ PARAGRAPH_LIMIT }
         ensures lines { IfOk result (λ fill. fill
             ≡ fill_of (record { tables = tables.now; options = options }) width text.now) }
         ensures within { IfOk result (λ fill. AreWithin (length text.now) fill.lines) }
@@ -242,7 +243,7 @@ fn extents_of_places(
     nobreak: bool,
 ) -> Result<Extents, AllocError>
     requires len { length places.old ≡ length text.now }
-    requires within { length text.now ≤ 1048576 }
+    requires within { length text.now ≤ PARAGRAPH_LIMIT }
     ensures starts { IfOk result (λ extents. extents.starts
         ≡ line_starts_of nobreak width (with_ends places.old (cluster_ends text.now))) }
     ensures shown { IfOk result (λ extents. extents.shown
@@ -275,7 +276,7 @@ fn put_lines(
     requires levels { levels.now ≡ levels_of tables.now text.now options.base }
     requires len { length levels.now ≡ length text.now }
     requires marks { marks.now ≡ marks_of tables.now options.whole_numbers text.now }
-    requires within { length text.now ≤ 1048576 }
+    requires within { length text.now ≤ PARAGRAPH_LIMIT }
     ensures lines { OnOk result (held_lines lists.new
         ≡ lines_of (record { tables = tables.now; options = options }) width text.now) }
     ensures sound { OnOk result (AreSound lists.new) }
@@ -306,7 +307,7 @@ fn put_lines_of_places(
     requires places { with_ends places.old (cluster_ends text.now)
         ≡ places_of tables.now options.whole_numbers text.now }
     requires len { (length places.old ≡ length text.now) × (length levels.now ≡ length text.now) }
-    requires within { length text.now ≤ 1048576 }
+    requires within { length text.now ≤ PARAGRAPH_LIMIT }
     ensures lines { OnOk result (held_lines lists.new ≡ lines_from tables.now options base text.now
         levels.now (places_of tables.now options.whole_numbers text.now)
         (line_starts_of options.nobreak width (places_of tables.now options.whole_numbers text.now))) }

@@ -82,7 +82,7 @@ IsWholeLayout-same old new width kept same whole = record {
 
 -- a refusal, with the engine as it was
 pub LaysOutAtMost-none : (n : ℕ) (engine : Engine) → LaysOutAtMost n engine engine
-LaysOutAtMost-none n engine = record { analysed = record { least = omega arith; most = omega arith }; filled = record { least = omega arith; most = omega arith } }
+LaysOutAtMost-none n engine = record { analysed = record { least = omega arith; most = omega arith }; filled = record { least = omega arith; most = omega arith }; written = record { least = omega arith; most = omega arith } }
 
 pub EditsNot-unchanged : (change : Change) (state : State) (fault : EditFault) → IsWholeLayout state → IsAnswerFor (refusal (cuts_at state) (text_at state) change) fault
     → IsCountedFor fault (LaysOutAtMost (fresh (pars_of state.kept) change)) state.engine state.engine → EditsNot change state state fault

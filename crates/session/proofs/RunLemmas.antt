@@ -4,7 +4,7 @@ use Rattle.std.specs.Result.{IfOk, IfErr, result_eq}
 use Rattle.std.proofs.lemmas.Bool.{cond-true, cond-false, both_ways}
 use Rattle.std.proofs.lemmas.List.{take_more}
 use Rattle.bidi.specs.Cuts.{paragraphs}
-use Rattle.lines.specs.Engine.{SameRules, LaysOutAtMost, FillsAtMost, RisesBy, analysed_of, filled_of, rules_of}
+use Rattle.lines.specs.Engine.{SameRules, LaysOutAtMost, FillsAtMost, RisesBy, analysed_of, filled_of, written_of, rules_of}
 use Rattle.lines.specs.Layouts.{cut_by}
 use Rattle.lines.specs.declared.engine.Engine.{Engine}
 use Rattle.session.specs.Runs.{StopsAt, WorksAtMost, analysed_by, edit_refusal, filled_by, work_of, work_of_all}
@@ -91,6 +91,7 @@ stays reason bound old new (Err NoMemory) r e = record { moved = has_stayed reas
 pub record Works (reason : Option EditFault) (n m : ℕ) (old new : Engine) : Type 0 where
   pub analysed : RisesBy (if is_none reason then n else 0) (analysed_of old) (analysed_of new)
   pub filled : RisesBy (if is_none reason then m else 0) (filled_of old) (filled_of new)
+  pub written : RisesBy (if is_none reason then m else 0) (written_of old) (written_of new)
 
 RisesBy-same : (n old new : ℕ) → new ≡ old → RisesBy n old new
 RisesBy-same n old new e = record { least = omega (arith, e); most = omega (arith, e) }
@@ -102,18 +103,21 @@ works-none : (reason : Option EditFault) (n m : ℕ) (old new : Engine) → new 
 works-none reason n m old new e = record {
   analysed = RisesBy-same _ (analysed_of old) (analysed_of new) (ap analysed_of e);
   filled = RisesBy-same _ (filled_of old) (filled_of new) (ap filled_of e);
+  written = RisesBy-same _ (written_of old) (written_of new) (ap written_of e);
 }
 
 works-laid_out : (reason : Option EditFault) (n : ℕ) (old new : Engine) → reason ≡ None → LaysOutAtMost n old new → Works reason n n old new
 works-laid_out reason n old new e counts = record {
   analysed = RisesBy-accepted reason n (analysed_of old) (analysed_of new) e counts.analysed;
   filled = RisesBy-accepted reason n (filled_of old) (filled_of new) e counts.filled;
+  written = RisesBy-accepted reason n (written_of old) (written_of new) e counts.written;
 }
 
 works-filled : (reason : Option EditFault) (n : ℕ) (old new : Engine) → reason ≡ None → FillsAtMost n old new → Works reason 0 n old new
 works-filled reason n old new e counts = record {
   analysed = RisesBy-same _ (analysed_of old) (analysed_of new) counts.analysed;
   filled = RisesBy-accepted reason n (filled_of old) (filled_of new) e counts.filled;
+  written = RisesBy-accepted reason n (written_of old) (written_of new) e counts.written;
 }
 
 works-counted : (reason : Option EditFault) (n m : ℕ) (bound : Engine → Engine → Type 0) (old new : Engine) (fault : EditFault)
@@ -181,6 +185,7 @@ pub whole_works : (start : State) (edits : List Edit) (n : ℕ) (old new : Engin
 whole_works start edits n old new w = record {
   analysed = RisesBy-within _ _ _ _ (work_of-take (cuts_at start) (analysed_by (cuts_at start)) (held_at start) edits n) w.analysed;
   filled = RisesBy-within _ _ _ _ (work_of-take (cuts_at start) (filled_by (cuts_at start)) (held_at start) edits n) w.filled;
+  written = RisesBy-within _ _ _ _ (work_of-take (cuts_at start) (filled_by (cuts_at start)) (held_at start) edits n) w.written;
 }
 
 pub next_works : (start old new : State) (edits : List Edit) (n : ℕ) (d edit : Edit) → n < length edits → get_or edits n d ≡ edit → HasRun start edits n old
@@ -197,12 +202,15 @@ next_works start old new edits n d edit within read run works =
     record {
       analysed = RisesBy-more _ _ _ _ _ _ run.works.analysed works.analysed (sum_is analysed_by);
       filled = RisesBy-more _ _ _ _ _ _ run.works.filled works.filled (sum_is filled_by);
+      written = RisesBy-more _ _ _ _ _ _ run.works.written works.written (sum_is filled_by);
     }
 
 -- the change at which a run ended
 pub HasRun-stops : (start old new : State) (edits : List Edit) (n : ℕ) (d edit : Edit) → n < length edits → get_or edits n d ≡ edit → HasRun start edits n old
-    → HasStayed (edit_refusal (cuts_at old) (held_at old) edit) old new → StopsAt (cuts_at start) (held_at start) edits (held_at new)
-HasRun-stops start old new edits n d edit within read run stayed =
+    → HasStayed (edit_refusal (cuts_at old) (held_at old) edit) old new
+    → Works (edit_refusal (cuts_at old) (held_at old) edit) (analysed_by (cuts_at old) (held_at old) edit) (filled_by (cuts_at old) (held_at old) edit) old.engine new.engine
+    → StopsAt (cuts_at start) (held_at start) edits (held_at new) start.engine new.engine
+HasRun-stops start old new edits n d edit within read run stayed works =
     let front = take n edits in
     let more : take (n + 1) edits ≡ front ++ edit ∷ [] = take_more edits n d within ∙ ap (λ e. front ++ e ∷ []) read in
     record {
@@ -212,6 +220,7 @@ HasRun-stops start old new edits n d edit within read run stayed =
       place = sym (take-append-drop (n + 1) edits) ∙ ap (λ xs. xs ++ drop (n + 1) edits) more ∙ append_assoc front (edit ∷ []) (drop (n + 1) edits);
       held = stayed.moved.held ∙ run.held;
       accepted = ap (λ held. edit_refusal (cuts_at start) held edit) stayed.moved.held ∙ ap (λ r. edit_refusal (cut_by r) (held_at old) edit) (sym run.rules) ∙ stayed.accepted;
+      works = subst (λ done. WorksAtMost (cuts_at start) (held_at start) done start.engine new.engine) more (next_works start old new edits n d edit within read run works);
     }
 
 pub HasRun-next : (start old new : State) (edits : List Edit) (n : ℕ) (d edit : Edit) → n < length edits → get_or edits n d ≡ edit → HasRun start edits n old
@@ -231,11 +240,6 @@ HasRun-next start old new edits n d edit within read run step works =
       rules = step.rules ∙ run.rules;
       works = next_works start old new edits n d edit within read run works;
     }
-
--- what is held there is what was held before it
-pub HasRun-held : (start old new : State) (edits : List Edit) (n : ℕ) (reason : Option EditFault) → HasRun start edits n old → HasStayed reason old new
-    → held_at new ≡ after_all (cuts_at start) (held_at start) (take n edits)
-HasRun-held start old new edits n reason run stayed = stayed.moved.held ∙ run.held
 
 pub HasRun-rules : (start old new : State) (edits : List Edit) (n : ℕ) (reason : Option EditFault) → HasRun start edits n old → HasStayed reason old new → SameRules start.engine new.engine
 HasRun-rules start old new edits n reason run stayed = stayed.moved.rules ∙ run.rules

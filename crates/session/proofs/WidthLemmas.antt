@@ -4,14 +4,14 @@ use Rattle.std.specs.Borrow.{Bor}
 use Rattle.std.specs.List.{All, AllZip, slice_get, slice_index_or}
 use Rattle.std.proofs.lemmas.Bool.{and_parts, leb-true, cond-false, ne_eqb}
 use Rattle.std.proofs.lemmas.List.{append-nil, get_or-map, length-map, take_all, take_more}
-use Rattle.std.proofs.lemmas.List.Sums.{sum_by_more, sum_by-take-le}
+use Rattle.std.proofs.lemmas.List.Sums.{sum_by_more, sum_by-cons, sum_by-take-le}
 use Rattle.bidi.specs.Cuts.{paragraphs}
 use Rattle.bidi.specs.Pieces.{ArePieces, ParagraphsArePieces}
-use Rattle.lines.specs.Engine.{rules_of, analysed_of, filled_of, SameRules, FillsAtMost}
+use Rattle.lines.specs.Engine.{rules_of, analysed_of, filled_of, written_of, SameRules, FillsAtMost, FindsExtentsAtMost, RewritesAtMost}
 use Rattle.lines.specs.Extents.{extents_of, reflowed, Spans}
 use Rattle.lines.specs.Layouts.{Layout, Rules, IsLaidOut, IsParagraph, cut_by, layout_of, lines_of}
 use Rattle.lines.specs.declared.engine.Engine.{Engine}
-use Rattle.store.specs.Exchanging.{pairwise}
+use Rattle.store.specs.Exchanging.{pairwise, total_cost}
 use Rattle.session.specs.Sessions.{IsWholeLayout, Refills, RefillsNot}
 use Rattle.session.specs.Changes.{are_within, paragraph_limit, text_refusal, width_refusal}
 use Rattle.session.specs.Kept.{text_of, layouts_of, put_into, BringsTo, CanBePut, Writer}
@@ -120,21 +120,23 @@ pub record AreFilled (start : Engine) (width : ℕ) (kept : List Layout) (n : �
   pub analysed : analysed_of now ≡ analysed_of start
   pub least : filled_of start ≤ filled_of now
   pub most : filled_of now ≤ filled_of start + sum_by chars_of (take n kept)
+  pub written : written_of now ≡ written_of start
 
 pub none_filled : (start : Engine) (width : ℕ) (kept : List Layout) (fills : List (Option Spans)) → fills ≡ [] → AreFilled start width kept 0 fills start
-none_filled start width kept fills e = rw e (record { made = tt; rules = refl; analysed = refl; least = omega arith; most = omega arith })
+none_filled start width kept fills e = rw e (record { made = tt; rules = refl; analysed = refl; least = omega arith; most = omega arith; written = refl })
 
 module _ (start now : Engine) (width : ℕ) (kept : List Layout) (n : ℕ) (fills : List (Option Spans)) (so_far : AreFilled start width kept n fills now) where
-  pub FillsAtMost-so_far : FillsAtMost (length (text_of kept)) start now
-  FillsAtMost-so_far = record {
+  pub FindsExtentsAtMost-so_far : FindsExtentsAtMost (length (text_of kept)) start now
+  FindsExtentsAtMost-so_far = record {
     analysed = so_far.analysed;
     filled = record { least = so_far.least; most = omega (arith, so_far.most, sum_by-take-le chars_of kept n, length-text kept) };
+    written = so_far.written;
   }
 
   pub all_filled : length kept ≤ n → AllZip (BringsTo (rules_of start) width) kept fills
   all_filled last = subst (λ ks. AllZip (BringsTo (rules_of start) width) ks fills) (take_all n kept last) so_far.made
 
-  module _ (l : Layout) (here : n < length kept) (item : get_or kept n l ≡ l) (next : Engine) (same : SameRules now next) (counts : FillsAtMost (length l.text) now next) where
+  module _ (l : Layout) (here : n < length kept) (item : get_or kept n l ≡ l) (next : Engine) (same : SameRules now next) (counts : FindsExtentsAtMost (length l.text) now next) where
     size : sum_by chars_of (take (n + 1) kept) ≡ sum_by chars_of (take n kept) + length l.text
     size = sum_by_more chars_of kept n l here ∙ ap (λ x. sum_by chars_of (take n kept) + chars_of x) item
 
@@ -142,10 +144,11 @@ module _ (start now : Engine) (width : ℕ) (kept : List Layout) (n : ℕ) (fill
     upto = omega (arith, size, sum_by-take-le chars_of kept (n + 1), length-text kept)
 
     -- where memory runs out behind the next one
-    pub FillsAtMost-next : FillsAtMost (length (text_of kept)) start next
-    FillsAtMost-next = record {
+    pub FindsExtentsAtMost-next : FindsExtentsAtMost (length (text_of kept)) start next
+    FindsExtentsAtMost-next = record {
       analysed = counts.analysed ∙ so_far.analysed;
       filled = record { least = omega (arith, so_far.least, counts.filled.least); most = omega (arith, so_far.most, counts.filled.most, upto) };
+      written = counts.written ∙ so_far.written;
     }
 
     pub AreFilled-next : (part : Option Spans) (more : List (Option Spans)) → BringsTo (rules_of now) width l part → more ≡ fills ++ part ∷ [] → AreFilled start width kept (n + 1) more next
@@ -156,6 +159,7 @@ module _ (start now : Engine) (width : ℕ) (kept : List Layout) (n : ℕ) (fill
       analysed = counts.analysed ∙ so_far.analysed;
       least = omega (arith, so_far.least, counts.filled.least);
       most = omega (arith, so_far.most, counts.filled.most, size);
+      written = counts.written ∙ so_far.written;
     }
 
 -- what an exchange asks, and what it makes
@@ -184,6 +188,25 @@ pub all_fit : (rules same : Rules) (width room : ℕ) (kept : List Layout) (part
 all_fit rules same width room kept parts e laid has made =
     subst (λ (r : Rules). fits_any (record { rules = r; room = room }) kept parts) (sym e)
     (each_fit rules width room kept parts laid (each_all (HasRoom room) kept has) made)
+
+-- what it costs to write all lines
+cost_of_each : (kept : List Layout) (parts : List (Option Spans)) → total_cost {P = Layout} {Part = Option Spans} (λ l part. length l.text) kept parts ≤ sum_by chars_of kept
+cost_of_each [] parts = omega arith
+cost_of_each (l ∷ kept) [] = omega arith
+cost_of_each (l ∷ kept) (part ∷ parts) =
+    omega (arith, cost_of_each kept parts, sum_by-cons chars_of l kept,
+    sum_by-cons (λ (n : ℕ). n) (length l.text) (pairwise {P = Layout} {Part = Option Spans} {A = ℕ} (λ m part. length m.text) kept parts))
+
+pub cost_of_all : (kept : List Layout) (parts : List (Option Spans)) → total_cost {P = Layout} {Part = Option Spans} (λ l part. length l.text) kept parts ≤ length (text_of kept)
+cost_of_all kept parts = omega (arith, cost_of_each kept parts, length-text kept)
+
+-- the extents were found, and then the lines written
+pub FillsAtMost-written : (n m : ℕ) (old found new : Engine) → FindsExtentsAtMost n old found → m ≤ n → RewritesAtMost m found new → FillsAtMost n old new
+FillsAtMost-written n m old found new finds within writes = record {
+  analysed = writes.analysed ∙ finds.analysed;
+  filled = record { least = omega (arith, finds.filled.least, writes.filled); most = omega (arith, finds.filled.most, writes.filled) };
+  written = record { least = omega (arith, finds.written, writes.written.least); most = omega (arith, finds.written, writes.written.most, within) };
+}
 
 abbrev pub refilled_one : Rules → ℕ → Layout → Layout
 refilled_one rules width l = record l { lines = lines_of rules width l.text }

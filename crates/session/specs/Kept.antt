@@ -28,6 +28,11 @@ pub record Writer : Type 0 where
   pub rules : Rules
   pub room : ℕ
 
+-- and of how many characters they were written
+pub record Writing : Type 0 where
+  pub by : Writer
+  pub written : ℕ
+
 -- A layout with its lines written anew by their extents, where there are some, and the extents that come out then. Its characters stay.
 abbrev pub put_into : Writer → Layout → Option Spans → Layout
 put_into writer kept None = kept

@@ -2,7 +2,7 @@
 use Rattle.std.specs.Prelude.{◌≡◌, ℕ, ◌+◌, Bool, List, [], ◌∷◌, ◌++◌, length, Option, None, is_none, if◌then◌else◌}
 use Rattle.std.specs.Str.{chars}
 use Rattle.bidi.specs.Cuts.{paragraphs}
-use Rattle.lines.specs.Engine.{analysed_of, filled_of, RisesBy}
+use Rattle.lines.specs.Engine.{analysed_of, filled_of, written_of, RisesBy}
 use Rattle.lines.specs.declared.engine.Engine.{Engine}
 use Rattle.session.specs.Changes.{Held, after_all, after_one, deletion, insertion, refusal, width_refusal}
 use Rattle.session.specs.Touched.{fresh}
@@ -17,16 +17,7 @@ module _ (is_cut : ℕ → ℕ → Bool) where
   edit_refusal held (Delete pos count) = refusal is_cut held.text (deletion pos count)
   edit_refusal held (SetWidth width) = width_refusal width
 
-  -- all changes in front of one were made or refused, and there is no reason to refuse that one
-  pub record StopsAt (start : Held) (edits : List Edit) (now : Held) : Type 0 where
-    pub front : List Edit
-    pub edit : Edit
-    pub behind : List Edit
-    pub place : edits ≡ front ++ edit ∷ behind
-    pub held : now ≡ after_all is_cut start front
-    pub accepted : edit_refusal now edit ≡ None
-
-  -- how many characters a change that isn't refused analyses at most, and how many it fills
+  -- how many characters a change that isn't refused analyses at most, and how many it fills into lines and writes
   abbrev pub analysed_by : Held → Edit → ℕ
   analysed_by held (Insert pos text) = fresh (paragraphs is_cut held.text) (insertion pos (chars text.now))
   analysed_by held (Delete pos count) = fresh (paragraphs is_cut held.text) (deletion pos count)
@@ -49,3 +40,14 @@ module _ (is_cut : ℕ → ℕ → Bool) where
   pub record WorksAtMost (start : Held) (edits : List Edit) (old new : Engine) : Type 0 where
     pub analysed : RisesBy (work_of_all analysed_by start edits) (analysed_of old) (analysed_of new)
     pub filled : RisesBy (work_of_all filled_by start edits) (filled_of old) (filled_of new)
+    pub written : RisesBy (work_of_all filled_by start edits) (written_of old) (written_of new)
+
+  -- All changes in front of one were made or refused, and there is no reason to refuse that one. It may have worked too.
+  pub record StopsAt (start : Held) (edits : List Edit) (now : Held) (old new : Engine) : Type 0 where
+    pub front : List Edit
+    pub edit : Edit
+    pub behind : List Edit
+    pub place : edits ≡ front ++ edit ∷ behind
+    pub held : now ≡ after_all is_cut start front
+    pub accepted : edit_refusal now edit ≡ None
+    pub works : WorksAtMost start (front ++ edit ∷ []) old new

@@ -1,6 +1,6 @@
 //! A paragraph as a session keeps it in a store.
 ghost use Rattle.std.specs.Prelude.{◌≡◌, ◌≤◌, ℕ, length, IfOk};
-ghost use Rattle.lines.specs.Engine.{rules_of};
+ghost use Rattle.lines.specs.Engine.{counted, rules_of};
 ghost use Rattle.lines.specs.Extents.{extents_in, extents_of, reflowed};
 ghost use Rattle.lines.specs.Layouts.{IsLaidOut};
 
@@ -64,10 +64,12 @@ impl Kept {
         requires laid { IsLaidOut (rules_of engine.now) self.old }
         requires extents { (width : ℕ)
             × (extents.old ≡ extents_of (rules_of engine.now) width self.old.text) }
-        requires room { length self.old.text ≤ room.old }
+        requires room { length self.old.text ≤ room.old.len }
         ensures kept { self.new ≡ reflowed (rules_of engine.now) self.old extents.old }
         ensures extents { extents.new ≡ extents_in self.old.lines }
-        ensures room { room.new ≡ room.old }
+        ensures room { room.new ≡ record room.old {
+            written = counted room.old.written (length self.old.text) } }
+        ensures least { room.old.written ≤ room.new.written }
     {
         engine.reflow(&mut self.laid, extents, room);
         self.lines = self.laid.line_count();
@@ -92,30 +94,31 @@ impl Measured for Kept {
 /// options. The part of a paragraph is the extents of its lines, or none where it keeps its own.
 pub struct Reflow<'a> {
     pub engine: &'a Engine,
-    /// For the longest of the paragraphs.
+    /// For the longest of the paragraphs. It counts the characters whose lines are written.
     pub room: Room,
-}
-
-impl<'a> Drop for Reflow<'a> {
-    fn drop(self) {
-        let Reflow { engine: _, room: _ } = self;
-    }
 }
 
 impl<'a> Model for Reflow<'a> {
     ghost use Rattle.lines.specs.Engine.{rules_of};
-    ghost use Rattle.session.specs.Kept.{Writer};
+    ghost use Rattle.session.specs.Kept.{Writing};
 
-    ghost Value = { Writer };
+    ghost Value = { Writing };
 
-    ghost view = { λ r. record { rules = rules_of r.engine.now; room = r.room } };
+    ghost view = { λ r. record {
+      by = record { rules = rules_of r.engine.now; room = r.room.len };
+      written = r.room.written;
+    } };
 }
 
 impl<'a> Exchanger<Kept> for Reflow<'a> {
     type Part = Option<Extents>;
 
     ghost use Rattle.std.specs.Prelude.{IfSome};
-    ghost use Rattle.session.specs.Kept.{chars_stay, put_into, taken_from, CanBePut};
+    ghost use Rattle.session.specs.Kept.{chars_stay, put_into, taken_from, CanBePut, Writer};
+
+    ghost Kind = { Writer };
+
+    ghost kind = { λ reflow. reflow.by };
 
     // Extents of this paragraph, for which there is room.
     ghost fits = { λ by kept part. IfSome part (CanBePut by kept) };
@@ -123,6 +126,11 @@ impl<'a> Exchanger<Kept> for Reflow<'a> {
     ghost exchanged = { put_into };
 
     ghost handed_out = { λ _. taken_from };
+
+    ghost worked = { λ reflow. reflow.written };
+
+    // The characters of the paragraph, at most.
+    ghost cost = { λ kept _. length kept.text };
 
     ghost keeps_chars = { λ by kept part _. chars_stay by kept part };
 

@@ -1,10 +1,10 @@
 //! A session that keeps the layout of a text under inserts, deletes and width changes, over any store of
 //! paragraphs.
-ghost use Rattle.std.specs.Prelude.{◌≡◌, ◌≤◌, ℕ, length, take, option_map, slice_get};
+ghost use Rattle.std.specs.Prelude.{◌≡◌, ◌≤◌, length, option_map, slice_get};
 ghost use Rattle.std.specs.Prelude.{IfOk, IfErr, OnOk, OnErr};
 ghost use Rattle.std.specs.Str.{chars};
 ghost use Rattle.device.specs.Device.{StoppedAt, Wrote};
-ghost use Rattle.lines.specs.Engine.{analysed_of, filled_of, SameRules};
+ghost use Rattle.lines.specs.Engine.{analysed_of, filled_of, written_of, SameRules};
 ghost use Rattle.lines.specs.Writing.{PassedOn, StoppedIn};
 ghost use Rattle.session.specs.Changes.{after_all, changing, deletion, insertion};
 ghost use Rattle.session.specs.Kept.{lines_in};
@@ -175,6 +175,13 @@ impl<S: ParagraphStore<Kept>> Session<S> {
         self.engine.filled()
     }
 
+    /// Of how many characters the lines were written, up to the greatest `u64`, at which the count stays.
+    pub fn written(&self) -> u64
+        ensures { result ≡ written_of self.now.engine }
+    {
+        self.engine.written()
+    }
+
     /// Puts a text in front of the character at `pos`, or at the end.
     pub fn insert(&mut self, pos: usize, text: &str) -> Result<Damage, EditFault>
         ensures ok { IfOk result (Edits (insertion pos (chars text.now)) self.old self.new) }
@@ -235,14 +242,13 @@ impl<S: ParagraphStore<Kept>> Session<S> {
     }
 
     /// Makes changes one after another. Those that are refused change nothing. It ends at the first that is
-    /// not refused and for which there is no memory. The counts rise by at most what each may raise them.
+    /// not refused and for which there is no memory. The counts rise by at most what each may raise them, up
+    /// to that one.
     pub fn run(&mut self, edits: &[Edit<'_>]) -> Result<(), AllocError>
         ensures ok { OnOk result (held_at self.new
             ≡ after_all (cuts_at self.old) (held_at self.old) edits.now) }
-        ensures err { OnErr result ((k : ℕ) × (held_at self.new
-            ≡ after_all (cuts_at self.old) (held_at self.old) (take k edits.now))) }
-        ensures stops { OnErr result
-            (StopsAt (cuts_at self.old) (held_at self.old) edits.now (held_at self.new)) }
+        ensures err { OnErr result (StopsAt (cuts_at self.old) (held_at self.old) edits.now
+            (held_at self.new) self.old.engine self.new.engine) }
         ensures counts { WorksAtMost (cuts_at self.old) (held_at self.old) edits.now
             self.old.engine self.new.engine }
         ensures laid_out { IsWholeLayout self.new }

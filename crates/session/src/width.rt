@@ -1,11 +1,13 @@
 //! A change of the width: of all lines that change it is known where they start and how much of each is
 //! shown, before the first of them is written over those at the old width.
-ghost use Rattle.std.specs.Prelude.{◌≡◌, ◌<◌, ◌≤◌, ℕ, is_none, length, map, IfOk, IfErr};
+ghost use Rattle.std.specs.Prelude.{◌≡◌, ◌^◌, ◌<◌, ◌≤◌, ℕ, is_none, length, map, sum_by};
+ghost use Rattle.std.specs.Prelude.{IfOk, IfErr, IfSome};
 ghost use Rattle.std.specs.List.{All, AllZip};
-ghost use Rattle.lines.specs.Engine.{rules_of, FillsAtMost, SameRules};
+ghost use Rattle.lines.specs.Engine.{rules_of, FindsExtentsAtMost, RewritesAtMost, SameRules};
 ghost use Rattle.lines.specs.Layouts.{is_line_within, IsLaidOut};
 ghost use Rattle.session.specs.Sessions.{IsWholeLayout, Refills, RefillsNot};
-ghost use Rattle.session.specs.Kept.{text_of, BringsTo};
+ghost use Rattle.session.specs.Kept.{put_into, text_of, BringsTo, CanBePut};
+ghost use Rattle.store.specs.Exchanging.{pairwise, total_cost};
 
 use crate::edits::{Damage, EditFault};
 use crate::kept::{Kept, Reflow};
@@ -26,7 +28,7 @@ fn find_one(
     ensures ok { IfOk result (BringsTo (rules_of engine.old) width laid.now) }
     ensures kept { IfOk result (λ part. is_none part ≡ is_line_within width laid.now.lines) }
     ensures rules { SameRules engine.old engine.new }
-    ensures counts { FillsAtMost (length laid.now.text) engine.old engine.new }
+    ensures counts { FindsExtentsAtMost (length laid.now.text) engine.old engine.new }
 {
     if laid.keeps_lines(width) {
         return Ok(None);
@@ -46,7 +48,8 @@ fn find_each(
     ensures ok { IfOk result (λ parts.
         AllZip (BringsTo (rules_of engine.old) width) (map (λ kept. kept.now) list.now) parts.items) }
     ensures rules { SameRules engine.old engine.new }
-    ensures counts { FillsAtMost (length (text_of (map (λ kept. kept.now) list.now))) engine.old engine.new }
+    ensures counts { FindsExtentsAtMost (length (text_of (map (λ kept. kept.now) list.now)))
+        engine.old engine.new }
 {
     let mut parts = Vec::with_capacity(alloc, list.len())?;
     for kept in list {
@@ -78,16 +81,46 @@ fn find_all<S: ParagraphStore<Kept>>(
     requires width { 0 < width }
     ensures ok { IfOk result (λ found.
         AllZip (BringsTo (rules_of engine.old) width) (S.items store.now) found.0.items) }
-    ensures room { IfOk result (λ found. All (λ kept. length kept.text ≤ found.1) (S.items store.now)) }
+    ensures room { IfOk result (λ found.
+        All (λ kept. length kept.text ≤ found.1.len) (S.items store.now)) }
+    ensures unwritten { IfOk result (λ found. found.1.written ≡ 0) }
     ensures rules { SameRules engine.old engine.new }
-    ensures counts { FillsAtMost (length (text_of (S.items store.now))) engine.old engine.new }
+    ensures counts { FindsExtentsAtMost (length (text_of (S.items store.now))) engine.old engine.new }
 {
     // The law by which each paragraph is one.
     paragraphs_are_pieces();
     let list = store.list(alloc)?;
-    let room = engine.room(alloc, longest(&list))?;
     let parts = find_each(alloc, engine, &list, width)?;
+    let room = engine.room(alloc, longest(&list))?;
     Ok((parts, room))
+}
+
+// Writes the lines of all paragraphs of a store that change over those that they have, by their extents.
+fn reflow_all<S: ParagraphStore<Kept>>(
+    engine: &mut Engine,
+    store: &mut S,
+    parts: &mut Vec<Option<Extents>>,
+    room: Room,
+)
+    requires fit { AllZip (λ kept part. IfSome part
+        (CanBePut (record { rules = rules_of engine.old; room = room.len }) kept))
+        (S.items store.old) parts.old.items }
+    requires lines_fit { sum_by (λ kept. length kept.lines) (pairwise
+        (put_into (record { rules = rules_of engine.old; room = room.len }))
+        (S.items store.old) parts.old.items) < 2 ^ 64 }
+    requires unwritten { room.written ≡ 0 }
+    ensures items { S.items store.new ≡ pairwise
+        (put_into (record { rules = rules_of engine.old; room = room.len }))
+        (S.items store.old) parts.old.items }
+    ensures rules { SameRules engine.old engine.new }
+    ensures counts { RewritesAtMost
+        (total_cost (λ kept _. length kept.text) (S.items store.old) parts.old.items)
+        engine.old engine.new }
+{
+    let mut reflow = Reflow { engine, room };
+    store.exchange_all(&mut reflow, parts);
+    let Reflow { engine: _, room } = reflow;
+    engine.take_back(room);
 }
 
 /// Brings all lines to another width. What can fail is done before anything is changed.
@@ -116,7 +149,7 @@ pub fn change_width<S: ParagraphStore<Kept>>(
         return Err(EditFault::NoMemory);
     };
     let (count, old_lines) = (store.count(), store.total_lines());
-    store.exchange_all(&mut Reflow { engine, room }, &mut parts);
+    reflow_all(engine, store, &mut parts, room);
     *width = new_width;
     Ok(Damage {
         first_line: 0,

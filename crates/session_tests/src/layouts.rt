@@ -227,7 +227,7 @@ fn extents(alloc: Global, engine: &mut Engine, laid: &Laid, width: u16) -> Resul
 
 // Room for so many characters.
 fn room(alloc: Global, engine: &Engine, len: usize) -> Result<Room, Fail>
-    ensures { IfOk result (λ room. room ≡ len) }
+    ensures { IfOk result (λ room. room.len ≡ len) }
 {
     match engine.room(alloc, len) {
         Ok(room) => Ok(room),
@@ -242,9 +242,10 @@ fn reflow(alloc: Global, engine: &mut Engine, laid: &mut Laid, width: u16) -> Re
     ensures laid { OnOk result (IsLaidOut (rules_of engine.new) laid.new) }
     ensures rules { SameRules engine.old engine.new }
 {
-    let mut room = room(alloc, engine, laid.text().len())?;
     let mut extents = extents(alloc, engine, laid, width)?;
+    let mut room = room(alloc, engine, laid.text().len())?;
     engine.reflow(laid, &mut extents, &mut room);
+    engine.take_back(room);
     Ok(())
 }
 

@@ -1,8 +1,8 @@
 -- What items and parts that fit make together.
-use Rattle.std.proofs.Common.{◌≡◌, ℕ, zero, suc, ◌+◌, ◌<◌, List, [], ◌∷◌, ◌++◌, length, get_or, set, sum_by, refl, sym, ap, ◌∙◌, subst, arith}
+use Rattle.std.proofs.Common.{◌≡◌, ℕ, zero, suc, ◌+◌, ◌<◌, List, [], ◌∷◌, ◌++◌, length, get_or, set, take, sum_by, refl, sym, ap, ◌∙◌, subst, arith}
 use Rattle.std.specs.List.{AllZip}
-use Rattle.std.proofs.lemmas.List.Sums.{sum_by-append, sum_by-cons}
-use Rattle.store.specs.Exchanging.{pairwise}
+use Rattle.std.proofs.lemmas.List.Sums.{sum_by-append, sum_by-cons, sum_by_more}
+use Rattle.store.specs.Exchanging.{pairwise, total_cost}
 
 module _ {P Part : Type 0} (fits : P → Part → Type 0) where
   pub as_many : (items : List P) (parts : List Part) → AllZip fits items parts → length parts ≡ length items
@@ -31,6 +31,16 @@ module _ {P Part : Type 0} (fits : P → Part → Type 0) where
   pairwise_at f (x ∷ xs) [] k d e a h g = absurd g
   pairwise_at f (x ∷ xs) (p ∷ ps) zero d e a h g = refl
   pairwise_at f (x ∷ xs) (p ∷ ps) (suc k) d e a h g = pairwise_at f xs ps k d e a (omega arith) g.1
+
+  -- what the first items and one more cost
+  pub cost_more : (cost : P → Part → ℕ) (items : List P) (parts : List Part) (k : ℕ) (d : P) (e : Part) → k < length items → AllZip fits items parts
+      → sum_by (λ (n : ℕ). n) (take (k + 1) (pairwise cost items parts))
+      ≡ sum_by (λ (n : ℕ). n) (take k (pairwise cost items parts)) + cost (get_or items k d) (get_or parts k e)
+  cost_more cost items parts k d e h g =
+      let all = pairwise cost items parts in
+      let n = length-pairwise cost items parts g in
+      let m : k < length all = omega (arith, n) in
+      sum_by_more (λ (n : ℕ). n) all k 0 m ∙ ap (λ (c : ℕ). sum_by (λ (n : ℕ). n) (take k all) + c) (pairwise_at cost items parts k d e 0 h g)
 
   -- a size that no exchange changes keeps its sum
   pub same_sum : (size : P → ℕ) (exchanged : P → Part → P) → ((x : P) (p : Part) → fits x p → size (exchanged x p) ≡ size x)
@@ -108,7 +118,7 @@ module _ {P Part : Type 0} (fits : P → Part → Type 0) (xs : List P) (x : P) 
       ∙ ap (λ zs. pairwise f xs ps ++ pairwise f (x ∷ ys) zs) p.rest_is ∙ ap (λ zs. pairwise f xs ps ++ zs) (pairwise_one f x ys one qs d p.one_len)
 
   -- the sums of a node's parts
-  pub sum_parts : (size : P → ℕ) (f : P → Part → P) {all : List Part} (d : Part) → AreParted all
+  pub sum_parts : {A : Type 0} (size : A → ℕ) (f : P → Part → A) {all : List Part} (d : Part) → AreParted all
       → sum_by size (pairwise f (xs ++ x ∷ ys) all) ≡ sum_by size (pairwise f xs ps) + (size (f x (get_or one 0 d)) + sum_by size (pairwise f ys qs))
   sum_parts size f d p =
       ap (sum_by size) (pairwise_parts f d p) ∙ sum_by-append size (pairwise f xs ps) (f x (get_or one 0 d) ∷ pairwise f ys qs)

@@ -1,5 +1,5 @@
 //! What a store asks of its items.
-ghost use Rattle.std.specs.Prelude.{◌≡◌, ℕ};
+ghost use Rattle.std.specs.Prelude.{◌≡◌, ◌+◌, ◌≤◌, ℕ};
 
 /// An item with so many characters and lines.
 pub trait Measured {
@@ -21,22 +21,35 @@ pub trait Exchanger<P: Measured> {
     /// What is put in, and what is handed out.
     type Part;
 
+    // What decides which parts fit and what comes of them: that of an exchanger which stays as it is, while
+    // the exchanger may count what it does.
+    ghost Kind: { Type 0 };
+
+    ghost kind: { Self → Kind };
+
     // Whether a part may be put in.
-    ghost fits: { Self → P → Self.Part → Type 0 };
+    ghost fits: { Kind → P → Self.Part → Type 0 };
 
     // The item with the part in it, and the part that comes out.
-    ghost exchanged: { Self → P → Self.Part → P };
+    ghost exchanged: { Kind → P → Self.Part → P };
 
-    ghost handed_out: { Self → P → Self.Part → Self.Part };
+    ghost handed_out: { Kind → P → Self.Part → Self.Part };
 
-    /// Puts a part that fits into an item, and hands the old one out. It stays as it is itself.
+    // How much it has worked, and how much an exchange adds to that at most.
+    ghost worked: { Self → ℕ };
+
+    ghost cost: { P → Self.Part → ℕ };
+
+    /// Puts a part that fits into an item, and hands the old one out.
     fn exchange(&mut self, item: &mut P, part: &mut Self::Part)
-        requires { fits self.old item.old part.old }
-        ensures item { item.new ≡ exchanged self.old item.old part.old }
-        ensures part { part.new ≡ handed_out self.old item.old part.old }
-        ensures same { self.new ≡ self.old };
+        requires { fits (kind self.old) item.old part.old }
+        ensures item { item.new ≡ exchanged (kind self.old) item.old part.old }
+        ensures part { part.new ≡ handed_out (kind self.old) item.old part.old }
+        ensures same { kind self.new ≡ kind self.old }
+        ensures least { worked self.old ≤ worked self.new }
+        ensures most { worked self.new ≤ worked self.old + cost item.old part.old };
 
     // The number of characters stays.
-    ghost keeps_chars: { (by : Self) (item : P) (part : Self.Part) → fits by item part
+    ghost keeps_chars: { (by : Kind) (item : P) (part : Self.Part) → fits by item part
         → P.chars (exchanged by item part) ≡ P.chars item };
 }

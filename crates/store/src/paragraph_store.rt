@@ -1,9 +1,9 @@
 //! Stores of items: a list with its sums, whatever holds it.
-ghost use Rattle.std.specs.Prelude.{◌≡◌, ◌^◌, ◌<◌, ◌≤◌};
+ghost use Rattle.std.specs.Prelude.{◌≡◌, ◌+◌, ◌^◌, ◌<◌, ◌≤◌};
 ghost use Rattle.std.specs.Prelude.{ℕ, List, [], length, map, slice_get, slice_range, option_map, sum_by};
 ghost use Rattle.std.specs.Prelude.{IfOk, IfErr, OnOk, OnErr};
 ghost use Rattle.std.specs.List.{splice, AllZip};
-ghost use Rattle.store.specs.Exchanging.{pairwise};
+ghost use Rattle.store.specs.Exchanging.{pairwise, total_cost};
 ghost use Rattle.store.specs.Finding.{Finds};
 
 use crate::found::Found;
@@ -73,11 +73,16 @@ pub trait ParagraphStore<P: Measured> {
     /// Each item exchanges with its part, in order. There are as many parts as items, each fits its
     /// item, and the new sum of lines fits a `usize`. It takes no memory.
     fn exchange_all<E: Exchanger<P>>(&mut self, by: &mut E, parts: &mut Vec<E::Part>)
-        requires fit { AllZip (E.fits by.old) (items self.old) parts.old.items }
+        requires fit { AllZip (E.fits (E.kind by.old)) (items self.old) parts.old.items }
         requires lines_fit { sum_by P.lines
-            (pairwise (E.exchanged by.old) (items self.old) parts.old.items) < 2 ^ 64 }
-        ensures items { items self.new ≡ pairwise (E.exchanged by.old) (items self.old) parts.old.items }
-        ensures parts { parts.new.items ≡ pairwise (E.handed_out by.old) (items self.old) parts.old.items }
-        ensures same { by.new ≡ by.old }
+            (pairwise (E.exchanged (E.kind by.old)) (items self.old) parts.old.items) < 2 ^ 64 }
+        ensures items { items self.new
+            ≡ pairwise (E.exchanged (E.kind by.old)) (items self.old) parts.old.items }
+        ensures parts { parts.new.items
+            ≡ pairwise (E.handed_out (E.kind by.old)) (items self.old) parts.old.items }
+        ensures same { E.kind by.new ≡ E.kind by.old }
+        ensures least { E.worked by.old ≤ E.worked by.new }
+        ensures most { E.worked by.new
+            ≤ E.worked by.old + total_cost E.cost (items self.old) parts.old.items }
         ensures chars { sum_by P.chars (items self.new) ≡ sum_by P.chars (items self.old) };
 }

@@ -2,7 +2,7 @@
 ghost use Rattle.std.specs.Prelude.{◌≡◌, ℕ, ◌+◌, ◌^◌, ◌<◌, ◌≤◌, ◌++◌};
 ghost use Rattle.std.specs.Prelude.{length, map, sum_by, option_map, slice_get, vec_capacity};
 ghost use Rattle.std.specs.List.{AllZip};
-ghost use Rattle.store.specs.Exchanging.{pairwise};
+ghost use Rattle.store.specs.Exchanging.{pairwise, total_cost};
 ghost use Rattle.store.specs.Finding.{Finds, measure};
 ghost use Rattle.store.specs.Trees.{height, in_order, IsBalanced, nodes_to};
 
@@ -85,12 +85,17 @@ impl<P: Measured> Subtree<P> {
 
     /// Each item exchanges with its part, in order.
     pub(crate) fn exchange_all<E: Exchanger<P>>(&mut self, by: &mut E, parts: &mut [E::Part])
-        requires fit { AllZip (E.fits by.old) (in_order self.old) parts.old }
+        requires fit { AllZip (E.fits (E.kind by.old)) (in_order self.old) parts.old }
         requires lines_fit { sum_by P.lines
-            (pairwise (E.exchanged by.old) (in_order self.old) parts.old) < 2 ^ 64 }
-        ensures items { in_order self.new ≡ pairwise (E.exchanged by.old) (in_order self.old) parts.old }
-        ensures parts { parts.new ≡ pairwise (E.handed_out by.old) (in_order self.old) parts.old }
-        ensures same { by.new ≡ by.old }
+            (pairwise (E.exchanged (E.kind by.old)) (in_order self.old) parts.old) < 2 ^ 64 }
+        ensures items { in_order self.new
+            ≡ pairwise (E.exchanged (E.kind by.old)) (in_order self.old) parts.old }
+        ensures parts { parts.new
+            ≡ pairwise (E.handed_out (E.kind by.old)) (in_order self.old) parts.old }
+        ensures same { E.kind by.new ≡ E.kind by.old }
+        ensures least { E.worked by.old ≤ E.worked by.new }
+        ensures most { E.worked by.new
+            ≤ E.worked by.old + total_cost E.cost (in_order self.old) parts.old }
         ensures count { length (in_order self.new) ≡ length (in_order self.old) }
         ensures chars { sum_by P.chars (in_order self.new) ≡ sum_by P.chars (in_order self.old) }
         ensures height { height self.new ≡ height self.old }

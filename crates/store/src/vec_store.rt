@@ -4,7 +4,7 @@ ghost use Rattle.std.specs.Prelude.{ℕ, List, [], length, take, drop, reverse};
 ghost use Rattle.std.specs.Prelude.{slice_get, slice_range, option_map, sum_by, vec_len, vec_capacity};
 ghost use Rattle.std.specs.Prelude.{IfOk, IfErr, OnOk, OnErr};
 ghost use Rattle.std.specs.List.{splice, AllZip};
-ghost use Rattle.store.specs.Exchanging.{pairwise};
+ghost use Rattle.store.specs.Exchanging.{pairwise, total_cost};
 ghost use Rattle.store.specs.Finding.{Finds, measure};
 
 use crate::found::{Found, Unit};
@@ -139,10 +139,12 @@ fn put_in<P>(
 
 // Each item exchanges with its part.
 fn exchange_each<P: Measured, E: Exchanger<P>>(by: &mut E, items: &mut [P], parts: &mut [E::Part])
-    requires { AllZip (E.fits by.old) items.old parts.old }
-    ensures items { items.new ≡ pairwise (E.exchanged by.old) items.old parts.old }
-    ensures parts { parts.new ≡ pairwise (E.handed_out by.old) items.old parts.old }
-    ensures same { by.new ≡ by.old }
+    requires { AllZip (E.fits (E.kind by.old)) items.old parts.old }
+    ensures items { items.new ≡ pairwise (E.exchanged (E.kind by.old)) items.old parts.old }
+    ensures parts { parts.new ≡ pairwise (E.handed_out (E.kind by.old)) items.old parts.old }
+    ensures same { E.kind by.new ≡ E.kind by.old }
+    ensures least { E.worked by.old ≤ E.worked by.new }
+    ensures most { E.worked by.new ≤ E.worked by.old + total_cost E.cost items.old parts.old }
     ensures chars { sum_by P.chars items.new ≡ sum_by P.chars items.old }
 {
     for index in 0..items.len() {

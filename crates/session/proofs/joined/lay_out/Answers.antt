@@ -34,6 +34,8 @@ loop-end-preserved c =
       analysed_most = omega (arith, c.loop-end.invariant.analysed_most, c.in_ok-lay_out_one.ensures.counts.analysed.most, c.split_at.ensures.front_len, c.split_at.ensures.back_len, split.1);
       filled = omega (arith, c.loop-end.invariant.filled, c.in_ok-lay_out_one.ensures.counts.filled.least);
       filled_most = omega (arith, c.loop-end.invariant.filled_most, c.in_ok-lay_out_one.ensures.counts.filled.most, c.split_at.ensures.front_len, c.split_at.ensures.back_len, split.1);
+      written = omega (arith, c.loop-end.invariant.written, c.in_ok-lay_out_one.ensures.counts.written.least);
+      written_most = omega (arith, c.loop-end.invariant.written_most, c.in_ok-lay_out_one.ensures.counts.written.most, c.split_at.ensures.front_len, c.split_at.ensures.back_len, split.1);
     }
 
 pub returns-clause-ok : goal.returns-clause-ok

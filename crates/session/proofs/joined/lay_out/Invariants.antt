@@ -1,5 +1,5 @@
 use Rattle.std.proofs.Common.{◌≡◌, ◌≤◌, ◌+◌, ◌++◌, true, length}
-use Rattle.lines.specs.Engine.{rules_of, analysed_of, filled_of, SameRules}
+use Rattle.lines.specs.Engine.{rules_of, analysed_of, filled_of, written_of, SameRules}
 use Rattle.lines.specs.Layouts.{cut_by}
 use Rattle.session.specs.Changes.{is_within_limit}
 use Rattle.session.specs.Kept.{layouts_of}
@@ -17,6 +17,8 @@ invariant-loop-end l =
       analysed_most : analysed_of l.engine + length l.rest ≤ analysed_of l.fn.engine + length l.text;
       filled : filled_of l.fn.engine ≤ filled_of l.engine;
       filled_most : filled_of l.engine + length l.rest ≤ filled_of l.fn.engine + length l.text;
+      written : written_of l.fn.engine ≤ written_of l.engine;
+      written_most : written_of l.engine + length l.rest ≤ written_of l.fn.engine + length l.text;
     }
 
 abbrev pub decreases-loop-end : goal.decreases-loop-end

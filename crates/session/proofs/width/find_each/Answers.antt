@@ -1,5 +1,5 @@
 use Rattle.std.proofs.Common.{◌∙◌}
-use Rattle.session.proofs.WidthLemmas.{all_filled, all_listed, none_filled, read_here, read_item, read_laid, values, FillsAtMost-so_far, FillsAtMost-next, AreFilled-next}
+use Rattle.session.proofs.WidthLemmas.{all_filled, all_listed, none_filled, read_here, read_item, read_laid, values, FindsExtentsAtMost-so_far, FindsExtentsAtMost-next, AreFilled-next}
 use Rattle.session.proofs.width.find_each.Goals as goal
 
 pub loop-kept-init : goal.loop-kept-init
@@ -15,7 +15,7 @@ returns-in_err-find_one-clause-rules c = c.find_one.ensures.rules ∙ c.loop-kep
 
 pub returns-in_err-find_one-clause-counts : goal.returns-in_err-find_one-clause-counts
 returns-in_err-find_one-clause-counts c =
-    FillsAtMost-next c.args.engine.now c.loop-kept.engine c.args.width (values c.args.list.now) c.loop-kept.kept-index c.loop-kept.parts.items c.loop-kept.invariant
+    FindsExtentsAtMost-next c.args.engine.now c.loop-kept.engine c.args.width (values c.args.list.now) c.loop-kept.kept-index c.loop-kept.parts.items c.loop-kept.invariant
     c.laid.result.now (read_here c.args.list.now c.loop-kept.kept-index c.kept-item.result c.laid.result.now c.loop-kept-test.true c.kept-item.is c.laid.ensures)
     (read_item c.args.list.now c.loop-kept.kept-index c.kept-item.result c.laid.result.now c.loop-kept-test.true c.kept-item.is c.laid.ensures)
     c.find_one.new.engine c.find_one.ensures.rules c.find_one.ensures.counts
@@ -25,7 +25,7 @@ returns-in_err-push-clause-rules c = c.find_one.ensures.rules ∙ c.loop-kept.in
 
 pub returns-in_err-push-clause-counts : goal.returns-in_err-push-clause-counts
 returns-in_err-push-clause-counts c =
-    FillsAtMost-next c.args.engine.now c.loop-kept.engine c.args.width (values c.args.list.now) c.loop-kept.kept-index c.loop-kept.parts.items c.loop-kept.invariant
+    FindsExtentsAtMost-next c.args.engine.now c.loop-kept.engine c.args.width (values c.args.list.now) c.loop-kept.kept-index c.loop-kept.parts.items c.loop-kept.invariant
     c.laid.result.now (read_here c.args.list.now c.loop-kept.kept-index c.kept-item.result c.laid.result.now c.loop-kept-test.true c.kept-item.is c.laid.ensures)
     (read_item c.args.list.now c.loop-kept.kept-index c.kept-item.result c.laid.result.now c.loop-kept-test.true c.kept-item.is c.laid.ensures)
     c.find_one.new.engine c.find_one.ensures.rules c.find_one.ensures.counts
@@ -48,4 +48,4 @@ returns-clause-rules c = c.loop-kept.invariant.rules
 
 pub returns-clause-counts : goal.returns-clause-counts
 returns-clause-counts c =
-    FillsAtMost-so_far c.args.engine.now c.loop-kept.engine c.args.width (values c.args.list.now) c.loop-kept.kept-index c.loop-kept.parts.items c.loop-kept.invariant
+    FindsExtentsAtMost-so_far c.args.engine.now c.loop-kept.engine c.args.width (values c.args.list.now) c.loop-kept.kept-index c.loop-kept.parts.items c.loop-kept.invariant

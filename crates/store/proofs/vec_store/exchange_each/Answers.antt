@@ -1,15 +1,16 @@
-use Rattle.std.proofs.Common.{◌≡◌, ◌<◌, length, get_or, sum_by, ap, sym, subst, arith, ◌∙◌}
+use Rattle.std.proofs.Common.{◌≡◌, ◌<◌, ℕ, length, get_or, sum_by, refl, ap, sym, subst, arith, ◌∙◌}
+use Rattle.std.proofs.lemmas.List.Sums.{sum_by-take-le}
 use Rattle.store.specs.Exchanging.{pairwise}
-use Rattle.store.proofs.ExchangeLemmas.{as_many, fit_at, same_sum, length-pairwise, pairwise_at}
+use Rattle.store.proofs.ExchangeLemmas.{as_many, cost_more, fit_at, same_sum, length-pairwise, pairwise_at}
 use Rattle.store.proofs.ListLemmas.{get_next, set_next, made_all}
 use Rattle.store.proofs.vec_store.exchange_each.Goals as goal
 
 pub bounds-parts-index : goal.bounds-parts-index
-bounds-parts-index g c = omega (arith, as_many (g.E.Exchanger.fits c.args.by.now) _ _ c.requires)
+bounds-parts-index g c = omega (arith, as_many (g.E.Exchanger.fits (g.E.Exchanger.kind c.args.by.now)) _ _ c.requires)
 
 pub exchange-requires : goal.exchange-requires
 exchange-requires g c =
-    let by = c.args.by.now in
+    let by = g.E.Exchanger.kind c.args.by.now in
     let xs = c.args.items.now in
     let ps = c.args.parts.now in
     let k = c.loop-index.index in
@@ -18,16 +19,16 @@ exchange-requires g c =
     let l = length-pairwise (g.E.Exchanger.fits by) (g.E.Exchanger.exchanged by) xs ps c.requires in
     let m = length-pairwise (g.E.Exchanger.fits by) (g.E.Exchanger.handed_out by) xs ps c.requires in
     let n = as_many (g.E.Exchanger.fits by) xs ps c.requires in
-    let x_is = get_next (pairwise (g.E.Exchanger.exchanged by) xs ps) xs c.loop-index.items k d l c.loop-index-test.true c.loop-index.invariant.0 in
-    let p_is = get_next (pairwise (g.E.Exchanger.handed_out by) xs ps) ps c.loop-index.parts k e (m ∙ sym n) (omega arith) c.loop-index.invariant.1 in
-    let by_is = c.loop-index.invariant.2 in
+    let x_is = get_next (pairwise (g.E.Exchanger.exchanged by) xs ps) xs c.loop-index.items k d l c.loop-index-test.true c.loop-index.invariant.items in
+    let p_is = get_next (pairwise (g.E.Exchanger.handed_out by) xs ps) ps c.loop-index.parts k e (m ∙ sym n) (omega arith) c.loop-index.invariant.parts in
+    let by_is = c.loop-index.invariant.same in
     subst (λ other. g.E.Exchanger.fits other (get_or c.loop-index.items k d) (get_or c.loop-index.parts k e)) (sym by_is)
     (subst (λ z. g.E.Exchanger.fits by z (get_or c.loop-index.parts k e)) (sym x_is)
     (subst (λ q. g.E.Exchanger.fits by (get_or xs k d) q) (sym p_is) (fit_at (g.E.Exchanger.fits by) xs ps k d e c.loop-index-test.true c.requires)))
 
 pub loop-index-preserved : goal.loop-index-preserved
 loop-index-preserved g c =
-    let by = c.args.by.now in
+    let by = g.E.Exchanger.kind c.args.by.now in
     let xs = c.args.items.now in
     let ps = c.args.parts.now in
     let k = c.loop-index.index in
@@ -37,38 +38,49 @@ loop-index-preserved g c =
     let m = length-pairwise (g.E.Exchanger.fits by) (g.E.Exchanger.handed_out by) xs ps c.requires in
     let n = as_many (g.E.Exchanger.fits by) xs ps c.requires in
     let h : k < length ps = omega arith in
-    let x_is = get_next (pairwise (g.E.Exchanger.exchanged by) xs ps) xs c.loop-index.items k d l c.loop-index-test.true c.loop-index.invariant.0 in
-    let p_is = get_next (pairwise (g.E.Exchanger.handed_out by) xs ps) ps c.loop-index.parts k e (m ∙ sym n) h c.loop-index.invariant.1 in
+    let x_is = get_next (pairwise (g.E.Exchanger.exchanged by) xs ps) xs c.loop-index.items k d l c.loop-index-test.true c.loop-index.invariant.items in
+    let p_is = get_next (pairwise (g.E.Exchanger.handed_out by) xs ps) ps c.loop-index.parts k e (m ∙ sym n) h c.loop-index.invariant.parts in
     let y = c.exchange.new.item in
     let q = c.exchange.new.part in
     let y_is : y ≡ get_or (pairwise (g.E.Exchanger.exchanged by) xs ps) k y =
-    c.exchange.ensures.item ∙ rw (c.loop-index.invariant.2, x_is, p_is) (sym (pairwise_at (g.E.Exchanger.fits by) (g.E.Exchanger.exchanged by) xs ps k d e y c.loop-index-test.true c.requires)) in
+    c.exchange.ensures.item ∙ rw (c.loop-index.invariant.same, x_is, p_is) (sym (pairwise_at (g.E.Exchanger.fits by) (g.E.Exchanger.exchanged by) xs ps k d e y c.loop-index-test.true c.requires)) in
     let q_is : q ≡ get_or (pairwise (g.E.Exchanger.handed_out by) xs ps) k q =
-    c.exchange.ensures.part ∙ rw (c.loop-index.invariant.2, x_is, p_is) (sym (pairwise_at (g.E.Exchanger.fits by) (g.E.Exchanger.handed_out by) xs ps k d e q c.loop-index-test.true c.requires)) in (
-      set_next _ xs c.loop-index.items k y l c.loop-index-test.true c.loop-index.invariant.0 y_is,
-      set_next _ ps c.loop-index.parts k q (m ∙ sym n) h c.loop-index.invariant.1 q_is,
-      c.exchange.ensures.same ∙ c.loop-index.invariant.2,
-    )
+    c.exchange.ensures.part ∙ rw (c.loop-index.invariant.same, x_is, p_is) (sym (pairwise_at (g.E.Exchanger.fits by) (g.E.Exchanger.handed_out by) xs ps k d e q c.loop-index-test.true c.requires)) in
+    let cost_is : g.E.Exchanger.cost (get_or c.loop-index.items k d) (get_or c.loop-index.parts k e) ≡ g.E.Exchanger.cost (get_or xs k d) (get_or ps k e) =
+    rw (x_is, p_is) refl in
+    let costs = cost_more (g.E.Exchanger.fits by) g.E.Exchanger.cost xs ps k d e c.loop-index-test.true c.requires in
+    record {
+      items = set_next _ xs c.loop-index.items k y l c.loop-index-test.true c.loop-index.invariant.items y_is;
+      parts = set_next _ ps c.loop-index.parts k q (m ∙ sym n) h c.loop-index.invariant.parts q_is;
+      same = c.exchange.ensures.same ∙ c.loop-index.invariant.same;
+      least = omega (arith, c.loop-index.invariant.least, c.exchange.ensures.least);
+      most = omega (arith, c.loop-index.invariant.most, c.exchange.ensures.most, cost_is, costs);
+    }
 
 pub returns-clause-items : goal.returns-clause-items
 returns-clause-items g c =
-    let by = c.args.by.now in
+    let by = g.E.Exchanger.kind c.args.by.now in
     let xs = c.args.items.now in
     let ps = c.args.parts.now in
     let l = length-pairwise (g.E.Exchanger.fits by) (g.E.Exchanger.exchanged by) xs ps c.requires in
-    c.loop-index.invariant.0 ∙ made_all _ xs c.loop-index.index l (omega arith)
+    c.loop-index.invariant.items ∙ made_all _ xs c.loop-index.index l (omega arith)
 
 pub returns-clause-parts : goal.returns-clause-parts
 returns-clause-parts g c =
-    let by = c.args.by.now in
+    let by = g.E.Exchanger.kind c.args.by.now in
     let xs = c.args.items.now in
     let ps = c.args.parts.now in
     let m = length-pairwise (g.E.Exchanger.fits by) (g.E.Exchanger.handed_out by) xs ps c.requires in
     let n = as_many (g.E.Exchanger.fits by) xs ps c.requires in
-    c.loop-index.invariant.1 ∙ made_all _ ps c.loop-index.index (m ∙ sym n) (omega arith)
+    c.loop-index.invariant.parts ∙ made_all _ ps c.loop-index.index (m ∙ sym n) (omega arith)
 
 pub returns-clause-chars : goal.returns-clause-chars
 returns-clause-chars g c =
-    let by = c.args.by.now in
+    let by = g.E.Exchanger.kind c.args.by.now in
     ap (sum_by g.P.Measured.chars) (returns-clause-items g c)
     ∙ same_sum (g.E.Exchanger.fits by) g.P.Measured.chars (g.E.Exchanger.exchanged by) (g.met.E.Exchanger.keeps_chars by) c.args.items.now c.args.parts.now c.requires
+
+pub returns-clause-most : goal.returns-clause-most
+returns-clause-most g c =
+    let all = pairwise g.E.Exchanger.cost c.args.items.now c.args.parts.now in
+    omega (arith, c.loop-index.invariant.most, sum_by-take-le (λ (n : ℕ). n) all c.loop-index.index)

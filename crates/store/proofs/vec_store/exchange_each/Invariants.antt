@@ -1,9 +1,15 @@
-use Rattle.std.proofs.Common.{◌≡◌, ◌++◌, take, drop}
+use Rattle.std.proofs.Common.{◌≡◌, ◌+◌, ◌≤◌, ◌++◌, ℕ, take, drop, sum_by}
 use Rattle.store.specs.Exchanging.{pairwise}
 use Rattle.store.proofs.vec_store.exchange_each.Given as goal
 
 abbrev pub invariant-loop-index : goal.invariant-loop-index
 invariant-loop-index g l =
-    (l.items ≡ take l.index (pairwise (g.E.Exchanger.exchanged l.initial.by) l.initial.items l.initial.parts) ++ drop l.index l.initial.items)
-    × (l.parts ≡ take l.index (pairwise (g.E.Exchanger.handed_out l.initial.by) l.initial.items l.initial.parts) ++ drop l.index l.initial.parts)
-    × (l.by ≡ l.initial.by)
+    let by = g.E.Exchanger.kind l.initial.by in
+    record {
+      items : l.items ≡ take l.index (pairwise (g.E.Exchanger.exchanged by) l.initial.items l.initial.parts) ++ drop l.index l.initial.items;
+      parts : l.parts ≡ take l.index (pairwise (g.E.Exchanger.handed_out by) l.initial.items l.initial.parts) ++ drop l.index l.initial.parts;
+      same : g.E.Exchanger.kind l.by ≡ by;
+      least : g.E.Exchanger.worked l.initial.by ≤ g.E.Exchanger.worked l.by;
+      most : g.E.Exchanger.worked l.by
+          ≤ g.E.Exchanger.worked l.initial.by + sum_by (λ (n : ℕ). n) (take l.index (pairwise g.E.Exchanger.cost l.initial.items l.initial.parts));
+    }

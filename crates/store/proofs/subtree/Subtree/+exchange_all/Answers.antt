@@ -1,6 +1,6 @@
-use Rattle.std.proofs.Common.{◌≡◌, ◌+◌, ◌<◌, ◌++◌, ◌∷◌, length, get_or, sum_by, refl, sym, ap, ◌∙◌, subst, arith, length-append, ◌^◌}
+use Rattle.std.proofs.Common.{◌≡◌, ℕ, ◌+◌, ◌<◌, ◌++◌, ◌∷◌, length, get_or, sum_by, refl, sym, ap, ◌∙◌, subst, arith, length-append, ◌^◌}
 use Rattle.std.specs.List.{AllZip}
-use Rattle.store.specs.Exchanging.{pairwise}
+use Rattle.store.specs.Exchanging.{pairwise, total_cost}
 use Rattle.store.specs.Subtrees.{tree_of, tree_of_node, IsSummed, IsSound}
 use Rattle.store.specs.Trees.{in_order, height}
 use Rattle.std.proofs.lemmas.List.Sums.{sum_by-append}
@@ -12,17 +12,17 @@ pub split_at_mut-first-requires : goal.split_at_mut-first-requires
 split_at_mut-first-requires g t c =
     let n = c.deref_mut-node.result.now in
     let tree_is = sym c.self.view_is ∙ ap tree_of c.in-Some.is ∙ ap tree_of_node (sym c.deref_mut-node.ensures.value) in
-    omega (arith, as_many (g.E.Exchanger.fits c.args.by.now) (in_order c.args.self.now) c.args.parts.now c.requires.fit, ap (λ tree. length (in_order tree)) tree_is, length-append (in_order n.left) (n.item ∷ in_order n.right), c.count-before.ensures)
+    omega (arith, as_many (g.E.Exchanger.fits (g.E.Exchanger.kind c.args.by.now)) (in_order c.args.self.now) c.args.parts.now c.requires.fit, ap (λ tree. length (in_order tree)) tree_is, length-append (in_order n.left) (n.item ∷ in_order n.right), c.count-before.ensures)
 
 pub split_at_mut-part-requires : goal.split_at_mut-part-requires
 split_at_mut-part-requires g t c =
     let n = c.deref_mut-node.result.now in
     let tree_is = sym c.self.view_is ∙ ap tree_of c.in-Some.is ∙ ap tree_of_node (sym c.deref_mut-node.ensures.value) in
-    omega (arith, as_many (g.E.Exchanger.fits c.args.by.now) (in_order c.args.self.now) c.args.parts.now c.requires.fit, ap (λ tree. length (in_order tree)) tree_is, length-append (in_order n.left) (n.item ∷ in_order n.right), c.count-before.ensures, c.split_at_mut-first.ensures.front_len, c.split_at_mut-first.ensures.back_len)
+    omega (arith, as_many (g.E.Exchanger.fits (g.E.Exchanger.kind c.args.by.now)) (in_order c.args.self.now) c.args.parts.now c.requires.fit, ap (λ tree. length (in_order tree)) tree_is, length-append (in_order n.left) (n.item ∷ in_order n.right), c.count-before.ensures, c.split_at_mut-first.ensures.front_len, c.split_at_mut-first.ensures.back_len)
 
 pub exchange_all-requires : goal.exchange_all-requires
 exchange_all-requires g t c =
-    let by = c.args.by.now in
+    let by = g.E.Exchanger.kind c.args.by.now in
     let n = c.deref_mut-node.result.now in
     let xs = in_order n.left in
     let ys = n.item ∷ in_order n.right in
@@ -44,7 +44,7 @@ exchange_all-requires g t c =
 
 pub exchange-requires : goal.exchange-requires
 exchange-requires g t c =
-    let by = c.args.by.now in
+    let by = g.E.Exchanger.kind c.args.by.now in
     let n = c.deref_mut-node.result.now in
     let xs = in_order n.left in
     let ps = c.split_at_mut-first.result.0.now in
@@ -65,7 +65,7 @@ exchange-requires g t c =
 
 pub exchange_all-requires-2 : goal.exchange_all-requires-2
 exchange_all-requires-2 g t c =
-    let by = c.args.by.now in
+    let by = g.E.Exchanger.kind c.args.by.now in
     let n = c.deref_mut-node.result.now in
     let xs = in_order n.left in
     let ps = c.split_at_mut-first.result.0.now in
@@ -94,7 +94,7 @@ exchange_all-requires-2 g t c =
 
 pub returns-clause-items : goal.returns-clause-items
 returns-clause-items g t c =
-    let by = c.args.by.now in
+    let by = g.E.Exchanger.kind c.args.by.now in
     let n = c.deref_mut-node.result.now in
     let xs = in_order n.left in
     let ys = in_order n.right in
@@ -119,7 +119,7 @@ returns-clause-items g t c =
 
 pub returns-clause-parts : goal.returns-clause-parts
 returns-clause-parts g t c =
-    let by = c.args.by.now in
+    let by = g.E.Exchanger.kind c.args.by.now in
     let n = c.deref_mut-node.result.now in
     let xs = in_order n.left in
     let ys = in_order n.right in
@@ -141,13 +141,13 @@ returns-clause-parts g t c =
 
 pub returns-clause-chars : goal.returns-clause-chars
 returns-clause-chars g t c =
-    let by = c.args.by.now in
+    let by = g.E.Exchanger.kind c.args.by.now in
     ap (sum_by g.P.Measured.chars) (returns-clause-items g t c)
     ∙ same_sum (g.E.Exchanger.fits by) g.P.Measured.chars (g.E.Exchanger.exchanged by) (g.met.E.Exchanger.keeps_chars by) (in_order c.args.self.now) c.args.parts.now c.requires.fit
 
 pub lines_with-lines-requires : goal.lines_with-lines-requires
 lines_with-lines-requires g t c =
-    let by = c.args.by.now in
+    let by = g.E.Exchanger.kind c.args.by.now in
     let n = c.deref_mut-node.result.now in
     let xs = in_order n.left in
     let ys = in_order n.right in
@@ -172,7 +172,7 @@ lines_with-lines-requires g t c =
 
 pub invariant_of-self-2 : goal.invariant_of-self-2
 invariant_of-self-2 g t c =
-    let by = c.args.by.now in
+    let by = g.E.Exchanger.kind c.args.by.now in
     let n = c.deref_mut-node.result.now in
     let xs = in_order n.left in
     let ys = in_order n.right in
@@ -210,7 +210,7 @@ invariant_of-self-2 g t c =
 
 pub returns-clause-count : goal.returns-clause-count
 returns-clause-count g t c =
-    let by = c.args.by.now in
+    let by = g.E.Exchanger.kind c.args.by.now in
     ap length (returns-clause-items g t c)
     ∙ length-pairwise (g.E.Exchanger.fits by) (g.E.Exchanger.exchanged by) (in_order c.args.self.now) c.args.parts.now c.requires.fit
 
@@ -226,3 +226,28 @@ returns-clause-balanced g t c =
     subst (IsSummed g.P.Measured.chars g.P.Measured.lines) (sym c.deref_mut-node.ensures.value) (subst (IsSound g.P.Measured.chars g.P.Measured.lines) c.in-Some.is c.self.invariant) in
     balanced_again n.left n.right c.exchange_all.new.self c.exchange_all-2.new.self n.item summed.balanced
     c.exchange_all.ensures.balanced c.exchange_all-2.ensures.balanced c.exchange_all.ensures.height c.exchange_all-2.ensures.height
+
+-- what the parts of a node cost
+pub returns-clause-most : goal.returns-clause-most
+returns-clause-most g t c =
+    let by = g.E.Exchanger.kind c.args.by.now in
+    let cost = g.E.Exchanger.cost in
+    let n = c.deref_mut-node.result.now in
+    let xs = in_order n.left in
+    let ys = in_order n.right in
+    let ps = c.split_at_mut-first.result.0.now in
+    let rest = c.split_at_mut-first.result.1.now in
+    let one = c.split_at_mut-part.result.0.now in
+    let qs = c.split_at_mut-part.result.1.now in
+    let d = c.index-part-0.result in
+    let tree_is = sym c.self.view_is ∙ ap tree_of c.in-Some.is ∙ ap tree_of_node (sym c.deref_mut-node.ensures.value) in
+    let parted : AreParted (g.E.Exchanger.fits by) xs n.item ys ps rest one qs c.args.parts.now = record {
+      all_is = c.split_at_mut-first.ensures.value;
+      rest_is = c.split_at_mut-part.ensures.value;
+      front_len = c.split_at_mut-first.ensures.front_len ∙ c.count-before.ensures;
+      one_len = c.split_at_mut-part.ensures.front_len;
+    } in
+    let costs : total_cost cost (in_order c.args.self.now) c.args.parts.now ≡ total_cost cost xs ps + (cost n.item (get_or one 0 d) + total_cost cost ys qs) =
+    ap (λ zs. total_cost cost zs c.args.parts.now) (ap in_order tree_is)
+    ∙ sum_parts (g.E.Exchanger.fits by) xs n.item ys ps rest one qs (λ (n : ℕ). n) cost d parted in
+    omega (arith, costs, c.exchange_all.ensures.most, c.exchange.ensures.most, c.exchange_all-2.ensures.most)
