@@ -14,7 +14,7 @@ use Rattle.lines.specs.declared.print.Print.{Print}
 use Rattle.session.specs.Changes.{Held}
 use Rattle.session.specs.Sessions.{State, held_at}
 use Rattle.tool.specs.Reading.{EndsIn, EndsLine, FailsAt, FailsIn, FailsLine, GoesOn, GrowsNot, IsAt, IsNotKept, NoEnd, ObeysLine, Steps, Takes}
-use Rattle.tool.specs.Scripts.{is_last_line, is_line_end, line_limit, lines_among, order_of_line, script_lines}
+use Rattle.tool.specs.Scripts.{is_last_line, is_line_end, lines_among, order_of_line, script_lines}
 use Rattle.tool.specs.ScriptEnds.{IsScriptRun}
 use Rattle.tool.specs.ScriptRun.{after_line, after_lines, answer_line, answers, good_lines, is_good, with_ends}
 use Rattle.tool.specs.Work.{LineWorks, LinesWork}
@@ -28,6 +28,8 @@ use Rattle.text_run.proofs.Devices.{Took-nothing}
 use Rattle.tool.proofs.WorkLemmas.{lines_work_front, lines_work_more, works_none}
 use Rattle.tool.proofs.ScriptLemmas.{IsAll, IsDone, after_more, answers_more, ends_at_failure, ends_line, ends_short, ends_whole, first_part, lines_behind, parts_some}
 use Rattle.text_run.proofs.StreamLemmas.{Consumes-append, Consumes-kept, Wrote-append, had, had_all}
+use Rattle.text_run.specs.declared.text.TheConstants.{PIECE}
+use Rattle.tool.specs.declared.script.TheConstants.{LINE_LIMIT}
 
 with_ends_more : (ls : List (List ℕ)) (l : List ℕ) → length (with_ends (ls ++ l ∷ [])) ≡ length (with_ends ls) + (length l + 1)
 with_ends_more [] l = omega (arith, length-append (l ++ 10 ∷ []) [], length-append l (10 ∷ []))
@@ -41,17 +43,17 @@ ended_first line piece front behind more none ends =
     ap (slice_split is_line_end) place ∙ slice_split_at is_line_end (line ++ front) 10 (behind ++ more) (All-append (λ b. is_line_end b ≡ false) line front none ends.none) refl
 
 -- a part that is too long already is a line, and none of a script
-some_bytes : (p : List ℕ) → line_limit < length p → nat_lt 0 (length p) ≡ true
+some_bytes : (p : List ℕ) → LINE_LIMIT < length p → nat_lt 0 (length p) ≡ true
 some_bytes p long = grind (arith, nat_tests)
 
-over : (p : List ℕ) → line_limit < length p → nat_le (length p) line_limit ≡ false
+over : (p : List ℕ) → LINE_LIMIT < length p → nat_le (length p) LINE_LIMIT ≡ false
 over p long = grind (arith, nat_tests)
 
-long_line : (p : List ℕ) (ps : List (List ℕ)) → line_limit < length p → (others : List (List ℕ)) × (lines_among AtEnd (p ∷ ps) ≡ p ∷ others)
+long_line : (p : List ℕ) (ps : List (List ℕ)) → LINE_LIMIT < length p → (others : List (List ℕ)) × (lines_among AtEnd (p ∷ ps) ≡ p ∷ others)
 long_line p [] long = ([], ap (λ (b : Bool). if b then p ∷ [] else []) (some_bytes p long))
 long_line p (q ∷ ps) long = (lines_among AtEnd (q ∷ ps), refl)
 
-long_is_bad : (p : List ℕ) → line_limit < length p → is_good p ≡ false
+long_is_bad : (p : List ℕ) → LINE_LIMIT < length p → is_good p ≡ false
 long_is_bad p long = rw (over p long) refl
 
 module _ (rules : Rules) (print : Print) (start : State) (reader_old reader writer_old writer : Device) where
@@ -60,7 +62,7 @@ module _ (rules : Rules) (print : Print) (start : State) (reader_old reader writ
 
   module _ (now : State) (reading : Reading) where
     -- ---- a piece is read
-    pub at_read : (reader_new : Device) (n : ℕ) (buffer : List ℕ) → IsAt rules print start reader_old reader writer_old writer now reading [] → Gives reader reader_new n buffer → n ≤ length buffer → n ≤ 65536
+    pub at_read : (reader_new : Device) (n : ℕ) (buffer : List ℕ) → IsAt rules print start reader_old reader writer_old writer now reading [] → Gives reader reader_new n buffer → n ≤ length buffer → n ≤ PIECE
         → IsAt rules print start reader_old reader_new writer_old writer now reading (take n buffer)
     at_read reader_new n buffer at gives within small =
         let piece = take n buffer in
@@ -198,7 +200,7 @@ module _ (rules : Rules) (print : Print) (start : State) (reader_old reader writ
           gave (lines_are line (some.0 ∷ some.1) parts) at.good at.held_is at.lines at.written at.wrote at.works failed.fails failed.works (ahead_now state writer_new)
 
       -- at one that is too long, wherever it ends
-      ends_long : (n : ℕ) (front behind : List ℕ) → waiting ≡ front ++ behind → NoEnd front → line_limit < length (reading.line.items ++ front) → n ≡ reading.lines + 1
+      ends_long : (n : ℕ) (front behind : List ℕ) → waiting ≡ front ++ behind → NoEnd front → LINE_LIMIT < length (reading.line.items ++ front) → n ≡ reading.lines + 1
           → IsScriptRun rules print start now reader_old reader writer_old writer (Err (f.BadLine n))
       ends_long n front behind whole none long number =
           let line = reading.line.items ++ front in
@@ -208,7 +210,7 @@ module _ (rules : Rules) (print : Print) (start : State) (reader_old reader writ
           ap (λ t. reading.line.items ++ (t ++ rest)) whole ∙ ap (λ t. reading.line.items ++ t) (append_assoc front behind rest) ∙ sym (append_assoc reading.line.items front (behind ++ rest)) in
           let parts : slice_split is_line_end (reading.line.items ++ (waiting ++ rest)) ≡ first ∷ some.1 =
           ap (slice_split is_line_end) place ∙ first_part line (behind ++ rest) some.0 some.1 (All-append (λ b. is_line_end b ≡ false) reading.line.items front at.none none) some.2 in
-          let more : line_limit < length first = omega (arith, long, length-append line some.0) in
+          let more : LINE_LIMIT < length first = omega (arith, long, length-append line some.0) in
           let is_line = long_line first some.1 more in
           let bad : is_good first ≡ false = long_is_bad first more in
           ends_line rules print start now reader_old writer_old reader writer AtEnd (at.bytes ++ rest) at.done first is_line.0 now reading.lines reading.written writer (f.BadLine n)
@@ -243,7 +245,7 @@ module _ (rules : Rules) (print : Print) (start : State) (reader_old reader writ
       -- a read failed
       pub ends_read : (reader_new : Device) → Fails reader reader_new → IsScriptRun rules print start now reader_old reader_new writer_old writer (Err f.Read)
       ends_read reader_new fails =
-          let short : nat_lt line_limit (length reading.line.items) ≡ false = grind (arith, nat_tests, at.short) in
+          let short : nat_lt LINE_LIMIT (length reading.line.items) ≡ false = grind (arith, nat_tests, at.short) in
           ends_at_failure rules print start now reader_old writer_old reader_new writer at.bytes at.done (
             Consumes-kept reader_old.bytes reader.bytes reader_new.bytes at.bytes at.read fails.bytes,
             fails.passed ∙ at.passed,

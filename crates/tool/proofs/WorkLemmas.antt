@@ -3,7 +3,7 @@ use Rattle.std.proofs.Common.{◌≡◌, ℕ, ◌+◌, ◌<◌, ◌≤◌, List,
 use Rattle.std.proofs.lemmas.Bool.{cond-true, true≢false}
 use Rattle.std.proofs.lemmas.List.{append-nil}
 use Rattle.bidi.specs.Cuts.{paragraphs}
-use Rattle.lines.specs.Engine.{LaysOutAtMost, FillsAtMost, RisesBy, analysed_of, filled_of, rules_of}
+use Rattle.lines.specs.Engine.{LaysOutAtMost, FillsAtMost, RisesBy, analysed_of, filled_of, written_of, rules_of}
 use Rattle.lines.specs.Layouts.{Rules, cut_by, layout_of}
 use Rattle.lines.specs.declared.engine.Engine.{Engine}
 use Rattle.session.specs.Changes.{Change, Held, refusal, width_refusal}
@@ -32,12 +32,14 @@ pub works_none : (rules : Rules) (most : (Held → Order → ℕ) → ℕ) (old 
 works_none rules most old new e = record {
   analysed = same_rise _ (analysed_of old) (analysed_of new) (ap analysed_of e);
   filled = same_rise _ (filled_of old) (filled_of new) (ap filled_of e);
+  written = same_rise _ (written_of old) (written_of new) (ap written_of e);
 }
 
 -- ---- one order
 pub record Worked (reason : Option EditFault) (n m : ℕ) (old new : Engine) : Type 0 where
   pub analysed : RisesBy (if is_none reason then n else 0) (analysed_of old) (analysed_of new)
   pub filled : RisesBy (if is_none reason then m else 0) (filled_of old) (filled_of new)
+  pub written : RisesBy (if is_none reason then m else 0) (written_of old) (written_of new)
 
 accepted_rise : (reason : Option EditFault) (n old new : ℕ) → reason ≡ None → RisesBy n old new → RisesBy (if is_none reason then n else 0) old new
 accepted_rise reason n old new e r = subst (λ k. RisesBy k old new) (sym (cond-true (is_none reason) n 0 (ap is_none e))) r
@@ -46,18 +48,21 @@ worked_none : (reason : Option EditFault) (n m : ℕ) (old new : Engine) → new
 worked_none reason n m old new e = record {
   analysed = same_rise _ (analysed_of old) (analysed_of new) (ap analysed_of e);
   filled = same_rise _ (filled_of old) (filled_of new) (ap filled_of e);
+  written = same_rise _ (written_of old) (written_of new) (ap written_of e);
 }
 
 laid_out : (reason : Option EditFault) (n : ℕ) (old new : Engine) → reason ≡ None → LaysOutAtMost n old new → Worked reason n n old new
 laid_out reason n old new e counts = record {
   analysed = accepted_rise reason n (analysed_of old) (analysed_of new) e counts.analysed;
   filled = accepted_rise reason n (filled_of old) (filled_of new) e counts.filled;
+  written = accepted_rise reason n (written_of old) (written_of new) e counts.written;
 }
 
 filled_anew : (reason : Option EditFault) (n : ℕ) (old new : Engine) → reason ≡ None → FillsAtMost n old new → Worked reason 0 n old new
 filled_anew reason n old new e counts = record {
   analysed = same_rise _ (analysed_of old) (analysed_of new) counts.analysed;
   filled = accepted_rise reason n (filled_of old) (filled_of new) e counts.filled;
+  written = accepted_rise reason n (written_of old) (written_of new) e counts.written;
 }
 
 counted_for : (reason : Option EditFault) (n m : ℕ) (bound : Engine → Engine → Type 0) (old new : Engine) (fault : EditFault)
@@ -104,6 +109,7 @@ width_works width old new result small m r =
     record {
       analysed = subst (λ (o : Option EditFault). RisesBy (if is_none o then 0 else 0) (analysed_of old.engine) (analysed_of new.engine)) (sym reason) w.analysed;
       filled = subst (λ (o : Option EditFault). RisesBy (if is_none o then length (text_at old) else 0) (filled_of old.engine) (filled_of new.engine)) (sym reason) w.filled;
+      written = subst (λ (o : Option EditFault). RisesBy (if is_none o then length (text_at old) else 0) (written_of old.engine) (written_of new.engine)) (sym reason) w.written;
     }
 
 -- ---- lines, one after another
@@ -121,6 +127,7 @@ module _ (rules : Rules) where
   lines_work_front start lines others old new works = record {
     analysed = within_rise _ _ _ _ (work_front (analysed_by rules) start lines others) works.analysed;
     filled = within_rise _ _ _ _ (work_front (filled_by rules) start lines others) works.filled;
+    written = within_rise _ _ _ _ (work_front (filled_by rules) start lines others) works.written;
   }
 
   pub lines_work_more : (start held : Held) (lines : List (List ℕ)) (line : List ℕ) (old now new : Engine) → held ≡ after_lines rules start lines
@@ -130,6 +137,7 @@ module _ (rules : Rules) where
       record {
         analysed = more_rise _ _ _ _ _ _ before.analysed works.analysed (sum (analysed_by rules));
         filled = more_rise _ _ _ _ _ _ before.filled works.filled (sum (filled_by rules));
+        written = more_rise _ _ _ _ _ _ before.written works.written (sum (filled_by rules));
       }
 
   -- a line that is none asks for nothing
@@ -145,6 +153,7 @@ module _ (rules : Rules) where
       record {
         analysed = more_rise _ _ _ _ _ _ before.analysed works.analysed (sum (analysed_by rules));
         filled = more_rise _ _ _ _ _ _ before.filled works.filled (sum (filled_by rules));
+        written = more_rise _ _ _ _ _ _ before.written works.written (sum (filled_by rules));
       }
     where
       sum_is : (n m : ℕ) → m ≡ 0 → n ≡ n + m

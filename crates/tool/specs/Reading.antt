@@ -12,11 +12,13 @@ use Rattle.session.specs.Sessions.{State, held_at}
 use Rattle.session.specs.declared.edits.Damage.{Damage}
 use Rattle.session.specs.declared.edits.EditFault.{EditFault}
 use Rattle.session.specs.declared.edits.EditFault.TheVariants.{NoMemory}
-use Rattle.tool.specs.Scripts.{Order, is_line_end, line_limit, order_of_line}
+use Rattle.tool.specs.Scripts.{Order, is_line_end, order_of_line}
 use Rattle.tool.specs.ScriptEnds.{IsScriptRun}
 use Rattle.tool.specs.ScriptRun.{after_line, after_lines, answer_line, answer_to, after_order, answers, damage_text, is_good, obeyed, obeyed_text, order_refusal, refusal_text, with_ends}
 use Rattle.tool.specs.Work.{LineWorks, LinesWork}
 use Rattle.text_run.specs.declared.faults.RunFault.{RunFault}
+use Rattle.text_run.specs.declared.text.TheConstants.{PIECE}
+use Rattle.tool.specs.declared.script.TheConstants.{LINE_LIMIT}
 use Rattle.text_run.specs.declared.faults.RunFault.TheVariants as f
 use Rattle.tool.specs.declared.script.Reading.{Reading}
 
@@ -87,14 +89,14 @@ pub record EndsIn (piece front behind : List ℕ) : Type 0 where
 -- bytes were added to the beginning of a line
 pub record Grows (bytes : List ℕ) (old new : Reading) : Type 0 where
   pub line : new.line.items ≡ old.line.items ++ bytes
-  pub short : length new.line.items ≤ line_limit
+  pub short : length new.line.items ≤ LINE_LIMIT
   pub lines : new.lines ≡ old.lines
   pub written : new.written ≡ old.written
 
 -- or they were not, since the line would be too long, or else for want of memory
 abbrev pub GrowsNot : List ℕ → Reading → RunFault → Type 0
-GrowsNot bytes reading (f.BadLine n) = (line_limit < length (reading.line.items ++ bytes)) × (n ≡ reading.lines + 1)
-GrowsNot bytes reading f.Memory = length (reading.line.items ++ bytes) ≤ line_limit
+GrowsNot bytes reading (f.BadLine n) = (LINE_LIMIT < length (reading.line.items ++ bytes)) × (n ≡ reading.lines + 1)
+GrowsNot bytes reading f.Memory = length (reading.line.items ++ bytes) ≤ LINE_LIMIT
 GrowsNot bytes reading fault = ⊥
 
 -- Of a piece, the first n bytes were taken: all of it goes on with the line, or a line ended and was obeyed.
@@ -156,8 +158,8 @@ pub record IsAt (rules : Rules) (print : Print) (start : State) (reader_old read
   pub works : LinesWork rules (held_at start) done start.engine now.engine
   pub lines : reading.lines ≡ length done
   pub written : reading.written ≡ length (answers rules print (held_at start) done)
-  pub ahead : length reading.line.items + length waiting ≤ 1114112
-  pub short : length reading.line.items ≤ line_limit
+  pub ahead : length reading.line.items + length waiting ≤ LINE_LIMIT + PIECE
+  pub short : length reading.line.items ≤ LINE_LIMIT
 
 -- a run stands somewhere, and its counts fit
 abbrev pub CanFeed : Rules → Print → State → Reading → Device → List ℕ → Type 0

@@ -16,6 +16,8 @@ use Rattle.text_run.specs.declared.faults.RunFault.{RunFault}
 use Rattle.text_run.specs.declared.faults.RunFault.TheVariants as fault
 use Rattle.text_run.specs.declared.text.Ending.{Ending}
 use Rattle.text_run.specs.declared.text.Ending.TheVariants.{AtEnd, AtFailure}
+use Rattle.text_run.specs.declared.text.TheConstants.{PIECE}
+use Rattle.tool.specs.declared.script.TheConstants.{LINE_LIMIT}
 
 -- ---- one order
 
@@ -110,9 +112,9 @@ input_fault AtFailure = Some fault.Read
 abbrev pub script_fault : Ending → List (List ℕ) → Option RunFault
 script_fault ending lines = if list_all is_good lines then input_fault ending else Some (fault.BadLine (length (good_lines lines) + 1))
 
--- how many bytes a run reads behind the lines that it has answered, at most: a line of 1,048,577 with its end, and one piece of 65,536
+-- how many bytes a run reads behind the lines that it has answered, at most: a line with its end, and one piece
 abbrev pub line_read_ahead : ℕ
-line_read_ahead = 1114113
+line_read_ahead = LINE_LIMIT + 1 + PIECE
 
 abbrev pub with_ends : List (List ℕ) → List ℕ
 with_ends lines = concat (map (λ line. line ++ 10 ∷ []) lines)

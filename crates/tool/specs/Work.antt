@@ -1,7 +1,7 @@
 -- How much work the lines of a script ask for at most: each order what its change asks of a session, one that is refused nothing.
 use Rattle.std.specs.Prelude.{ℕ, ◌+◌, List, [], ◌∷◌, length, Option, Some, None, is_none, if◌then◌else◌}
 use Rattle.bidi.specs.Cuts.{paragraphs}
-use Rattle.lines.specs.Engine.{analysed_of, filled_of, RisesBy}
+use Rattle.lines.specs.Engine.{analysed_of, filled_of, written_of, RisesBy}
 use Rattle.lines.specs.Layouts.{Rules, cut_by}
 use Rattle.lines.specs.declared.engine.Engine.{Engine}
 use Rattle.session.specs.Changes.{Held, deletion, insertion}
@@ -10,7 +10,7 @@ use Rattle.tool.specs.ScriptRun.{after_line, order_refusal}
 use Rattle.tool.specs.Scripts.{Order, Insertion, Deletion, Filling, Showing, order_of_line}
 
 module _ (rules : Rules) where
-  -- how many characters an order that isn't refused has analysed at most, and how many filled into lines
+  -- how many characters an order that isn't refused has analysed at most, and how many filled into lines and written
   abbrev pub analysed_by : Held → Order → ℕ
   analysed_by held (Insertion pos piece) = fresh (paragraphs (cut_by rules) held.text) (insertion pos piece)
   analysed_by held (Deletion pos count) = fresh (paragraphs (cut_by rules) held.text) (deletion pos count)
@@ -40,6 +40,7 @@ module _ (rules : Rules) where
   pub record Works (most : (Held → Order → ℕ) → ℕ) (old new : Engine) : Type 0 where
     pub analysed : RisesBy (most analysed_by) (analysed_of old) (analysed_of new)
     pub filled : RisesBy (most filled_by) (filled_of old) (filled_of new)
+    pub written : RisesBy (most filled_by) (written_of old) (written_of new)
 
   abbrev pub OrderWorks : Held → Order → Engine → Engine → Type 0
   OrderWorks held order = Works (λ work. work_of work held order)

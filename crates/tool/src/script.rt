@@ -11,12 +11,13 @@ ghost use Rattle.lines.specs.Writing.{PassedOn};
 ghost use Rattle.session.specs.Sessions.{State, held_at, page_at, IsWholeLayout};
 ghost use Rattle.std.specs.Io.KnownBytes.{IsAtEnd};
 ghost use Rattle.text_run.specs.TextRun.{TellsReads};
+ghost use Rattle.text_run.specs.declared.text.TheConstants.{PIECE};
 ghost use Rattle.tool.specs.Commands.{order_of};
 ghost use Rattle.tool.specs.Reading.{CanFeed, Changed, EndsIn, FailsAt, FailsIn, Feeds, Grows, GrowsNot};
 ghost use Rattle.tool.specs.Reading.{IsAt, NoEnd, Obeys, ObeysLine, ObeysNot, Steps, Stops, Takes};
 ghost use Rattle.tool.specs.Reading.{change_text, lacks_memory};
 ghost use Rattle.tool.specs.ScriptEnds.{IsScriptRun};
-ghost use Rattle.tool.specs.Scripts.{Deletion, Filling, Insertion, line_limit, order_of_line};
+ghost use Rattle.tool.specs.Scripts.{Deletion, Filling, Insertion, order_of_line};
 ghost use Rattle.tool.specs.Work.{LineWorks, OrderWorks};
 
 use crate::answers::answer_of;
@@ -29,7 +30,7 @@ use store::ParagraphStore;
 use text_run::{PIECE, RunFault, front, room};
 
 /// How many bytes a line may have, without its end.
-const LINE_LIMIT: usize = 1_048_576;
+pub const LINE_LIMIT: usize = 1_048_576;
 
 /// What a run holds between two reads.
 #[derive(Debug)]
@@ -191,7 +192,7 @@ fn read_line(
     line: &[u8],
     text: &mut Vec<char>,
 ) -> Result<Option<Command>, AllocError>
-    requires { length line.now ≤ line_limit }
+    requires { length line.now ≤ LINE_LIMIT }
     ensures ok { IfOk result (λ command. option_map order_of command ≡ order_of_line line.now) }
     ensures err { OnErr result (utf8_valid_len line.now ≡ length line.now) }
 {
@@ -221,7 +222,7 @@ fn obey_line<W: Sink, S: ParagraphStore<Kept>>(
     print: &Print,
     reading: &mut Reading,
 ) -> Result<(), RunFault>
-    requires short { length reading.old.line.items ≤ line_limit }
+    requires short { length reading.old.line.items ≤ LINE_LIMIT }
     requires written { reading.old.written ≤ (W.state writer.old).passed }
     requires lines { reading.old.lines < 2 ^ 64 - 1 }
     ensures ok { OnOk result (ObeysLine (rules_of session.old.engine) print.now reading.old.line.items
@@ -268,7 +269,7 @@ fn grow(reading: &mut Reading, bytes: &[u8]) -> Result<(), RunFault>
 }
 
 fn is_too_long(line: &[u8], more: &[u8]) -> bool
-    ensures { result ≡ nat_lt line_limit (length (line.now ++ more.now)) }
+    ensures { result ≡ nat_lt LINE_LIMIT (length (line.now ++ more.now)) }
 {
     line.len() > LINE_LIMIT || more.len() > LINE_LIMIT - line.len()
 }
@@ -379,7 +380,7 @@ fn step<R: Source, W: Sink, S: ParagraphStore<Kept>>(
     piece: &mut [u8],
     reading: &mut Reading,
 ) -> Result<bool, RunFault>
-    requires room { length piece.old ≡ 65536 }
+    requires room { length piece.old ≡ PIECE }
     requires stands { (start : State) × (reader_start : Device) × (writer_start : Device)
         × IsAt (rules_of session.old.engine) print.now start reader_start (R.state reader.old)
         writer_start (W.state writer.old) session.old reading.old [] }

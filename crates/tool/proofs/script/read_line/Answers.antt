@@ -5,8 +5,9 @@ use Rattle.std.proofs.lemmas.Bool.Decides.{nat_tests}
 use Rattle.std.proofs.lemmas.List.{length-take-le, take_all}
 use Rattle.std.proofs.lemmas.Str.{utf8_valid_len_le}
 use Rattle.tool.specs.Commands.{order_of}
-use Rattle.tool.specs.Scripts.{Order, line_limit, order_in, order_of_line}
+use Rattle.tool.specs.Scripts.{Order, order_in, order_of_line}
 use Rattle.tool.proofs.script.read_line.Goals as goal
+use Rattle.tool.specs.declared.script.TheConstants.{LINE_LIMIT}
 
 -- what holds holds after an error too
 on_err : {A E : Type 0} (P : Type 0) (r : Result A E) → P → OnErr r P
@@ -30,7 +31,7 @@ returns-clause-ok c =
     let line = c.args.line.now in
     let within : utf8_valid_len line ≤ length line = utf8_valid_len_le line in
     let is_text : utf8_valid_len line ≡ length line = omega (arith, within, ap length c.front.ensures.text, length-take-le (utf8_valid_len line) line within, c.if-characters-line.false) in
-    let short : nat_le (length line) line_limit ≡ true = grind (arith, nat_tests, c.requires) in
+    let short : nat_le (length line) LINE_LIMIT ≡ true = grind (arith, nat_tests, c.requires) in
     let valid : (utf8_valid_len line == length line) ≡ true = grind (arith, nat_tests, is_text) in
     let text : c.deref.result.now ≡ chars line =
     c.deref.ensures.value ∙ c.in_ok-push_characters.ensures ∙ ap (λ t. t ++ chars c.front.result.0.now) c.clear.ensures.items

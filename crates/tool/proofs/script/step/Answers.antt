@@ -2,6 +2,7 @@ use Rattle.std.proofs.Common.{◌≤◌, length, rules}
 use Rattle.lines.specs.Engine.{rules_of}
 use Rattle.tool.proofs.ScriptStepLemmas.{at_none, at_read, ends_read}
 use Rattle.tool.proofs.script.step.Goals as goal
+use Rattle.text_run.specs.declared.text.TheConstants.{PIECE}
 
 pub returns-in-Err-clause-steps : goal.returns-in-Err-clause-steps
 returns-in-Err-clause-steps g c = λ start reader_start writer_start at.
@@ -27,7 +28,7 @@ feed-requires g c =
     let stands = c.requires.stands in
     let gives = c.in-Ok.ensures.reads in
     let within : c.in-Ok.len ≤ length c.read.new.buffer = search rules in
-    let small : c.in-Ok.len ≤ 65536 = search rules in (
+    let small : c.in-Ok.len ≤ PIECE = search rules in (
       stands.0,
       stands.1,
       stands.2,
@@ -41,7 +42,7 @@ pub returns-in-Ok-feed-clause-steps : goal.returns-in-Ok-feed-clause-steps
 returns-in-Ok-feed-clause-steps g c = λ start reader_start writer_start at.
     let gives = c.in-Ok.ensures.reads in
     let within : c.in-Ok.len ≤ length c.read.new.buffer = search rules in
-    let small : c.in-Ok.len ≤ 65536 = search rules in
+    let small : c.in-Ok.len ≤ PIECE = search rules in
     c.in-Ok-feed.ensures.feeds start reader_start writer_start (g.R.Source.state c.read.new.self)
     (at_read (rules_of c.args.session.now.engine) c.args.print.now start reader_start (g.R.Source.state c.args.reader.now) writer_start (g.W.Sink.state c.args.writer.now) c.args.session.now c.args.reading.now
     (g.R.Source.state c.read.new.self) c.in-Ok.len c.read.new.buffer at gives within small)
@@ -50,7 +51,7 @@ pub returns-in-Err-feed-clause-steps : goal.returns-in-Err-feed-clause-steps
 returns-in-Err-feed-clause-steps g c = λ start reader_start writer_start at.
     let gives = c.in-Ok.ensures.reads in
     let within : c.in-Ok.len ≤ length c.read.new.buffer = search rules in
-    let small : c.in-Ok.len ≤ 65536 = search rules in
+    let small : c.in-Ok.len ≤ PIECE = search rules in
     c.in-Err-feed.ensures.feeds start reader_start writer_start (g.R.Source.state c.read.new.self)
     (at_read (rules_of c.args.session.now.engine) c.args.print.now start reader_start (g.R.Source.state c.args.reader.now) writer_start (g.W.Sink.state c.args.writer.now) c.args.session.now c.args.reading.now
     (g.R.Source.state c.read.new.self) c.in-Ok.len c.read.new.buffer at gives within small)
