@@ -261,7 +261,8 @@ impl Engine {
         ensures laid_out { IsLaidOut (rules_of self.now) laid.new }
         ensures extents { extents.new ≡ extents_in laid.old.lines }
         ensures room { room.new ≡ record room.old {
-            written = counted room.old.written (length laid.old.text) } }
+          written = counted room.old.written (length laid.old.text);
+        } }
         ensures least { room.old.written ≤ room.new.written }
     {
         laid.reflow(&self.tables, self.options, extents, room);

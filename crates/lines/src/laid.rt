@@ -181,7 +181,8 @@ impl Laid {
             ≡ reflowed (record { tables = tables.now; options = options }) self.old extents.old }
         ensures extents { extents.new ≡ extents_in self.old.lines }
         ensures room { room.new ≡ record room.old {
-            written = counted room.old.written (length self.old.text) } }
+          written = counted room.old.written (length self.old.text);
+        } }
         ensures least { room.old.written ≤ room.new.written }
     {
         let text = self.text.as_slice();

@@ -12,7 +12,8 @@ use Rattle.lines.specs.Visual.{visual_of}
 use Rattle.store.specs.Finding.{Finds}
 use Rattle.store.specs.declared.found.Found.{Found}
 use Rattle.session.specs.Edges.{IsFrontEdge, IsBackEdge}
-use Rattle.session.specs.Kept.{pars_of, text_of, visuals, lines_in}
+use Rattle.lines.specs.Layouts.{visuals}
+use Rattle.session.specs.Kept.{pars_of, text_of, lines_in}
 use Rattle.session.specs.Touched.{start_of}
 use Rattle.session.proofs.TouchedLemmas.{start_of-le, start_of-le-length}
 

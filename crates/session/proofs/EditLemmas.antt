@@ -13,10 +13,11 @@ use Rattle.lines.specs.Engine.{rules_of, SameRules, LaysOutAtMost}
 use Rattle.lines.specs.Layouts.{Layout, Rules, cut_by, layout_of, lines_of}
 use Rattle.lines.specs.declared.engine.Engine.{Engine}
 use Rattle.session.specs.Sessions.{State, IsWholeLayout, IsCountedFor, Edits, EditsNot, text_at, cuts_at}
-use Rattle.session.specs.Changes.{Change, changed, changing, refusal, text_refusal, text_limit, paragraphs_refusal, are_within, is_within_limit}
+use Rattle.session.specs.Changes.{Change, changed, changing, refusal, text_refusal, paragraphs_refusal, are_within, is_within_limit}
 use Rattle.session.specs.Damage.{Replaces, IsDamage}
 use Rattle.session.specs.Edges.{IsEdge, IsFrontEdge, IsBackEdge, damage_between}
-use Rattle.session.specs.Kept.{pars_of, text_of, visuals, lines_in, layouts_of}
+use Rattle.lines.specs.Layouts.{visuals}
+use Rattle.session.specs.Kept.{pars_of, text_of, lines_in, layouts_of}
 use Rattle.session.specs.Sessions.{IsAnswerFor}
 use Rattle.session.specs.Touched.{fresh}
 use Rattle.session.specs.declared.edge.Edge.{Edge}
@@ -27,6 +28,7 @@ use Rattle.session.proofs.ChangeLemmas.{IsSpliced, IsSpliced-from_touched, regio
 use Rattle.session.proofs.EdgeLemmas.{chars_of, lines_of as line_number, length-text, length-lines}
 use Rattle.session.proofs.RegionParts.{touched_by, front_of, back_of, AreTouched-edges, region_parts, edges_rise, take-both}
 use Rattle.session.proofs.RefusalLemmas.{allowed-within_limit, text_refusal-short, refusal-inside}
+use Rattle.session.specs.declared.edits.TheConstants.{TEXT_LIMIT}
 
 -- a list of which the middle gives way to another one
 drop_two : {A : Type 0} (left mid right : List A) (n m : ℕ) → n ≡ length left → m ≡ length mid → drop (n + m) (left ++ (mid ++ right)) ≡ right
@@ -174,7 +176,7 @@ module _ (law : ParagraphsArePieces) (few : LinesAreFew) (engine : Engine) (widt
       ∙ ap (map one) (sym spliced.pieces)
 
   -- why it is refused, where the text isn't too long
-  pub refusal-by_region : length (text_of kept) - count + length piece ≤ text_limit → refusal (cut_by rules) (text_of kept) change ≡ paragraphs_refusal (cut_by rules) region
+  pub refusal-by_region : length (text_of kept) - count + length piece ≤ TEXT_LIMIT → refusal (cut_by rules) (text_of kept) change ≡ paragraphs_refusal (cut_by rules) region
   refusal-by_region short =
       let text = changed (text_of kept) change in
       let allowed : are_within (pars_of kept) ≡ true = ap are_within pars-kept ∙ allowed-within_limit (cut_by rules) (text_of kept) whole.allowed in
@@ -182,7 +184,7 @@ module _ (law : ParagraphsArePieces) (few : LinesAreFew) (engine : Engine) (widt
       ∙ text_refusal-short (cut_by rules) text (rw (length-changed_text (text_of kept) piece pos count within) short)
       ∙ ap (λ b. if b then None else Some ParagraphTooLong) (spliced.limit allowed ∙ ap (is_within_limit (cut_by rules)) region_is)
 
-  pub EditsNot-by_region : (new_engine : Engine) (fault : EditFault) → length (text_of kept) - count + length piece ≤ text_limit → IsAnswerFor (paragraphs_refusal (cut_by rules) region) fault
+  pub EditsNot-by_region : (new_engine : Engine) (fault : EditFault) → length (text_of kept) - count + length piece ≤ TEXT_LIMIT → IsAnswerFor (paragraphs_refusal (cut_by rules) region) fault
       → SameRules engine new_engine → IsCountedFor fault (LaysOutAtMost (length region)) engine new_engine
       → EditsNot change (record { engine = engine; width = width; kept = kept }) (record { engine = new_engine; width = width; kept = kept }) fault
   EditsNot-by_region new_engine fault short answer same counts = record {
@@ -195,7 +197,7 @@ module _ (law : ParagraphsArePieces) (few : LinesAreFew) (engine : Engine) (widt
   }
 
   -- the new paragraphs stand in place of the touched ones
-  module _ (new : List Layout) (laid : new ≡ layouts_of rules width region) (short : length (text_of kept) - count + length piece ≤ text_limit) where
+  module _ (new : List Layout) (laid : new ≡ layouts_of rules width region) (short : length (text_of kept) - count + length piece ≤ TEXT_LIMIT) where
     abbrev pub after : List Layout
     after = splice kept front.index back.index new
 
@@ -205,7 +207,7 @@ module _ (law : ParagraphsArePieces) (few : LinesAreFew) (engine : Engine) (widt
     text-after : text_of after ≡ changed (text_of kept) change
     text-after = ap text_of after_is ∙ text-layouts law rules width (changed (text_of kept) change)
 
-    size-after : length (changed (text_of kept) change) ≤ text_limit
+    size-after : length (changed (text_of kept) change) ≤ TEXT_LIMIT
     size-after = rw (length-changed_text (text_of kept) piece pos count within) short
 
     pub chars_fit : sum_by chars_of after < 2 ^ 64

@@ -5,10 +5,11 @@ use Rattle.std.proofs.lemmas.List.{append-nil, append_assoc, nil_from_length}
 use Rattle.bidi.specs.Cuts.{paragraphs, SplitsAt}
 use Rattle.bidi.specs.Pieces.{ArePieces, ParagraphsArePieces}
 use Rattle.lines.specs.Layouts.{Layout, Rules, cut_by, layout_of, IsParagraph}
-use Rattle.session.specs.Changes.{are_within, is_within_limit, paragraph_limit}
+use Rattle.session.specs.Changes.{are_within, is_within_limit}
 use Rattle.session.specs.Kept.{layouts_of}
 use Rattle.session.specs.Scans.{HasScanned}
 use Rattle.session.specs.declared.scan.Scan.{Scan}
+use Rattle.lines.specs.declared.engine.TheConstants.{PARAGRAPH_LIMIT}
 
 module _ (is_cut : ℕ → ℕ → Bool) where
   pub long_of_parts : (front piece back : List ℕ) (scan : Scan) → HasScanned is_cut ([] ++ front ++ piece ++ back) scan
@@ -26,10 +27,10 @@ module _ (is_cut : ℕ → ℕ → Bool) where
       ap (paragraphs is_cut) (sym (append-nil first)) ∙ law.only is_cut (first ∷ []) one
 
   -- the first paragraph is not too long, and nor are the others
-  pub within_parts : (text first : List ℕ) (pieces : List (List ℕ)) → paragraphs is_cut text ≡ first ∷ pieces → is_within_limit is_cut text ≡ true → (length first ≤ 1048576) × (are_within pieces ≡ true)
+  pub within_parts : (text first : List ℕ) (pieces : List (List ℕ)) → paragraphs is_cut text ≡ first ∷ pieces → is_within_limit is_cut text ≡ true → (length first ≤ PARAGRAPH_LIMIT) × (are_within pieces ≡ true)
   within_parts text first pieces e within =
-      let parts = and_parts (nat_le (length first) paragraph_limit) (are_within pieces) (sym (ap are_within e) ∙ within) in
-      (leb-true (length first) paragraph_limit parts.0, parts.1)
+      let parts = and_parts (nat_le (length first) PARAGRAPH_LIMIT) (are_within pieces) (sym (ap are_within e) ∙ within) in
+      (leb-true (length first) PARAGRAPH_LIMIT parts.0, parts.1)
 
 module _ (law : ParagraphsArePieces) (rules : Rules) (text : List ℕ) (within : is_within_limit (cut_by rules) text ≡ true) where
   pub paragraph_in_front : (k : ℕ) → SplitsAt (cut_by rules) text (Some k) → IsParagraph rules (take k text)

@@ -4,6 +4,7 @@ mod EditLemmas
 mod JoinedLemmas
 mod LineLemmas
 mod OpenLemmas
+mod PartLemmas
 mod PrintLemmas
 mod RefusalLemmas
 mod RegionParts

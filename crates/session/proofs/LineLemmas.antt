@@ -8,7 +8,8 @@ use Rattle.lines.specs.Layouts.{Layout}
 use Rattle.lines.specs.Visual.{visual_of}
 use Rattle.store.specs.Finding.{Finds}
 use Rattle.store.specs.declared.found.Found.{Found}
-use Rattle.session.specs.Kept.{visuals, lines_in}
+use Rattle.lines.specs.Layouts.{visuals}
+use Rattle.session.specs.Kept.{lines_in}
 use Rattle.session.proofs.EdgeLemmas.{lines_of, length-lines, length-visuals, item_read}
 
 slice_get_behind : {A : Type 0} (xs ys : List A) (i : ℕ) → slice_get (xs ++ ys) (length xs + i) ≡ slice_get ys i
@@ -20,24 +21,16 @@ slice_get_left [] ys i within = absurd (omega arith)
 slice_get_left (x ∷ xs) ys zero within = refl
 slice_get_left (x ∷ xs) ys (suc i) within = slice_get_left xs ys i (omega arith)
 
-slice_get_numbered : {A B : Type 0} (f : ℕ → A → B) (k : ℕ) (xs : List A) (i : ℕ) → slice_get (map (λ nth. f nth.0 nth.1) (enumerate_from k xs)) i ≡ option_map (f (k + i)) (slice_get xs i)
-slice_get_numbered f k [] i = refl
-slice_get_numbered f k (x ∷ xs) zero = let same : k ≡ k + 0 = omega arith in ap (λ n. Some (f n x)) same
-slice_get_numbered f k (x ∷ xs) (suc i) = let same : k + 1 + i ≡ k + suc i = omega arith in slice_get_numbered f (k + 1) xs i ∙ ap (λ n. option_map (f n) (slice_get xs i)) same
-
 pub line_read : (kept : List Layout) (n : ℕ) (found : Found) → Finds lines_of lines_of kept n found → (l : Layout) → Some l ≡ slice_get kept found.index
-    → slice_get (lines_in kept) n ≡ option_map (visual_of l.base l.text found.rest) (slice_get l.lines found.rest)
+    → slice_get (lines_in kept) n ≡ slice_get (visuals l) found.rest
 line_read kept n found f l read =
     let item : l ≡ f.item = item_read lines_of kept n found f l read in
     let whole : lines_in kept ≡ lines_in f.before ++ (visuals f.item ++ lines_in f.behind) = ap lines_in f.place ∙ flat_map-append visuals f.before (f.item ∷ f.behind) in
     let place : n ≡ length (lines_in f.before) + found.rest = sym f.rest ∙ ap (λ m. m + found.rest) (sym (length-lines f.before)) in
     let within : found.rest < length (visuals f.item) = omega (arith, f.within, length-visuals f.item) in
-    let zero_more : 0 + found.rest ≡ found.rest = omega arith in
     ap₂ slice_get whole place ∙ slice_get_behind (lines_in f.before) (visuals f.item ++ lines_in f.behind) found.rest
     ∙ slice_get_left (visuals f.item) (lines_in f.behind) found.rest within
     ∙ ap (λ x. slice_get (visuals x) found.rest) (sym item)
-    ∙ slice_get_numbered (visual_of l.base l.text) 0 l.lines found.rest
-    ∙ ap (λ m. option_map (visual_of l.base l.text m) (slice_get l.lines found.rest)) zero_more
 
 pub line_past : (kept : List Layout) (n total : ℕ) → total ≡ length (lines_in kept) → total ≤ n → None ≡ slice_get (lines_in kept) n
 line_past kept n total is past = sym (slice_get_past (lines_in kept) n (omega arith))

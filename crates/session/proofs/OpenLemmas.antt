@@ -8,7 +8,7 @@ use Rattle.lines.specs.Engine.{rules_of, SameRules, LaysOutAtMost}
 use Rattle.lines.specs.Layouts.{Layout, cut_by}
 use Rattle.lines.specs.declared.engine.Engine.{Engine}
 use Rattle.session.specs.Sessions.{IsCountedFor, Opens, OpensNot, opening_refusal}
-use Rattle.session.specs.Changes.{is_within_limit, paragraphs_refusal, text_limit, text_refusal}
+use Rattle.session.specs.Changes.{is_within_limit, paragraphs_refusal, text_refusal}
 use Rattle.session.specs.Kept.{text_of, layouts_of}
 use Rattle.session.specs.Sessions.{IsAnswerFor}
 use Rattle.session.specs.declared.edits.EditFault.{EditFault}
@@ -16,6 +16,7 @@ use Rattle.session.specs.declared.edits.EditFault.TheVariants.{WidthOutOfRange, 
 use Rattle.session.proofs.EdgeLemmas.{chars_of, lines_of}
 use Rattle.session.proofs.EditLemmas.{LinesAreFew, chars-laid, few-laid, text-layouts, IsWholeLayout-same}
 use Rattle.session.proofs.RefusalLemmas.{text_refusal-long, text_refusal-short}
+use Rattle.session.specs.declared.edits.TheConstants.{TEXT_LIMIT}
 
 pub positive : (n : ℕ) → (n ≡ 0 → ⊥) → 0 < n
 positive n some = omega (arith, some)
@@ -28,14 +29,14 @@ module _ (engine : Engine) (whole : List ℕ) (width : ℕ) (some : width ≡ 0 
   opening-width : opening_refusal (cut_by (rules_of engine)) whole width ≡ text_refusal (cut_by (rules_of engine)) whole
   opening-width = cond-false (width == 0) (Some WidthOutOfRange) (text_refusal (cut_by (rules_of engine)) whole) (ne_eqb width 0 some)
 
-  pub OpensNot-too_long : text_limit < length whole → OpensNot engine whole width (engine, TextTooLong)
+  pub OpensNot-too_long : TEXT_LIMIT < length whole → OpensNot engine whole width (engine, TextTooLong)
   OpensNot-too_long long = record {
     reason = opening-width ∙ text_refusal-long (cut_by (rules_of engine)) whole long;
     rules = refl;
     counts = refl;
   }
 
-  module _ (new_engine : Engine) (short : length whole ≤ text_limit) (same : SameRules engine new_engine) where
+  module _ (new_engine : Engine) (short : length whole ≤ TEXT_LIMIT) (same : SameRules engine new_engine) where
     opening-paragraphs : opening_refusal (cut_by (rules_of engine)) whole width ≡ paragraphs_refusal (cut_by (rules_of engine)) whole
     opening-paragraphs = opening-width ∙ text_refusal-short (cut_by (rules_of engine)) whole short
 
@@ -72,7 +73,7 @@ module _ (engine : Engine) (whole : List ℕ) (width : ℕ) (some : width ≡ 0 
           }
 
 -- the sums fit
-module _ (law : ParagraphsArePieces) (few : LinesAreFew) (engine : Engine) (whole : List ℕ) (width : ℕ) (new : List Layout) (laid : new ≡ layouts_of (rules_of engine) width whole) (short : length whole ≤ text_limit) where
+module _ (law : ParagraphsArePieces) (few : LinesAreFew) (engine : Engine) (whole : List ℕ) (width : ℕ) (new : List Layout) (laid : new ≡ layouts_of (rules_of engine) width whole) (short : length whole ≤ TEXT_LIMIT) where
   pub opening-chars : (before : List Layout) → before ≡ [] → sum_by chars_of (splice before 0 0 new) < 2 ^ 64
   opening-chars before none = rw (ap (λ ks. splice ks 0 0 new) none ∙ splice_all new) (omega (arith, chars-laid law few (rules_of engine) width whole new laid))
 

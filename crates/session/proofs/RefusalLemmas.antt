@@ -1,9 +1,10 @@
 -- Why a text or a change of it is refused.
 use Rattle.std.proofs.Common.{◌≡◌, ℕ, ◌+◌, ◌-◌, ◌<◌, ◌≤◌, Bool, true, false, List, length, Some, None, nat_lt, if◌then◌else◌, refl, ◌∙◌}
 use Rattle.std.proofs.lemmas.Bool.{cond-true, cond-false, lt-ltb, le-ltb, ltb-false}
-use Rattle.session.specs.Changes.{Change, changed, changing, refusal, text_refusal, text_limit, is_within_limit}
+use Rattle.session.specs.Changes.{Change, changed, changing, refusal, text_refusal, is_within_limit}
 use Rattle.session.specs.declared.edits.EditFault.TheVariants.{OutOfRange, TextTooLong, ParagraphTooLong}
 use Rattle.session.proofs.ChangeLemmas.{length-changed_text}
+use Rattle.session.specs.declared.edits.TheConstants.{TEXT_LIMIT}
 
 text_refusal_parts : (long within : Bool) → (if long then Some TextTooLong else (if within then None else Some ParagraphTooLong)) ≡ None → (long ≡ false) × (within ≡ true)
 text_refusal_parts true within h = absurd (cc h)
@@ -11,26 +12,26 @@ text_refusal_parts false true h = (refl, refl)
 text_refusal_parts false false h = absurd (cc h)
 
 module _ (is_cut : ℕ → ℕ → Bool) where
-  pub allowed-length : (text : List ℕ) → text_refusal is_cut text ≡ None → length text ≤ text_limit
-  allowed-length text h = ltb-false text_limit (length text) (text_refusal_parts (nat_lt text_limit (length text)) (is_within_limit is_cut text) h).0
+  pub allowed-length : (text : List ℕ) → text_refusal is_cut text ≡ None → length text ≤ TEXT_LIMIT
+  allowed-length text h = ltb-false TEXT_LIMIT (length text) (text_refusal_parts (nat_lt TEXT_LIMIT (length text)) (is_within_limit is_cut text) h).0
 
   pub allowed-within_limit : (text : List ℕ) → text_refusal is_cut text ≡ None → is_within_limit is_cut text ≡ true
-  allowed-within_limit text h = (text_refusal_parts (nat_lt text_limit (length text)) (is_within_limit is_cut text) h).1
+  allowed-within_limit text h = (text_refusal_parts (nat_lt TEXT_LIMIT (length text)) (is_within_limit is_cut text) h).1
 
-  pub text_refusal-long : (text : List ℕ) → text_limit < length text → text_refusal is_cut text ≡ Some TextTooLong
+  pub text_refusal-long : (text : List ℕ) → TEXT_LIMIT < length text → text_refusal is_cut text ≡ Some TextTooLong
   text_refusal-long text long =
-      cond-true (nat_lt text_limit (length text)) (Some TextTooLong) (if is_within_limit is_cut text then None else Some ParagraphTooLong) (lt-ltb text_limit (length text) long)
+      cond-true (nat_lt TEXT_LIMIT (length text)) (Some TextTooLong) (if is_within_limit is_cut text then None else Some ParagraphTooLong) (lt-ltb TEXT_LIMIT (length text) long)
 
-  pub text_refusal-short : (text : List ℕ) → length text ≤ text_limit → text_refusal is_cut text ≡ (if is_within_limit is_cut text then None else Some ParagraphTooLong)
+  pub text_refusal-short : (text : List ℕ) → length text ≤ TEXT_LIMIT → text_refusal is_cut text ≡ (if is_within_limit is_cut text then None else Some ParagraphTooLong)
   text_refusal-short text short =
-      cond-false (nat_lt text_limit (length text)) (Some TextTooLong) (if is_within_limit is_cut text then None else Some ParagraphTooLong) (le-ltb text_limit (length text) short)
+      cond-false (nat_lt TEXT_LIMIT (length text)) (Some TextTooLong) (if is_within_limit is_cut text then None else Some ParagraphTooLong) (le-ltb TEXT_LIMIT (length text) short)
 
   pub refusal-inside : (text : List ℕ) (change : Change) → change.pos + change.count ≤ length text → refusal is_cut text change ≡ text_refusal is_cut (changed text change)
   refusal-inside text change within =
       cond-false (nat_lt (length text) (change.pos + change.count)) (Some OutOfRange) (text_refusal is_cut (changed text change)) (le-ltb (length text) (change.pos + change.count) within)
 
 -- what holds of a change that lies inside the text
-pub refusal-too_long : (is_cut : ℕ → ℕ → Bool) (text piece : List ℕ) (pos count : ℕ) → pos + count ≤ length text → text_limit < length text - count + length piece
+pub refusal-too_long : (is_cut : ℕ → ℕ → Bool) (text piece : List ℕ) (pos count : ℕ) → pos + count ≤ length text → TEXT_LIMIT < length text - count + length piece
     → refusal is_cut text (changing pos count piece) ≡ Some TextTooLong
 refusal-too_long is_cut text piece pos count within long =
     refusal-inside is_cut text (changing pos count piece) within

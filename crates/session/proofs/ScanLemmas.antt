@@ -5,9 +5,10 @@ use Rattle.std.proofs.lemmas.Bool.{le-leb, lt-leb, leb-true, and_right}
 use Rattle.std.proofs.lemmas.List.{append_assoc, length_push, get_or_push}
 use Rattle.std.proofs.lemmas.Option.{slice_get-get_or}
 use Rattle.bidi.specs.Cuts.{paragraphs}
-use Rattle.session.specs.Changes.{paragraph_limit, are_within}
+use Rattle.session.specs.Changes.{are_within}
 use Rattle.session.specs.Scans.{HasScanned}
 use Rattle.session.specs.declared.scan.Scan.{Scan}
+use Rattle.lines.specs.declared.engine.TheConstants.{PARAGRAPH_LIMIT}
 
 -- the last of pieces, and pieces with a character put behind them, which begins a piece or is put onto the last
 last_of : List (List ℕ) → List ℕ
@@ -113,19 +114,19 @@ and_assoc : (a b c : Bool) → (a && (b && c)) ≡ ((a && b) && c)
 and_assoc true b c = refl
 and_assoc false b c = refl
 
-shorter_within : (p : List ℕ) (c : ℕ) → nat_le (length (p ++ c ∷ [])) paragraph_limit ≡ true → nat_le (length p) paragraph_limit ≡ true
-shorter_within p c h = le-leb (length p) paragraph_limit (omega (arith, length_push p c, leb-true (length (p ++ c ∷ [])) paragraph_limit h))
+shorter_within : (p : List ℕ) (c : ℕ) → nat_le (length (p ++ c ∷ [])) PARAGRAPH_LIMIT ≡ true → nat_le (length p) PARAGRAPH_LIMIT ≡ true
+shorter_within p c h = le-leb (length p) PARAGRAPH_LIMIT (omega (arith, length_push p c, leb-true (length (p ++ c ∷ [])) PARAGRAPH_LIMIT h))
 
 -- none is too long where none was and the last isn't
-are_within-push : (starts : Bool) (c : ℕ) (ps : List (List ℕ)) → are_within (push starts c ps) ≡ (are_within ps && nat_le (length (last_of (push starts c ps))) paragraph_limit)
+are_within-push : (starts : Bool) (c : ℕ) (ps : List (List ℕ)) → are_within (push starts c ps) ≡ (are_within ps && nat_le (length (last_of (push starts c ps))) PARAGRAPH_LIMIT)
 unfolding last_of push
 are_within-push starts c [] = refl
-are_within-push true c (p ∷ []) = and-true-swap (nat_le (length p) paragraph_limit) true
-are_within-push false c (p ∷ []) = and-implied (nat_le (length p) paragraph_limit) (nat_le (length (p ++ c ∷ [])) paragraph_limit) (shorter_within p c)
+are_within-push true c (p ∷ []) = and-true-swap (nat_le (length p) PARAGRAPH_LIMIT) true
+are_within-push false c (p ∷ []) = and-implied (nat_le (length p) PARAGRAPH_LIMIT) (nat_le (length (p ++ c ∷ [])) PARAGRAPH_LIMIT) (shorter_within p c)
 are_within-push starts c (p ∷ q ∷ ps) =
-    ap (λ b. nat_le (length p) paragraph_limit && b) (are_within-push starts c (q ∷ ps))
-    ∙ and_assoc (nat_le (length p) paragraph_limit) (are_within (q ∷ ps)) (nat_le (length (last_of (push starts c (q ∷ ps)))) paragraph_limit)
-    ∙ ap (λ (r : List ℕ). are_within (p ∷ q ∷ ps) && nat_le (length r) paragraph_limit) (sym (last_of-cons-push starts c p q ps))
+    ap (λ b. nat_le (length p) PARAGRAPH_LIMIT && b) (are_within-push starts c (q ∷ ps))
+    ∙ and_assoc (nat_le (length p) PARAGRAPH_LIMIT) (are_within (q ∷ ps)) (nat_le (length (last_of (push starts c (q ∷ ps)))) PARAGRAPH_LIMIT)
+    ∙ ap (λ (r : List ℕ). are_within (p ∷ q ∷ ps) && nat_le (length r) PARAGRAPH_LIMIT) (sym (last_of-cons-push starts c p q ps))
 
 and-true : (a : Bool) → (a && true) ≡ a
 and-true true = refl
@@ -137,7 +138,7 @@ slice_get-push text c =
     rw at_end (sym (slice_get-get_or (text ++ c ∷ []) (length text) c (omega (arith, length_push text c)) ∙ ap (λ x. Some x) (get_or_push text c c (length text) refl)))
 
 -- the length of the last paragraph, if it goes on, and with one more character
-len_before : (starts : Bool) (m n : ℕ) → n ≡ min m paragraph_limit → (if starts then 0 else n) ≡ min (if starts then 0 else m) paragraph_limit
+len_before : (starts : Bool) (m n : ℕ) → n ≡ min m PARAGRAPH_LIMIT → (if starts then 0 else n) ≡ min (if starts then 0 else m) PARAGRAPH_LIMIT
 len_before true m n h = refl
 len_before false m n h = h
 
@@ -152,36 +153,36 @@ module _ (is_cut : ℕ → ℕ → Bool) (text : List ℕ) (c : ℕ) where
   unfolding before starts
   length_last = ap (λ (ps : List (List ℕ)). length (last_of ps)) (paragraphs-push is_cut text c) ∙ length_last_of-push starts c (paragraphs is_cut text)
 
-  within_more : are_within (paragraphs is_cut (text ++ c ∷ [])) ≡ (are_within (paragraphs is_cut text) && nat_le (before + 1) paragraph_limit)
+  within_more : are_within (paragraphs is_cut (text ++ c ∷ [])) ≡ (are_within (paragraphs is_cut text) && nat_le (before + 1) PARAGRAPH_LIMIT)
   unfolding before starts
   within_more =
       ap are_within (paragraphs-push is_cut text c) ∙ are_within-push starts c (paragraphs is_cut text)
-      ∙ ap (λ n. are_within (paragraphs is_cut text) && nat_le n paragraph_limit) (length_last_of-push starts c (paragraphs is_cut text))
+      ∙ ap (λ n. are_within (paragraphs is_cut text) && nat_le n PARAGRAPH_LIMIT) (length_last_of-push starts c (paragraphs is_cut text))
 
   module _ (scan : Scan) (n : ℕ) (known : HasScanned is_cut text scan) (n-is : n ≡ (if starts_piece is_cut scan.last c then 0 else scan.len)) where
-    n_before : n ≡ min before paragraph_limit
+    n_before : n ≡ min before PARAGRAPH_LIMIT
     unfolding before starts
     n_before =
         n-is ∙ ap (λ o. if starts_piece is_cut o c then 0 else scan.len) known.last
-        ∙ len_before starts (length (last_of (paragraphs is_cut text))) scan.len (known.len ∙ ap (λ (p : List ℕ). min (length p) paragraph_limit) (get_or-last (paragraphs is_cut text)))
+        ∙ len_before starts (length (last_of (paragraphs is_cut text))) scan.len (known.len ∙ ap (λ (p : List ℕ). min (length p) PARAGRAPH_LIMIT) (get_or-last (paragraphs is_cut text)))
 
     length_got : length (get_or (paragraphs is_cut (text ++ c ∷ [])) (length (paragraphs is_cut (text ++ c ∷ [])) - 1) []) ≡ before + 1
     length_got = ap length (get_or-last (paragraphs is_cut (text ++ c ∷ []))) ∙ length_last
 
     -- one more character, with which the last paragraph is within the limit, or past it
-    pub scanned_within : (len : ℕ) (is_long : Bool) → n < paragraph_limit → len ≡ n + 1 → is_long ≡ scan.is_long → HasScanned is_cut (text ++ c ∷ []) (record { last = Some c; len = len; is_long = is_long })
+    pub scanned_within : (len : ℕ) (is_long : Bool) → n < PARAGRAPH_LIMIT → len ≡ n + 1 → is_long ≡ scan.is_long → HasScanned is_cut (text ++ c ∷ []) (record { last = Some c; len = len; is_long = is_long })
     scanned_within len is_long short len-is is_long-is = record {
       last = slice_get-push text c;
       len = (let n-is = n_before in rw length_got (omega arith));
-      is_long = (let e : nat_le (before + 1) paragraph_limit ≡ true = le-leb (before + 1) paragraph_limit (omega (arith, n_before)) in
+      is_long = (let e : nat_le (before + 1) PARAGRAPH_LIMIT ≡ true = le-leb (before + 1) PARAGRAPH_LIMIT (omega (arith, n_before)) in
           is_long-is ∙ known.is_long ∙ ap not (sym (within_more ∙ ap (λ b. are_within (paragraphs is_cut text) && b) e ∙ and-true (are_within (paragraphs is_cut text)))));
     }
 
-    pub scanned_past : (len : ℕ) (is_long : Bool) → paragraph_limit ≤ n → len ≡ n → is_long ≡ true → HasScanned is_cut (text ++ c ∷ []) (record { last = Some c; len = len; is_long = is_long })
+    pub scanned_past : (len : ℕ) (is_long : Bool) → PARAGRAPH_LIMIT ≤ n → len ≡ n → is_long ≡ true → HasScanned is_cut (text ++ c ∷ []) (record { last = Some c; len = len; is_long = is_long })
     scanned_past len is_long long len-is is_long-is = record {
       last = slice_get-push text c;
       len = (let n-is = n_before in rw length_got (omega arith));
-      is_long = (let e : nat_le (before + 1) paragraph_limit ≡ false = lt-leb (before + 1) paragraph_limit (omega (arith, n_before)) in
+      is_long = (let e : nat_le (before + 1) PARAGRAPH_LIMIT ≡ false = lt-leb (before + 1) PARAGRAPH_LIMIT (omega (arith, n_before)) in
           is_long-is ∙ ap not (sym (within_more ∙ ap (λ b. are_within (paragraphs is_cut text) && b) e ∙ and_right (are_within (paragraphs is_cut text)) false refl)));
     }
 

@@ -7,7 +7,9 @@ use Rattle.std.proofs.Math.Bool.{and-true}
 use Rattle.std.proofs.lemmas.Bool.{and_parts}
 use Rattle.bidi.specs.Cuts.{paragraphs}
 use Rattle.bidi.specs.Pieces.{ArePieces, ParagraphsArePieces}
-use Rattle.session.specs.Changes.{changed, changing, paragraph_limit, are_within}
+use Rattle.session.specs.Changes.{changed, changing, are_within}
+use Rattle.lines.specs.declared.engine.TheConstants.{PARAGRAPH_LIMIT}
+use Rattle.session.specs.Kept.{IsCutAt}
 
 -- the first and the last character of two texts that stand together
 first-append : (before after : List ℕ) → 0 < length before → slice_index (before ++ after) 0 ≡ slice_index before 0
@@ -19,10 +21,6 @@ last-append before after some =
     rw (length-append before after, n) (get_or-append-add before after (length after - 1) 0)
 
 module _ (is_cut : ℕ → ℕ → Bool) where
-  -- two texts, neither of which is empty, have a cut between them
-  abbrev pub IsCutAt : List ℕ → List ℕ → Type 0
-  IsCutAt before after = 0 < length before → 0 < length after → is_cut (slice_index before (length before - 1)) (slice_index after 0) ≡ true
-
   first_is_filled : (piece : List ℕ) (pieces : List (List ℕ)) → ArePieces is_cut (piece ∷ pieces) → 0 < length piece
   first_is_filled piece [] h = h.filled
   first_is_filled piece (next ∷ pieces) h = h.0.filled
@@ -31,7 +29,7 @@ module _ (is_cut : ℕ → ℕ → Bool) where
   some-concat piece pieces h = let some = first_is_filled piece pieces h in rw (length-append piece (concat pieces)) (omega arith)
 
   -- pieces before and behind a cut
-  ArePieces-append : (before after : List (List ℕ)) → ArePieces is_cut before → ArePieces is_cut after → IsCutAt (concat before) (concat after) → ArePieces is_cut (before ++ after)
+  pub ArePieces-append : (before after : List (List ℕ)) → ArePieces is_cut before → ArePieces is_cut after → IsCutAt is_cut (concat before) (concat after) → ArePieces is_cut (before ++ after)
   ArePieces-append [] after h g between = g
   ArePieces-append (piece ∷ []) [] h g between = h
   ArePieces-append (piece ∷ []) (next ∷ after) h g between =
@@ -55,7 +53,7 @@ module _ (is_cut : ℕ → ℕ → Bool) where
   ArePieces-after (piece ∷ []) (next ∷ after) h = h.2
   ArePieces-after (piece ∷ next ∷ before) after h = ArePieces-after (next ∷ before) after h.2
 
-  ArePieces-between : (before after : List (List ℕ)) → ArePieces is_cut (before ++ after) → IsCutAt (concat before) (concat after)
+  ArePieces-between : (before after : List (List ℕ)) → ArePieces is_cut (before ++ after) → IsCutAt is_cut (concat before) (concat after)
   ArePieces-between [] after h some filled = absurd (omega arith)
   ArePieces-between (piece ∷ []) [] h some filled = absurd (omega arith)
   ArePieces-between (piece ∷ []) (next ∷ after) h some filled =
@@ -71,12 +69,12 @@ module _ (is_cut : ℕ → ℕ → Bool) where
       → paragraphs is_cut (concat left ++ (new ++ concat right)) ≡ left ++ (paragraphs is_cut new ++ right)
   paragraphs-splice law left mid right new h first last =
       let inner = ArePieces-after left (mid ++ right) h in
-      let behind : IsCutAt new (concat right) = λ _ filled.
+      let behind : IsCutAt is_cut new (concat right) = λ _ filled.
       let same = last filled in rw same.2 (ArePieces-between mid right inner same.0 filled) in
       let tail : ArePieces is_cut (paragraphs is_cut new ++ right) =
       ArePieces-append (paragraphs is_cut new) right (law.pieces is_cut new) (ArePieces-after mid right inner) (rw (law.whole is_cut new) behind) in
       let text : concat (paragraphs is_cut new ++ right) ≡ new ++ concat right = concat-append (paragraphs is_cut new) right ∙ ap (λ t. t ++ concat right) (law.whole is_cut new) in
-      let before : IsCutAt (concat left) (new ++ concat right) = λ filled _.
+      let before : IsCutAt is_cut (concat left) (new ++ concat right) = λ filled _.
       let same = first filled in
       let mid_some : 0 < length (concat (mid ++ right)) = rw (concat-append mid right, length-append (concat mid) (concat right)) (omega arith) in
       let cut = ArePieces-between left (mid ++ right) h filled mid_some in
@@ -138,7 +136,7 @@ length-changed mid piece from count within =
 -- which paragraphs are too long, where those before and behind are not
 pub are_within-splice : (left mid right new : List (List ℕ)) → are_within (left ++ (mid ++ right)) ≡ true → are_within (left ++ (new ++ right)) ≡ are_within new
 are_within-splice left mid right new h =
-    let p : List ℕ → Bool = λ q. nat_le (length q) paragraph_limit in
+    let p : List ℕ → Bool = λ q. nat_le (length q) PARAGRAPH_LIMIT in
     let outer = and_parts (are_within left) (are_within (mid ++ right)) (rw (list_all-append p left (mid ++ right)) at h) in
     let inner = and_parts (are_within mid) (are_within right) (rw (list_all-append p mid right) at outer.1) in
     list_all-append p left (new ++ right) ∙ ap (λ b. b && are_within (new ++ right)) outer.0

@@ -13,7 +13,7 @@ use Rattle.lines.specs.Layouts.{Layout, Rules, IsLaidOut, IsParagraph, cut_by, l
 use Rattle.lines.specs.declared.engine.Engine.{Engine}
 use Rattle.store.specs.Exchanging.{pairwise, total_cost}
 use Rattle.session.specs.Sessions.{IsWholeLayout, Refills, RefillsNot}
-use Rattle.session.specs.Changes.{are_within, paragraph_limit, text_refusal, width_refusal}
+use Rattle.session.specs.Changes.{are_within, text_refusal, width_refusal}
 use Rattle.session.specs.Kept.{text_of, layouts_of, put_into, BringsTo, CanBePut, Writer}
 use Rattle.session.specs.declared.edits.EditFault.TheVariants.{WidthOutOfRange, NoMemory}
 use Rattle.session.proofs.EdgeLemmas.{chars_of, lines_of as line_number, length-text, length-lines}
@@ -21,6 +21,7 @@ use Rattle.session.proofs.EditLemmas.{LinesAreFew, few-laid, text-layouts, IsWho
 use Rattle.session.proofs.JoinedLemmas.{first_piece}
 use Rattle.session.proofs.OpenLemmas.{positive}
 use Rattle.session.proofs.RefusalLemmas.{allowed-length, allowed-within_limit}
+use Rattle.lines.specs.declared.engine.TheConstants.{PARAGRAPH_LIMIT}
 
 -- a fact of each item
 abbrev pub Each : {A : Type 0} → (A → Type 0) → List A → Type 0
@@ -35,10 +36,10 @@ rest_pieces is_cut piece (next ∷ pieces) h = h.2
 all_paragraphs : ParagraphsArePieces → (rules : Rules) (pars : List (List ℕ)) → ArePieces (cut_by rules) pars → are_within pars ≡ true → Each (IsParagraph rules) pars
 all_paragraphs law rules [] h within = tt
 all_paragraphs law rules (p ∷ pars) h within =
-    let parts = and_parts (nat_le (length p) paragraph_limit) (are_within pars) within in (
+    let parts = and_parts (nat_le (length p) PARAGRAPH_LIMIT) (are_within pars) within in (
       record {
         whole = ap (paragraphs (cut_by rules)) (sym (append-nil p)) ∙ law.only (cut_by rules) (p ∷ []) (first_piece (cut_by rules) p pars h);
-        within = leb-true (length p) paragraph_limit parts.0;
+        within = leb-true (length p) PARAGRAPH_LIMIT parts.0;
       },
       all_paragraphs law rules pars (rest_pieces (cut_by rules) p pars h) parts.1,
     )
@@ -194,8 +195,12 @@ cost_of_each : (kept : List Layout) (parts : List (Option Spans)) → total_cost
 cost_of_each [] parts = omega arith
 cost_of_each (l ∷ kept) [] = omega arith
 cost_of_each (l ∷ kept) (part ∷ parts) =
-    omega (arith, cost_of_each kept parts, sum_by-cons chars_of l kept,
-    sum_by-cons (λ (n : ℕ). n) (length l.text) (pairwise {P = Layout} {Part = Option Spans} {A = ℕ} (λ m part. length m.text) kept parts))
+    omega (
+      arith,
+      cost_of_each kept parts,
+      sum_by-cons chars_of l kept,
+      sum_by-cons (λ (n : ℕ). n) (length l.text) (pairwise {P = Layout} {Part = Option Spans} {A = ℕ} (λ m part. length m.text) kept parts),
+    )
 
 pub cost_of_all : (kept : List Layout) (parts : List (Option Spans)) → total_cost {P = Layout} {Part = Option Spans} (λ l part. length l.text) kept parts ≤ length (text_of kept)
 cost_of_all kept parts = omega (arith, cost_of_each kept parts, length-text kept)

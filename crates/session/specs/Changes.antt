@@ -7,6 +7,8 @@ use Rattle.session.specs.declared.edits.Edit.{Edit}
 use Rattle.session.specs.declared.edits.Edit.TheVariants.{Insert, Delete, SetWidth}
 use Rattle.session.specs.declared.edits.EditFault.{EditFault}
 use Rattle.session.specs.declared.edits.EditFault.TheVariants.{OutOfRange, WidthOutOfRange, TextTooLong, ParagraphTooLong}
+use Rattle.lines.specs.declared.engine.TheConstants.{PARAGRAPH_LIMIT}
+use Rattle.session.specs.declared.edits.TheConstants.{TEXT_LIMIT}
 
 -- `count` characters from `pos` on are taken out, and a piece is put in their place
 pub record Change : Type 0 where
@@ -27,15 +29,9 @@ insertion pos piece = record { pos = pos; count = 0; piece = piece }
 abbrev pub deletion : ℕ → ℕ → Change
 deletion pos count = record { pos = pos; count = count; piece = [] }
 
--- the limits of a text and of its paragraphs
-abbrev pub text_limit : ℕ
-text_limit = 16777216
-
-abbrev pub paragraph_limit : ℕ
-paragraph_limit = 1048576
-
+-- no paragraph is longer than its limit
 abbrev pub are_within : List (List ℕ) → Bool
-are_within pars = list_all (λ p. nat_le (length p) paragraph_limit) pars
+are_within pars = list_all (λ p. nat_le (length p) PARAGRAPH_LIMIT) pars
 
 -- whether no paragraph of a text is too long
 abbrev pub is_within_limit : (ℕ → ℕ → Bool) → List ℕ → Bool
@@ -48,7 +44,7 @@ paragraphs_refusal is_cut text = if is_within_limit is_cut text then None else S
 -- why a text can't be kept
 abbrev pub text_refusal : (ℕ → ℕ → Bool) → List ℕ → Option EditFault
 text_refusal is_cut text =
-    if nat_lt text_limit (length text) then Some TextTooLong
+    if nat_lt TEXT_LIMIT (length text) then Some TextTooLong
     else (if is_within_limit is_cut text then None else Some ParagraphTooLong)
 
 -- why a change is refused: it reaches past the end of the text, or makes a text that can't be kept

@@ -1,10 +1,14 @@
 -- What is kept of a text: the layouts of its paragraphs, made anew from the text alone.
-use Rattle.std.specs.Prelude.{◌≡◌, ℕ, ◌≤◌, List, length, map, Option, Some, None, refl}
-use Rattle.std.specs.List.{concat, enumerate_from, flat_map}
+use Rattle.std.specs.Prelude.{◌≡◌, ℕ, ◌-◌, ◌<◌, ◌≤◌, Bool, true, List, length, map, slice_index, Option, Some, None, refl}
+use Rattle.std.specs.List.{concat, flat_map}
 use Rattle.bidi.specs.Cuts.{paragraphs}
 use Rattle.lines.specs.Extents.{extents_in, extents_of, reflowed, Spans}
-use Rattle.lines.specs.Layouts.{Layout, Rules, IsLaidOut, cut_by, layout_of, lines_of}
-use Rattle.lines.specs.Visual.{Visual, visual_of}
+use Rattle.lines.specs.Layouts.{Layout, Rules, IsLaidOut, cut_by, layout_of, lines_of, visuals}
+use Rattle.lines.specs.Visual.{Visual}
+
+-- there is a cut between two texts, unless one of them is empty
+abbrev pub IsCutAt : (ℕ → ℕ → Bool) → List ℕ → List ℕ → Type 0
+IsCutAt is_cut before after = 0 < length before → 0 < length after → is_cut (slice_index before (length before - 1)) (slice_index after 0) ≡ true
 
 -- the paragraphs of layouts, the text that they make, and their lines as they are shown.
 abbrev pub pars_of : List Layout → List (List ℕ)
@@ -12,9 +16,6 @@ pars_of kept = map (λ l. l.text) kept
 
 abbrev pub text_of : List Layout → List ℕ
 text_of kept = concat (pars_of kept)
-
-abbrev pub visuals : Layout → List Visual
-visuals l = map (λ nth. visual_of l.base l.text nth.0 nth.1) (enumerate_from 0 l.lines)
 
 abbrev pub lines_in : List Layout → List Visual
 lines_in kept = flat_map visuals kept

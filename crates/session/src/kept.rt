@@ -68,7 +68,8 @@ impl Kept {
         ensures kept { self.new ≡ reflowed (rules_of engine.now) self.old extents.old }
         ensures extents { extents.new ≡ extents_in self.old.lines }
         ensures room { room.new ≡ record room.old {
-            written = counted room.old.written (length self.old.text) } }
+          written = counted room.old.written (length self.old.text);
+        } }
         ensures least { room.old.written ≤ room.new.written }
     {
         engine.reflow(&mut self.laid, extents, room);

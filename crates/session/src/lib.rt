@@ -7,6 +7,7 @@ mod edit;
 mod edits;
 mod joined;
 mod kept;
+mod laws;
 mod printing;
 mod scan;
 mod session;
@@ -14,4 +15,5 @@ mod width;
 
 pub use edits::{Damage, Edit, EditFault, TEXT_LIMIT};
 pub use kept::Kept;
+pub use laws::texts_are_laid_out_in_parts;
 pub use session::Session;

@@ -2,10 +2,13 @@
 //! paragraphs.
 ghost use Rattle.std.specs.Prelude.{◌≡◌, ◌≤◌, length, option_map, slice_get};
 ghost use Rattle.std.specs.Prelude.{IfOk, IfErr, OnOk, OnErr};
+ghost use Rattle.std.specs.List.{flat_map};
 ghost use Rattle.std.specs.Str.{chars};
 ghost use Rattle.device.specs.Device.{StoppedAt, Wrote};
+ghost use Rattle.lines.specs.Bytes.{line_bytes};
 ghost use Rattle.lines.specs.Engine.{analysed_of, filled_of, written_of, SameRules};
 ghost use Rattle.lines.specs.Writing.{PassedOn, StoppedIn};
+ghost use Rattle.lines.specs.declared.print.Print.{Print};
 ghost use Rattle.session.specs.Changes.{after_all, changing, deletion, insertion};
 ghost use Rattle.session.specs.Kept.{lines_in};
 ghost use Rattle.session.specs.Runs.{StopsAt, WorksAtMost};
@@ -20,7 +23,9 @@ use crate::printing::write_store;
 use crate::width::change_width;
 use bidi::paragraphs_are_pieces;
 use device::Sink;
-use lines::{Engine, Laid, Print, VisualLine, WriteFault, lines_are_few};
+use lines::{
+    Engine, Laid, Print, VisualLine, WriteFault, lines_are_few, paragraphs_print_their_lines,
+};
 use std::alloc::{AllocError, Global};
 use std::marker::Model;
 use store::ParagraphStore;
@@ -239,6 +244,17 @@ impl<S: ParagraphStore<Kept>> Session<S> {
         ensures counted { IfOk result (λ n. n ≤ (W.state writer.new).passed) }
     {
         write_store(&self.store, writer, done, self.width, print)
+    }
+
+    /// What is printed is what is written of each line, one after another, which `line` and
+    /// `VisualLine::write` tell: a law, which takes no time.
+    pub fn prints_its_lines(&self)
+        ensures { (print : Print) → page_at self.now print
+            ≡ flat_map (line_bytes self.now.width print) (lines_in self.now.kept) }
+    {
+        // The same law of each paragraph, and what is kept is laid out.
+        paragraphs_print_their_lines();
+        let _ = &self.engine;
     }
 
     /// Makes changes one after another. Those that are refused change nothing. It ends at the first that is

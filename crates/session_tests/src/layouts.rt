@@ -169,9 +169,9 @@ fn refill(alloc: Global, engine: &mut Engine, laid: &Laid, width: u16) -> Result
     Ok(engine.refill(alloc, laid, width)?)
 }
 
-// Whether the engine counts so many characters.
+// Whether the engine counts so many characters, with the lines of as many written as were filled.
 fn counts(engine: &Engine, analysed: u64, filled: u64) -> bool {
-    engine.analysed() == analysed && engine.filled() == filled
+    engine.analysed() == analysed && engine.filled() == filled && engine.written() == filled
 }
 
 // Whether a paragraph's lines are those of the other width once they are exchanged, and back.

@@ -84,10 +84,11 @@ fn make_within<S: ParagraphStore<Kept>>(
     edit: Edit<'_>,
     [analysed, filled]: [u64; 2],
 ) -> Result<Damage, EditFault> {
-    let before = (edited.analysed(), edited.filled());
+    let before = (edited.analysed(), edited.filled(), edited.written());
     let result = make(edited, edit);
     assert!(rt; edited.analysed().saturating_sub(before.0) <= analysed);
     assert!(rt; edited.filled().saturating_sub(before.1) <= filled);
+    assert!(rt; edited.written().saturating_sub(before.2) <= filled);
     match result {
         Err(EditFault::NoMemory) => make(edited, edit),
         result => result,

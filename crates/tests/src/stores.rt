@@ -39,13 +39,22 @@ struct Adder {
 impl Exchanger<Item> for Adder {
     type Part = usize;
 
-    ghost use Rattle.std.specs.Prelude.{refl};
+    ghost use Rattle.std.specs.Prelude.{refl, ℕ};
 
-    ghost fits = { λ by _ lines. lines + by.more < 2 ^ 64 };
+    // How many more. It counts nothing.
+    ghost Kind = { ℕ };
 
-    ghost exchanged = { λ by item lines. record item { lines = lines + by.more } };
+    ghost kind = { λ by. by.more };
+
+    ghost fits = { λ more _ lines. lines + more < 2 ^ 64 };
+
+    ghost exchanged = { λ more item lines. record item { lines = lines + more } };
 
     ghost handed_out = { λ _ item _. item.lines };
+
+    ghost worked = { λ _. 0 };
+
+    ghost cost = { λ _ _. 0 };
 
     ghost keeps_chars = { λ _ _ _ _. refl };
 

@@ -4,11 +4,12 @@ use Rattle.std.specs.Str.{chars}
 use Rattle.std.specs.Str.Lossy.{utf8_valid_len}
 use Rattle.std.proofs.lemmas.Bool.Decides.{nat_tests}
 use Rattle.lines.specs.Layouts.{Rules, cut_by}
-use Rattle.session.specs.Changes.{is_within_limit, text_limit, text_refusal}
+use Rattle.session.specs.Changes.{is_within_limit, text_refusal}
 use Rattle.session.specs.Sessions.{IsAnswerFor, opening_refusal}
 use Rattle.session.specs.declared.edits.EditFault.{EditFault}
 use Rattle.session.specs.declared.edits.EditFault.TheVariants as e
 use Rattle.tool.specs.Starts.{IsStartFault, start_fault}
+use Rattle.session.specs.declared.edits.TheConstants.{TEXT_LIMIT}
 
 -- whether a text is refused for a reason that is none of a text
 abbrev is_width : Option EditFault → Bool
@@ -23,7 +24,7 @@ module _ (rules : Rules) (bytes : List ℕ) (width : ℕ) (wide : 0 < width) (va
       ap (λ (b : Bool). if b then Some e.WidthOutOfRange else text_refusal (cut_by rules) (chars bytes)) isnt
 
   no_width : is_width (text_refusal (cut_by rules) (chars bytes)) ≡ false
-  no_width = go (nat_lt text_limit (length (chars bytes))) (is_within_limit (cut_by rules) (chars bytes))
+  no_width = go (nat_lt TEXT_LIMIT (length (chars bytes))) (is_within_limit (cut_by rules) (chars bytes))
     where
       go : (long within : Bool) → is_width (if long then Some e.TextTooLong else (if within then None else Some e.ParagraphTooLong)) ≡ false
       go true within = refl

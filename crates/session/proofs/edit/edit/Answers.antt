@@ -6,13 +6,14 @@ use Rattle.std.proofs.lemmas.Iterator.Consumers.{count_from_yields_List}
 use Rattle.lines.specs.Engine.{rules_of, LaysOutAtMost}
 use Rattle.lines.specs.Layouts.{cut_by}
 use Rattle.session.specs.Sessions.{State, Edits, EditsNot, IsCountedFor}
-use Rattle.session.specs.Changes.{changing, text_limit, is_within_limit, paragraphs_refusal}
+use Rattle.session.specs.Changes.{changing, is_within_limit, paragraphs_refusal}
 use Rattle.session.specs.Kept.{text_of, layouts_of}
 use Rattle.session.specs.Sessions.{IsAnswerFor}
 use Rattle.session.specs.declared.edits.EditFault.TheVariants.{OutOfRange, TextTooLong, ParagraphTooLong, NoMemory}
 use Rattle.session.proofs.EdgeLemmas.{length-text}
 use Rattle.session.proofs.EditLemmas.{rise, chars_fit, lines_fit, refusal-past, EditsNot-unchanged, EditsNot-by_region, Edits-after, ends_ok, ends_err}
 use Rattle.session.proofs.RefusalLemmas.{allowed-length, refusal-too_long}
+use Rattle.session.specs.declared.edits.TheConstants.{TEXT_LIMIT}
 use Rattle.session.proofs.edit.edit.Goals as goal
 use Rattle.session.proofs.edit.edit.Goals.{then-pos-len-via-then-pos-len, then-pos-len-via-else-pos-len+then-count-len}
 
@@ -70,7 +71,7 @@ returns-in-Err-clause-err g c =
     let size : c.total_chars-len.result ≡ length (text_of kept) = c.total_chars-len.ensures ∙ sym (length-text kept) in
     let within : c.args.pos + c.args.count ≤ length (text_of kept) = omega (arith, size) in
     let n : c.count.result ≡ length piece = count_from_yields_List c.chars.result c.count.result c.count.ensures.ran (YieldsList-from_chars c.args.piece.now c.utf8.piece cc) in
-    let short : length (text_of kept) - c.args.count + length piece ≤ text_limit = omega (arith, size, n) in
+    let short : length (text_of kept) - c.args.count + length piece ≤ TEXT_LIMIT = omega (arith, size, n) in
     let parts = ap₂ (λ xs ys. xs ++ (piece ++ ys)) c.front_text.ensures (c.back_text.ensures _ refl) in
     let f = c.front_edge-front.ensures in
     let b = c.back_edge-back.ensures in
@@ -96,7 +97,7 @@ put-requires-clause-chars_fit g c =
     let size : c.total_chars-len.result ≡ length (text_of kept) = c.total_chars-len.ensures ∙ sym (length-text kept) in
     let within : c.args.pos + c.args.count ≤ length (text_of kept) = omega (arith, size) in
     let n : c.count.result ≡ length piece = count_from_yields_List c.chars.result c.count.result c.count.ensures.ran (YieldsList-from_chars c.args.piece.now c.utf8.piece cc) in
-    let short : length (text_of kept) - c.args.count + length piece ≤ text_limit = omega (arith, size, n) in
+    let short : length (text_of kept) - c.args.count + length piece ≤ TEXT_LIMIT = omega (arith, size, n) in
     let parts = ap₂ (λ xs ys. xs ++ (piece ++ ys)) c.front_text.ensures (c.back_text.ensures _ refl) in
     let f = c.front_edge-front.ensures in
     let b = c.back_edge-back.ensures in
@@ -112,7 +113,7 @@ put-requires-clause-lines_fit g c =
     let size : c.total_chars-len.result ≡ length (text_of kept) = c.total_chars-len.ensures ∙ sym (length-text kept) in
     let within : c.args.pos + c.args.count ≤ length (text_of kept) = omega (arith, size) in
     let n : c.count.result ≡ length piece = count_from_yields_List c.chars.result c.count.result c.count.ensures.ran (YieldsList-from_chars c.args.piece.now c.utf8.piece cc) in
-    let short : length (text_of kept) - c.args.count + length piece ≤ text_limit = omega (arith, size, n) in
+    let short : length (text_of kept) - c.args.count + length piece ≤ TEXT_LIMIT = omega (arith, size, n) in
     let parts = ap₂ (λ xs ys. xs ++ (piece ++ ys)) c.front_text.ensures (c.back_text.ensures _ refl) in
     let f = c.front_edge-front.ensures in
     let b = c.back_edge-back.ensures in
@@ -128,7 +129,7 @@ returns-clause-ok g c =
     let size : c.total_chars-len.result ≡ length (text_of kept) = c.total_chars-len.ensures ∙ sym (length-text kept) in
     let within : c.args.pos + c.args.count ≤ length (text_of kept) = omega (arith, size) in
     let n : c.count.result ≡ length piece = count_from_yields_List c.chars.result c.count.result c.count.ensures.ran (YieldsList-from_chars c.args.piece.now c.utf8.piece cc) in
-    let short : length (text_of kept) - c.args.count + length piece ≤ text_limit = omega (arith, size, n) in
+    let short : length (text_of kept) - c.args.count + length piece ≤ TEXT_LIMIT = omega (arith, size, n) in
     let parts = ap₂ (λ xs ys. xs ++ (piece ++ ys)) c.front_text.ensures (c.back_text.ensures _ refl) in
     let f = c.front_edge-front.ensures in
     let b = c.back_edge-back.ensures in
@@ -149,7 +150,7 @@ returns-clause-err g c =
     let size : c.total_chars-len.result ≡ length (text_of kept) = c.total_chars-len.ensures ∙ sym (length-text kept) in
     let within : c.args.pos + c.args.count ≤ length (text_of kept) = omega (arith, size) in
     let n : c.count.result ≡ length piece = count_from_yields_List c.chars.result c.count.result c.count.ensures.ran (YieldsList-from_chars c.args.piece.now c.utf8.piece cc) in
-    let short : length (text_of kept) - c.args.count + length piece ≤ text_limit = omega (arith, size, n) in
+    let short : length (text_of kept) - c.args.count + length piece ≤ TEXT_LIMIT = omega (arith, size, n) in
     let parts = ap₂ (λ xs ys. xs ++ (piece ++ ys)) c.front_text.ensures (c.back_text.ensures _ refl) in
     let f = c.front_edge-front.ensures in
     let b = c.back_edge-back.ensures in

@@ -6,11 +6,12 @@ use Rattle.std.proofs.lemmas.List.{append-nil}
 use Rattle.lines.specs.Engine.{rules_of, LaysOutAtMost}
 use Rattle.lines.specs.Layouts.{cut_by}
 use Rattle.session.specs.Sessions.{IsCountedFor}
-use Rattle.session.specs.Changes.{text_limit, is_within_limit, paragraphs_refusal}
+use Rattle.session.specs.Changes.{is_within_limit, paragraphs_refusal}
 use Rattle.session.specs.Kept.{layouts_of}
 use Rattle.session.specs.Sessions.{IsAnswerFor}
 use Rattle.session.proofs.EditLemmas.{at_ok}
 use Rattle.session.proofs.OpenLemmas.{OpensNot-too_long, OpensNot-refused, OpensNot-no_memory, Opens-laid, opening-chars, opening-lines}
+use Rattle.session.specs.declared.edits.TheConstants.{TEXT_LIMIT}
 use Rattle.session.proofs.session.fill_store.Goals as goal
 
 pub returns-then-count-gt-TEXT_LIMIT-clause-err : goal.returns-then-count-gt-TEXT_LIMIT-clause-err
@@ -23,7 +24,7 @@ pub returns-in-Err-clause-err : goal.returns-in-Err-clause-err
 returns-in-Err-clause-err g c =
     let whole = chars c.args.text.now in
     let n : c.count.result ≡ length whole = count_from_yields_List c.chars.result c.count.result c.count.ensures.ran (YieldsList-from_chars c.args.text.now c.utf8.text cc) in
-    let short : length whole ≤ text_limit = omega (arith, n) in
+    let short : length whole ≤ TEXT_LIMIT = omega (arith, n) in
     let engine = c.args.engine.now in
     let part : whole ++ [] ≡ whole = append-nil whole in
     let answer = subst (λ t. IsAnswerFor (paragraphs_refusal (cut_by (rules_of engine)) t) c.in-Err.fault) part c.in-Err.ensures.err in
@@ -34,7 +35,7 @@ pub replace-requires-clause-chars_fit : goal.replace-requires-clause-chars_fit
 replace-requires-clause-chars_fit g c =
     let whole = chars c.args.text.now in
     let n : c.count.result ≡ length whole = count_from_yields_List c.chars.result c.count.result c.count.ensures.ran (YieldsList-from_chars c.args.text.now c.utf8.text cc) in
-    let short : length whole ≤ text_limit = omega (arith, n) in
+    let short : length whole ≤ TEXT_LIMIT = omega (arith, n) in
     let engine = c.args.engine.now in
     let part : whole ++ [] ≡ whole = append-nil whole in
     let by = rules_of engine in
@@ -47,7 +48,7 @@ pub replace-requires-clause-lines_fit : goal.replace-requires-clause-lines_fit
 replace-requires-clause-lines_fit g c =
     let whole = chars c.args.text.now in
     let n : c.count.result ≡ length whole = count_from_yields_List c.chars.result c.count.result c.count.ensures.ran (YieldsList-from_chars c.args.text.now c.utf8.text cc) in
-    let short : length whole ≤ text_limit = omega (arith, n) in
+    let short : length whole ≤ TEXT_LIMIT = omega (arith, n) in
     let engine = c.args.engine.now in
     let part : whole ++ [] ≡ whole = append-nil whole in
     let by = rules_of engine in
@@ -60,7 +61,7 @@ pub returns-then-is_err-clause-err : goal.returns-then-is_err-clause-err
 returns-then-is_err-clause-err g c =
     let whole = chars c.args.text.now in
     let n : c.count.result ≡ length whole = count_from_yields_List c.chars.result c.count.result c.count.ensures.ran (YieldsList-from_chars c.args.text.now c.utf8.text cc) in
-    let short : length whole ≤ text_limit = omega (arith, n) in
+    let short : length whole ≤ TEXT_LIMIT = omega (arith, n) in
     let engine = c.args.engine.now in
     let part : whole ++ [] ≡ whole = append-nil whole in
     let by = rules_of engine in
@@ -73,7 +74,7 @@ pub returns-clause-ok : goal.returns-clause-ok
 returns-clause-ok g c =
     let whole = chars c.args.text.now in
     let n : c.count.result ≡ length whole = count_from_yields_List c.chars.result c.count.result c.count.ensures.ran (YieldsList-from_chars c.args.text.now c.utf8.text cc) in
-    let short : length whole ≤ text_limit = omega (arith, n) in
+    let short : length whole ≤ TEXT_LIMIT = omega (arith, n) in
     let engine = c.args.engine.now in
     let part : whole ++ [] ≡ whole = append-nil whole in
     let by = rules_of engine in

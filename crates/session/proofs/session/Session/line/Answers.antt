@@ -1,6 +1,5 @@
-use Rattle.std.proofs.Common.{sym, ap, slice_get, option_map, ◌∙◌}
-use Rattle.lines.specs.Layouts.{Layout}
-use Rattle.lines.specs.Visual.{visual_of}
+use Rattle.std.proofs.Common.{sym, ap, slice_get, ◌∙◌}
+use Rattle.lines.specs.Layouts.{Layout, visuals}
 use Rattle.session.proofs.EdgeLemmas.{length-lines, lines_of, found_some}
 use Rattle.session.proofs.LineLemmas.{line_read, line_past}
 use Rattle.session.proofs.session.Session.line.Goals as goal
@@ -13,7 +12,7 @@ pub returns-in-Some : goal.returns-in-Some
 returns-in-Some g c =
     let kept = g.S.ParagraphStore.items c.self.inside.store in
     let read = line_read kept c.args.n c.find_line-found.result c.find_line-found.ensures c.in-Some.kept.now c.in-Some.ensures in
-    rw (← c.self.view_is) (c.line.ensures ∙ ap (λ (l : Layout). option_map (visual_of l.base l.text c.find_line-found.result.rest) (slice_get l.lines c.find_line-found.result.rest)) c.laid.ensures ∙ sym read)
+    rw (← c.self.view_is) (c.line.ensures.nth ∙ ap (λ (l : Layout). slice_get (visuals l) c.find_line-found.result.rest) c.laid.ensures ∙ sym read)
 
 pub returns-in-None : goal.returns-in-None
 returns-in-None g c = absurd (found_some lines_of (g.S.ParagraphStore.items c.self.inside.store) c.args.n c.find_line-found.result c.find_line-found.ensures c.in-None.ensures)
