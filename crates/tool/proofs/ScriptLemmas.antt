@@ -1,10 +1,10 @@
 -- How the run of a script that reads in pieces ends: as one that has read all would.
-use Rattle.std.proofs.Common.{◌≡◌, ℕ, suc, ◌+◌, ◌-◌, ◌≤◌, ◌&&◌, Bool, true, false, List, [], ◌∷◌, ◌++◌, length, take, drop, min, Option, Some, None, Ok, Err, refl, sym, subst, ap, ◌∙◌, arith, if◌then◌else◌}
+use Rattle.std.proofs.Common.{◌≡◌, ℕ, suc, ◌+◌, ◌-◌, ◌≤◌, ◌&&◌, Bool, true, false, List, [], ◌∷◌, ◌++◌, length, take, min, Option, Some, None, Ok, Err, refl, sym, subst, ap, ◌∙◌, arith, if◌then◌else◌}
 use Rattle.std.specs.List.{list_all, prefix_len, slice_split}
 use Rattle.std.specs.Io.KnownBytes.{IsAtEnd}
 use Rattle.std.proofs.lemmas.Bool.{and_parts}
-use Rattle.std.proofs.lemmas.List.{append_assoc, append-nil, length-append, take-append-le}
-use Rattle.std.proofs.Math.Seq.{take-append-add, take-append_seam, drop-append_seam}
+use Rattle.std.proofs.lemmas.List.{append_assoc, append-nil, length-append}
+use Rattle.std.proofs.Math.Seq.{take-append-add, take-append_seam}
 use Rattle.device.specs.Device.{Device, StoppedAt, Took, Wrote, greatest}
 use Rattle.lines.specs.Layouts.{Rules}
 use Rattle.lines.specs.Writing.{StoppedIn}
@@ -16,7 +16,7 @@ use Rattle.tool.specs.Scripts.{is_line_end, lines_among, order_of_line, script_l
 use Rattle.tool.specs.ScriptRun.{after_line, after_lines, answer_line, answers, good_lines, input_fault, is_good, line_read_ahead, script_fault, with_ends}
 use Rattle.tool.specs.ScriptEnds.{Answered, EndsBehind, IsScriptRun, obeyed_lines}
 use Rattle.tool.specs.Work.{LineWorks, LinesWork}
-use Rattle.text_run.specs.TextRun.{Gave, HasReadAll, fault_of}
+use Rattle.text_run.specs.TextRun.{Gave}
 use Rattle.text_run.specs.declared.faults.RunFault.{RunFault}
 use Rattle.text_run.specs.declared.faults.RunFault.TheVariants as f
 use Rattle.text_run.specs.declared.text.Ending.{Ending}

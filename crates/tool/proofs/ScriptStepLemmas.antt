@@ -13,7 +13,7 @@ use Rattle.lines.specs.Layouts.{Rules}
 use Rattle.lines.specs.declared.print.Print.{Print}
 use Rattle.session.specs.Changes.{Held}
 use Rattle.session.specs.Sessions.{State, held_at}
-use Rattle.tool.specs.Reading.{EndsIn, EndsLine, FailsAt, FailsIn, FailsLine, GoesOn, GrowsNot, IsAt, IsNotKept, NoEnd, ObeysLine, Steps, Takes}
+use Rattle.tool.specs.Reading.{EndsIn, EndsLine, FailsAt, FailsIn, FailsLine, GoesOn, GrowsNot, IsAt, NoEnd, ObeysLine, Steps, Takes}
 use Rattle.tool.specs.Scripts.{is_last_line, is_line_end, lines_among, order_of_line, script_lines}
 use Rattle.tool.specs.ScriptEnds.{IsScriptRun}
 use Rattle.tool.specs.ScriptRun.{after_line, after_lines, answer_line, answers, good_lines, is_good, with_ends}
@@ -26,7 +26,7 @@ use Rattle.text_run.specs.declared.text.Ending.{Ending}
 use Rattle.text_run.specs.declared.text.Ending.TheVariants.{AtEnd, AtFailure}
 use Rattle.text_run.proofs.Devices.{Took-nothing}
 use Rattle.tool.proofs.WorkLemmas.{lines_work_front, lines_work_more, works_none}
-use Rattle.tool.proofs.ScriptLemmas.{IsAll, IsDone, after_more, answers_more, ends_at_failure, ends_line, ends_short, ends_whole, first_part, lines_behind, parts_some}
+use Rattle.tool.proofs.ScriptLemmas.{IsDone, after_more, answers_more, ends_at_failure, ends_line, ends_short, ends_whole, first_part, lines_behind, parts_some}
 use Rattle.text_run.proofs.StreamLemmas.{Consumes-append, Consumes-kept, Wrote-append, had, had_all}
 use Rattle.text_run.specs.declared.text.TheConstants.{PIECE}
 use Rattle.tool.specs.declared.script.TheConstants.{LINE_LIMIT}

@@ -1,10 +1,10 @@
 -- How much a session works for an order, and for lines one after another.
-use Rattle.std.proofs.Common.{◌≡◌, ℕ, ◌+◌, ◌<◌, ◌≤◌, List, [], ◌∷◌, ◌++◌, length, map, Option, Some, None, Result, Ok, Err, IfOk, IfErr, is_none, is_some, true, false, nat_lt, if◌then◌else◌, refl, sym, ap, subst, ◌∙◌, arith}
+use Rattle.std.proofs.Common.{◌≡◌, ℕ, ◌+◌, ◌≤◌, List, [], ◌∷◌, ◌++◌, length, map, Option, Some, None, Result, Ok, Err, IfOk, IfErr, is_none, is_some, false, nat_lt, if◌then◌else◌, refl, sym, ap, subst, ◌∙◌, arith}
 use Rattle.std.proofs.lemmas.Bool.{cond-true, true≢false}
 use Rattle.std.proofs.lemmas.List.{append-nil}
 use Rattle.bidi.specs.Cuts.{paragraphs}
 use Rattle.lines.specs.Engine.{LaysOutAtMost, FillsAtMost, RisesBy, analysed_of, filled_of, written_of, rules_of}
-use Rattle.lines.specs.Layouts.{Rules, cut_by, layout_of}
+use Rattle.lines.specs.Layouts.{Rules, layout_of}
 use Rattle.lines.specs.declared.engine.Engine.{Engine}
 use Rattle.session.specs.Changes.{Change, Held, refusal, width_refusal}
 use Rattle.session.specs.Kept.{pars_of}
@@ -15,7 +15,7 @@ use Rattle.session.specs.declared.edits.EditFault.{EditFault}
 use Rattle.session.specs.declared.edits.EditFault.TheVariants.{OutOfRange, WidthOutOfRange, TextTooLong, ParagraphTooLong, NoMemory}
 use Rattle.tool.specs.Scripts.{Order, Filling, order_of_line}
 use Rattle.tool.specs.ScriptRun.{after_line, after_lines, is_good, order_refusal}
-use Rattle.tool.specs.Work.{OrderWorks, LineWorks, LinesWork, Works, analysed_by, filled_by, work_of, work_of_line, work_of_lines}
+use Rattle.tool.specs.Work.{OrderWorks, LineWorks, LinesWork, Works, analysed_by, filled_by, work_of_line, work_of_lines}
 
 -- ---- counts
 same_rise : (n old new : ℕ) → new ≡ old → RisesBy n old new

@@ -1,5 +1,5 @@
 -- How the run of a script ends.
-use Rattle.std.specs.Prelude.{◌≡◌, ℕ, ◌+◌, ◌≤◌, List, length, take, Option, Some, None, Result}
+use Rattle.std.specs.Prelude.{◌≡◌, ℕ, ◌+◌, ◌≤◌, List, length, take, Option, Some, Result}
 use Rattle.device.specs.Device.{Device, StoppedAt, Wrote}
 use Rattle.lines.specs.Layouts.{Rules}
 use Rattle.lines.specs.declared.print.Print.{Print}
