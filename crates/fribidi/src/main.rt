@@ -244,6 +244,7 @@ fn obey_lines(
     session: Session<TreeStore<Kept>>,
     print: &Print,
 ) -> Result<(), ProgramFault> {
+    let mut session = session;
     let mut reader = FromRead::new(script);
-    run_script(alloc, &mut reader, output, session, print).map_err(ProgramFault::Run)
+    run_script(alloc, &mut reader, output, &mut session, print).map_err(ProgramFault::Run)
 }

@@ -70,9 +70,10 @@ fn obey_lines(
     script: File,
     session: Session<VecStore<Kept>>,
 ) -> Result<(), ProgramFault> {
+    let mut session = session;
     let mut reader = FromRead::new(script);
     let mut writer = ToWrite::new(rt.stdout());
-    match run_script(rt.alloc(), &mut reader, &mut writer, session, &LINES) {
+    match run_script(rt.alloc(), &mut reader, &mut writer, &mut session, &LINES) {
         Ok(()) => Ok(()),
         Err(fault) => Err(ProgramFault::Run(fault)),
     }

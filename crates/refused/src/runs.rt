@@ -93,7 +93,8 @@ fn obey_in<S: ParagraphStore<Kept> + Drop>(
     session: Session<S>,
     page: &mut Page,
 ) -> Result<(), RunFault> {
+    let mut session = session;
     let mut reader = FromRead::new(SCRIPT);
     let mut writer = ToWrite::new(Writer { page });
-    run_script(alloc, &mut reader, &mut writer, session, &LINES)
+    run_script(alloc, &mut reader, &mut writer, &mut session, &LINES)
 }

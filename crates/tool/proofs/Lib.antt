@@ -4,3 +4,4 @@ pub mod OrderLemmas
 pub mod ScriptLemmas
 pub mod ScriptStepLemmas
 pub mod StartLemmas
+pub mod WorkLemmas

@@ -1,19 +1,20 @@
 -- What a session answers to a change is what a script answers.
-use Rattle.std.proofs.Common.{◌≡◌, ℕ, false, Option, Some, Result, Ok, Err, IfOk, IfErr, sym, subst, ap, ◌∙◌, if◌then◌else◌}
+use Rattle.std.proofs.Common.{◌≡◌, ℕ, false, true, Option, Some, None, Result, Ok, Err, IfOk, IfErr, sym, subst, ap, ◌∙◌, if◌then◌else◌}
 use Rattle.std.specs.Prelude.{is_none}
 use Rattle.std.proofs.lemmas.Bool.{true≢false}
 use Rattle.device.specs.Device.{Device}
 use Rattle.lines.specs.Layouts.{Rules}
-use Rattle.lines.specs.Writing.{PassedOn}
+use Rattle.lines.specs.Writing.{PassedOn, StoppedIn}
 use Rattle.lines.specs.declared.print.Print.{Print}
 use Rattle.session.specs.Changes.{Held}
 use Rattle.session.specs.declared.edits.Damage.{Damage}
 use Rattle.session.specs.declared.edits.EditFault.{EditFault}
 use Rattle.session.specs.declared.edits.EditFault.TheVariants as e
-use Rattle.tool.specs.Reading.{Changed, Obeys, Stops, change_text, lacks_memory}
+use Rattle.tool.specs.Reading.{Changed, Obeys, ObeysNot, Stops, change_text, lacks_memory}
 use Rattle.tool.specs.ScriptRun.{after_order, answer_by, answer_to, obeyed, obeyed_text, order_refusal}
 use Rattle.tool.specs.Scripts.{Order}
 use Rattle.text_run.specs.declared.faults.RunFault.{RunFault}
+use Rattle.text_run.specs.declared.faults.RunFault.TheVariants as f
 
 module _ (rules : Rules) (print : Print) (order : Order) (old new : Held) where
   -- what became of the text and the width, and what is answered
@@ -45,5 +46,25 @@ module _ (rules : Rules) (print : Print) (order : Order) (old new : Held) where
         record { held = t.held; wrote = subst (λ text. PassedOn text written writer_old writer_new n) (sym t.text) passed }
     obeys (Err fault) passed = tt
 
-    pub stops : (r : Result ℕ RunFault) → IfErr r (Stops (change_text change) written writer_old writer_new) → IfErr r (Stops (answer_to rules print old order) written writer_old writer_new)
-    stops r stopped = subst (λ text. IfErr r (Stops text written writer_old writer_new)) (sym (told change changed room).text) stopped
+    stops_at : (fault : RunFault) → Stops (change_text change) written writer_old writer_new fault → ObeysNot rules print order written old new writer_old writer_new fault
+    stops_at (f.Write n) stopped =
+        let t = told change changed room in (t.held, subst (λ text. StoppedIn text written writer_old writer_new n) (sym t.text) stopped)
+    stops_at f.Read stopped = absurd stopped
+    stops_at (f.NotUtf8 n) stopped = absurd stopped
+    stops_at f.ParagraphTooLong stopped = absurd stopped
+    stops_at (f.BadLine n) stopped = absurd stopped
+    stops_at f.Memory stopped = absurd stopped
+    stops_at f.TextTooLong stopped = absurd stopped
+
+    pub stops : (r : Result ℕ RunFault) → IfErr r (Stops (change_text change) written writer_old writer_new) → IfErr r (ObeysNot rules print order written old new writer_old writer_new)
+    stops (Ok n) stopped = tt
+    stops (Err fault) stopped = stops_at fault stopped
+
+  -- where memory ran out nothing refuses the order, and all stays
+  pub wants : (change : Result Damage EditFault) → Changed rules order old new change → lacks_memory change ≡ true → (order_refusal rules old order ≡ None) × (new ≡ old)
+  wants (Ok damage) changed short = absurd (true≢false (sym short))
+  wants (Err e.NoMemory) changed short = changed
+  wants (Err e.OutOfRange) changed short = absurd (true≢false (sym short))
+  wants (Err e.WidthOutOfRange) changed short = absurd (true≢false (sym short))
+  wants (Err e.TextTooLong) changed short = absurd (true≢false (sym short))
+  wants (Err e.ParagraphTooLong) changed short = absurd (true≢false (sym short))

@@ -1,6 +1,8 @@
 pub mod Commands
 pub mod Program
 pub mod Reading
+pub mod ScriptEnds
 pub mod ScriptRun
 pub mod Scripts
 pub mod Starts
+pub mod Work

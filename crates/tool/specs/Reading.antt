@@ -1,27 +1,34 @@
 -- Where the run of a script stands between two lines. Only the code speaks of these.
-use Rattle.std.specs.Prelude.{◌≡◌, ◌⊎◌, ℕ, ◌+◌, ◌<◌, ◌≤◌, false, true, All, Bool, List, [], ◌∷◌, ◌++◌, length, Some, None, Result, Ok, Err, OnErr}
+use Rattle.std.specs.Prelude.{◌≡◌, ◌⊎◌, ℕ, ◌+◌, ◌<◌, ◌≤◌, false, true, All, Bool, List, [], ◌∷◌, ◌++◌, length, None, Some, Result, Ok, Err}
 use Rattle.std.specs.List.{list_all, slice_split}
 use Rattle.std.specs.Io.KnownBytes.{Consumes}
+use Rattle.std.specs.Str.Lossy.{utf8_valid_len}
 use Rattle.device.specs.Device.{Device, Wrote, greatest}
 use Rattle.lines.specs.Layouts.{Rules}
 use Rattle.lines.specs.Writing.{PassedOn, StoppedIn}
 use Rattle.lines.specs.declared.print.Print.{Print}
 use Rattle.session.specs.Changes.{Held}
+use Rattle.session.specs.Sessions.{State, held_at}
 use Rattle.session.specs.declared.edits.Damage.{Damage}
 use Rattle.session.specs.declared.edits.EditFault.{EditFault}
 use Rattle.session.specs.declared.edits.EditFault.TheVariants.{NoMemory}
-use Rattle.tool.specs.Scripts.{Order, is_line_end, line_limit, order_of_line}
-use Rattle.tool.specs.ScriptRun.{after_line, after_lines, answer_line, answer_to, after_order, answers, damage_text, is_good, obeyed, obeyed_text, order_refusal, refusal_text, with_ends, IsScriptRun, LinesReadAhead}
+use Rattle.tool.specs.Scripts.{Order, is_line_end, order_of_line}
+use Rattle.tool.specs.ScriptEnds.{IsScriptRun}
+use Rattle.tool.specs.ScriptRun.{after_line, after_lines, answer_line, answer_to, after_order, answers, damage_text, is_good, obeyed, obeyed_text, order_refusal, refusal_text, with_ends}
+use Rattle.tool.specs.Work.{LineWorks, LinesWork}
 use Rattle.text_run.specs.declared.faults.RunFault.{RunFault}
+use Rattle.text_run.specs.declared.text.TheConstants.{PIECE}
+use Rattle.tool.specs.declared.script.TheConstants.{LINE_LIMIT}
 use Rattle.text_run.specs.declared.faults.RunFault.TheVariants as f
 use Rattle.tool.specs.declared.script.Reading.{Reading}
 
--- a change was made, and this is its damage; or it was refused, and all stays
+-- a change was made, and this is its damage; or it was refused, and all stays; which it does for want of memory too, but then
+-- there was no reason to refuse it
 abbrev pub Changed : Rules → Order → Held → Held → Result Damage EditFault → Type 0
 Changed rules order old new (Ok damage) =
     (order_refusal rules old order ≡ None) × (new ≡ obeyed old order)
     × ((print : Print) → obeyed_text rules print old order ≡ damage_text damage.first_line damage.old_lines damage.new_lines)
-Changed rules order old new (Err NoMemory) = Unit {0}
+Changed rules order old new (Err NoMemory) = (order_refusal rules old order ≡ None) × (new ≡ old)
 Changed rules order old new (Err reason) = (order_refusal rules old order ≡ Some reason) × (new ≡ old)
 
 abbrev pub lacks_memory : Result Damage EditFault → Bool
@@ -36,13 +43,20 @@ change_text (Err reason) = refusal_text reason
 -- an answer was written only in part, or not at all
 abbrev pub Stops : List ℕ → ℕ → Device → Device → RunFault → Type 0
 Stops answer written old new (f.Write n) = StoppedIn answer written old new n
-Stops answer written old new f.Memory = new ≡ old
 Stops answer written old new fault = ⊥
 
 -- the order was obeyed and its answer written
 pub record Obeys (rules : Rules) (print : Print) (order : Order) (written : ℕ) (held_old held_new : Held) (old new : Device) (n : ℕ) : Type 0 where
   pub held : held_new ≡ after_order rules held_old order
   pub wrote : PassedOn (answer_to rules print held_old order) written old new n
+
+-- or it was obeyed, and a write failed; or there was no memory for it, where nothing refuses it, and all stays
+abbrev pub ObeysNot : Rules → Print → Order → ℕ → Held → Held → Device → Device → RunFault → Type 0
+ObeysNot rules print order written held_old held_new old new (f.Write n) =
+    (held_new ≡ after_order rules held_old order) × StoppedIn (answer_to rules print held_old order) written old new n
+ObeysNot rules print order written held_old held_new old new f.Memory =
+    (order_refusal rules held_old order ≡ None) × (held_new ≡ held_old) × (new ≡ old)
+ObeysNot rules print order written held_old held_new old new fault = ⊥
 
 -- a line was obeyed
 pub record ObeysLine (rules : Rules) (print : Print) (line : List ℕ) (held_old held_new : Held) (old new : Reading) (writer_old writer_new : Device) : Type 0 where
@@ -52,13 +66,16 @@ pub record ObeysLine (rules : Rules) (print : Print) (line : List ℕ) (held_old
   pub lines : new.lines ≡ old.lines + 1
   pub empty : new.line.items ≡ []
 
--- or it was not
-abbrev pub FailsAt : Rules → Print → Held → List ℕ → ℕ → ℕ → Device → Device → RunFault → Type 0
-FailsAt rules print held line lines written old new (f.BadLine n) = (is_good line ≡ false) × (n ≡ lines + 1) × (new ≡ old)
-FailsAt rules print held line lines written old new (f.Write n) =
-    (is_good line ≡ true) × StoppedIn (answer_line rules print held (order_of_line line)) written old new n
-FailsAt rules print held line lines written old new f.Memory = new ≡ old
-FailsAt rules print held line lines written old new fault = ⊥
+-- or it was not; memory is wanted only for what is UTF-8
+abbrev pub FailsAt : Rules → Print → List ℕ → ℕ → ℕ → Held → Held → Device → Device → RunFault → Type 0
+FailsAt rules print line lines written held_old held_new old new (f.BadLine n) =
+    (is_good line ≡ false) × (n ≡ lines + 1) × (held_new ≡ held_old) × (new ≡ old)
+FailsAt rules print line lines written held_old held_new old new (f.Write n) =
+    (is_good line ≡ true) × (held_new ≡ after_line rules held_old (order_of_line line))
+    × StoppedIn (answer_line rules print held_old (order_of_line line)) written old new n
+FailsAt rules print line lines written held_old held_new old new f.Memory =
+    (utf8_valid_len line ≡ length line) × (held_new ≡ held_old) × (new ≡ old)
+FailsAt rules print line lines written held_old held_new old new fault = ⊥
 
 -- no line ends within some bytes
 abbrev pub NoEnd : List ℕ → Type 0
@@ -69,39 +86,64 @@ pub record EndsIn (piece front behind : List ℕ) : Type 0 where
   pub whole : piece ≡ front ++ 10 ∷ behind
   pub none : NoEnd front
 
--- Of a piece, the first n bytes were taken: all of it goes on with the line, or a line ended and was obeyed.
-pub record GoesOn (piece : List ℕ) (n : ℕ) (held_old held_new : Held) (old new : Reading) (writer_old writer_new : Device) : Type 0 where
-  pub all : n ≡ length piece
-  pub none : NoEnd piece
-  pub line : new.line.items ≡ old.line.items ++ piece
-  pub short : length new.line.items ≤ line_limit
+-- bytes were added to the beginning of a line
+pub record Grows (bytes : List ℕ) (old new : Reading) : Type 0 where
+  pub line : new.line.items ≡ old.line.items ++ bytes
+  pub short : length new.line.items ≤ LINE_LIMIT
   pub lines : new.lines ≡ old.lines
   pub written : new.written ≡ old.written
-  pub held : held_new ≡ held_old
+
+-- or they were not, since the line would be too long, or else for want of memory
+abbrev pub GrowsNot : List ℕ → Reading → RunFault → Type 0
+GrowsNot bytes reading (f.BadLine n) = (LINE_LIMIT < length (reading.line.items ++ bytes)) × (n ≡ reading.lines + 1)
+GrowsNot bytes reading f.Memory = length (reading.line.items ++ bytes) ≤ LINE_LIMIT
+GrowsNot bytes reading fault = ⊥
+
+-- Of a piece, the first n bytes were taken: all of it goes on with the line, or a line ended and was obeyed.
+pub record GoesOn (piece : List ℕ) (n : ℕ) (state_old state_new : State) (old new : Reading) (writer_old writer_new : Device) : Type 0 where
+  pub all : n ≡ length piece
+  pub none : NoEnd piece
+  pub grows : Grows piece old new
+  pub state : state_new ≡ state_old
   pub writer : writer_new ≡ writer_old
 
-pub record EndsLine (rules : Rules) (print : Print) (piece : List ℕ) (n : ℕ) (held_old held_new : Held) (old new : Reading) (writer_old writer_new : Device) : Type 0 where
+pub record EndsLine (rules : Rules) (print : Print) (piece : List ℕ) (n : ℕ) (state_old state_new : State) (old new : Reading) (writer_old writer_new : Device) : Type 0 where
   pub front : List ℕ
   pub behind : List ℕ
   pub ends : EndsIn piece front behind
   pub taken : n ≡ length front + 1
-  pub obeys : ObeysLine rules print (old.line.items ++ front) held_old held_new old new writer_old writer_new
+  pub obeys : ObeysLine rules print (old.line.items ++ front) (held_at state_old) (held_at state_new) old new writer_old writer_new
+  pub works : LineWorks rules (held_at state_old) (old.line.items ++ front) state_old.engine state_new.engine
 
-abbrev pub Takes : Rules → Print → List ℕ → ℕ → Held → Held → Reading → Reading → Device → Device → Type 0
-Takes rules print piece n held_old held_new old new writer_old writer_new =
-    GoesOn piece n held_old held_new old new writer_old writer_new ⊎ EndsLine rules print piece n held_old held_new old new writer_old writer_new
+abbrev pub Takes : Rules → Print → List ℕ → ℕ → State → State → Reading → Reading → Device → Device → Type 0
+Takes rules print piece n state_old state_new old new writer_old writer_new =
+    GoesOn piece n state_old state_new old new writer_old writer_new ⊎ EndsLine rules print piece n state_old state_new old new writer_old writer_new
 
--- a line that ends in a piece fails; or none ends, and it is too long already
-abbrev pub FailsIn : Rules → Print → List ℕ → Held → Reading → Device → Device → RunFault → Type 0
-FailsIn rules print piece held reading old new fault =
-    ((front : List ℕ) × (behind : List ℕ) × EndsIn piece front behind
-    × FailsAt rules print held (reading.line.items ++ front) reading.lines reading.written old new fault)
-    ⊎ ((fault ≡ f.BadLine (reading.lines + 1)) × (new ≡ old) × NoEnd piece × (line_limit < length (reading.line.items ++ piece)))
-    ⊎ ((fault ≡ f.Memory) × (new ≡ old))
+-- a line that ends in a piece fails
+pub record FailsLine (rules : Rules) (print : Print) (piece : List ℕ) (state_old state_new : State) (reading : Reading) (old new : Device) (fault : RunFault) : Type 0 where
+  pub front : List ℕ
+  pub behind : List ℕ
+  pub ends : EndsIn piece front behind
+  pub fails : FailsAt rules print (reading.line.items ++ front) reading.lines reading.written (held_at state_old) (held_at state_new) old new fault
+  pub works : LineWorks rules (held_at state_old) (reading.line.items ++ front) state_old.engine state_new.engine
 
--- Between two states of its devices a run has read some bytes and obeyed some lines. Behind these it holds the beginning of a line, and
--- bytes that wait.
-pub record IsAt (rules : Rules) (print : Print) (start : Held) (reader_old reader_new writer_old writer_new : Device) (held : Held) (reading : Reading) (waiting : List ℕ) : Type 0 where
+-- or its beginning, up to the end of the piece or to its own, can't be kept
+pub record IsNotKept (piece : List ℕ) (state_old state_new : State) (reading : Reading) (old new : Device) (fault : RunFault) : Type 0 where
+  pub front : List ℕ
+  pub behind : List ℕ
+  pub whole : piece ≡ front ++ behind
+  pub none : NoEnd front
+  pub grows : GrowsNot front reading fault
+  pub state : state_new ≡ state_old
+  pub writer : new ≡ old
+
+abbrev pub FailsIn : Rules → Print → List ℕ → State → State → Reading → Device → Device → RunFault → Type 0
+FailsIn rules print piece state_old state_new reading old new fault =
+    FailsLine rules print piece state_old state_new reading old new fault ⊎ IsNotKept piece state_old state_new reading old new fault
+
+-- Between two states of its devices and of its session a run has read some bytes and obeyed some lines. Behind these it holds the
+-- beginning of a line, and bytes that wait.
+pub record IsAt (rules : Rules) (print : Print) (start : State) (reader_old reader_new writer_old writer_new : Device) (now : State) (reading : Reading) (waiting : List ℕ) : Type 0 where
   pub bytes : List ℕ
   pub done : List (List ℕ)
   pub read : Consumes reader_old.bytes reader_new.bytes bytes
@@ -111,36 +153,32 @@ pub record IsAt (rules : Rules) (print : Print) (start : Held) (reader_old reade
   pub good : list_all is_good done ≡ true
   pub none : NoEnd reading.line.items
   pub size : length bytes ≡ length (with_ends done) + (length reading.line.items + length waiting)
-  pub wrote : Wrote (answers rules print start done) writer_old writer_new
-  pub held_is : held ≡ after_lines rules start done
+  pub wrote : Wrote (answers rules print (held_at start) done) writer_old writer_new
+  pub held_is : held_at now ≡ after_lines rules (held_at start) done
+  pub works : LinesWork rules (held_at start) done start.engine now.engine
   pub lines : reading.lines ≡ length done
-  pub written : reading.written ≡ length (answers rules print start done)
-  pub ahead : length reading.line.items + length waiting ≤ 1114112
-  pub short : length reading.line.items ≤ line_limit
-
--- the run ends so
-pub record Ends (rules : Rules) (print : Print) (start : Held) (reader_old writer_old reader_new writer_new : Device) (result : Result (Unit {0}) RunFault) : Type 0 where
-  pub run : IsScriptRun rules print start reader_old reader_new writer_old writer_new result
-  pub ahead : OnErr result (LinesReadAhead rules print start reader_old reader_new writer_old writer_new)
+  pub written : reading.written ≡ length (answers rules print (held_at start) done)
+  pub ahead : length reading.line.items + length waiting ≤ LINE_LIMIT + PIECE
+  pub short : length reading.line.items ≤ LINE_LIMIT
 
 -- a run stands somewhere, and its counts fit
-abbrev pub CanFeed : Rules → Print → Held → Reading → Device → List ℕ → Type 0
-CanFeed rules print held reading writer_new waiting =
-    (start : Held) × (reader_old : Device) × (writer_old : Device) × (reader_new : Device)
-    × IsAt rules print start reader_old reader_new writer_old writer_new held reading waiting × (reader_new.passed ≤ greatest)
+abbrev pub CanFeed : Rules → Print → State → Reading → Device → List ℕ → Type 0
+CanFeed rules print now reading writer_new waiting =
+    (start : State) × (reader_old : Device) × (writer_old : Device) × (reader_new : Device)
+    × IsAt rules print start reader_old reader_new writer_old writer_new now reading waiting × (reader_new.passed ≤ greatest)
 
 -- a step goes on, or ends the run
-abbrev pub Steps : Rules → Print → Held → Device → Device → Device → Device → Held → Reading → Result Bool RunFault → Type 0
-Steps rules print start reader_old writer_old reader_new writer_new held reading (Ok true) =
-    IsAt rules print start reader_old reader_new writer_old writer_new held reading []
-Steps rules print start reader_old writer_old reader_new writer_new held reading (Ok false) =
-    Ends rules print start reader_old writer_old reader_new writer_new (Ok tt)
-Steps rules print start reader_old writer_old reader_new writer_new held reading (Err fault) =
-    Ends rules print start reader_old writer_old reader_new writer_new (Err fault)
+abbrev pub Steps : Rules → Print → State → Device → Device → Device → Device → State → Reading → Result Bool RunFault → Type 0
+Steps rules print start reader_old writer_old reader_new writer_new now reading (Ok true) =
+    IsAt rules print start reader_old reader_new writer_old writer_new now reading []
+Steps rules print start reader_old writer_old reader_new writer_new now reading (Ok false) =
+    IsScriptRun rules print start now reader_old reader_new writer_old writer_new (Ok tt)
+Steps rules print start reader_old writer_old reader_new writer_new now reading (Err fault) =
+    IsScriptRun rules print start now reader_old reader_new writer_old writer_new (Err fault)
 
 -- the piece that was read was taken, or the run ends within it
-abbrev pub Feeds : Rules → Print → Held → Device → Device → Device → Device → Held → Reading → Result (Unit {0}) RunFault → Type 0
-Feeds rules print start reader_old writer_old reader_new writer_new held reading (Ok done) =
-    IsAt rules print start reader_old reader_new writer_old writer_new held reading []
-Feeds rules print start reader_old writer_old reader_new writer_new held reading (Err fault) =
-    Ends rules print start reader_old writer_old reader_new writer_new (Err fault)
+abbrev pub Feeds : Rules → Print → State → Device → Device → Device → Device → State → Reading → Result (Unit {0}) RunFault → Type 0
+Feeds rules print start reader_old writer_old reader_new writer_new now reading (Ok done) =
+    IsAt rules print start reader_old reader_new writer_old writer_new now reading []
+Feeds rules print start reader_old writer_old reader_new writer_new now reading (Err fault) =
+    IsScriptRun rules print start now reader_old reader_new writer_old writer_new (Err fault)

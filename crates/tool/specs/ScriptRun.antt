@@ -1,9 +1,8 @@
 -- What an edit script does and answers, and how its run ends.
-use Rattle.std.specs.Prelude.{ℕ, ◌+◌, ◌-◌, nat_lt, Bool, List, [], ◌∷◌, ◌++◌, ◌≤◌, length, map, take, drop, take_while, codes, slice_range, Option, Some, None, is_some, is_none, Result, if◌then◌else◌}
+use Rattle.std.specs.Prelude.{ℕ, ◌+◌, ◌-◌, nat_lt, Bool, List, [], ◌∷◌, ◌++◌, length, map, take, take_while, codes, slice_range, Option, Some, None, is_some, is_none, if◌then◌else◌}
 use Rattle.std.specs.Fmt.{decimal}
 use Rattle.std.specs.List.{concat, list_all}
 use Rattle.bidi.specs.Cuts.{paragraphs}
-use Rattle.device.specs.Device.{Device, Took}
 use Rattle.lines.specs.Layouts.{Layout, Rules, cut_by}
 use Rattle.lines.specs.Pages.{page}
 use Rattle.lines.specs.declared.print.Print.{Print}
@@ -12,12 +11,13 @@ use Rattle.session.specs.Kept.{layouts_of, lines_in, pars_of}
 use Rattle.session.specs.Touched.{first_touched, touched_count}
 use Rattle.session.specs.declared.edits.EditFault.{EditFault}
 use Rattle.session.specs.declared.edits.EditFault.TheVariants as refused
-use Rattle.tool.specs.Scripts.{Order, Insertion, Deletion, Filling, Showing, order_of_line, script_lines}
-use Rattle.text_run.specs.TextRun.{EndsWith, Gave, HasReadAll, fault_of}
+use Rattle.tool.specs.Scripts.{Order, Insertion, Deletion, Filling, Showing, order_of_line}
 use Rattle.text_run.specs.declared.faults.RunFault.{RunFault}
 use Rattle.text_run.specs.declared.faults.RunFault.TheVariants as fault
 use Rattle.text_run.specs.declared.text.Ending.{Ending}
 use Rattle.text_run.specs.declared.text.Ending.TheVariants.{AtEnd, AtFailure}
+use Rattle.text_run.specs.declared.text.TheConstants.{PIECE}
+use Rattle.tool.specs.declared.script.TheConstants.{LINE_LIMIT}
 
 -- ---- one order
 
@@ -112,28 +112,9 @@ input_fault AtFailure = Some fault.Read
 abbrev pub script_fault : Ending → List (List ℕ) → Option RunFault
 script_fault ending lines = if list_all is_good lines then input_fault ending else Some (fault.BadLine (length (good_lines lines) + 1))
 
--- The run of a script over a text at a width: what the reader gave has lines, which are answered one after another, up to the first
--- that is none.
-abbrev pub IsScriptRun : Rules → Print → Held → Device → Device → Device → Device → Result (Unit {0}) RunFault → Type 0
-IsScriptRun rules print held reader_old reader_new writer_old writer_new result =
-    (ending : Ending) × (bytes : List ℕ) × Gave reader_old reader_new ending bytes
-    × HasReadAll (fault_of result) reader_old reader_new bytes
-    × (let lines = script_lines ending bytes in
-    EndsWith (answers rules print held) (good_lines lines) (script_fault ending lines) writer_old writer_new (fault_of result))
-
--- how many bytes a run reads behind the lines that it has answered, at most: a line of 1,048,577 with its end, and one piece of 65,536
+-- how many bytes a run reads behind the lines that it has answered, at most: a line with its end, and one piece
 abbrev pub line_read_ahead : ℕ
-line_read_ahead = 1114113
+line_read_ahead = LINE_LIMIT + 1 + PIECE
 
 abbrev pub with_ends : List (List ℕ) → List ℕ
 with_ends lines = concat (map (λ line. line ++ 10 ∷ []) lines)
-
--- Where a run ended with a fault, the first k lines of what the reader gave were answered, and n bytes of the next one's answer
--- written. At most so many bytes behind these k lines were read.
-abbrev pub LinesReadAhead : Rules → Print → Held → Device → Device → Device → Device → Type 0
-LinesReadAhead rules print held reader_old reader_new writer_old writer_new =
-    (ending : Ending) × (bytes : List ℕ) × Gave reader_old reader_new ending bytes
-    × (let lines = good_lines (script_lines ending bytes) in
-    (k : ℕ) × (n : ℕ)
-    × Took writer_old writer_new (answers rules print held (take k lines) ++ take n (answers rules print (after_lines rules held (take k lines)) (take 1 (drop k lines))))
-    × (reader_new.passed ≤ reader_old.passed + length (with_ends (take k lines)) + line_read_ahead))

@@ -7,6 +7,7 @@ use Rattle.std.specs.Str.{chars}
 use Rattle.std.specs.Str.Lossy.{utf8_valid_len}
 use Rattle.text_run.specs.declared.text.Ending.{Ending}
 use Rattle.text_run.specs.declared.text.Ending.TheVariants.{AtEnd, AtFailure}
+use Rattle.tool.specs.declared.script.TheConstants.{LINE_LIMIT}
 
 -- ---- lines
 
@@ -14,15 +15,11 @@ use Rattle.text_run.specs.declared.text.Ending.TheVariants.{AtEnd, AtFailure}
 abbrev pub is_line_end : ℕ → Bool
 is_line_end b = b == 10
 
--- the bytes of a line, without its end, are limited
-abbrev pub line_limit : ℕ
-line_limit = 1048576
-
 -- What stands behind the last end is a line too, where the script ended and it isn't empty. Where the source failed it is none,
 -- unless it is over the limit already.
 abbrev pub is_last_line : Ending → List ℕ → Bool
 is_last_line AtEnd rest = nat_lt 0 (length rest)
-is_last_line AtFailure rest = nat_lt line_limit (length rest)
+is_last_line AtFailure rest = nat_lt LINE_LIMIT (length rest)
 
 -- the lines among the parts between ends
 abbrev pub lines_among : Ending → List (List ℕ) → List (List ℕ)
@@ -132,4 +129,4 @@ order_in line =
 
 -- what the bytes of a line ask for, if they are UTF-8 and no more than may be
 abbrev pub order_of_line : List ℕ → Option Order
-order_of_line line = if nat_le (length line) line_limit && utf8_valid_len line == length line then order_in (chars line) else None
+order_of_line line = if nat_le (length line) LINE_LIMIT && utf8_valid_len line == length line then order_in (chars line) else None

@@ -8,5 +8,5 @@ mod script;
 mod start;
 
 pub use program::ProgramFault;
-pub use script::run_script;
+pub use script::{LINE_LIMIT, run_script};
 pub use start::open_text;

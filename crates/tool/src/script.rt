@@ -1,34 +1,36 @@
 //! The run of an edit script: its bytes are read piece by piece, each line is obeyed as soon as its end was
 //! read, and its answer is written before more is read.
 ghost use Rattle.std.specs.Prelude.{◌≡◌, ◌+◌, ◌-◌, ◌<◌, ◌≤◌, ◌++◌, ◌^◌, ◌∷◌, [], true, false, None, Ok};
-ghost use Rattle.std.specs.Prelude.{length, take, drop, vec_len, option_map};
+ghost use Rattle.std.specs.Prelude.{length, nat_lt, take, drop, vec_len, option_map};
 ghost use Rattle.std.specs.Prelude.{IfOk, IfErr, OnOk, OnErr, MatchOption, MatchResult};
 ghost use Rattle.std.specs.Str.{chars};
+ghost use Rattle.std.specs.Str.Lossy.{utf8_valid_len};
 ghost use Rattle.device.specs.Device.{Device};
 ghost use Rattle.lines.specs.Engine.{rules_of, SameRules};
 ghost use Rattle.lines.specs.Writing.{PassedOn};
-ghost use Rattle.session.specs.Changes.{Held};
-ghost use Rattle.session.specs.Sessions.{held_at, page_at};
+ghost use Rattle.session.specs.Sessions.{State, held_at, page_at, IsWholeLayout};
 ghost use Rattle.std.specs.Io.KnownBytes.{IsAtEnd};
-ghost use Rattle.tool.specs.Commands.{order_of};
-ghost use Rattle.tool.specs.Reading.{CanFeed, Changed, Ends, EndsIn, FailsAt, FailsIn, Feeds, IsAt};
-ghost use Rattle.tool.specs.Reading.{NoEnd, Obeys, ObeysLine, Steps, Stops, Takes, change_text, lacks_memory};
-ghost use Rattle.tool.specs.ScriptRun.{answer_to, IsScriptRun, LinesReadAhead};
 ghost use Rattle.text_run.specs.TextRun.{TellsReads};
-ghost use Rattle.tool.specs.Scripts.{Order, Deletion, Filling, Insertion, Showing};
-ghost use Rattle.tool.specs.Scripts.{order_of_line};
+ghost use Rattle.text_run.specs.declared.text.TheConstants.{PIECE};
+ghost use Rattle.tool.specs.Commands.{order_of};
+ghost use Rattle.tool.specs.Reading.{CanFeed, Changed, EndsIn, FailsAt, FailsIn, Feeds, Grows, GrowsNot};
+ghost use Rattle.tool.specs.Reading.{IsAt, NoEnd, Obeys, ObeysLine, ObeysNot, Steps, Stops, Takes};
+ghost use Rattle.tool.specs.Reading.{change_text, lacks_memory};
+ghost use Rattle.tool.specs.ScriptEnds.{IsScriptRun};
+ghost use Rattle.tool.specs.Scripts.{Deletion, Filling, Insertion, order_of_line};
+ghost use Rattle.tool.specs.Work.{LineWorks, OrderWorks};
 
-use crate::answers::push_answer;
+use crate::answers::answer_of;
 use crate::commands::{Command, read_command};
 use device::{Sink, Source, write_all};
 use lines::Print;
 use session::{Damage, EditFault, Kept, Session};
 use std::alloc::{AllocError, Global};
 use store::ParagraphStore;
-use text_run::{PIECE, RunFault, decode, room};
+use text_run::{PIECE, RunFault, front, room};
 
 /// How many bytes a line may have, without its end.
-const LINE_LIMIT: usize = 1_048_576;
+pub const LINE_LIMIT: usize = 1_048_576;
 
 /// What a run holds between two reads.
 #[derive(Debug)]
@@ -38,9 +40,8 @@ struct Reading {
     // How many lines were obeyed, and how many bytes are written.
     lines: u64,
     written: u64,
-    // The characters of a line, and its answer.
+    // The characters of a line.
     text: Vec<char>,
-    answer: Vec<u8>,
 }
 
 impl Drop for Reading {
@@ -50,7 +51,6 @@ impl Drop for Reading {
             lines: _,
             written: _,
             text: _,
-            answer: _,
         } = self;
     }
 }
@@ -62,6 +62,8 @@ fn set_width<S: ParagraphStore<Kept>>(
 ) -> Result<Damage, EditFault>
     ensures changed { Changed (rules_of session.old.engine) (Filling width)
         (held_at session.old) (held_at session.new) result }
+    ensures works { OrderWorks (rules_of session.old.engine) (held_at session.old) (Filling width)
+        session.old.engine session.new.engine }
     ensures rules { SameRules session.old.engine session.new.engine }
 {
     // Shows that what is kept is laid out.
@@ -79,6 +81,8 @@ fn insert<S: ParagraphStore<Kept>>(
 ) -> Result<Damage, EditFault>
     ensures changed { Changed (rules_of session.old.engine) (Insertion pos (chars piece.now))
         (held_at session.old) (held_at session.new) result }
+    ensures works { OrderWorks (rules_of session.old.engine) (held_at session.old) (Insertion pos (chars piece.now))
+        session.old.engine session.new.engine }
     ensures rules { SameRules session.old.engine session.new.engine }
 {
     // Shows that what is kept is laid out.
@@ -93,6 +97,8 @@ fn delete<S: ParagraphStore<Kept>>(
 ) -> Result<Damage, EditFault>
     ensures changed { Changed (rules_of session.old.engine) (Deletion pos count)
         (held_at session.old) (held_at session.new) result }
+    ensures works { OrderWorks (rules_of session.old.engine) (held_at session.old) (Deletion pos count)
+        session.old.engine session.new.engine }
     ensures rules { SameRules session.old.engine session.new.engine }
 {
     // Shows that what is kept is laid out.
@@ -105,7 +111,6 @@ fn write_answer<W: Sink>(
     writer: &mut W,
     written: u64,
     change: &Result<Damage, EditFault>,
-    answer: &mut Vec<u8>,
 ) -> Result<u64, RunFault>
     requires { written ≤ (W.state writer.old).passed }
     ensures ok { IfOk result (PassedOn (change_text change.now) written
@@ -114,11 +119,8 @@ fn write_answer<W: Sink>(
         (W.state writer.old) (W.state writer.new)) }
     ensures counted { IfOk result (λ n. n ≤ (W.state writer.new).passed) }
 {
-    answer.clear();
-    let Ok(()) = push_answer(answer, change) else {
-        return Err(RunFault::Memory);
-    };
-    match write_all(writer, answer) {
+    let answer = answer_of(change);
+    match write_all(writer, &answer) {
         Ok(()) => Ok(written + answer.len() as u64),
         Err(n) => Err(RunFault::Write(written + n as u64)),
     }
@@ -160,13 +162,14 @@ fn obey<W: Sink, S: ParagraphStore<Kept>>(
     written: u64,
     print: &Print,
     command: &Command,
-    answer: &mut Vec<u8>,
 ) -> Result<u64, RunFault>
     requires { written ≤ (W.state writer.old).passed }
     ensures ok { IfOk result (Obeys (rules_of session.old.engine) print.now (order_of command.now)
         written (held_at session.old) (held_at session.new) (W.state writer.old) (W.state writer.new)) }
-    ensures err { IfErr result (Stops (answer_to (rules_of session.old.engine) print.now
-        (held_at session.old) (order_of command.now)) written (W.state writer.old) (W.state writer.new)) }
+    ensures err { IfErr result (ObeysNot (rules_of session.old.engine) print.now (order_of command.now)
+        written (held_at session.old) (held_at session.new) (W.state writer.old) (W.state writer.new)) }
+    ensures works { OrderWorks (rules_of session.old.engine) (held_at session.old) (order_of command.now)
+        session.old.engine session.new.engine }
     ensures counted { IfOk result (λ n. n ≤ (W.state writer.new).passed) }
     ensures rules { SameRules session.old.engine session.new.engine }
 {
@@ -179,26 +182,36 @@ fn obey<W: Sink, S: ParagraphStore<Kept>>(
     if lacks_memory(&change) {
         return Err(RunFault::Memory);
     }
-    write_answer(writer, written, &change, answer)
+    write_answer(writer, written, &change)
 }
 
-// What the bytes of a line ask for, if they are a line of a script.
+// What the bytes of a line ask for, if they are a line of a script. Whether they are UTF-8 is told before
+// there is need of memory.
 fn read_line(
     alloc: Global,
     line: &[u8],
     text: &mut Vec<char>,
 ) -> Result<Option<Command>, AllocError>
-    ensures { IfOk result (λ command. option_map order_of command ≡ order_of_line line.now) }
+    requires { length line.now ≤ LINE_LIMIT }
+    ensures ok { IfOk result (λ command. option_map order_of command ≡ order_of_line line.now) }
+    ensures err { OnErr result (utf8_valid_len line.now ≡ length line.now) }
 {
-    if line.len() > LINE_LIMIT {
+    let (characters, _) = front(line);
+    if characters.len() < line.len() {
         return Ok(None);
     }
     text.clear();
-    let (len, _) = decode(line, text)?;
-    if len < line.len() {
-        return Ok(None);
-    }
+    push_characters(characters, text)?;
     read_command(alloc, text)
+}
+
+fn push_characters(text: &str, characters: &mut Vec<char>) -> Result<(), AllocError>
+    ensures { OnOk result (characters.new.items ≡ characters.old.items ++ chars text.now) }
+{
+    for c in text.chars() {
+        characters.push(c)?;
+    }
+    Ok(())
 }
 
 // Obeys the line that was read.
@@ -209,14 +222,17 @@ fn obey_line<W: Sink, S: ParagraphStore<Kept>>(
     print: &Print,
     reading: &mut Reading,
 ) -> Result<(), RunFault>
+    requires short { length reading.old.line.items ≤ LINE_LIMIT }
     requires written { reading.old.written ≤ (W.state writer.old).passed }
     requires lines { reading.old.lines < 2 ^ 64 - 1 }
     ensures ok { OnOk result (ObeysLine (rules_of session.old.engine) print.now reading.old.line.items
         (held_at session.old) (held_at session.new) reading.old reading.new
         (W.state writer.old) (W.state writer.new)) }
-    ensures err { IfErr result (FailsAt (rules_of session.old.engine) print.now (held_at session.old)
+    ensures err { IfErr result (FailsAt (rules_of session.old.engine) print.now
         reading.old.line.items reading.old.lines reading.old.written
-        (W.state writer.old) (W.state writer.new)) }
+        (held_at session.old) (held_at session.new) (W.state writer.old) (W.state writer.new)) }
+    ensures works { LineWorks (rules_of session.old.engine) (held_at session.old) reading.old.line.items
+        session.old.engine session.new.engine }
     ensures rules { SameRules session.old.engine session.new.engine }
 {
     let command = match read_line(alloc, &reading.line, &mut reading.text) {
@@ -225,14 +241,7 @@ fn obey_line<W: Sink, S: ParagraphStore<Kept>>(
         Err(_) => return Err(RunFault::Memory),
     };
     let written = reading.written;
-    match obey(
-        session,
-        writer,
-        written,
-        print,
-        &command,
-        &mut reading.answer,
-    ) {
+    match obey(session, writer, written, print, &command) {
         Ok(written) => {
             reading.written = written;
             reading.lines += 1;
@@ -241,6 +250,28 @@ fn obey_line<W: Sink, S: ParagraphStore<Kept>>(
         }
         Err(fault) => Err(fault),
     }
+}
+
+// Adds bytes to the beginning of a line, unless it is too long with them, which is told before there is need
+// of memory.
+fn grow(reading: &mut Reading, bytes: &[u8]) -> Result<(), RunFault>
+    requires { reading.old.lines < 2 ^ 64 - 1 }
+    ensures ok { OnOk result (Grows bytes.now reading.old reading.new) }
+    ensures err { IfErr result (GrowsNot bytes.now reading.old) }
+{
+    if is_too_long(&reading.line, bytes) {
+        return Err(RunFault::BadLine(reading.lines + 1));
+    }
+    match reading.line.extend_from_slice(bytes) {
+        Ok(()) => Ok(()),
+        Err(_) => Err(RunFault::Memory),
+    }
+}
+
+fn is_too_long(line: &[u8], more: &[u8]) -> bool
+    ensures { result ≡ nat_lt LINE_LIMIT (length (line.now ++ more.now)) }
+{
+    line.len() > LINE_LIMIT || more.len() > LINE_LIMIT - line.len()
 }
 
 // Where the first end of a line stands.
@@ -264,31 +295,26 @@ fn take_part<W: Sink, S: ParagraphStore<Kept>>(
     requires written { reading.old.written ≤ (W.state writer.old).passed }
     requires lines { reading.old.lines < 2 ^ 64 - 1 }
     ensures ok { IfOk result (λ n. Takes (rules_of session.old.engine) print.now piece.now n
-        (held_at session.old) (held_at session.new) reading.old reading.new
-        (W.state writer.old) (W.state writer.new)) }
+        session.old session.new reading.old reading.new (W.state writer.old) (W.state writer.new)) }
     ensures err { IfErr result (FailsIn (rules_of session.old.engine) print.now piece.now
-        (held_at session.old) reading.old (W.state writer.old) (W.state writer.new)) }
+        session.old session.new reading.old (W.state writer.old) (W.state writer.new)) }
     ensures rules { SameRules session.old.engine session.new.engine }
 {
     match line_end(piece) {
         Some(end) => {
-            let Ok(()) = reading.line.extend_from_slice(&piece[..end]) else {
-                return Err(RunFault::Memory);
-            };
+            match grow(reading, &piece[..end]) {
+                Ok(()) => (),
+                Err(fault) => return Err(fault),
+            }
             match obey_line(alloc, session, writer, print, reading) {
                 Ok(()) => Ok(end + 1),
                 Err(fault) => Err(fault),
             }
         }
-        None => {
-            let Ok(()) = reading.line.extend_from_slice(piece) else {
-                return Err(RunFault::Memory);
-            };
-            if reading.line.len() > LINE_LIMIT {
-                return Err(RunFault::BadLine(reading.lines + 1));
-            }
-            Ok(piece.len())
-        }
+        None => match grow(reading, piece) {
+            Ok(()) => Ok(piece.len()),
+            Err(fault) => Err(fault),
+        },
     }
 }
 
@@ -301,13 +327,13 @@ fn feed<W: Sink, S: ParagraphStore<Kept>>(
     reading: &mut Reading,
     piece: &[u8],
 ) -> Result<(), RunFault>
-    requires { CanFeed (rules_of session.old.engine) print.now (held_at session.old) reading.old
+    requires { CanFeed (rules_of session.old.engine) print.now session.old reading.old
         (W.state writer.old) piece.now }
-    ensures feeds { (start : Held) (reader_start writer_start reader_now : Device)
+    ensures feeds { (start : State) (reader_start writer_start reader_now : Device)
         → IsAt (rules_of session.old.engine) print.now start reader_start reader_now
-        writer_start (W.state writer.old) (held_at session.old) reading.old piece.now
+        writer_start (W.state writer.old) session.old reading.old piece.now
         → Feeds (rules_of session.old.engine) print.now start reader_start writer_start reader_now
-        (W.state writer.new) (held_at session.new) reading.new result }
+        (W.state writer.new) session.new reading.new result }
     ensures rules { SameRules session.old.engine session.new.engine }
 {
     let mut at = 0;
@@ -328,14 +354,14 @@ fn finish<W: Sink, S: ParagraphStore<Kept>>(
     print: &Print,
     reading: &mut Reading,
 ) -> Result<(), RunFault>
-    requires { CanFeed (rules_of session.old.engine) print.now (held_at session.old) reading.old
+    requires { CanFeed (rules_of session.old.engine) print.now session.old reading.old
         (W.state writer.old) [] }
-    ensures ends { (start : Held) (reader_start writer_start reader_now : Device)
+    ensures ends { (start : State) (reader_start writer_start reader_now : Device)
         → IsAt (rules_of session.old.engine) print.now start reader_start reader_now
-        writer_start (W.state writer.old) (held_at session.old) reading.old []
+        writer_start (W.state writer.old) session.old reading.old []
         → IsAtEnd reader_now.bytes
-        → Ends (rules_of session.old.engine) print.now start reader_start writer_start reader_now
-        (W.state writer.new) result }
+        → IsScriptRun (rules_of session.old.engine) print.now start session.new reader_start reader_now
+        writer_start (W.state writer.new) result }
     ensures rules { SameRules session.old.engine session.new.engine }
 {
     if reading.line.is_empty() {
@@ -354,15 +380,15 @@ fn step<R: Source, W: Sink, S: ParagraphStore<Kept>>(
     piece: &mut [u8],
     reading: &mut Reading,
 ) -> Result<bool, RunFault>
-    requires room { length piece.old ≡ 65536 }
-    requires stands { (start : Held) × (reader_start : Device) × (writer_start : Device)
+    requires room { length piece.old ≡ PIECE }
+    requires stands { (start : State) × (reader_start : Device) × (writer_start : Device)
         × IsAt (rules_of session.old.engine) print.now start reader_start (R.state reader.old)
-        writer_start (W.state writer.old) (held_at session.old) reading.old [] }
-    ensures steps { (start : Held) (reader_start writer_start : Device)
+        writer_start (W.state writer.old) session.old reading.old [] }
+    ensures steps { (start : State) (reader_start writer_start : Device)
         → IsAt (rules_of session.old.engine) print.now start reader_start (R.state reader.old)
-        writer_start (W.state writer.old) (held_at session.old) reading.old []
+        writer_start (W.state writer.old) session.old reading.old []
         → Steps (rules_of session.old.engine) print.now start reader_start writer_start
-        (R.state reader.new) (W.state writer.new) (held_at session.new) reading.new result }
+        (R.state reader.new) (W.state writer.new) session.new reading.new result }
     ensures reads { TellsReads result (R.state reader.old) (R.state reader.new) }
     ensures rises { result ≡ Ok true → (R.state reader.old).passed < (R.state reader.new).passed }
     ensures counted { result ≡ Ok true → (R.state reader.new).passed ≤ 2 ^ 64 - 1 }
@@ -385,7 +411,30 @@ fn step<R: Source, W: Sink, S: ParagraphStore<Kept>>(
     }
 }
 
-// Obeys the lines of a script over a session.
+/// Obeys the lines of a script over a session. Each line is obeyed as soon as its end was read, and its answer
+/// is written before more is read: of the script, no more is held than a line and one piece. However the run
+/// ends, the session has made the changes of the lines that were answered, and no more work than these ask for;
+/// where a write fails, that of the line whose answer it was; and where memory runs out, which it does only
+/// while a line is read or a change made, that line changes nothing.
+pub fn run_script<R: Source, W: Sink, S: ParagraphStore<Kept>>(
+    alloc: Global,
+    reader: &mut R,
+    writer: &mut W,
+    session: &mut Session<S>,
+    print: &Print,
+) -> Result<(), RunFault>
+    ensures run { IsScriptRun (rules_of session.old.engine) print.now session.old session.new
+        (R.state reader.old) (R.state reader.new) (W.state writer.old) (W.state writer.new) result }
+    ensures reads { TellsReads result (R.state reader.old) (R.state reader.new) }
+    ensures laid_out { IsWholeLayout session.new }
+    ensures rules { SameRules session.old.engine session.new.engine }
+{
+    let result = run_over(alloc, reader, writer, session, print);
+    // Shows that what is kept is laid out.
+    let _width = session.width();
+    result
+}
+
 fn run_over<R: Source, W: Sink, S: ParagraphStore<Kept>>(
     alloc: Global,
     reader: &mut R,
@@ -393,12 +442,10 @@ fn run_over<R: Source, W: Sink, S: ParagraphStore<Kept>>(
     session: &mut Session<S>,
     print: &Print,
 ) -> Result<(), RunFault>
-    ensures run { IsScriptRun (rules_of session.old.engine) print.now (held_at session.old)
+    ensures run { IsScriptRun (rules_of session.old.engine) print.now session.old session.new
         (R.state reader.old) (R.state reader.new) (W.state writer.old) (W.state writer.new) result }
     ensures reads { TellsReads result (R.state reader.old) (R.state reader.new) }
-    ensures ahead { OnErr result (LinesReadAhead (rules_of session.old.engine) print.now
-        (held_at session.old) (R.state reader.old) (R.state reader.new)
-        (W.state writer.old) (W.state writer.new)) }
+    ensures rules { SameRules session.old.engine session.new.engine }
 {
     let Ok(mut piece) = room(alloc, PIECE) else {
         return Err(RunFault::Memory);
@@ -408,7 +455,6 @@ fn run_over<R: Source, W: Sink, S: ParagraphStore<Kept>>(
         lines: 0,
         written: 0,
         text: Vec::new(alloc),
-        answer: Vec::new(alloc),
     };
     loop {
         match step(
@@ -425,25 +471,4 @@ fn run_over<R: Source, W: Sink, S: ParagraphStore<Kept>>(
             Err(fault) => return Err(fault),
         }
     }
-}
-
-/// Obeys the lines of a script over a session, which is given up however the run ends. Each line is obeyed as
-/// soon as its end was read, and its answer is written before more is read: of the script, no more is held
-/// than a line and one piece.
-pub fn run_script<R: Source, W: Sink, S: ParagraphStore<Kept> + Drop>(
-    alloc: Global,
-    reader: &mut R,
-    writer: &mut W,
-    session: Session<S>,
-    print: &Print,
-) -> Result<(), RunFault>
-    ensures run { IsScriptRun (rules_of session.engine) print.now (held_at session)
-        (R.state reader.old) (R.state reader.new) (W.state writer.old) (W.state writer.new) result }
-    ensures reads { TellsReads result (R.state reader.old) (R.state reader.new) }
-    ensures ahead { OnErr result (LinesReadAhead (rules_of session.engine) print.now
-        (held_at session) (R.state reader.old) (R.state reader.new)
-        (W.state writer.old) (W.state writer.new)) }
-{
-    let mut session = session;
-    run_over(alloc, reader, writer, &mut session, print)
 }

@@ -1,8 +1,7 @@
 use Rattle.std.proofs.Common.{◌≤◌, ◌-◌, length, drop}
 use Rattle.device.specs.Device.{Device}
 use Rattle.lines.specs.Engine.{rules_of, SameRules}
-use Rattle.session.specs.Changes.{Held}
-use Rattle.session.specs.Sessions.{held_at}
+use Rattle.session.specs.Sessions.{State}
 use Rattle.tool.specs.Reading.{IsAt}
 use Rattle.tool.proofs.script.feed.Given as goal
 
@@ -13,8 +12,8 @@ invariant-loop-at g l =
     let rules = rules_of l.fn.session.engine in
     record {
       within : l.at ≤ length l.piece;
-      stands : (start : Held) (reader_start writer_start reader_now : Device) → IsAt rules l.print start reader_start reader_now writer_start (state l.fn.writer) (held_at l.fn.session) l.fn.reading l.piece
-          → IsAt rules l.print start reader_start reader_now writer_start (state l.writer) (held_at l.session) l.reading (drop l.at l.piece);
+      stands : (start : State) (reader_start writer_start reader_now : Device) → IsAt rules l.print start reader_start reader_now writer_start (state l.fn.writer) l.fn.session l.fn.reading l.piece
+          → IsAt rules l.print start reader_start reader_now writer_start (state l.writer) l.session l.reading (drop l.at l.piece);
       rules : SameRules l.fn.session.engine l.session.engine;
     }
 

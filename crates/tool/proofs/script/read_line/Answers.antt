@@ -1,22 +1,41 @@
-use Rattle.std.proofs.Common.{◌≡◌, ◌≤◌, ◌==◌, ◌&&◌, ◌++◌, Bool, true, Option, None, IfOk, length, take, nat_le, option_map, sym, subst, ap, ◌∙◌, arith, if◌then◌else◌}
+use Rattle.std.proofs.Common.{◌≡◌, ◌≤◌, ◌==◌, ◌&&◌, ◌++◌, Bool, true, Option, None, IfOk, length, nat_le, option_map, OnErr, Result, Ok, Err, sym, subst, ap, ◌∙◌, arith, if◌then◌else◌}
 use Rattle.std.specs.Str.{chars}
 use Rattle.std.specs.Str.Lossy.{utf8_valid_len}
 use Rattle.std.proofs.lemmas.Bool.Decides.{nat_tests}
-use Rattle.std.proofs.lemmas.List.{take_all}
+use Rattle.std.proofs.lemmas.List.{length-take-le, take_all}
 use Rattle.std.proofs.lemmas.Str.{utf8_valid_len_le}
 use Rattle.tool.specs.Commands.{order_of}
-use Rattle.tool.specs.Scripts.{Order, line_limit, order_in, order_of_line}
+use Rattle.tool.specs.Scripts.{Order, order_in, order_of_line}
 use Rattle.tool.proofs.script.read_line.Goals as goal
+use Rattle.tool.specs.declared.script.TheConstants.{LINE_LIMIT}
 
-pub returns : goal.returns
-returns c =
+-- what holds holds after an error too
+on_err : {A E : Type 0} (P : Type 0) (r : Result A E) → P → OnErr r P
+on_err P (Ok done) p = tt
+on_err P (Err error) p = p
+
+pub returns-in_err-push_characters-clause-err : goal.returns-in_err-push_characters-clause-err
+returns-in_err-push_characters-clause-err c =
     let line = c.args.line.now in
     let within : utf8_valid_len line ≤ length line = utf8_valid_len_le line in
-    let short : nat_le (length line) line_limit ≡ true = grind (arith, nat_tests) in
-    let valid : (utf8_valid_len line == length line) ≡ true = grind (arith, nat_tests, within, c.in_ok-len.ensures.len) in
+    on_err _ c.from_residual.result (omega (arith, within, ap length c.front.ensures.text, length-take-le (utf8_valid_len line) line within, c.if-characters-line.false))
+
+pub returns-clause-err : goal.returns-clause-err
+returns-clause-err c =
+    let line = c.args.line.now in
+    let within : utf8_valid_len line ≤ length line = utf8_valid_len_le line in
+    on_err _ c.read_command.result (omega (arith, within, ap length c.front.ensures.text, length-take-le (utf8_valid_len line) line within, c.if-characters-line.false))
+
+pub returns-clause-ok : goal.returns-clause-ok
+returns-clause-ok c =
+    let line = c.args.line.now in
+    let within : utf8_valid_len line ≤ length line = utf8_valid_len_le line in
+    let is_text : utf8_valid_len line ≡ length line = omega (arith, within, ap length c.front.ensures.text, length-take-le (utf8_valid_len line) line within, c.if-characters-line.false) in
+    let short : nat_le (length line) LINE_LIMIT ≡ true = grind (arith, nat_tests, c.requires) in
+    let valid : (utf8_valid_len line == length line) ≡ true = grind (arith, nat_tests, is_text) in
     let text : c.deref.result.now ≡ chars line =
-    c.deref.ensures.value ∙ c.in_ok-len.ensures.characters ∙ ap (λ t. t ++ chars (take (utf8_valid_len line) line)) c.clear.ensures.items
-    ∙ ap chars (take_all (utf8_valid_len line) line (omega (arith, within, c.in_ok-len.ensures.len))) in
+    c.deref.ensures.value ∙ c.in_ok-push_characters.ensures ∙ ap (λ t. t ++ chars c.front.result.0.now) c.clear.ensures.items
+    ∙ ap chars (c.front.ensures.text ∙ take_all (utf8_valid_len line) line (omega (arith, is_text))) in
     let is : order_in c.deref.result.now ≡ order_of_line line =
     ap order_in text ∙ sym (ap (λ (b : Bool). if b && (utf8_valid_len line == length line) then order_in (chars line) else None) short ∙ ap (λ (b : Bool). if b then order_in (chars line) else None) valid) in
     subst (λ (o : Option Order). IfOk c.read_command.result (λ command. option_map order_of command ≡ o)) is c.read_command.ensures

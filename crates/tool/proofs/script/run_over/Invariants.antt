@@ -1,9 +1,9 @@
 use Rattle.std.proofs.Common.{◌≡◌, ◌-◌, [], vec_len}
 use Rattle.device.specs.Device.{greatest}
 use Rattle.lines.specs.Engine.{rules_of}
-use Rattle.session.specs.Sessions.{held_at}
 use Rattle.tool.specs.Reading.{IsAt}
 use Rattle.tool.proofs.script.run_over.Given as goal
+use Rattle.text_run.specs.declared.text.TheConstants.{PIECE}
 
 -- the run stands between two reads
 abbrev pub invariant-loop-reading : goal.invariant-loop-reading
@@ -12,8 +12,8 @@ invariant-loop-reading g l =
     let writer = g.W.Sink.state in
     record {
       kept : rules_of l.session.engine ≡ rules_of l.fn.session.engine;
-      room : vec_len l.piece ≡ 65536;
-      stands : IsAt (rules_of l.fn.session.engine) l.print (held_at l.fn.session) (reader l.fn.reader) (reader l.reader) (writer l.fn.writer) (writer l.writer) (held_at l.session) l.reading [];
+      room : vec_len l.piece ≡ PIECE;
+      stands : IsAt (rules_of l.fn.session.engine) l.print l.fn.session (reader l.fn.reader) (reader l.reader) (writer l.fn.writer) (writer l.writer) l.session l.reading [];
     }
 
 abbrev pub decreases-loop-reading : goal.decreases-loop-reading

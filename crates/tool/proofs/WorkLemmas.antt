@@ -1,0 +1,160 @@
+-- How much a session works for an order, and for lines one after another.
+use Rattle.std.proofs.Common.{◌≡◌, ℕ, ◌+◌, ◌≤◌, List, [], ◌∷◌, ◌++◌, length, map, Option, Some, None, Result, Ok, Err, IfOk, IfErr, is_none, is_some, false, nat_lt, if◌then◌else◌, refl, sym, ap, subst, ◌∙◌, arith}
+use Rattle.std.proofs.lemmas.Bool.{cond-true, true≢false}
+use Rattle.std.proofs.lemmas.List.{append-nil}
+use Rattle.bidi.specs.Cuts.{paragraphs}
+use Rattle.lines.specs.Engine.{LaysOutAtMost, FillsAtMost, RisesBy, analysed_of, filled_of, written_of, rules_of}
+use Rattle.lines.specs.Layouts.{Rules, layout_of}
+use Rattle.lines.specs.declared.engine.Engine.{Engine}
+use Rattle.session.specs.Changes.{Change, Held, refusal, width_refusal}
+use Rattle.session.specs.Kept.{pars_of}
+use Rattle.session.specs.Sessions.{State, IsWholeLayout, IsAnswerFor, IsCountedFor, Edits, EditsNot, Refills, RefillsNot, cuts_at, held_at, text_at}
+use Rattle.session.specs.Touched.{fresh}
+use Rattle.session.specs.declared.edits.Damage.{Damage}
+use Rattle.session.specs.declared.edits.EditFault.{EditFault}
+use Rattle.session.specs.declared.edits.EditFault.TheVariants.{OutOfRange, WidthOutOfRange, TextTooLong, ParagraphTooLong, NoMemory}
+use Rattle.tool.specs.Scripts.{Order, Filling, order_of_line}
+use Rattle.tool.specs.ScriptRun.{after_line, after_lines, is_good, order_refusal}
+use Rattle.tool.specs.Work.{OrderWorks, LineWorks, LinesWork, Works, analysed_by, filled_by, work_of_line, work_of_lines}
+
+-- ---- counts
+same_rise : (n old new : ℕ) → new ≡ old → RisesBy n old new
+same_rise n old new e = record { least = omega (arith, e); most = omega (arith, e) }
+
+pub more_rise : (n m k a b c : ℕ) → RisesBy n a b → RisesBy m b c → k ≡ n + m → RisesBy k a c
+more_rise n m k a b c r s e = record { least = omega (arith, r.least, s.least); most = omega (arith, r.most, s.most, e) }
+
+within_rise : (n m a b : ℕ) → n ≤ m → RisesBy n a b → RisesBy m a b
+within_rise n m a b le r = record { least = r.least; most = omega (arith, r.most, le) }
+
+-- an engine that is as it was has worked no more than anything
+pub works_none : (rules : Rules) (most : (Held → Order → ℕ) → ℕ) (old new : Engine) → new ≡ old → Works rules most old new
+works_none rules most old new e = record {
+  analysed = same_rise _ (analysed_of old) (analysed_of new) (ap analysed_of e);
+  filled = same_rise _ (filled_of old) (filled_of new) (ap filled_of e);
+  written = same_rise _ (written_of old) (written_of new) (ap written_of e);
+}
+
+-- ---- one order
+pub record Worked (reason : Option EditFault) (n m : ℕ) (old new : Engine) : Type 0 where
+  pub analysed : RisesBy (if is_none reason then n else 0) (analysed_of old) (analysed_of new)
+  pub filled : RisesBy (if is_none reason then m else 0) (filled_of old) (filled_of new)
+  pub written : RisesBy (if is_none reason then m else 0) (written_of old) (written_of new)
+
+accepted_rise : (reason : Option EditFault) (n old new : ℕ) → reason ≡ None → RisesBy n old new → RisesBy (if is_none reason then n else 0) old new
+accepted_rise reason n old new e r = subst (λ k. RisesBy k old new) (sym (cond-true (is_none reason) n 0 (ap is_none e))) r
+
+worked_none : (reason : Option EditFault) (n m : ℕ) (old new : Engine) → new ≡ old → Worked reason n m old new
+worked_none reason n m old new e = record {
+  analysed = same_rise _ (analysed_of old) (analysed_of new) (ap analysed_of e);
+  filled = same_rise _ (filled_of old) (filled_of new) (ap filled_of e);
+  written = same_rise _ (written_of old) (written_of new) (ap written_of e);
+}
+
+laid_out : (reason : Option EditFault) (n : ℕ) (old new : Engine) → reason ≡ None → LaysOutAtMost n old new → Worked reason n n old new
+laid_out reason n old new e counts = record {
+  analysed = accepted_rise reason n (analysed_of old) (analysed_of new) e counts.analysed;
+  filled = accepted_rise reason n (filled_of old) (filled_of new) e counts.filled;
+  written = accepted_rise reason n (written_of old) (written_of new) e counts.written;
+}
+
+filled_anew : (reason : Option EditFault) (n : ℕ) (old new : Engine) → reason ≡ None → FillsAtMost n old new → Worked reason 0 n old new
+filled_anew reason n old new e counts = record {
+  analysed = same_rise _ (analysed_of old) (analysed_of new) counts.analysed;
+  filled = accepted_rise reason n (filled_of old) (filled_of new) e counts.filled;
+  written = accepted_rise reason n (written_of old) (written_of new) e counts.written;
+}
+
+counted_for : (reason : Option EditFault) (n m : ℕ) (bound : Engine → Engine → Type 0) (old new : Engine) (fault : EditFault)
+    → IsAnswerFor reason fault → IsCountedFor fault bound old new → (reason ≡ None → bound old new → Worked reason n m old new) → Worked reason n m old new
+counted_for reason n m bound old new OutOfRange a counts by = worked_none reason n m old new counts
+counted_for reason n m bound old new WidthOutOfRange a counts by = worked_none reason n m old new counts
+counted_for reason n m bound old new TextTooLong a counts by = worked_none reason n m old new counts
+counted_for reason n m bound old new ParagraphTooLong a counts by = worked_none reason n m old new counts
+counted_for reason n m bound old new NoMemory a counts by = by a counts
+
+pars_of_layouts : (rules : Rules) (width : ℕ) (pars : List (List ℕ)) → pars_of (map (layout_of rules width) pars) ≡ pars
+pars_of_layouts rules width [] = refl
+pars_of_layouts rules width (p ∷ pars) = ap (λ ps. p ∷ ps) (pars_of_layouts rules width pars)
+
+pars_kept : (state : State) → IsWholeLayout state → pars_of state.kept ≡ paragraphs (cuts_at state) (text_at state)
+pars_kept state whole = ap pars_of whole.kept ∙ pars_of_layouts (rules_of state.engine) state.width (paragraphs (cuts_at state) (text_at state))
+
+pub edit_works : (change : Change) (old new : State) (result : Result Damage EditFault) → IsWholeLayout old → IfOk result (Edits change old new) → IfErr result (EditsNot change old new)
+    → Worked (refusal (cuts_at old) (text_at old) change) (fresh (paragraphs (cuts_at old) (text_at old)) change) (fresh (paragraphs (cuts_at old) (text_at old)) change) old.engine new.engine
+edit_works change old new (Ok damage) whole m r =
+    let n = fresh (paragraphs (cuts_at old) (text_at old)) change in
+    laid_out (refusal (cuts_at old) (text_at old) change) n old.engine new.engine m.accepted
+    (subst (λ ps. LaysOutAtMost (fresh ps change) old.engine new.engine) (pars_kept old whole) m.counts)
+edit_works change old new (Err fault) whole m r =
+    let n = fresh (paragraphs (cuts_at old) (text_at old)) change in
+    let reason = refusal (cuts_at old) (text_at old) change in
+    counted_for reason n n (LaysOutAtMost n) old.engine new.engine fault r.answer
+    (subst (λ ps. IsCountedFor fault (LaysOutAtMost (fresh ps change)) old.engine new.engine) (pars_kept old whole) r.counts)
+    (λ e counts. laid_out reason n old.engine new.engine e counts)
+
+width_worked : (width : ℕ) (old new : State) (result : Result Damage EditFault) → IfOk result (Refills width old new) → IfErr result (RefillsNot width old new)
+    → Worked (width_refusal width) 0 (length (text_at old)) old.engine new.engine
+width_worked width old new (Ok damage) m r = filled_anew (width_refusal width) (length (text_at old)) old.engine new.engine m.accepted m.counts
+width_worked width old new (Err fault) m r =
+    let n = length (text_at old) in
+    counted_for (width_refusal width) 0 n (FillsAtMost n) old.engine new.engine fault r.answer r.counts
+    (λ e counts. filled_anew (width_refusal width) n old.engine new.engine e counts)
+
+pub width_works : (width : ℕ) (old new : State) (result : Result Damage EditFault) → nat_lt 65535 width ≡ false → IfOk result (Refills width old new) → IfErr result (RefillsNot width old new)
+    → OrderWorks (rules_of old.engine) (held_at old) (Filling width) old.engine new.engine
+width_works width old new result small m r =
+    let w = width_worked width old new result m r in
+    let reason : order_refusal (rules_of old.engine) (held_at old) (Filling width) ≡ width_refusal width = ap (λ b. if b then Some WidthOutOfRange else width_refusal width) small in
+    record {
+      analysed = subst (λ (o : Option EditFault). RisesBy (if is_none o then 0 else 0) (analysed_of old.engine) (analysed_of new.engine)) (sym reason) w.analysed;
+      filled = subst (λ (o : Option EditFault). RisesBy (if is_none o then length (text_at old) else 0) (filled_of old.engine) (filled_of new.engine)) (sym reason) w.filled;
+      written = subst (λ (o : Option EditFault). RisesBy (if is_none o then length (text_at old) else 0) (written_of old.engine) (written_of new.engine)) (sym reason) w.written;
+    }
+
+-- ---- lines, one after another
+module _ (rules : Rules) where
+  work_more : (work : Held → Order → ℕ) (held : Held) (lines : List (List ℕ)) (line : List ℕ)
+      → work_of_lines rules work held (lines ++ line ∷ []) ≡ work_of_lines rules work held lines + work_of_line rules work (after_lines rules held lines) (order_of_line line)
+  work_more work held [] line = omega arith
+  work_more work held (first ∷ lines) line = omega (arith, work_more work (after_line rules held (order_of_line first)) lines line)
+
+  work_front : (work : Held → Order → ℕ) (held : Held) (lines others : List (List ℕ)) → work_of_lines rules work held lines ≤ work_of_lines rules work held (lines ++ others)
+  work_front work held [] others = omega arith
+  work_front work held (first ∷ lines) others = omega (arith, work_front work (after_line rules held (order_of_line first)) lines others)
+
+  pub lines_work_front : (start : Held) (lines others : List (List ℕ)) (old new : Engine) → LinesWork rules start lines old new → LinesWork rules start (lines ++ others) old new
+  lines_work_front start lines others old new works = record {
+    analysed = within_rise _ _ _ _ (work_front (analysed_by rules) start lines others) works.analysed;
+    filled = within_rise _ _ _ _ (work_front (filled_by rules) start lines others) works.filled;
+    written = within_rise _ _ _ _ (work_front (filled_by rules) start lines others) works.written;
+  }
+
+  pub lines_work_more : (start held : Held) (lines : List (List ℕ)) (line : List ℕ) (old now new : Engine) → held ≡ after_lines rules start lines
+      → LinesWork rules start lines old now → LineWorks rules held line now new → LinesWork rules start (lines ++ line ∷ []) old new
+  lines_work_more start held lines line old now new held_is before works =
+      let sum = λ (work : Held → Order → ℕ). work_more work start lines line ∙ ap (λ (h : Held). work_of_lines rules work start lines + work_of_line rules work h (order_of_line line)) (sym held_is) in
+      record {
+        analysed = more_rise _ _ _ _ _ _ before.analysed works.analysed (sum (analysed_by rules));
+        filled = more_rise _ _ _ _ _ _ before.filled works.filled (sum (filled_by rules));
+        written = more_rise _ _ _ _ _ _ before.written works.written (sum (filled_by rules));
+      }
+
+  -- a line that is none asks for nothing
+  no_work : (work : Held → Order → ℕ) (held : Held) (order : Option Order) → is_some order ≡ false → work_of_line rules work held order ≡ 0
+  no_work work held None bad = refl
+  no_work work held (Some order) bad = absurd (true≢false bad)
+
+  pub lines_work_bad : (start held : Held) (lines : List (List ℕ)) (line : List ℕ) (old now new : Engine) → is_good line ≡ false
+      → LinesWork rules start lines old now → LineWorks rules held line now new → LinesWork rules start (lines ++ []) old new
+  lines_work_bad start held lines line old now new bad before works =
+      let sum = λ (work : Held → Order → ℕ).
+      ap (work_of_lines rules work start) (append-nil lines) ∙ sum_is (work_of_lines rules work start lines) (work_of_line rules work held (order_of_line line)) (no_work work held (order_of_line line) bad) in
+      record {
+        analysed = more_rise _ _ _ _ _ _ before.analysed works.analysed (sum (analysed_by rules));
+        filled = more_rise _ _ _ _ _ _ before.filled works.filled (sum (filled_by rules));
+        written = more_rise _ _ _ _ _ _ before.written works.written (sum (filled_by rules));
+      }
+    where
+      sum_is : (n m : ℕ) → m ≡ 0 → n ≡ n + m
+      sum_is n m none = omega (arith, none)
