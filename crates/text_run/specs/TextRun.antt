@@ -1,5 +1,5 @@
 -- What is written for a text, and how its run ends.
-use Rattle.std.specs.Prelude.{◌≡◌, ◌≢◌, ℕ, ◌+◌, ◌-◌, ◌==◌, nat_le, Bool, List, ◌++◌, ◌≤◌, length, take, drop, take_while, encode_utf8_all, Option, Some, None, IfSome, ⊤, is_some, is_none, Result, Ok, Err, if◌then◌else◌}
+use Rattle.std.specs.Prelude.{◌≡◌, ◌≢◌, ℕ, ◌+◌, ◌-◌, ◌==◌, nat_le, Bool, true, List, ◌++◌, ◌≤◌, length, take, drop, take_while, encode_utf8_all, Option, Some, None, IfSome, ⊤, is_some, is_none, Result, Ok, Err, if◌then◌else◌}
 use Rattle.std.specs.List.{concat, list_all}
 use Rattle.std.specs.Str.{chars}
 use Rattle.std.specs.Str.Lossy.{utf8_valid_len, utf8_error_len}
@@ -7,7 +7,10 @@ use Rattle.std.specs.Io.KnownBytes.{Consumes, IsAtEnd}
 use Rattle.bidi.specs.Cuts.{paragraphs}
 use Rattle.lines.specs.Layouts.{Rules, cut_by}
 use Rattle.lines.specs.Pages.{page}
+use Rattle.lines.specs.declared.engine.Engine.{Engine}
 use Rattle.lines.specs.declared.print.Print.{Print}
+use Rattle.lines.specs.Engine.{Prints}
+use Rattle.text_run.specs.Counts.{PrintsAtMost}
 use Rattle.text_run.specs.declared.faults.RunFault.{RunFault}
 use Rattle.text_run.specs.declared.faults.RunFault.TheVariants as fault
 use Rattle.text_run.specs.declared.text.Ending.{Ending}
@@ -69,11 +72,17 @@ abbrev pub HasReadAll : Option RunFault → Device → Device → List ℕ → T
 HasReadAll None old new bytes = IsAtEnd new.bytes × (new.passed ≡ old.passed + length bytes)
 HasReadAll (Some wrong) old new bytes = ⊤
 
+-- and has printed each of its characters once
+abbrev pub HasPrintedAll : Option RunFault → List ℕ → Print → Engine → Engine → Type 0
+HasPrintedAll None bytes print old new = Prints (length (chars bytes)) print old new
+HasPrintedAll (Some wrong) bytes print old new = ⊤
+
 -- The run of a text: what the reader gave has a front, whose paragraphs are written as far as they go.
-abbrev pub IsTextRun : Rules → ℕ → Print → Device → Device → Device → Device → Result (Unit {0}) RunFault → Type 0
-IsTextRun rules width print reader_old reader_new writer_old writer_new result =
+abbrev pub IsTextRun : Rules → ℕ → Print → Device → Device → Device → Device → Engine → Engine → Result (Unit {0}) RunFault → Type 0
+IsTextRun rules width print reader_old reader_new writer_old writer_new engine_old engine_new result =
     (ending : Ending) × (bytes : List ℕ) × Gave reader_old reader_new ending bytes
     × HasReadAll (fault_of result) reader_old reader_new bytes
+    × HasPrintedAll (fault_of result) bytes print engine_old engine_new
     × (let pars = front_paragraphs rules bytes in
     let wrong = input_fault ending bytes in
     EndsWith (page rules width print) (written_of pars (is_none wrong)) (ending_of pars wrong) writer_old writer_new (fault_of result))
@@ -81,6 +90,19 @@ IsTextRun rules width print reader_old reader_new writer_old writer_new result =
 -- a failed read is answered as one: where it isn't the answer, no call of the source failed
 abbrev pub TellsReads : {A : Type 0} → Result A RunFault → Device → Device → Type 0
 TellsReads result old new = result ≢ Err fault.Read → new.failures ≡ old.failures
+
+-- what was read of a source between two states
+abbrev pub HasRead : Device → Device → List ℕ → Type 0
+HasRead old new bytes = Consumes old.bytes new.bytes bytes × (new.passed ≡ old.passed + length bytes)
+
+-- among the characters that were read there is no paragraph that is too long
+abbrev pub ReadsWithin : Rules → Device → Device → Type 0
+ReadsWithin rules old new = (bytes : List ℕ) × HasRead old new bytes × (are_within (front_paragraphs rules bytes) ≡ true)
+
+-- at most the characters that were read were printed, up to the first byte that is not UTF-8
+abbrev pub PrintsNoMore : Print → Device → Device → Engine → Engine → Type 0
+PrintsNoMore print reader_old reader_new engine_old engine_new =
+    (bytes : List ℕ) × HasRead reader_old reader_new bytes × PrintsAtMost (length (front_of bytes)) print engine_old engine_new
 
 -- how many bytes a run reads behind the paragraphs that it has written, at most: 1,048,577 characters, and one piece of 65,536 bytes
 abbrev pub read_ahead : ℕ
