@@ -80,6 +80,20 @@ module _ (rules : Rules) (width : ℕ) (print : Print) (reader_old writer_old : 
       subst (λ (w : List ℕ). Holds w held.text.items) (sym waiting_is) (subst (λ (t : List ℕ). Holds waiting t) (sym text_is) holds) in
       record { is_at = here.0; all_sent = here.1; decoded = here.2; written = here.3; text = here.4; lines = lines; beginning = here.5; room = room; waits = waits; fits = fits; counts = here.6 }
 
+-- what is found in a piece is no want of memory
+pub no_memory : (rules : Rules) (width : ℕ) (print : Print) (bytes : List ℕ) (old new : Held) (engine_old engine_new : Engine) (fault : Option RunFault) (wrong : RunFault)
+    → FindsLong rules bytes old new fault ⊎ Gathers rules width print bytes old new engine_old engine_new fault → fault ≡ Some wrong → wrong ≡ f.Memory → ⊥
+no_memory rules width print bytes old new engine_old engine_new fault wrong (inl l) is memory = cc (is, memory, l.fault_is)
+no_memory rules width print bytes old new engine_old engine_new fault wrong (inr g) is memory = go (is_bad bytes) (sym is ∙ g.fault_is)
+  where
+    go : (b : Bool) → Some wrong ≡ (if b then Some (f.NotUtf8 new.decoded) else None) → ⊥
+    go true same_fault = cc (same_fault, memory)
+    go false same_fault = cc same_fault
+
+-- where memory runs out at the end of a text nothing is written
+pub none_written : (rules : Rules) (width : ℕ) (print : Print) (held : Held) (old new : Device) (fault : RunFault) → Finishes rules width print held old new (Err fault) → fault ≡ f.Memory → new ≡ old
+none_written rules width print held old new fault is memory = (subst (λ (w : RunFault). Finishes rules width print held old new (Err w)) memory is).1
+
 module _ (rules : Rules) (width : ℕ) (print : Print) (reader_old writer_old : Device) (engine_old : Engine) (reader writer : Device) (engine : Engine) where
   -- a run that stops has counted no more than the characters that were read, and where memory ran out no paragraph of these is too long
   ended : (reader_new writer_new : Device) (engine_new : Engine) (fault : RunFault) → Stops rules width print reader_old writer_old reader_new writer_new fault
@@ -533,15 +547,7 @@ module _ (rules : Rules) (width : ℕ) (print : Print) (reader_old writer_old : 
       read_fault at_most found writer_new held_last writes wrong is =
           ended reader_new writer_new engine_new wrong
           (⊎_elim (λ l. long_fault held_new fault l writer_new held_last wrong writes is) (λ g. gathers_fault held_new engine_new fault g writer_new held_last writes wrong is) found)
-          (no_more_read engine_new at_most) (λ memory. absurd (never found memory))
-        where
-          never : Found → wrong ≡ f.Memory → ⊥
-          never (inl l) memory = cc (is, memory, l.fault_is)
-          never (inr g) memory = go (is_bad bytes_read) (sym is ∙ g.fault_is)
-            where
-              go : (b : Bool) → Some wrong ≡ (if b then Some (f.NotUtf8 held_new.decoded) else None) → ⊥
-              go true same_fault = cc (same_fault, memory)
-              go false same_fault = cc same_fault
+          (no_more_read engine_new at_most) (λ memory. absurd (no_memory rules width print bytes_read held_read held_new engine engine_new fault wrong found is memory))
 
       pub read_on : Found → (writer_new : Device) (held_last : Held) → Writes held_new held_last writer writer_new → fault ≡ None → Stands rules width print reader_old writer_old engine_old reader_new writer_new engine_new held_last
       read_on (inl l) writer_new held_last writes is = absurd (long_ends held_new fault l is)

@@ -9,11 +9,13 @@ use Rattle.device.specs.Device.{Device, Gives, Wrote, StoppedAt}
 use Rattle.lines.specs.Engine.{Prints}
 use Rattle.lines.specs.Layouts.{Rules, cut_by}
 use Rattle.lines.specs.Pages.{page}
+use Rattle.lines.specs.declared.engine.TheConstants.{PARAGRAPH_LIMIT}
 use Rattle.lines.specs.declared.engine.Engine.{Engine}
 use Rattle.lines.specs.declared.print.Print.{Print}
 use Rattle.text_run.specs.TextRun.{are_within, is_within, front_of, is_bad, read_ahead, IsTextRun, PrintsNoMore, ReadsAhead, ReadsWithin}
 use Rattle.text_run.specs.declared.faults.RunFault.{RunFault}
 use Rattle.text_run.specs.declared.faults.RunFault.TheVariants as f
+use Rattle.text_run.specs.declared.text.TheConstants.{PIECE}
 use Rattle.text_run.specs.declared.text.Held.{Held}
 
 module _ (is_cut : ℕ → ℕ → Bool) where
@@ -34,7 +36,7 @@ module _ (is_cut : ℕ → ℕ → Bool) where
   -- a text has no cut, and isn't too long for a paragraph
   pub record IsOpen (text : List ℕ) : Type 0 where
     pub uncut : SplitsAt is_cut text None
-    pub short : length text ≤ 1048576
+    pub short : length text ≤ PARAGRAPH_LIMIT
 
 -- the lines of the first paragraphs of a text are put to a page, each of their characters is counted once, and no cut is in what is left
 pub record Pushed (rules : Rules) (width : ℕ) (print : Print) (text rest before after : List ℕ) (engine_old engine_new : Engine) : Type 0 where
@@ -137,7 +139,7 @@ pub record Stands (rules : Rules) (width : ℕ) (print : Print) (reader_old writ
   pub text : IsOpen (cut_by rules) held.text.items
   pub lines : held.page.bytes.items ≡ []
   pub beginning : IsBeginning (take held.waiting held.piece.items)
-  pub room : vec_len held.piece ≡ 65536
+  pub room : vec_len held.piece ≡ PIECE
   pub waits : length (take held.waiting held.piece.items) ≡ held.waiting
   pub fits : Prints 0 print engine_old engine_old
   pub counts : Prints (length (concat is_at.sent)) print engine_old engine_new

@@ -1,5 +1,5 @@
 -- What is written for a text, and how its run ends.
-use Rattle.std.specs.Prelude.{◌≡◌, ◌≢◌, ℕ, ◌+◌, ◌-◌, ◌==◌, nat_le, Bool, true, List, ◌++◌, ◌≤◌, length, take, drop, take_while, encode_utf8_all, Option, Some, None, IfSome, ⊤, is_some, is_none, Result, Ok, Err, if◌then◌else◌}
+use Rattle.std.specs.Prelude.{◌≡◌, ◌≢◌, ℕ, ◌+◌, ◌-◌, ◌*◌, ◌==◌, nat_le, Bool, true, List, ◌++◌, ◌≤◌, length, take, drop, take_while, encode_utf8_all, Option, Some, None, IfSome, ⊤, is_some, is_none, Result, Ok, Err, if◌then◌else◌}
 use Rattle.std.specs.List.{concat, list_all}
 use Rattle.std.specs.Str.{chars}
 use Rattle.std.specs.Str.Lossy.{utf8_valid_len, utf8_error_len}
@@ -7,12 +7,14 @@ use Rattle.std.specs.Io.KnownBytes.{Consumes, IsAtEnd}
 use Rattle.bidi.specs.Cuts.{paragraphs}
 use Rattle.lines.specs.Layouts.{Rules, cut_by}
 use Rattle.lines.specs.Pages.{page}
+use Rattle.lines.specs.declared.engine.TheConstants.{PARAGRAPH_LIMIT}
 use Rattle.lines.specs.declared.engine.Engine.{Engine}
 use Rattle.lines.specs.declared.print.Print.{Print}
 use Rattle.lines.specs.Engine.{Prints}
 use Rattle.text_run.specs.Counts.{PrintsAtMost}
 use Rattle.text_run.specs.declared.faults.RunFault.{RunFault}
 use Rattle.text_run.specs.declared.faults.RunFault.TheVariants as fault
+use Rattle.text_run.specs.declared.text.TheConstants.{PIECE}
 use Rattle.text_run.specs.declared.text.Ending.{Ending}
 use Rattle.text_run.specs.declared.text.Ending.TheVariants.{AtEnd, AtFailure}
 use Rattle.device.specs.Device.{Device, FailedLast, Took, Wrote, StoppedAt}
@@ -33,7 +35,7 @@ input_fault AtFailure bytes = if is_bad bytes then Some (fault.NotUtf8 (utf8_val
 
 -- a paragraph's length is limited
 abbrev pub is_within : List ℕ → Bool
-is_within paragraph = nat_le (length paragraph) 1048576
+is_within paragraph = nat_le (length paragraph) PARAGRAPH_LIMIT
 
 abbrev pub are_within : List (List ℕ) → Bool
 are_within pars = list_all is_within pars
@@ -104,9 +106,9 @@ abbrev pub PrintsNoMore : Print → Device → Device → Engine → Engine → 
 PrintsNoMore print reader_old reader_new engine_old engine_new =
     (bytes : List ℕ) × HasRead reader_old reader_new bytes × PrintsAtMost (length (front_of bytes)) print engine_old engine_new
 
--- how many bytes a run reads behind the paragraphs that it has written, at most: 1,048,577 characters, and one piece of 65,536 bytes
+-- how many bytes a run reads behind the paragraphs that it has written, at most: those of one character more than a paragraph may have, and one piece
 abbrev pub read_ahead : ℕ
-read_ahead = 4259844
+read_ahead = 4 * (PARAGRAPH_LIMIT + 1) + PIECE
 
 -- Where a run ended with a fault, the lines of the first k paragraphs of what the reader gave were written, and n bytes of the next
 -- one's. At most so many bytes behind these k paragraphs were read.

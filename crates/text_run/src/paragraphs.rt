@@ -19,8 +19,8 @@ use std::alloc::{AllocError, Global};
 /// that some bytes begin with. They are no more than a paragraph may have, and no memory is taken.
 pub fn grows_long(engine: &Engine, text: &[char], bytes: &[u8]) -> bool
     requires uncut { SplitsAt (cut_by (rules_of engine.now)) text.now None }
-    requires short { length text.now ≤ 1048576 }
-    requires few { length bytes.now ≤ 1048576 }
+    requires short { length text.now ≤ PARAGRAPH_LIMIT }
+    requires few { length bytes.now ≤ PARAGRAPH_LIMIT }
     ensures long { result ≡ true
         → StartsLong (cut_by (rules_of engine.now)) (text.now ++ front_of bytes.now) }
     ensures within { result ≡ false → are_within
@@ -38,8 +38,8 @@ pub fn grows_long(engine: &Engine, text: &[char], bytes: &[u8]) -> bool
 // The same, of the characters of a text.
 fn is_long_with(engine: &Engine, text: &[char], more: &str) -> bool
     requires uncut { SplitsAt (cut_by (rules_of engine.now)) text.now None }
-    requires short { length text.now ≤ 1048576 }
-    requires few { length (chars more.now) ≤ 1048576 }
+    requires short { length text.now ≤ PARAGRAPH_LIMIT }
+    requires few { length (chars more.now) ≤ PARAGRAPH_LIMIT }
     ensures long { result ≡ true
         → StartsLong (cut_by (rules_of engine.now)) (text.now ++ chars more.now) }
     ensures within { result ≡ false → are_within

@@ -9,6 +9,7 @@ ghost use Rattle.device.specs.Device.{Device, Fails};
 ghost use Rattle.lines.specs.Engine.{rules_of, Prints, SameRules};
 ghost use Rattle.lines.specs.Layouts.{cut_by};
 ghost use Rattle.lines.specs.declared.engine.Engine.{Engine};
+ghost use Rattle.lines.specs.declared.engine.TheConstants.{PARAGRAPH_LIMIT};
 ghost use Rattle.text_run.specs.Counts.{PrintsAtMost};
 ghost use Rattle.text_run.specs.Streaming.{FindsLong, Finishes, Gathers, GathersLast, IsRead, IsReadTo};
 ghost use Rattle.text_run.specs.Streaming.{Stands, Steps, StopsWriting, Writes};
@@ -97,7 +98,7 @@ fn fault_of(is_bad: bool, decoded: u64) -> Option<RunFault>
 
 impl Held {
     fn new(alloc: Global) -> Result<Held, AllocError>
-        ensures room { IfOk result (λ held. vec_len held.piece ≡ 65536) }
+        ensures room { IfOk result (λ held. vec_len held.piece ≡ PIECE) }
         ensures waiting { IfOk result (λ held. (held.waiting ≡ 0) × (held.decoded ≡ 0) × (held.written ≡ 0)) }
         ensures text { IfOk result (λ held. held.text.items ≡ []) }
         ensures page { IfOk result (λ held. held.page.bytes.items ≡ []) }
@@ -135,8 +136,8 @@ impl Held {
     ) -> Result<Option<RunFault>, AllocError>
         requires width { 0 < width }
         requires uncut { SplitsAt (cut_by (rules_of engine.old)) self.old.text.items None }
-        requires short { length self.old.text.items ≤ 1048576 }
-        requires room { vec_len self.old.piece ≡ 65536 }
+        requires short { length self.old.text.items ≤ PARAGRAPH_LIMIT }
+        requires room { vec_len self.old.piece ≡ PIECE }
         requires len { self.old.waiting + len ≤ vec_len self.old.piece }
         requires counted { self.old.decoded + (self.old.waiting + len) ≤ 2 ^ 64 - 1 }
         ensures gathers { IfOk result (λ fault. FindsLong (rules_of engine.old)
@@ -174,7 +175,7 @@ impl Held {
     ) -> Result<(), AllocError>
         requires width { 0 < width }
         requires uncut { SplitsAt (cut_by (rules_of engine.old)) self.old.text.items None }
-        requires short { length self.old.text.items ≤ 1048576 }
+        requires short { length self.old.text.items ≤ PARAGRAPH_LIMIT }
         ensures lines { OnOk result (GathersLast (rules_of engine.old) width print.now self.old self.new) }
         ensures counts { OnOk result
             (Prints (length self.old.text.items) print.now engine.old engine.new) }
@@ -250,7 +251,7 @@ fn finish<W: Sink>(
 ) -> Result<(), RunFault>
     requires width { 0 < width }
     requires uncut { SplitsAt (cut_by (rules_of engine.old)) held.old.text.items None }
-    requires short { length held.old.text.items ≤ 1048576 }
+    requires short { length held.old.text.items ≤ PARAGRAPH_LIMIT }
     requires counted { held.old.written ≤ (W.state writer.old).passed }
     ensures ends { Finishes (rules_of engine.old) width print.now held.old
         (W.state writer.old) (W.state writer.new) result }
@@ -288,6 +289,10 @@ fn step<R: Source, W: Sink>(
         → Steps (rules_of engine.old) width print.now reader_start writer_start engine_start
         (R.state reader.new) (W.state writer.new) engine.new held.new result }
     ensures reads { TellsReads result (R.state reader.old) (R.state reader.new) }
+
+    // So want of memory is not answered in place of a fault that was found in the piece: in front of that
+    // stand its lines.
+    ensures memory { IsErrOf result RunFault.Memory → W.state writer.new ≡ W.state writer.old }
     ensures rises { result ≡ Ok true → (R.state reader.old).passed < (R.state reader.new).passed }
     ensures counted { result ≡ Ok true → (R.state reader.new).passed ≤ 2 ^ 64 - 1 }
     ensures rules { SameRules engine.old engine.new }

@@ -1,6 +1,6 @@
 use Rattle.std.proofs.Common.{Ok, Err}
 use Rattle.lines.specs.Engine.{rules_of}
-use Rattle.text_run.proofs.StepLemmas.{ends_read, read_fault, read_memory, read_nothing, read_on, read_stopped}
+use Rattle.text_run.proofs.StepLemmas.{ends_read, no_memory, none_written, read_fault, read_memory, read_nothing, read_on, read_stopped}
 use Rattle.text_run.proofs.text.step.Goals as goal
 
 pub returns-in-Err-clause-steps : goal.returns-in-Err-clause-steps
@@ -36,3 +36,15 @@ pub returns-in-None-clause-steps : goal.returns-in-None-clause-steps
 returns-in-None-clause-steps g c = λ reader_start writer_start engine_start stands.
     read_on (rules_of c.args.engine.now) c.args.width c.args.print.now reader_start writer_start engine_start _ _ c.args.engine.now _ _ c.args.held.now _ stands c.in-Ok.ensures.ok _ c.gather.new.engine _
     c.in-Ok-gather.ensures.gathers _ _ c.in_default-write.ensures.ok c.in-None.is
+
+-- where memory ran out nothing was written
+pub returns-in-Err-finish-clause-memory : goal.returns-in-Err-finish-clause-memory
+returns-in-Err-finish-clause-memory g c = λ is.
+    none_written (rules_of c.args.engine.now) c.args.width c.args.print.now c.read.new.self (g.W.Sink.state c.args.writer.now) (g.W.Sink.state c.finish.new.writer) c.in-Err-finish.fault c.in-Err-finish.ensures.ends (cc is)
+
+pub returns-in-Err-write-clause-memory : goal.returns-in-Err-write-clause-memory
+returns-in-Err-write-clause-memory g c = λ is. absurd (cc (is, c.in-Err-write.ensures.err.1))
+
+pub returns-in-Some-clause-memory : goal.returns-in-Some-clause-memory
+returns-in-Some-clause-memory g c = λ is.
+    absurd (no_memory (rules_of c.args.engine.now) c.args.width c.args.print.now _ _ _ _ _ _ c.in-Some.fault c.in-Ok-gather.ensures.gathers c.in-Some.is (cc is))
