@@ -1,6 +1,6 @@
 -- What an engine counts, one call after another.
 use Rattle.std.proofs.Common.{◌≡◌, ℕ, ◌+◌, ◌-◌, ◌^◌, ◌≤◌, min, Bool, true, false, refl, sym, ap, ◌∙◌, arith, true≢false, if◌then◌else◌}
-use Rattle.lines.specs.Engine.{analysed_of, counted, filled_of, written_of, LaysOut, LaysOutAtMost, Prints, RisesBy}
+use Rattle.lines.specs.Engine.{analysed_of, counted, filled_of, written_of, Prints, RisesBy}
 use Rattle.lines.specs.Printing.{skips_lines}
 use Rattle.lines.specs.declared.engine.Engine.{Engine}
 use Rattle.lines.specs.declared.print.Print.{Print}

@@ -1,5 +1,5 @@
 -- The lines of the first paragraphs of a text, one paragraph after another.
-use Rattle.std.proofs.Common.{◌≡◌, ℕ, ◌+◌, ◌<◌, ◌≤◌, Bool, true, List, [], ◌∷◌, ◌++◌, length, take, drop, Some, None, refl, sym, subst, ap, ◌∙◌, arith}
+use Rattle.std.proofs.Common.{◌≡◌, ℕ, ◌+◌, ◌≤◌, Bool, true, List, [], ◌∷◌, ◌++◌, length, take, drop, Some, None, sym, subst, ap, ◌∙◌, arith}
 use Rattle.std.specs.List.{concat}
 use Rattle.std.proofs.lemmas.Bool.{and_parts, leb-true}
 use Rattle.std.proofs.lemmas.List.{append_assoc, append-nil, length-append, length-take-le}
@@ -13,7 +13,7 @@ use Rattle.lines.specs.declared.engine.Engine.{Engine}
 use Rattle.lines.specs.declared.print.Print.{Print}
 use Rattle.text_run.specs.Counts.{PrintsAtMost}
 use Rattle.text_run.specs.TextRun.{are_within, is_within}
-use Rattle.text_run.specs.Streaming.{IsFront, IsOpen, Pushed}
+use Rattle.text_run.specs.Streaming.{IsFront, Pushed}
 use Rattle.text_run.proofs.CountLemmas.{at_most_more, prints_more}
 use Rattle.text_run.proofs.Fronts.{front_none, front_one, front_join}
 

@@ -1,5 +1,5 @@
 -- Where the run of a text stands between two reads. Only the code speaks of these.
-use Rattle.std.specs.Prelude.{◌≡◌, ℕ, ◌+◌, ◌<◌, ◌≤◌, ◌==◌, Bool, true, false, List, [], ◌∷◌, ◌++◌, ◌⊎◌, length, take, drop, vec_len, Option, None, Some, Result, Ok, Err, OnErr, IsErrOf, encode_utf8_all, IsUtf8, if◌then◌else◌}
+use Rattle.std.specs.Prelude.{◌≡◌, ℕ, ◌+◌, ◌<◌, ◌≤◌, ◌==◌, Bool, true, false, List, [], ◌∷◌, ◌++◌, length, take, drop, vec_len, Option, None, Some, Result, Ok, Err, OnErr, IsErrOf, encode_utf8_all, IsUtf8, if◌then◌else◌}
 use Rattle.std.specs.List.{concat}
 use Rattle.std.specs.Str.{chars}
 use Rattle.std.specs.Str.Lossy.{utf8_valid_len, utf8_error_len}

@@ -1,12 +1,11 @@
-use Rattle.std.proofs.Common.{◌≡◌, ◌∙◌, ◌++◌, Bool, true, false, Some, None, length, refl, subst, ap, arith}
+use Rattle.std.proofs.Common.{◌≡◌, ◌∙◌, ◌++◌, Some, None, refl, subst}
 use Rattle.bidi.specs.Cuts.{SplitsAt}
 use Rattle.lines.specs.Engine.{rules_of}
 use Rattle.lines.specs.Layouts.{Rules, cut_by}
 use Rattle.lines.specs.Pages.{paragraph_bytes}
-use Rattle.text_run.specs.Counts.{PrintsAtMost}
 use Rattle.text_run.proofs.CountLemmas.{at_most_none}
 use Rattle.text_run.proofs.PieceLemmas.{first_is_paragraph}
-use Rattle.text_run.proofs.PushLemmas.{first_within, pushed_at_most, pushed_more, pushed_none, pushed_rest}
+use Rattle.text_run.proofs.PushLemmas.{first_within, pushed_more, pushed_none, pushed_rest}
 use Rattle.text_run.proofs.paragraphs.push_paragraphs.Goals as goal
 
 pub loop-end-init : goal.loop-end-init

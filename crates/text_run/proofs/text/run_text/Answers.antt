@@ -1,4 +1,4 @@
-use Rattle.std.proofs.Common.{◌≡◌, ◌∙◌, Bool, true, false, Ok, Err, ap, refl, sym}
+use Rattle.std.proofs.Common.{◌∙◌, Bool, true, false, Ok, Err, ap, refl}
 use Rattle.lines.specs.Engine.{rules_of}
 use Rattle.text_run.proofs.StepLemmas.{ends_at_once, stands_at_start, stepped_as}
 use Rattle.text_run.proofs.text.run_text.Goals as goal
