@@ -39,7 +39,7 @@ module _ (is_cut : ℕ → ℕ → Bool) where
       let both = not_cut (is_cut x y) x y some.0 some.1 w ws y (ap (λ (ps : List (List ℕ)). if is_cut x y then (x ∷ []) ∷ ps else onto_first x ps) (sym some.2) ∙ is) in
       (both.0, some.2 ∙ both.1)
 
-  onto : (x y : ℕ) (text : List ℕ) (p : List ℕ) (ps : List (List ℕ)) → is_cut x y ≡ false → paragraphs is_cut (y ∷ text) ≡ p ∷ ps → paragraphs is_cut (x ∷ y ∷ text) ≡ (x ∷ p) ∷ ps
+  pub onto : (x y : ℕ) (text : List ℕ) (p : List ℕ) (ps : List (List ℕ)) → is_cut x y ≡ false → paragraphs is_cut (y ∷ text) ≡ p ∷ ps → paragraphs is_cut (x ∷ y ∷ text) ≡ (x ∷ p) ∷ ps
   onto x y text p ps uncut is =
       ap (λ (t : Bool). if t then (x ∷ []) ∷ paragraphs is_cut (y ∷ text) else onto_first x (paragraphs is_cut (y ∷ text))) uncut ∙ ap (onto_first x) is
 
@@ -124,20 +124,14 @@ module _ (is_cut : ℕ → ℕ → Bool) where
             grind (arith, nat_tests);
       }
 
-  -- and one whose first cut comes too late
-  pub long_cut : (text : List ℕ) (k : ℕ) → SplitsAt is_cut text (Some k) → 1048576 < k → StartsLong is_cut text
-  long_cut text k splits long =
-      let at = place text k splits.1 in
-      let len : length (take k text) ≡ k = length-take-le k text (omega (arith, splits.1)) in
-      let cut : paragraphs is_cut (take k text ++ at.0 ∷ at.1) ≡ take k text ∷ paragraphs is_cut (at.0 ∷ at.1) =
-      ap (paragraphs is_cut) (sym at.3) ∙ splits.2 ∙ ap (λ t. take k text ∷ paragraphs is_cut t) at.2 in
-      record {
-        first = λ more. take k text;
-        others = λ more. paragraphs is_cut (at.0 ∷ (at.1 ++ more));
-        splits = λ more. ap (λ t. paragraphs is_cut (t ++ more)) at.3 ∙ ap (paragraphs is_cut) (append_assoc (take k text) (at.0 ∷ at.1) more)
-            ∙ grow (take k text) at.0 at.1 more (omega arith) cut;
-        long = λ more. grind (arith, nat_tests);
-      }
+  -- one that is too long stays so, whatever follows
+  pub long_more : (text more : List ℕ) → StartsLong is_cut text → StartsLong is_cut (text ++ more)
+  long_more text more starts = record {
+    first = λ behind. starts.first (more ++ behind);
+    others = λ behind. starts.others (more ++ behind);
+    splits = λ behind. ap (paragraphs is_cut) (append_assoc text more behind) ∙ starts.splits (more ++ behind);
+    long = λ behind. starts.long (more ++ behind);
+  }
 
   -- nothing is in front of a text
   pub front_none : (text : List ℕ) → IsFront is_cut [] text text

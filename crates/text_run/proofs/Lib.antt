@@ -1,5 +1,7 @@
+pub mod CountLemmas
 pub mod Devices
 pub mod Fronts
+pub mod LongLemmas
 pub mod PieceLemmas
 pub mod PushLemmas
 pub mod StepLemmas

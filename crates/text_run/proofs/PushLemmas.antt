@@ -1,31 +1,57 @@
 -- The lines of the first paragraphs of a text, one paragraph after another.
-use Rattle.std.proofs.Common.{◌≡◌, ℕ, ◌<◌, ◌≤◌, Bool, true, false, nat_lt, List, [], ◌∷◌, ◌++◌, length, take, drop, Some, None, refl, sym, ap, ◌∙◌, arith}
-use Rattle.std.proofs.lemmas.List.{append_assoc, append-nil}
+use Rattle.std.proofs.Common.{◌≡◌, ℕ, ◌+◌, ◌≤◌, Bool, true, List, [], ◌∷◌, ◌++◌, length, take, drop, Some, None, sym, subst, ap, ◌∙◌, arith}
+use Rattle.std.specs.List.{concat}
+use Rattle.std.proofs.lemmas.Bool.{and_parts, leb-true}
+use Rattle.std.proofs.lemmas.List.{append_assoc, append-nil, length-append, length-take-le}
+use Rattle.std.proofs.lemmas.List.Folds.{concat-append}
 use Rattle.std.proofs.lemmas.Grind.{flat_map-append}
-use Rattle.std.specs.Prelude.{MatchBool}
-use Rattle.std.proofs.lemmas.Bool.Decides.{nat_tests}
-use Rattle.bidi.specs.Cuts.{SplitsAt}
+use Rattle.bidi.specs.Cuts.{SplitsAt, paragraphs}
+use Rattle.lines.specs.Engine.{Prints}
 use Rattle.lines.specs.Layouts.{Rules, cut_by}
 use Rattle.lines.specs.Pages.{page, paragraph_bytes}
+use Rattle.lines.specs.declared.engine.Engine.{Engine}
 use Rattle.lines.specs.declared.print.Print.{Print}
-use Rattle.text_run.specs.Streaming.{IsFront, IsOpen, Pushed, StartsLong}
-use Rattle.text_run.proofs.Fronts.{front_none, front_one, front_join, long_cut, long_uncut}
+use Rattle.text_run.specs.Counts.{PrintsAtMost}
+use Rattle.text_run.specs.TextRun.{are_within, is_within}
+use Rattle.text_run.specs.Streaming.{IsFront, Pushed}
+use Rattle.text_run.proofs.CountLemmas.{at_most_more, prints_more}
+use Rattle.text_run.proofs.Fronts.{front_none, front_one, front_join}
 
-module _ (rules : Rules) (width : ℕ) (print : Print) (text : List ℕ) (before : List ℕ) where
-  -- the lines of the first paragraphs are on a page, and there is no cut in a front of the rest
-  pub record PushedSoFar (rest : List ℕ) (seen : ℕ) (after : List ℕ) : Type 0 where
+-- where the first of paragraphs that aren't too long ends, and the others
+pub first_within : (is_cut : ℕ → ℕ → Bool) (rest : List ℕ) (k : ℕ) → are_within (paragraphs is_cut rest) ≡ true → SplitsAt is_cut rest (Some k) → (k ≤ 1048576) × (are_within (paragraphs is_cut (drop k rest)) ≡ true)
+first_within is_cut rest k within splits =
+    let both = and_parts (is_within (take k rest)) (are_within (paragraphs is_cut (drop k rest))) (sym (ap are_within splits.2) ∙ within) in
+    (omega (arith, leb-true (length (take k rest)) 1048576 both.0, length-take-le k rest (omega (arith, splits.1))), both.1)
+
+only_within : (is_cut : ℕ → ℕ → Bool) (rest : List ℕ) → are_within (paragraphs is_cut rest) ≡ true → SplitsAt is_cut rest None → length rest ≤ 1048576
+only_within is_cut [] within splits = omega arith
+only_within is_cut (a ∷ rest) within splits =
+    let both = and_parts (is_within (a ∷ rest)) true (sym (ap are_within (splits (omega arith))) ∙ within) in
+    leb-true (length (a ∷ rest)) 1048576 both.0
+
+module _ (rules : Rules) (width : ℕ) (print : Print) (text : List ℕ) (before : List ℕ) (engine_old : Engine) where
+  -- the lines of the first paragraphs are on a page, there is no cut in a front of the rest, and no paragraph of it is too long
+  pub record PushedSoFar (rest : List ℕ) (seen : ℕ) (after : List ℕ) (engine : Engine) : Type 0 where
     pub pars : List (List ℕ)
     pub front : IsFront (cut_by rules) pars text rest
     pub lines : after ≡ before ++ page rules width print pars
     pub uncut : SplitsAt (cut_by rules) (take seen rest) None
+    pub within : are_within (paragraphs (cut_by rules) rest) ≡ true
+    pub counts : Prints (length (concat pars)) print engine_old engine
+    pub at_most : PrintsAtMost (length (concat pars)) print engine_old engine
 
-  pub pushed_none : (seen : ℕ) → SplitsAt (cut_by rules) (take seen text) None → PushedSoFar text seen before
-  pushed_none seen uncut = record { pars = []; front = front_none (cut_by rules) text; lines = sym (append-nil before); uncut = uncut }
+  pub pushed_none : (seen : ℕ) → SplitsAt (cut_by rules) (take seen text) None → are_within (paragraphs (cut_by rules) text) ≡ true → Prints 0 print engine_old engine_old → PrintsAtMost 0 print engine_old engine_old → PushedSoFar text seen before engine_old
+  pushed_none seen uncut within counts at_most =
+      record { pars = []; front = front_none (cut_by rules) text; lines = sym (append-nil before); uncut = uncut; within = within; counts = counts; at_most = at_most }
 
-  pub pushed_more : (rest paragraph behind : List ℕ) (seen k : ℕ) (after more : List ℕ) → SplitsAt (cut_by rules) rest (Some k) → k ≤ 1048576 → paragraph ≡ take k rest → behind ≡ drop k rest
-      → more ≡ after ++ paragraph_bytes rules width print paragraph → PushedSoFar rest seen after → PushedSoFar behind 0 more
-  pushed_more rest paragraph behind seen k after more splits short paragraph_is behind_is more_is so_far =
-      let one = front_one (cut_by rules) rest paragraph behind k splits short paragraph_is behind_is in
+  pub pushed_more : (rest paragraph behind : List ℕ) (seen k : ℕ) (after more : List ℕ) (engine engine_new : Engine) → SplitsAt (cut_by rules) rest (Some k) → paragraph ≡ take k rest → behind ≡ drop k rest
+      → more ≡ after ++ paragraph_bytes rules width print paragraph → Prints (length paragraph) print engine engine_new → PrintsAtMost (length paragraph) print engine engine_new
+      → PushedSoFar rest seen after engine → PushedSoFar behind 0 more engine_new
+  pushed_more rest paragraph behind seen k after more engine engine_new splits paragraph_is behind_is more_is counts at_most so_far =
+      let both = first_within (cut_by rules) rest k so_far.within splits in
+      let one = front_one (cut_by rules) rest paragraph behind k splits both.0 paragraph_is behind_is in
+      let len : length (concat so_far.pars) + length paragraph ≡ length (concat (so_far.pars ++ paragraph ∷ [])) =
+      omega (arith, ap length (concat-append so_far.pars (paragraph ∷ [])), length-append (concat so_far.pars) (concat (paragraph ∷ [])), ap length (append-nil paragraph)) in
       record {
         pars = so_far.pars ++ paragraph ∷ [];
         front = front_join (cut_by rules) so_far.pars (paragraph ∷ []) text rest behind so_far.front one;
@@ -34,16 +60,17 @@ module _ (rules : Rules) (width : ℕ) (print : Print) (text : List ℕ) (before
             ∙ ap (λ t. before ++ (page rules width print so_far.pars ++ t)) (sym (append-nil (paragraph_bytes rules width print paragraph)))
             ∙ ap (λ t. before ++ t) (sym (flat_map-append (paragraph_bytes rules width print) so_far.pars (paragraph ∷ [])));
         uncut = λ some. absurd (omega arith);
+        within = ap (λ t. are_within (paragraphs (cut_by rules) t)) behind_is ∙ both.1;
+        counts = subst (λ n. Prints n print engine_old engine_new) len (prints_more print engine_old engine engine_new (length (concat so_far.pars)) (length paragraph) so_far.counts counts);
+        at_most = at_most_more print engine_old engine engine_new (length (concat so_far.pars)) (length paragraph) _ so_far.at_most at_most (omega (arith, len));
       }
 
-  pub pushed_long_cut : (rest : List ℕ) (seen k : ℕ) (after : List ℕ) → SplitsAt (cut_by rules) rest (Some k) → 1048576 < k → PushedSoFar rest seen after → Pushed rules width print text rest true before after
-  pushed_long_cut rest seen k after splits long so_far =
-      record { pars = so_far.pars; front = so_far.front; lines = so_far.lines; left = long_cut (cut_by rules) rest k splits long }
+  pub pushed_rest : (rest : List ℕ) (seen : ℕ) (after : List ℕ) (engine : Engine) → SplitsAt (cut_by rules) rest None → PushedSoFar rest seen after engine → Pushed rules width print text rest before after engine_old engine
+  pushed_rest rest seen after engine splits so_far =
+      record { pars = so_far.pars; front = so_far.front; lines = so_far.lines; counts = so_far.counts; left = record { uncut = splits; short = only_within (cut_by rules) rest so_far.within splits } }
 
-  pub pushed_rest : (rest : List ℕ) (seen : ℕ) (after : List ℕ) → SplitsAt (cut_by rules) rest None → PushedSoFar rest seen after → Pushed rules width print text rest (nat_lt 1048576 (length rest)) before after
-  pushed_rest rest seen after splits so_far =
-      record { pars = so_far.pars; front = so_far.front; lines = so_far.lines; left = left (nat_lt 1048576 (length rest)) refl }
-    where
-      left : (is_long : Bool) → nat_lt 1048576 (length rest) ≡ is_long → MatchBool is_long (StartsLong (cut_by rules) rest) (IsOpen (cut_by rules) rest)
-      left true long = long_uncut (cut_by rules) rest splits (grind (arith, nat_tests))
-      left false short = record { uncut = splits; short = grind (arith, nat_tests) }
+  -- of the text no more is counted than was pushed, and the paragraph at which memory ran out
+  pub pushed_at_most : (rest : List ℕ) (seen n : ℕ) (after : List ℕ) (engine engine_new : Engine) → PushedSoFar rest seen after engine → PrintsAtMost n print engine engine_new → n ≤ length rest → PrintsAtMost (length text) print engine_old engine_new
+  pushed_at_most rest seen n after engine engine_new so_far at_most few =
+      at_most_more print engine_old engine engine_new (length (concat so_far.pars)) n (length text) so_far.at_most at_most
+      (omega (arith, few, ap length so_far.front.whole, length-append (concat so_far.pars) rest))

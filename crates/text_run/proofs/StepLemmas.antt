@@ -1,28 +1,33 @@
 -- One step of a run, by what its calls do.
-use Rattle.std.proofs.Common.{◌≡◌, ℕ, ◌+◌, ◌*◌, ◌<◌, ◌≤◌, ◌==◌, ◌&&◌, Bool, true, false, List, [], ◌∷◌, ◌++◌, length, take, drop, min, Option, Some, None, unwrap_or, Result, Ok, Err, vec_len, Vec, Global, encode_utf8_all, refl, sym, subst, ap, ap₂, ◌∙◌, arith, true≢false, if◌then◌else◌}
-use Rattle.std.specs.Prelude.{is_none, is_some, MatchBool}
+use Rattle.std.proofs.Common.{◌≡◌, ◌⊎◌, inl, inr, ⊎_elim, ℕ, ◌+◌, ◌*◌, ◌<◌, ◌≤◌, ◌==◌, ◌&&◌, Bool, true, false, List, [], ◌∷◌, ◌++◌, length, take, drop, min, Option, Some, None, unwrap_or, Result, Ok, Err, vec_len, Vec, Global, encode_utf8_all, refl, sym, subst, ap, ap₂, ◌∙◌, arith, true≢false, if◌then◌else◌}
+use Rattle.std.specs.Prelude.{is_none, is_some, OnOk}
 use Rattle.std.specs.List.{concat}
 use Rattle.std.specs.Str.{chars}
 use Rattle.std.specs.Str.Lossy.{utf8_valid_len, utf8_error_len}
 use Rattle.std.specs.Io.KnownBytes.{Consumes}
 use Rattle.std.proofs.lemmas.Bool.Decides.{nat_tests}
+use Rattle.std.proofs.lemmas.List.Folds.{concat-append}
 use Rattle.std.proofs.lemmas.List.{append_assoc, append-nil, length-append, length-take-le, length-drop, take-append-drop}
 use Rattle.std.proofs.lemmas.Grind.{flat_map-append}
 use Rattle.std.proofs.lemmas.Str.{chars-append, chars-nil, encodes-append, encodes-chars, IsUtf8-append, len_utf8_bounds, length-encode, utf8_valid_len_le}
 use Rattle.bidi.specs.Cuts.{paragraphs}
 use Rattle.device.specs.Device.{Device, Fails, Gives, StoppedAt, Wrote, greatest}
+use Rattle.lines.specs.Engine.{Prints}
 use Rattle.lines.specs.Layouts.{Rules, cut_by}
 use Rattle.lines.specs.Pages.{page, paragraph_bytes}
+use Rattle.lines.specs.declared.engine.Engine.{Engine}
 use Rattle.lines.specs.declared.print.Print.{Print}
 use Rattle.text_run.specs.declared.faults.RunFault.{RunFault}
 use Rattle.text_run.specs.declared.faults.RunFault.TheVariants as f
 use Rattle.text_run.specs.declared.text.Held.{Held}
 use Rattle.text_run.specs.declared.text.Ending.TheVariants.{AtEnd, AtFailure}
-use Rattle.text_run.specs.TextRun.{are_within, input_fault, front_of, front_paragraphs, is_bad, written_of, Gave}
-use Rattle.text_run.specs.Streaming.{Ends, Finishes, Gathers, IsAt, IsBeginning, IsFront, IsOpen, IsRead, Stands, StartsLong, Steps, StopsWriting, Writes, last_lines}
+use Rattle.text_run.specs.TextRun.{are_within, input_fault, front_of, front_paragraphs, is_bad, written_of, Gave, HasRead, PrintsNoMore, ReadsWithin}
+use Rattle.text_run.specs.Counts.{PrintsAtMost}
+use Rattle.text_run.specs.Streaming.{Ends, FindsLong, Finishes, Gathers, IsAt, IsBeginning, IsFront, IsOpen, IsRead, Stands, StartsLong, Steps, StopsWriting, Writes, last_lines}
+use Rattle.text_run.proofs.CountLemmas.{at_most_more, at_most_none, at_most_printed, prints_more}
 use Rattle.text_run.proofs.Devices.{Took-nothing}
 use Rattle.text_run.proofs.Fronts.{front_join, front_more, front_none}
-use Rattle.text_run.proofs.StreamLemmas.{Consumes-append, Consumes-kept, IsSent, at_fault, at_long, at_memory, at_write, at_written, ends_write, gave_all, had_all, pars_sent, sent_ahead, sent_within, short_is, within_more, written_whole, Wrote-append}
+use Rattle.text_run.proofs.StreamLemmas.{Consumes-append, Consumes-kept, IsSent, Stops, at_fault, at_long, at_memory, at_write, at_written, ends_write, front_is, gave_all, had_all, pars_sent, sent_ahead, sent_within, short_is, within_more, written_whole, Wrote-append}
 use Rattle.text_run.proofs.Utf8Lemmas.{bad_stays, is_bad-behind, nothing_valid, utf8_error_len-nil, utf8_front, utf8_valid_len-behind}
 use lib.Utf8.{encode}
 
@@ -61,21 +66,62 @@ some_bad : (bytes : List ℕ) → is_some (utf8_error_len bytes) ≡ true → 0 
 some_bad [] bad = absurd (true≢false (sym bad ∙ ap is_some utf8_error_len-nil))
 some_bad (b ∷ bytes) bad = omega arith
 
-module _ (rules : Rules) (width : ℕ) (print : Print) (reader_old writer_old reader writer : Device) (held : Held) where
+module _ (rules : Rules) (width : ℕ) (print : Print) (reader_old writer_old : Device) (engine_old : Engine) (reader writer : Device) (engine : Engine) (held : Held) where
   abbrev Holds : List ℕ → List ℕ → Type 0
   Holds waiting text =
       (at : IsAt rules width print reader_old reader writer_old writer waiting text []) × (at.gathered ≡ []) × (held.decoded ≡ length at.decoded) × (held.written ≡ length (page rules width print at.sent))
-      × IsOpen (cut_by rules) text × IsBeginning waiting
+      × IsOpen (cut_by rules) text × IsBeginning waiting × Prints (length (concat at.sent)) print engine_old engine
 
   -- where it stands, by what it holds
-  stands_by : (waiting text : List ℕ) → Holds waiting text → take held.waiting held.piece.items ≡ waiting → held.text.items ≡ text → held.page.bytes.items ≡ [] → vec_len held.piece ≡ 65536
-      → length (take held.waiting held.piece.items) ≡ held.waiting → Stands rules width print reader_old writer_old reader writer held
-  stands_by waiting text holds waiting_is text_is lines room waits =
+  stands_by : (waiting text : List ℕ) → Holds waiting text → Prints 0 print engine_old engine_old → take held.waiting held.piece.items ≡ waiting → held.text.items ≡ text → held.page.bytes.items ≡ [] → vec_len held.piece ≡ 65536
+      → length (take held.waiting held.piece.items) ≡ held.waiting → Stands rules width print reader_old writer_old engine_old reader writer engine held
+  stands_by waiting text holds fits waiting_is text_is lines room waits =
       let here : Holds (take held.waiting held.piece.items) held.text.items =
       subst (λ (w : List ℕ). Holds w held.text.items) (sym waiting_is) (subst (λ (t : List ℕ). Holds waiting t) (sym text_is) holds) in
-      record { is_at = here.0; all_sent = here.1; decoded = here.2; written = here.3; text = here.4; lines = lines; beginning = here.5; room = room; waits = waits }
+      record { is_at = here.0; all_sent = here.1; decoded = here.2; written = here.3; text = here.4; lines = lines; beginning = here.5; room = room; waits = waits; fits = fits; counts = here.6 }
 
-module _ (rules : Rules) (width : ℕ) (print : Print) (reader_old writer_old reader writer : Device) where
+-- what is found in a piece is no want of memory
+pub no_memory : (rules : Rules) (width : ℕ) (print : Print) (bytes : List ℕ) (old new : Held) (engine_old engine_new : Engine) (fault : Option RunFault) (wrong : RunFault)
+    → FindsLong rules bytes old new fault ⊎ Gathers rules width print bytes old new engine_old engine_new fault → fault ≡ Some wrong → wrong ≡ f.Memory → ⊥
+no_memory rules width print bytes old new engine_old engine_new fault wrong (inl l) is memory = cc (is, memory, l.fault_is)
+no_memory rules width print bytes old new engine_old engine_new fault wrong (inr g) is memory = go (is_bad bytes) (sym is ∙ g.fault_is)
+  where
+    go : (b : Bool) → Some wrong ≡ (if b then Some (f.NotUtf8 new.decoded) else None) → ⊥
+    go true same_fault = cc (same_fault, memory)
+    go false same_fault = cc same_fault
+
+-- where memory runs out at the end of a text nothing is written
+pub none_written : (rules : Rules) (width : ℕ) (print : Print) (held : Held) (old new : Device) (fault : RunFault) → Finishes rules width print held old new (Err fault) → fault ≡ f.Memory → new ≡ old
+none_written rules width print held old new fault is memory = (subst (λ (w : RunFault). Finishes rules width print held old new (Err w)) memory is).1
+
+module _ (rules : Rules) (width : ℕ) (print : Print) (reader_old writer_old : Device) (engine_old : Engine) (reader writer : Device) (engine : Engine) where
+  -- a run that stops has counted no more than the characters that were read, and where memory ran out no paragraph of these is too long
+  ended : (reader_new writer_new : Device) (engine_new : Engine) (fault : RunFault) → Stops rules width print reader_old writer_old reader_new writer_new fault
+      → PrintsNoMore print reader_old reader_new engine_old engine_new → (fault ≡ f.Memory → ReadsWithin rules reader_old reader_new)
+      → Ends rules width print reader_old writer_old engine_old reader_new writer_new engine_new (Err fault)
+  ended reader_new writer_new engine_new fault stops no_more within =
+      record { run = stops.run engine_old engine_new; ahead = stops.ahead; at_most = no_more; within = λ is. within (cc is) }
+
+  no_more : (reader_new : Device) (engine_new : Engine) (bytes : List ℕ) (n : ℕ) → HasRead reader_old reader_new bytes → PrintsAtMost n print engine_old engine_new → n ≤ length (front_of bytes) → PrintsNoMore print reader_old reader_new engine_old engine_new
+  no_more reader_new engine_new bytes n has_read at_most few = (bytes, has_read, at_most_more print engine_old engine_old engine_new 0 n (length (front_of bytes)) (at_most_none print engine_old) at_most (omega (arith, few)))
+
+  -- what was counted until now, and how many characters in front of some bytes these are, with those that are held
+  module _ (held : Held) (s : Stands rules width print reader_old writer_old engine_old reader writer engine held) where
+    counted_now : PrintsAtMost (length (concat s.is_at.sent)) print engine_old engine
+    counted_now = at_most_printed print engine_old engine (length (concat s.is_at.sent)) s.fits s.counts
+
+    held_len : length (chars s.is_at.decoded) ≡ length (concat s.is_at.sent) + length held.text.items
+    held_len =
+        let at = s.is_at in
+        let text_is : chars at.decoded ≡ concat at.sent ++ held.text.items =
+        at.front.whole ∙ ap (λ ps. concat (at.sent ++ ps) ++ held.text.items) s.all_sent ∙ ap (λ ps. concat ps ++ held.text.items) (append-nil at.sent) in
+        omega (arith, ap length text_is, length-append (concat at.sent) held.text.items)
+
+    front_len : (behind : List ℕ) → length (front_of (s.is_at.decoded ++ behind)) ≡ length (concat s.is_at.sent) + length held.text.items + length (front_of behind)
+    front_len behind =
+        let is = front_is rules width print reader_old reader writer_old writer (take held.waiting held.piece.items) held.text.items [] s.is_at behind in
+        omega (arith, held_len, ap length is, length-append (chars s.is_at.decoded) (front_of behind))
+
   -- some bytes more were read
   pub at_read : (reader_new : Device) (waiting text more : List ℕ) (at : IsAt rules width print reader_old reader writer_old writer waiting text []) → at.gathered ≡ [] → length text ≤ 1048576 → length waiting < 4
       → Consumes reader.bytes reader_new.bytes more → reader_new.passed ≡ reader.passed + length more → reader_new.failures ≡ reader.failures → length more ≤ 65536
@@ -103,23 +149,27 @@ module _ (rules : Rules) (width : ℕ) (print : Print) (reader_old writer_old re
   )
 
   -- a failed read, behind the beginning of a character or none
-  pub ends_read : (reader_new : Device) (held : Held) → Stands rules width print reader_old writer_old reader writer held → Fails reader reader_new → Ends rules width print reader_old writer_old reader_new writer (Err f.Read)
+  pub ends_read : (reader_new : Device) (held : Held) → Stands rules width print reader_old writer_old engine_old reader writer engine held → Fails reader reader_new → Ends rules width print reader_old writer_old engine_old reader_new writer engine (Err f.Read)
   ends_read reader_new held s fails =
       let at = s.is_at in
       let waiting = take held.waiting held.piece.items in
       let good : is_bad (at.decoded ++ waiting) ≡ false =
       is_bad-behind at.decoded waiting at.utf8 ∙ ap (λ n. is_some (utf8_error_len (drop n waiting))) s.beginning.none ∙ ap is_some s.beginning.fault in
-      at_fault rules width print reader_old reader writer_old writer waiting held.text.items [] at s.all_sent reader_new AtFailure waiting f.Read (
-        Consumes-kept reader_old.bytes reader.bytes reader_new.bytes (at.decoded ++ waiting) at.read fails.bytes,
-        fails.passed ∙ at.passed,
+      let has_read : HasRead reader_old reader_new (at.decoded ++ waiting) = (Consumes-kept reader_old.bytes reader.bytes reader_new.bytes (at.decoded ++ waiting) at.read fails.bytes, fails.passed ∙ at.passed) in
+      ended reader_new writer engine f.Read
+      (at_fault rules width print reader_old reader writer_old writer waiting held.text.items [] at s.all_sent reader_new AtFailure waiting f.Read (
+        has_read.0,
+        has_read.1,
         record { failures = fails.failures ∙ ap (λ n. min (n + 1) greatest) at.failures; last = fails.failed_at ∙ sym fails.passed },
       )
       (record { ahead = omega (arith, at.ahead, fails.passed) }) s.text s.beginning.none
       (ap (λ (b : Bool). if b then Some (f.NotUtf8 (utf8_valid_len (at.decoded ++ waiting))) else Some f.Read) good)
-      (λ written wrong is wrote. (is, wrote))
+      (λ written wrong is wrote. (is, wrote)))
+      (no_more reader_new engine (at.decoded ++ waiting) (length (concat at.sent)) has_read (counted_now held s) (omega (arith, front_len held s waiting)))
+      (λ is. absurd (cc is))
 
   -- ---- the end of the text
-  module _ (reader_new : Device) (buffer : List ℕ) (held : Held) (s : Stands rules width print reader_old writer_old reader writer held) (gives : Gives reader reader_new 0 buffer) where
+  module _ (reader_new : Device) (buffer : List ℕ) (held : Held) (s : Stands rules width print reader_old writer_old engine_old reader writer engine held) (gives : Gives reader reader_new 0 buffer) where
     consumed_all : Consumes reader_old.bytes reader_new.bytes (s.is_at.decoded ++ take held.waiting held.piece.items)
     consumed_all =
         let bytes = s.is_at.decoded ++ take held.waiting held.piece.items in
@@ -136,7 +186,7 @@ module _ (rules : Rules) (width : ℕ) (print : Print) (reader_old writer_old re
     sent_all = record { ahead = omega (arith, gives.passes.passed, s.is_at.ahead) }
 
     -- inside a character
-    finish_inside : (n : ℕ) → 0 < length (take held.waiting held.piece.items) → n ≡ held.decoded → Ends rules width print reader_old writer_old reader_new writer (Err (f.NotUtf8 n))
+    finish_inside : (n : ℕ) → 0 < length (take held.waiting held.piece.items) → n ≡ held.decoded → Stops rules width print reader_old writer_old reader_new writer (f.NotUtf8 n)
     finish_inside n some n_is =
         let waiting = take held.waiting held.piece.items in
         let decoded = s.is_at.decoded in
@@ -192,52 +242,72 @@ module _ (rules : Rules) (width : ℕ) (print : Print) (reader_old writer_old re
       unfolding last
       lines_last = ap (λ t. t ++ page rules width print (if length held.text.items == 0 then [] else held.text.items ∷ [])) s.lines
 
-      finish_done : (writer_new : Device) → Wrote (last_lines rules width print held) writer writer_new → Ends rules width print reader_old writer_old reader_new writer_new (Ok tt)
-      finish_done writer_new wrote =
+      finish_done : (writer_new : Device) (engine_new : Engine) → Wrote (last_lines rules width print held) writer writer_new → Prints (length held.text.items) print engine engine_new
+          → Ends rules width print reader_old writer_old engine_old reader_new writer_new engine_new (Ok tt)
+      finish_done writer_new engine_new wrote counts =
           let bytes = s.is_at.decoded ++ take held.waiting held.piece.items in
           let pars = front_paragraphs rules bytes in
           let within_all : are_within pars ≡ true = ap are_within pars_last ∙ within_last in
           let wrote_all : Wrote (page rules width print (s.is_at.sent ++ last)) writer_old writer_new =
           subst (λ (t : List ℕ). Wrote t writer_old writer_new) (sym (flat_map-append (paragraph_bytes rules width print) s.is_at.sent last))
           (Wrote-append writer_old writer writer_new (page rules width print s.is_at.sent) (page rules width print last) s.is_at.wrote (subst (λ (t : List ℕ). Wrote t writer writer_new) lines_last wrote)) in
+          let all : length (concat s.is_at.sent) + length held.text.items ≡ length (chars bytes) =
+          sym (held_len held s) ∙ ap (λ t. length (chars t)) (sym (append-nil s.is_at.decoded) ∙ ap (λ t. s.is_at.decoded ++ t) (sym nothing_waits)) in
           record {
             run = (
               AtEnd,
               bytes,
               gave,
               (gives.end refl, passed_all),
+              subst (λ n. Prints n print engine_old engine_new) all (prints_more print engine_old engine engine_new (length (concat s.is_at.sent)) (length held.text.items) s.counts counts),
               (
                 sym (ap (λ (b : Bool). if b then input_fault AtEnd bytes else Some f.ParagraphTooLong) within_all ∙ no_fault),
                 subst (λ (ps : List (List ℕ)). Wrote (page rules width print ps) writer_old writer_new) (sym written_last) wrote_all,
               ),
             );
             ahead = tt;
+            at_most = tt;
+            within = λ is. absurd (cc is);
           }
 
-      finish_stopped : (writer_new : Device) (m n : ℕ) → StoppedAt m (last_lines rules width print held) writer writer_new → n ≡ held.written + m → Ends rules width print reader_old writer_old reader_new writer_new (Err (f.Write n))
+      finish_stopped : (writer_new : Device) (m n : ℕ) → StoppedAt m (last_lines rules width print held) writer writer_new → n ≡ held.written + m → Stops rules width print reader_old writer_old reader_new writer_new (f.Write n)
       finish_stopped writer_new m n stopped n_is =
           let bytes = s.is_at.decoded ++ take held.waiting held.piece.items in
           ends_write rules width print reader_old writer_old reader_new writer writer_new AtEnd bytes s.is_at.sent last [] [] m n gave
           (pars_last ∙ sym (append-nil (s.is_at.sent ++ last))) (written_last ∙ sym (append-nil (s.is_at.sent ++ last))) s.is_at.wrote sent_all
           (subst (λ (t : List ℕ). StoppedAt m t writer writer_new) lines_last stopped) (omega (arith, n_is, s.written))
 
-    pub ends_finish : (piece : Vec ℕ Global) (writer_new : Device) (result : Result (Unit {0}) RunFault) → Finishes rules width print (record held { piece = piece }) writer writer_new result → Ends rules width print reader_old writer_old reader_new writer_new result
-    ends_finish piece writer_new (Ok done) is = finish_done is.0 writer_new is.1
-    ends_finish piece writer_new (Err (f.NotUtf8 n)) is =
-        subst (λ (w : Device). Ends rules width print reader_old writer_old reader_new w (Err (f.NotUtf8 n))) (sym is.2)
-        (finish_inside n (omega (arith, is.0, s.waits)) is.1)
-    ends_finish piece writer_new (Err (f.Write n)) is = finish_stopped is.0 writer_new is.1.0 n is.1.2 is.1.1
-    ends_finish piece writer_new (Err f.Memory) is =
-        let next = at_read reader_new (take held.waiting held.piece.items) held.text.items [] s.is_at s.all_sent s.text.short s.beginning.few gives.bytes (omega (arith, gives.passes.passed)) gives.passes.failures (omega arith) in
-        subst (λ (w : Device). Ends rules width print reader_old writer_old reader_new w (Err f.Memory)) (sym is)
-        (at_memory rules width print reader_old reader_new writer_old writer (take held.waiting held.piece.items ++ []) held.text.items [] next.0)
-    ends_finish piece writer_new (Err f.Read) is = absurd is
-    ends_finish piece writer_new (Err f.ParagraphTooLong) is = absurd is
-    ends_finish piece writer_new (Err (f.BadLine n)) is = absurd is
-    ends_finish piece writer_new (Err f.TextTooLong) is = absurd is
+    module _ (engine_new : Engine) (at_most : PrintsAtMost (length held.text.items) print engine engine_new) where
+      has_read : HasRead reader_old reader_new (s.is_at.decoded ++ take held.waiting held.piece.items)
+      has_read = (consumed_all, passed_all)
+
+      no_more_last : PrintsNoMore print reader_old reader_new engine_old engine_new
+      no_more_last =
+          let waiting = take held.waiting held.piece.items in
+          let few = front_len held s waiting in
+          no_more reader_new engine_new (s.is_at.decoded ++ waiting) (length (concat s.is_at.sent) + length held.text.items) has_read
+          (at_most_more print engine_old engine engine_new (length (concat s.is_at.sent)) (length held.text.items) _ (counted_now held s) at_most (omega arith)) (omega (arith, few))
+
+      pub ends_finish : (piece : Vec ℕ Global) (writer_new : Device) (result : Result (Unit {0}) RunFault) → Finishes rules width print (record held { piece = piece }) writer writer_new result
+          → OnOk result (Prints (length held.text.items) print engine engine_new) → Ends rules width print reader_old writer_old engine_old reader_new writer_new engine_new result
+      ends_finish piece writer_new (Ok done) is counts = finish_done is.0 writer_new engine_new is.1 counts
+      ends_finish piece writer_new (Err (f.NotUtf8 n)) is counts =
+          subst (λ (w : Device). Ends rules width print reader_old writer_old engine_old reader_new w engine_new (Err (f.NotUtf8 n))) (sym is.2)
+          (ended reader_new writer engine_new (f.NotUtf8 n) (finish_inside n (omega (arith, is.0, s.waits)) is.1) no_more_last (λ same. absurd (cc same)))
+      ends_finish piece writer_new (Err (f.Write n)) is counts =
+          ended reader_new writer_new engine_new (f.Write n) (finish_stopped is.0 writer_new is.1.0 n is.1.2 is.1.1) no_more_last (λ same. absurd (cc same))
+      ends_finish piece writer_new (Err f.Memory) is counts =
+          let next = at_read reader_new (take held.waiting held.piece.items) held.text.items [] s.is_at s.all_sent s.text.short s.beginning.few gives.bytes (omega (arith, gives.passes.passed)) gives.passes.failures (omega arith) in
+          subst (λ (w : Device). Ends rules width print reader_old writer_old engine_old reader_new w engine_new (Err f.Memory)) (sym is.1)
+          (ended reader_new writer engine_new f.Memory (at_memory rules width print reader_old reader_new writer_old writer (take held.waiting held.piece.items ++ []) held.text.items [] next.0) no_more_last
+          (λ same. (s.is_at.decoded ++ take held.waiting held.piece.items, has_read, ap are_within (pars_last is.0) ∙ within_last is.0)))
+      ends_finish piece writer_new (Err f.Read) is counts = absurd is
+      ends_finish piece writer_new (Err f.ParagraphTooLong) is counts = absurd is
+      ends_finish piece writer_new (Err (f.BadLine n)) is counts = absurd is
+      ends_finish piece writer_new (Err f.TextTooLong) is counts = absurd is
 
   -- ---- bytes that were read
-  module _ (reader_new : Device) (n : ℕ) (held held_read : Held) (s : Stands rules width print reader_old writer_old reader writer held) (read : IsRead n held held_read reader reader_new) where
+  module _ (reader_new : Device) (n : ℕ) (held held_read : Held) (s : Stands rules width print reader_old writer_old engine_old reader writer engine held) (read : IsRead n held held_read reader reader_new) where
     abbrev bytes_read : List ℕ
     bytes_read = take (held_read.waiting + n) held_read.piece.items
 
@@ -245,10 +315,14 @@ module _ (rules : Rules) (width : ℕ) (print : Print) (reader_old writer_old re
     parts = ap (λ (h : Held). take (h.waiting + n) held_read.piece.items) read.same ∙ read.read.piece
 
     -- none, since the source has ended
-    pub read_nothing : n ≡ 0 → (writer_new : Device) (result : Result (Unit {0}) RunFault) → Finishes rules width print held_read writer writer_new result → Ends rules width print reader_old writer_old reader_new writer_new result
-    read_nothing none writer_new result is =
-        ends_finish reader_new read.read.buffer held s (subst (λ k. Gives reader reader_new k read.read.buffer) none read.read.gives) held_read.piece writer_new result
+    pub read_nothing : n ≡ 0 → (writer_new : Device) (engine_new : Engine) (result : Result (Unit {0}) RunFault) → Finishes rules width print held_read writer writer_new result
+        → OnOk result (Prints (length held_read.text.items) print engine engine_new) → PrintsAtMost (length held_read.text.items) print engine engine_new
+        → Ends rules width print reader_old writer_old engine_old reader_new writer_new engine_new result
+    read_nothing none writer_new engine_new result is counts at_most =
+        ends_finish reader_new read.read.buffer held s (subst (λ k. Gives reader reader_new k read.read.buffer) none read.read.gives) engine_new
+        (subst (λ (h : Held). PrintsAtMost (length h.text.items) print engine engine_new) read.same at_most) held_read.piece writer_new result
         (subst (λ (h : Held). Finishes rules width print h writer writer_new result) read.same is)
+        (subst (λ (h : Held). OnOk result (Prints (length h.text.items) print engine engine_new)) read.same counts)
 
     next_is : (next : IsAt rules width print reader_old reader_new writer_old writer bytes_read held.text.items []) × (next.gathered ≡ []) × (next.decoded ≡ s.is_at.decoded) × (next.sent ≡ s.is_at.sent)
     next_is =
@@ -267,72 +341,138 @@ module _ (rules : Rules) (width : ℕ) (print : Print) (reader_old writer_old re
     room_is : vec_len held_read.piece ≡ 65536
     room_is = read.room ∙ s.room
 
-    pub read_memory : Ends rules width print reader_old writer_old reader_new writer (Err f.Memory)
-    read_memory = at_memory rules width print reader_old reader_new writer_old writer bytes_read held.text.items [] next_is.0
+    -- whatever the engine did then
+    module _ (engine_new : Engine) (at_most : PrintsAtMost (length (held_read.text.items ++ front_of bytes_read)) print engine engine_new) where
+      has_read_more : HasRead reader_old reader_new (s.is_at.decoded ++ bytes_read)
+      has_read_more = subst (λ (t : List ℕ). HasRead reader_old reader_new (t ++ bytes_read)) next_is.2 (next_is.0.read, next_is.0.passed)
 
-    module _ (held_new : Held) (fault : Option RunFault) (g : Gathers rules width print bytes_read held_read held_new fault) where
-      abbrev left : List ℕ
-      left = drop (utf8_valid_len bytes_read) bytes_read
+      text_same : held_read.text.items ≡ held.text.items
+      text_same = ap (λ (h : Held). h.text.items) same
 
-      -- what stands behind the front isn't text
-      left_none : utf8_valid_len left ≡ 0
-      left_none =
-          let v = utf8_valid_len bytes_read in
-          let parts = utf8_valid_len-behind (take v bytes_read) left (utf8_front bytes_read) in
-          let whole = ap utf8_valid_len (take-append-drop v bytes_read) in
-          omega (arith, parts, whole, length-take-le v bytes_read (utf8_valid_len_le bytes_read))
+      no_more_read : PrintsNoMore print reader_old reader_new engine_old engine_new
+      no_more_read =
+          let n = length (held_read.text.items ++ front_of bytes_read) in
+          let len : n ≡ length held.text.items + length (front_of bytes_read) = omega (arith, length-append held_read.text.items (front_of bytes_read), ap length text_same) in
+          no_more reader_new engine_new (s.is_at.decoded ++ bytes_read) (length (concat s.is_at.sent) + n) has_read_more
+          (at_most_more print engine_old engine engine_new (length (concat s.is_at.sent)) n _ (counted_now held s) at_most (omega arith))
+          (omega (arith, len, front_len held s bytes_read))
 
+      pub read_memory : are_within (paragraphs (cut_by rules) (held_read.text.items ++ front_of bytes_read)) ≡ true → Ends rules width print reader_old writer_old engine_old reader_new writer engine_new (Err f.Memory)
+      read_memory within =
+          let sent = s.is_at.sent in
+          let text = held.text.items ++ front_of bytes_read in
+          let pars : front_paragraphs rules (s.is_at.decoded ++ bytes_read) ≡ sent ++ paragraphs (cut_by rules) text =
+          pars_sent rules width print reader_old reader writer_old writer (take held.waiting held.piece.items) held.text.items [] s.is_at s.all_sent bytes_read in
+          let sent_is : are_within sent ≡ true = sent_within rules width print reader_old reader writer_old writer (take held.waiting held.piece.items) held.text.items [] s.is_at s.all_sent in
+          ended reader_new writer engine_new f.Memory (at_memory rules width print reader_old reader_new writer_old writer bytes_read held.text.items [] next_is.0) no_more_read
+          (λ is. (
+            s.is_at.decoded ++ bytes_read,
+            has_read_more,
+            ap are_within pars ∙ within_more sent (paragraphs (cut_by rules) text) sent_is ∙ ap (λ t. are_within (paragraphs (cut_by rules) (t ++ front_of bytes_read))) (sym text_same) ∙ within,
+          ))
+
+    abbrev left : List ℕ
+    left = drop (utf8_valid_len bytes_read) bytes_read
+
+    -- what stands behind the front isn't text
+    left_none : utf8_valid_len left ≡ 0
+    left_none =
+        let v = utf8_valid_len bytes_read in
+        let parts = utf8_valid_len-behind (take v bytes_read) left (utf8_front bytes_read) in
+        let whole = ap utf8_valid_len (take-append-drop v bytes_read) in
+        omega (arith, parts, whole, length-take-le v bytes_read (utf8_valid_len_le bytes_read))
+
+    -- the front is decoded, and the lines of some paragraphs are gathered
+    decoded_is : (pars : List (List ℕ)) (text_new lines_new : List ℕ) → IsFront (cut_by rules) pars (held.text.items ++ front_of bytes_read) text_new → lines_new ≡ page rules width print pars
+        → (next : IsAt rules width print reader_old reader_new writer_old writer left text_new lines_new)
+        × (length next.decoded ≡ length s.is_at.decoded + utf8_valid_len bytes_read) × (next.sent ≡ s.is_at.sent) × (next.gathered ≡ pars)
+    decoded_is pars text_new lines_new new_front lines_are =
+        let at = next_is.0 in
+        let v = utf8_valid_len bytes_read in
+        let decoded = at.decoded ++ take v bytes_read in
+        let bytes_are : decoded ++ left ≡ at.decoded ++ bytes_read = append_assoc at.decoded (take v bytes_read) left ∙ ap (λ t. at.decoded ++ t) (take-append-drop v bytes_read) in
+        let sent_is : at.sent ++ at.gathered ≡ at.sent = ap (λ ps. at.sent ++ ps) next_is.1 ∙ append-nil at.sent in
+        let old_front = front_more (cut_by rules) (at.sent ++ at.gathered) (chars at.decoded) held.text.items (front_of bytes_read) at.front in
+        let joined = front_join (cut_by rules) (at.sent ++ at.gathered) pars (chars at.decoded ++ front_of bytes_read) (held.text.items ++ front_of bytes_read) text_new old_front new_front in
+        let front : IsFront (cut_by rules) (at.sent ++ pars) (chars decoded) text_new =
+        subst (λ (t : List ℕ). IsFront (cut_by rules) (at.sent ++ pars) t text_new) (sym (chars-append at.decoded (take v bytes_read) at.utf8))
+        (subst (λ (ps : List (List ℕ)). IsFront (cut_by rules) (ps ++ pars) (chars at.decoded ++ front_of bytes_read) text_new) sent_is joined) in (
+          record {
+            decoded = decoded;
+            sent = at.sent;
+            gathered = pars;
+            read = subst (Consumes reader_old.bytes reader_new.bytes) (sym bytes_are) at.read;
+            passed = at.passed ∙ ap (λ t. reader_old.passed + length t) (sym bytes_are);
+            failures = at.failures;
+            utf8 = IsUtf8-append at.decoded (take v bytes_read) at.utf8 (utf8_front bytes_read);
+            front = front;
+            wrote = at.wrote;
+            lines_are = lines_are;
+            ahead = at.ahead;
+          },
+          omega (arith, length-append at.decoded (take v bytes_read), length-take-le v bytes_read (utf8_valid_len_le bytes_read), ap length next_is.2),
+          next_is.3,
+          refl,
+        )
+
+    no_lines : held_read.page.bytes.items ≡ []
+    no_lines = ap (λ (h : Held). h.page.bytes.items) same ∙ s.lines
+
+    -- the first paragraph is too long: its lines and those behind it are not written, nor is anything more
+    module _ (held_new : Held) (fault : Option RunFault) (l : FindsLong rules bytes_read held_read held_new fault) where
+      text_long : StartsLong (cut_by rules) (held.text.items ++ front_of bytes_read)
+      text_long = subst (λ (h : Held). StartsLong (cut_by rules) (h.text.items ++ front_of bytes_read)) same l.long
+
+      long_is : (next : IsAt rules width print reader_old reader_new writer_old writer left (held.text.items ++ front_of bytes_read) [])
+          × (length next.decoded ≡ length s.is_at.decoded + utf8_valid_len bytes_read) × (next.sent ≡ s.is_at.sent) × (next.gathered ≡ [])
+      long_is = decoded_is [] (held.text.items ++ front_of bytes_read) [] (front_none (cut_by rules) (held.text.items ++ front_of bytes_read)) refl
+
+      page_is : held_new.page.bytes.items ≡ []
+      page_is = ap (λ (h : Held). h.page.bytes.items) l.same ∙ no_lines
+
+      long_stopped : (writer_new : Device) (wrong : RunFault) → StopsWriting held_new wrong writer writer_new → Stops rules width print reader_old writer_old reader_new writer_new wrong
+      long_stopped writer_new wrong stops =
+          let at = long_is.0 in
+          let count : held_new.written + stops.0 ≡ length (page rules width print at.sent) + stops.0 =
+          omega (arith, ap (λ (h : Held). h.written) l.same, ap (λ (h : Held). h.written) same, s.written, ap (λ ps. length (page rules width print ps)) long_is.2) in
+          subst (λ (w : RunFault). Stops rules width print reader_old writer_old reader_new writer_new w) (sym stops.1)
+          (at_write rules width print reader_old reader_new writer_old writer left (held.text.items ++ front_of bytes_read) [] at writer_new stops.0 (held_new.written + stops.0)
+          (subst (λ (t : List ℕ). StoppedAt stops.0 t writer writer_new) page_is stops.2) count)
+
+      long_fault : (writer_new : Device) (held_last : Held) (wrong : RunFault) → Writes held_new held_last writer writer_new → fault ≡ Some wrong → Stops rules width print reader_old writer_old reader_new writer_new wrong
+      long_fault writer_new held_last wrong writes is =
+          let written = at_written rules width print reader_old reader_new writer_old writer left (held.text.items ++ front_of bytes_read) [] long_is.0 writer_new
+          (subst (λ (t : List ℕ). Wrote t writer writer_new) page_is writes.wrote) in
+          let wrong_is : f.ParagraphTooLong ≡ wrong = cc (is, l.fault_is) in
+          subst (λ (w : RunFault). Stops rules width print reader_old writer_old reader_new writer_new w) wrong_is
+          (at_long rules width print reader_old reader_new writer_old writer_new left (held.text.items ++ front_of bytes_read) [] written.0 written.1 text_long)
+
+      long_ends : fault ≡ None → ⊥
+      long_ends is = cc (is, l.fault_is)
+
+    module _ (held_new : Held) (engine_new : Engine) (fault : Option RunFault) (g : Gathers rules width print bytes_read held_read held_new engine engine_new fault) where
       gathered_is : (next : IsAt rules width print reader_old reader_new writer_old writer left held_new.text.items held_new.page.bytes.items)
           × (length next.decoded ≡ held_new.decoded) × (next.sent ≡ s.is_at.sent) × (next.gathered ≡ g.pushed.pars)
       gathered_is =
-          let at = next_is.0 in
-          let v = utf8_valid_len bytes_read in
-          let decoded = at.decoded ++ take v bytes_read in
-          let bytes_are : decoded ++ left ≡ at.decoded ++ bytes_read = append_assoc at.decoded (take v bytes_read) left ∙ ap (λ t. at.decoded ++ t) (take-append-drop v bytes_read) in
-          let sent_is : at.sent ++ at.gathered ≡ at.sent = ap (λ ps. at.sent ++ ps) next_is.1 ∙ append-nil at.sent in
           let text_is : held_read.text.items ≡ held.text.items = ap (λ (h : Held). h.text.items) same in
-          let old_front = front_more (cut_by rules) (at.sent ++ at.gathered) (chars at.decoded) held.text.items (front_of bytes_read) at.front in
           let new_front : IsFront (cut_by rules) g.pushed.pars (held.text.items ++ front_of bytes_read) held_new.text.items =
           subst (λ (t : List ℕ). IsFront (cut_by rules) g.pushed.pars (t ++ front_of bytes_read) held_new.text.items) text_is g.pushed.front in
-          let joined = front_join (cut_by rules) (at.sent ++ at.gathered) g.pushed.pars (chars at.decoded ++ front_of bytes_read) (held.text.items ++ front_of bytes_read) held_new.text.items old_front new_front in
-          let front : IsFront (cut_by rules) (at.sent ++ g.pushed.pars) (chars decoded) held_new.text.items =
-          subst (λ (t : List ℕ). IsFront (cut_by rules) (at.sent ++ g.pushed.pars) t held_new.text.items) (sym (chars-append at.decoded (take v bytes_read) at.utf8))
-          (subst (λ (ps : List (List ℕ)). IsFront (cut_by rules) (ps ++ g.pushed.pars) (chars at.decoded ++ front_of bytes_read) held_new.text.items) sent_is joined) in
-          let no_lines : held_read.page.bytes.items ≡ [] = ap (λ (h : Held). h.page.bytes.items) same ∙ s.lines in (
-            record {
-              decoded = decoded;
-              sent = at.sent;
-              gathered = g.pushed.pars;
-              read = subst (Consumes reader_old.bytes reader_new.bytes) (sym bytes_are) at.read;
-              passed = at.passed ∙ ap (λ t. reader_old.passed + length t) (sym bytes_are);
-              failures = at.failures;
-              utf8 = IsUtf8-append at.decoded (take v bytes_read) at.utf8 (utf8_front bytes_read);
-              front = front;
-              wrote = at.wrote;
-              lines_are = g.pushed.lines ∙ ap (λ t. t ++ page rules width print g.pushed.pars) no_lines;
-              ahead = at.ahead;
-            },
-            omega (arith, length-append at.decoded (take v bytes_read), length-take-le v bytes_read (utf8_valid_len_le bytes_read), g.decoded, ap (λ (h : Held). h.decoded) same, s.decoded, ap length next_is.2),
-            next_is.3,
-            refl,
-          )
+          let next = decoded_is g.pushed.pars held_new.text.items held_new.page.bytes.items new_front (g.pushed.lines ∙ ap (λ t. t ++ page rules width print g.pushed.pars) no_lines) in
+          (next.0, omega (arith, next.1, g.decoded, ap (λ (h : Held). h.decoded) same, s.decoded), next.2, next.3)
 
-      pub read_stopped : (writer_new : Device) (wrong : RunFault) → StopsWriting held_new wrong writer writer_new → Ends rules width print reader_old writer_old reader_new writer_new (Err wrong)
-      read_stopped writer_new wrong stops =
+      gathers_stopped : (writer_new : Device) (wrong : RunFault) → StopsWriting held_new wrong writer writer_new → Stops rules width print reader_old writer_old reader_new writer_new wrong
+      gathers_stopped writer_new wrong stops =
           let at = gathered_is.0 in
           let lines_sent : page rules width print at.sent ≡ page rules width print s.is_at.sent = ap (page rules width print) gathered_is.2 in
           let count : held_new.written + stops.0 ≡ length (page rules width print at.sent) + stops.0 = omega (arith, g.written, ap (λ (h : Held). h.written) same, s.written, ap length lines_sent) in
-          subst (λ (w : RunFault). Ends rules width print reader_old writer_old reader_new writer_new (Err w)) (sym stops.1)
+          subst (λ (w : RunFault). Stops rules width print reader_old writer_old reader_new writer_new w) (sym stops.1)
           (at_write rules width print reader_old reader_new writer_old writer left held_new.text.items held_new.page.bytes.items at writer_new stops.0 (held_new.written + stops.0) stops.2 count)
 
       module _ (writer_new : Device) (held_last : Held) (writes : Writes held_new held_last writer writer_new) where
         written_is : (next : IsAt rules width print reader_old reader_new writer_old writer_new left held_new.text.items []) × (next.gathered ≡ []) × (next.decoded ≡ gathered_is.0.decoded) × (next.sent ≡ gathered_is.0.sent ++ gathered_is.0.gathered)
         written_is = at_written rules width print reader_old reader_new writer_old writer left held_new.text.items held_new.page.bytes.items gathered_is.0 writer_new writes.wrote
 
-        ends_long : StartsLong (cut_by rules) held_new.text.items → Ends rules width print reader_old writer_old reader_new writer_new (Err f.ParagraphTooLong)
-        ends_long starts = at_long rules width print reader_old reader_new writer_old writer_new left held_new.text.items [] written_is.0 written_is.1 starts
-
-        ends_bad : IsOpen (cut_by rules) held_new.text.items → is_bad bytes_read ≡ true → Ends rules width print reader_old writer_old reader_new writer_new (Err (f.NotUtf8 held_new.decoded))
+        ends_bad : IsOpen (cut_by rules) held_new.text.items → is_bad bytes_read ≡ true → Stops rules width print reader_old writer_old reader_new writer_new (f.NotUtf8 held_new.decoded)
         ends_bad is_open bad =
             let at = written_is.0 in
             let rest = unwrap_or reader_new.bytes [] in
@@ -348,7 +488,7 @@ module _ (rules : Rules) (width : ℕ) (print : Print) (reader_old writer_old re
             (ap (λ (b : Bool). if b then None else Some (f.NotUtf8 (utf8_valid_len (at.decoded ++ behind)))) (not_all (utf8_valid_len (at.decoded ++ behind)) (length (at.decoded ++ behind)) less) ∙ ap (λ k. Some (f.NotUtf8 k)) here)
             (λ written wrong is wrote. (is, wrote))
 
-        stands_on : IsOpen (cut_by rules) held_new.text.items → is_bad bytes_read ≡ false → Stands rules width print reader_old writer_old reader_new writer_new held_last
+        stands_on : IsOpen (cut_by rules) held_new.text.items → is_bad bytes_read ≡ false → Stands rules width print reader_old writer_old engine_old reader_new writer_new engine_new held_last
         stands_on is_open good =
             let at = written_is.0 in
             let last = writes.rest in
@@ -358,42 +498,63 @@ module _ (rules : Rules) (width : ℕ) (print : Print) (reader_old writer_old re
             let pages : page rules width print at.sent ≡ page rules width print s.is_at.sent ++ page rules width print g.pushed.pars =
             ap (page rules width print) (written_is.3 ∙ ap₂ (λ x y. x ++ y) gathered_is.2 gathered_is.3) ∙ flat_map-append (paragraph_bytes rules width print) s.is_at.sent g.pushed.pars in
             let lines_new : held_new.page.bytes.items ≡ page rules width print g.pushed.pars = gathered_is.0.lines_are ∙ ap (page rules width print) gathered_is.3 in
-            stands_by rules width print reader_old writer_old reader_new writer_new held_last left held_new.text.items (
+            let counts : Prints (length (concat at.sent)) print engine_old engine_new =
+            subst (λ n. Prints n print engine_old engine_new)
+            (omega (arith, ap (λ ps. length (concat ps)) (written_is.3 ∙ ap₂ (λ x y. x ++ y) gathered_is.2 gathered_is.3), ap length (concat-append s.is_at.sent g.pushed.pars), length-append (concat s.is_at.sent) (concat g.pushed.pars)))
+            (prints_more print engine_old engine engine_new (length (concat s.is_at.sent)) (length (concat g.pushed.pars)) s.counts g.pushed.counts) in
+            stands_by rules width print reader_old writer_old engine_old reader_new writer_new engine_new held_last left held_new.text.items (
               at,
               written_is.1,
               omega (arith, ap (λ (h : Held). h.decoded) last, gathered_is.1, ap length written_is.2),
               omega (arith, ap (λ (h : Held). h.written) last, g.written, ap (λ (h : Held). h.written) same, s.written, ap length lines_new, ap length pages, length-append (page rules width print s.is_at.sent) (page rules width print g.pushed.pars)),
               is_open,
               record { none = left_none; fault = not_bad left good; few = omega (arith, left_len, g.beginning good) },
+              counts,
             )
-            waiting text writes.empty (ap (λ (h : Held). vec_len h.piece) last ∙ g.room ∙ room_is)
+            s.fits waiting text writes.empty (ap (λ (h : Held). vec_len h.piece) last ∙ g.room ∙ room_is)
             (omega (arith, ap length waiting, left_len, g.few, ap (λ (h : Held). h.waiting) last, bytes_len))
 
-        -- by what was found
-        pub read_fault : (wrong : RunFault) → fault ≡ Some wrong → Ends rules width print reader_old writer_old reader_new writer_new (Err wrong)
-        read_fault wrong is = go g.is_long (is_bad bytes_read) g.pushed.left refl (sym is ∙ g.fault_is)
+        gathers_fault : (wrong : RunFault) → fault ≡ Some wrong → Stops rules width print reader_old writer_old reader_new writer_new wrong
+        gathers_fault wrong is = go (is_bad bytes_read) refl (sym is ∙ g.fault_is)
           where
-            go : (l b : Bool) → MatchBool l (StartsLong (cut_by rules) held_new.text.items) (IsOpen (cut_by rules) held_new.text.items) → is_bad bytes_read ≡ b
-                → Some wrong ≡ (if l then Some f.ParagraphTooLong else (if b then Some (f.NotUtf8 held_new.decoded) else None)) → Ends rules width print reader_old writer_old reader_new writer_new (Err wrong)
-            go true b starts bad same_fault =
-                let wrong_is : f.ParagraphTooLong ≡ wrong = cc in
-                subst (λ (w : RunFault). Ends rules width print reader_old writer_old reader_new writer_new (Err w)) wrong_is (ends_long starts)
-            go false true is_open bad same_fault =
+            go : (b : Bool) → is_bad bytes_read ≡ b → Some wrong ≡ (if b then Some (f.NotUtf8 held_new.decoded) else None) → Stops rules width print reader_old writer_old reader_new writer_new wrong
+            go true bad same_fault =
                 let wrong_is : f.NotUtf8 held_new.decoded ≡ wrong = cc in
-                subst (λ (w : RunFault). Ends rules width print reader_old writer_old reader_new writer_new (Err w)) wrong_is (ends_bad is_open bad)
-            go false false is_open good same_fault = absurd cc
+                subst (λ (w : RunFault). Stops rules width print reader_old writer_old reader_new writer_new w) wrong_is (ends_bad g.pushed.left bad)
+            go false good same_fault = absurd cc
 
-        pub read_on : fault ≡ None → Stands rules width print reader_old writer_old reader_new writer_new held_last
-        read_on is = go g.is_long (is_bad bytes_read) g.pushed.left refl (sym is ∙ g.fault_is)
+        gathers_on : fault ≡ None → Stands rules width print reader_old writer_old engine_old reader_new writer_new engine_new held_last
+        gathers_on is = go (is_bad bytes_read) refl (sym is ∙ g.fault_is)
           where
-            go : (l b : Bool) → MatchBool l (StartsLong (cut_by rules) held_new.text.items) (IsOpen (cut_by rules) held_new.text.items) → is_bad bytes_read ≡ b
-                → None ≡ (if l then Some f.ParagraphTooLong else (if b then Some (f.NotUtf8 held_new.decoded) else None)) → Stands rules width print reader_old writer_old reader_new writer_new held_last
-            go true b starts bad same_fault = absurd cc
-            go false true is_open bad same_fault = absurd cc
-            go false false is_open good same_fault = stands_on is_open good
+            go : (b : Bool) → is_bad bytes_read ≡ b → None ≡ (if b then Some (f.NotUtf8 held_new.decoded) else None) → Stands rules width print reader_old writer_old engine_old reader_new writer_new engine_new held_last
+            go true bad same_fault = absurd cc
+            go false good same_fault = stands_on g.pushed.left good
+
+    -- by what was found
+    module _ (held_new : Held) (engine_new : Engine) (fault : Option RunFault) where
+      abbrev Found : Type 0
+      Found = FindsLong rules bytes_read held_read held_new fault ⊎ Gathers rules width print bytes_read held_read held_new engine engine_new fault
+
+      pub read_stopped : PrintsAtMost (length (held_read.text.items ++ front_of bytes_read)) print engine engine_new → Found → (writer_new : Device) (wrong : RunFault) → StopsWriting held_new wrong writer writer_new
+          → Ends rules width print reader_old writer_old engine_old reader_new writer_new engine_new (Err wrong)
+      read_stopped at_most found writer_new wrong stops =
+          ended reader_new writer_new engine_new wrong
+          (⊎_elim (λ l. long_stopped held_new fault l writer_new wrong stops) (λ g. gathers_stopped held_new engine_new fault g writer_new wrong stops) found)
+          (no_more_read engine_new at_most) (λ is. absurd (cc (is, stops.1)))
+
+      pub read_fault : PrintsAtMost (length (held_read.text.items ++ front_of bytes_read)) print engine engine_new → Found → (writer_new : Device) (held_last : Held) → Writes held_new held_last writer writer_new
+          → (wrong : RunFault) → fault ≡ Some wrong → Ends rules width print reader_old writer_old engine_old reader_new writer_new engine_new (Err wrong)
+      read_fault at_most found writer_new held_last writes wrong is =
+          ended reader_new writer_new engine_new wrong
+          (⊎_elim (λ l. long_fault held_new fault l writer_new held_last wrong writes is) (λ g. gathers_fault held_new engine_new fault g writer_new held_last writes wrong is) found)
+          (no_more_read engine_new at_most) (λ memory. absurd (no_memory rules width print bytes_read held_read held_new engine engine_new fault wrong found is memory))
+
+      pub read_on : Found → (writer_new : Device) (held_last : Held) → Writes held_new held_last writer writer_new → fault ≡ None → Stands rules width print reader_old writer_old engine_old reader_new writer_new engine_new held_last
+      read_on (inl l) writer_new held_last writes is = absurd (long_ends held_new fault l is)
+      read_on (inr g) writer_new held_last writes is = gathers_on held_new engine_new fault g writer_new held_last writes is
 
 -- ---- the start of a run
-module _ (rules : Rules) (width : ℕ) (print : Print) (reader writer : Device) where
+module _ (rules : Rules) (width : ℕ) (print : Print) (reader writer : Device) (engine : Engine) where
   start_at : IsAt rules width print reader reader writer writer [] [] []
   start_at = record {
     decoded = [];
@@ -413,25 +574,36 @@ module _ (rules : Rules) (width : ℕ) (print : Print) (reader writer : Device) 
       kept None = tt
       kept (Some xs) = refl
 
-  pub ends_at_once : Ends rules width print reader writer reader writer (Err f.Memory)
-  ends_at_once = at_memory rules width print reader reader writer writer [] [] [] start_at
-
-  pub stands_at_start : (held : Held) → held.waiting ≡ 0 → held.decoded ≡ 0 → held.written ≡ 0 → held.text.items ≡ [] → held.page.bytes.items ≡ [] → vec_len held.piece ≡ 65536 → Stands rules width print reader writer reader writer held
+  pub ends_at_once : Ends rules width print reader writer engine reader writer engine (Err f.Memory)
   unfolding start_at
-  stands_at_start held waiting decoded written text lines room =
+  ends_at_once =
+      let stops : Stops rules width print reader writer reader writer f.Memory = at_memory rules width print reader reader writer writer [] [] [] start_at in
+      let read : HasRead reader reader [] = (start_at.read, start_at.passed) in
+      let none : front_of [] ≡ [] = ap (λ n. chars (take n [])) (nothing_valid [] refl) ∙ chars-nil in
+      record {
+        run = stops.run engine engine;
+        ahead = stops.ahead;
+        at_most = ([], read, at_most_more print engine engine engine 0 0 (length (front_of [])) (at_most_none print engine) (at_most_none print engine) (omega arith));
+        within = λ is. ([], read, ap (λ t. are_within (paragraphs (cut_by rules) t)) none);
+      }
+
+  pub stands_at_start : Prints 0 print engine engine → (held : Held) → held.waiting ≡ 0 → held.decoded ≡ 0 → held.written ≡ 0 → held.text.items ≡ [] → held.page.bytes.items ≡ [] → vec_len held.piece ≡ 65536
+      → Stands rules width print reader writer engine reader writer engine held
+  unfolding start_at
+  stands_at_start fits held waiting decoded written text lines room =
       let none : take held.waiting held.piece.items ≡ [] = ap (λ n. take n held.piece.items) waiting in
-      stands_by rules width print reader writer reader writer held [] []
-      (start_at, refl, decoded, written, record { uncut = λ some. absurd (omega arith); short = omega arith }, record { none = nothing_valid [] refl; fault = utf8_error_len-nil; few = omega arith })
-      none text lines room (omega (arith, ap length none, waiting))
+      stands_by rules width print reader writer engine reader writer engine held [] []
+      (start_at, refl, decoded, written, record { uncut = λ some. absurd (omega arith); short = omega arith }, record { none = nothing_valid [] refl; fault = utf8_error_len-nil; few = omega arith }, fits)
+      fits none text lines room (omega (arith, ap length none, waiting))
 
 -- a step of a run under the rules that it began with
-module _ (rules now : Rules) (width : ℕ) (print : Print) (reader_old writer_old reader writer reader_new writer_new : Device) (held held_new : Held) (kept : now ≡ rules)
-    (stands : Stands rules width print reader_old writer_old reader writer held) (result : Result Bool RunFault)
-    (steps : Stands now width print reader_old writer_old reader writer held → Steps now width print reader_old writer_old reader_new writer_new held_new result) where
-  stepped : Steps rules width print reader_old writer_old reader_new writer_new held_new result
+module _ (rules now : Rules) (width : ℕ) (print : Print) (reader_old writer_old : Device) (engine_old : Engine) (reader writer : Device) (engine : Engine) (reader_new writer_new : Device) (engine_new : Engine) (held held_new : Held) (kept : now ≡ rules)
+    (stands : Stands rules width print reader_old writer_old engine_old reader writer engine held) (result : Result Bool RunFault)
+    (steps : Stands now width print reader_old writer_old engine_old reader writer engine held → Steps now width print reader_old writer_old engine_old reader_new writer_new engine_new held_new result) where
+  stepped : Steps rules width print reader_old writer_old engine_old reader_new writer_new engine_new held_new result
   stepped =
-      subst (λ (r : Rules). Steps r width print reader_old writer_old reader_new writer_new held_new result) kept
-      (steps (subst (λ (r : Rules). Stands r width print reader_old writer_old reader writer held) (sym kept) stands))
+      subst (λ (r : Rules). Steps r width print reader_old writer_old engine_old reader_new writer_new engine_new held_new result) kept
+      (steps (subst (λ (r : Rules). Stands r width print reader_old writer_old engine_old reader writer engine held) (sym kept) stands))
 
-  pub stepped_as : (is : Result Bool RunFault) → result ≡ is → Steps rules width print reader_old writer_old reader_new writer_new held_new is
-  stepped_as is same = subst (Steps rules width print reader_old writer_old reader_new writer_new held_new) same stepped
+  pub stepped_as : (is : Result Bool RunFault) → result ≡ is → Steps rules width print reader_old writer_old engine_old reader_new writer_new engine_new held_new is
+  stepped_as is same = subst (Steps rules width print reader_old writer_old engine_old reader_new writer_new engine_new held_new) same stepped

@@ -16,13 +16,14 @@ use Rattle.bidi.specs.Cuts.{paragraphs}
 use Rattle.device.specs.Device.{Device, FailedLast, StoppedAt, Took, Wrote, greatest}
 use Rattle.lines.specs.Layouts.{Rules, cut_by}
 use Rattle.lines.specs.Pages.{page, paragraph_bytes}
+use Rattle.lines.specs.declared.engine.Engine.{Engine}
 use Rattle.lines.specs.declared.print.Print.{Print}
 use Rattle.text_run.specs.declared.faults.RunFault.{RunFault}
 use Rattle.text_run.specs.declared.faults.RunFault.TheVariants as f
 use Rattle.text_run.specs.declared.text.Ending.{Ending}
 use Rattle.text_run.specs.declared.text.Ending.TheVariants.{AtEnd}
-use Rattle.text_run.specs.TextRun.{are_within, is_within, written_of, ending_of, input_fault, front_of, front_paragraphs, read_ahead, Gave, EndsWith, ReadsAhead}
-use Rattle.text_run.specs.Streaming.{Ends, IsAt, IsFront, IsOpen, StartsLong}
+use Rattle.text_run.specs.TextRun.{are_within, is_within, written_of, ending_of, input_fault, front_of, front_paragraphs, read_ahead, Gave, EndsWith, IsTextRun, ReadsAhead}
+use Rattle.text_run.specs.Streaming.{IsAt, IsFront, IsOpen, StartsLong}
 use Rattle.text_run.proofs.Fronts.{first_paragraph}
 use Rattle.text_run.proofs.Utf8Lemmas.{take-valid-behind}
 
@@ -114,6 +115,11 @@ had_all (Some us) (Some bs) xs p done = p ∙ ap (λ t. xs ++ t) done ∙ append
 
 -- ---- the run of a text so far
 
+-- the run ends with a fault, whatever its engine counts
+pub record Stops (rules : Rules) (width : ℕ) (print : Print) (reader_old writer_old reader_new writer_new : Device) (fault : RunFault) : Type 0 where
+  pub run : (engine_old engine_new : Engine) → IsTextRun rules width print reader_old reader_new writer_old writer_new engine_old engine_new (Err fault)
+  pub ahead : ReadsAhead rules width print reader_old reader_new writer_old writer_new
+
 module _ (rules : Rules) (width : ℕ) (print : Print) (reader_old writer_old : Device) where
   -- the lines of these paragraphs are written, and no more was read behind them than may be
   pub record IsSent (reader_new : Device) (sent : List (List ℕ)) : Type 0 where
@@ -154,9 +160,9 @@ module _ (rules : Rules) (width : ℕ) (print : Print) (reader_old writer_old : 
   -- memory ran out
   pub ends_memory : (reader_new writer_new : Device) (ending : Ending) (bytes : List ℕ) (sent others more : List (List ℕ)) → Gave reader_old reader_new ending bytes → front_paragraphs rules bytes ≡ sent ++ others
       → written_of (front_paragraphs rules bytes) (is_none (input_fault ending bytes)) ≡ sent ++ more
-      → Wrote (page rules width print sent) writer_old writer_new → IsSent reader_new sent → Ends rules width print reader_old writer_old reader_new writer_new (Err f.Memory)
+      → Wrote (page rules width print sent) writer_old writer_new → IsSent reader_new sent → Stops rules width print reader_old writer_old reader_new writer_new f.Memory
   ends_memory reader_new writer_new ending bytes sent others more gave pars written wrote ahead = record {
-    run = (ending, bytes, gave, tt, (length sent, subst (λ (ps : List (List ℕ)). Wrote (page rules width print ps) writer_old writer_new) (sym (ap (take (length sent)) written ∙ take-append_seam sent more)) wrote));
+    run = λ engine_old engine_new. (ending, bytes, gave, tt, tt, (length sent, subst (λ (ps : List (List ℕ)). Wrote (page rules width print ps) writer_old writer_new) (sym (ap (take (length sent)) written ∙ take-append_seam sent more)) wrote));
     ahead = ahead_done reader_new writer_new ending bytes sent others gave pars wrote ahead;
   }
 
@@ -206,7 +212,7 @@ module _ (rules : Rules) (width : ℕ) (print : Print) (reader_old writer_old : 
       → front_paragraphs rules bytes ≡ (sent ++ gathered) ++ others
       → written_of (front_paragraphs rules bytes) (is_none (input_fault ending bytes)) ≡ (sent ++ gathered) ++ more
       → Wrote (page rules width print sent) writer_old writer_mid → IsSent reader_new sent → StoppedAt m (page rules width print gathered) writer_mid writer_new → n ≡ length (page rules width print sent) + m
-      → Ends rules width print reader_old writer_old reader_new writer_new (Err (f.Write n))
+      → Stops rules width print reader_old writer_old reader_new writer_new (f.Write n)
   ends_write reader_new writer_mid writer_new ending bytes sent gathered others more m n gave pars written wrote ahead stopped n_is =
       let front = page rules width print sent in
       let lines = page rules width print gathered in
@@ -229,7 +235,7 @@ module _ (rules : Rules) (width : ℕ) (print : Print) (reader_old writer_old : 
       ap (λ t. front ++ t) at.lines ∙ sym (append_assoc front (page rules width print at.before) (take at.n (page rules width print (at.next ∷ []))))
       ∙ ap (λ t. t ++ take at.n (page rules width print (at.next ∷ []))) (sym (flat_map-append (paragraph_bytes rules width print) sent at.before)) in
       record {
-        run = (ending, bytes, gave, tt, subst (λ (t : List ℕ). StoppedAt n t writer_old writer_new) (sym pages) stopped_all);
+        run = λ engine_old engine_new. (ending, bytes, gave, tt, tt, subst (λ (t : List ℕ). StoppedAt n t writer_old writer_new) (sym pages) stopped_all);
         ahead = ahead_at reader_new writer_new ending bytes before (at.next ∷ (at.behind ++ others)) at.n gave pars_2 (subst (Took writer_old writer_new) took_2 took) (ahead_more reader_new sent at.before ahead);
       }
 
@@ -255,7 +261,7 @@ begins_in is_cut ps (a ∷ rest) whole all (inr some) more =
 module _ (rules : Rules) (width : ℕ) (print : Print) (reader_old reader_new writer_old writer_new : Device) (waiting text lines : List ℕ)
     (at : IsAt rules width print reader_old reader_new writer_old writer_new waiting text lines) where
   -- whatever stands behind the bytes that were decoded
-  front_is : (behind : List ℕ) → front_of (at.decoded ++ behind) ≡ chars at.decoded ++ front_of behind
+  pub front_is : (behind : List ℕ) → front_of (at.decoded ++ behind) ≡ chars at.decoded ++ front_of behind
   front_is behind = ap chars (take-valid-behind at.decoded behind at.utf8) ∙ chars-append at.decoded (take (utf8_valid_len behind) behind) at.utf8
 
   pars_are : (behind : List ℕ) → front_paragraphs rules (at.decoded ++ behind) ≡ (at.sent ++ at.gathered) ++ paragraphs (cut_by rules) (text ++ front_of behind)
@@ -280,14 +286,14 @@ module _ (rules : Rules) (width : ℕ) (print : Print) (reader_old reader_new wr
   pub sent_ahead : IsSent rules width print reader_old writer_old reader_new at.sent
   sent_ahead = record { ahead = at.ahead }
 
-  pub at_memory : Ends rules width print reader_old writer_old reader_new writer_new (Err f.Memory)
+  pub at_memory : Stops rules width print reader_old writer_old reader_new writer_new f.Memory
   at_memory =
       let more = begins rest_of (is_none (input_fault AtEnd (at.decoded ++ rest_of))) in
       ends_memory rules width print reader_old writer_old reader_new writer_new AtEnd (at.decoded ++ rest_of) at.sent (at.gathered ++ paragraphs (cut_by rules) (text ++ front_of rest_of)) (at.gathered ++ more.0) gave_all
       (pars_are rest_of ∙ append_assoc at.sent at.gathered _) (more.1 ∙ append_assoc at.sent at.gathered more.0) at.wrote sent_ahead
 
   pub at_write : (writer_last : Device) (m n : ℕ) → StoppedAt m lines writer_new writer_last → n ≡ length (page rules width print at.sent) + m
-      → Ends rules width print reader_old writer_old reader_new writer_last (Err (f.Write n))
+      → Stops rules width print reader_old writer_old reader_new writer_last (f.Write n)
   at_write writer_last m n stopped n_is =
       let more = begins rest_of (is_none (input_fault AtEnd (at.decoded ++ rest_of))) in
       ends_write rules width print reader_old writer_old reader_new writer_new writer_last AtEnd (at.decoded ++ rest_of) at.sent at.gathered (paragraphs (cut_by rules) (text ++ front_of rest_of)) more.0 m n gave_all
@@ -330,7 +336,7 @@ module _ (rules : Rules) (width : ℕ) (print : Print) (reader_old reader_new wr
     sent_within = ap are_within (sym sent_is) ∙ at.front.within
 
     -- a paragraph is too long
-    pub at_long : StartsLong (cut_by rules) text → Ends rules width print reader_old writer_old reader_new writer_new (Err f.ParagraphTooLong)
+    pub at_long : StartsLong (cut_by rules) text → Stops rules width print reader_old writer_old reader_new writer_new f.ParagraphTooLong
     at_long starts =
         let bytes = at.decoded ++ rest_of in
         let more = front_of rest_of in
@@ -341,10 +347,11 @@ module _ (rules : Rules) (width : ℕ) (print : Print) (reader_old reader_new wr
         let not_within : are_within (front_paragraphs rules bytes) ≡ false =
         ap are_within pars ∙ within_more at.sent (starts.first more ∷ starts.others more) sent_within ∙ ap (λ (b : Bool). b && are_within (starts.others more)) (starts.long more) in
         record {
-          run = (
+          run = λ engine_old engine_new. (
             AtEnd,
             bytes,
             gave_all,
+            tt,
             tt,
             (
               sym (ap (λ (b : Bool). if b then wrong else Some f.ParagraphTooLong) not_within),
@@ -372,7 +379,7 @@ module _ (rules : Rules) (width : ℕ) (print : Print) (reader_old reader_new wr
     pub at_fault : (reader_last : Device) (ending : Ending) (behind : List ℕ) (fault : RunFault) → Gave reader_old reader_last ending (at.decoded ++ behind) → IsSent rules width print reader_old writer_old reader_last at.sent → IsOpen (cut_by rules) text → utf8_valid_len behind ≡ 0
         → input_fault ending (at.decoded ++ behind) ≡ Some fault
         → ((written : List (List ℕ)) (wrong : Option RunFault) → Some fault ≡ wrong → Wrote (page rules width print written) writer_old writer_new → EndsWith (page rules width print) written wrong writer_old writer_new (Some fault))
-        → Ends rules width print reader_old writer_old reader_last writer_new (Err fault)
+        → Stops rules width print reader_old writer_old reader_last writer_new fault
     at_fault reader_last ending behind fault gave ahead is_open none wrong_is ends =
         let bytes = at.decoded ++ behind in
         let nothing_more : text ++ front_of behind ≡ text = ap (λ n. text ++ chars (take n behind)) none ∙ ap (λ t. text ++ t) chars-nil ∙ append-nil text in
@@ -384,6 +391,6 @@ module _ (rules : Rules) (width : ℕ) (print : Print) (reader_old reader_new wr
         let end_is : Some fault ≡ ending_of (front_paragraphs rules bytes) (input_fault ending bytes) =
         sym wrong_is ∙ sym (ap (λ (b : Bool). if b then input_fault ending bytes else Some f.ParagraphTooLong) within_is) in
         record {
-          run = (ending, bytes, gave, tt, ends _ _ end_is (subst (λ (ps : List (List ℕ)). Wrote (page rules width print ps) writer_old writer_new) (sym written) at.wrote));
+          run = λ engine_old engine_new. (ending, bytes, gave, tt, tt, ends _ _ end_is (subst (λ (ps : List (List ℕ)). Wrote (page rules width print ps) writer_old writer_new) (sym written) at.wrote));
           ahead = ahead_done rules width print reader_old writer_old reader_last writer_new ending bytes at.sent (paragraphs (cut_by rules) text) gave pars at.wrote ahead;
         }

@@ -1,3 +1,4 @@
+pub mod Counts
 pub mod Pages
 pub mod Streaming
 pub mod TextRun

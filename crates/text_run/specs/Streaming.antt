@@ -1,17 +1,21 @@
 -- Where the run of a text stands between two reads. Only the code speaks of these.
-use Rattle.std.specs.Prelude.{◌≡◌, ℕ, ◌+◌, ◌<◌, ◌≤◌, ◌==◌, Bool, true, false, List, [], ◌∷◌, ◌++◌, length, take, drop, vec_len, Option, None, Some, Result, Ok, Err, OnErr, encode_utf8_all, IsUtf8, MatchBool, if◌then◌else◌}
+use Rattle.std.specs.Prelude.{◌≡◌, ℕ, ◌+◌, ◌<◌, ◌≤◌, ◌==◌, Bool, true, false, List, [], ◌∷◌, ◌++◌, length, take, drop, vec_len, Option, None, Some, Result, Ok, Err, OnErr, IsErrOf, encode_utf8_all, IsUtf8, if◌then◌else◌}
 use Rattle.std.specs.List.{concat}
 use Rattle.std.specs.Str.{chars}
 use Rattle.std.specs.Str.Lossy.{utf8_valid_len, utf8_error_len}
 use Rattle.std.specs.Io.KnownBytes.{Consumes}
 use Rattle.bidi.specs.Cuts.{SplitsAt, paragraphs}
 use Rattle.device.specs.Device.{Device, Gives, Wrote, StoppedAt}
+use Rattle.lines.specs.Engine.{Prints}
 use Rattle.lines.specs.Layouts.{Rules, cut_by}
 use Rattle.lines.specs.Pages.{page}
+use Rattle.lines.specs.declared.engine.TheConstants.{PARAGRAPH_LIMIT}
+use Rattle.lines.specs.declared.engine.Engine.{Engine}
 use Rattle.lines.specs.declared.print.Print.{Print}
-use Rattle.text_run.specs.TextRun.{are_within, is_within, front_of, is_bad, read_ahead, IsTextRun, ReadsAhead}
+use Rattle.text_run.specs.TextRun.{are_within, is_within, front_of, is_bad, read_ahead, IsTextRun, PrintsNoMore, ReadsAhead, ReadsWithin}
 use Rattle.text_run.specs.declared.faults.RunFault.{RunFault}
 use Rattle.text_run.specs.declared.faults.RunFault.TheVariants as f
+use Rattle.text_run.specs.declared.text.TheConstants.{PIECE}
 use Rattle.text_run.specs.declared.text.Held.{Held}
 
 module _ (is_cut : ℕ → ℕ → Bool) where
@@ -32,14 +36,15 @@ module _ (is_cut : ℕ → ℕ → Bool) where
   -- a text has no cut, and isn't too long for a paragraph
   pub record IsOpen (text : List ℕ) : Type 0 where
     pub uncut : SplitsAt is_cut text None
-    pub short : length text ≤ 1048576
+    pub short : length text ≤ PARAGRAPH_LIMIT
 
--- the lines of the first paragraphs of a text are put to a page, up to the first that is too long
-pub record Pushed (rules : Rules) (width : ℕ) (print : Print) (text rest : List ℕ) (is_long : Bool) (before after : List ℕ) : Type 0 where
+-- the lines of the first paragraphs of a text are put to a page, each of their characters is counted once, and no cut is in what is left
+pub record Pushed (rules : Rules) (width : ℕ) (print : Print) (text rest before after : List ℕ) (engine_old engine_new : Engine) : Type 0 where
   pub pars : List (List ℕ)
   pub front : IsFront (cut_by rules) pars text rest
   pub lines : after ≡ before ++ page rules width print pars
-  pub left : MatchBool is_long (StartsLong (cut_by rules) rest) (IsOpen (cut_by rules) rest)
+  pub counts : Prints (length (concat pars)) print engine_old engine_new
+  pub left : IsOpen (cut_by rules) rest
 
 -- bytes are the beginning of a character, or none
 pub record IsBeginning (bytes : List ℕ) : Type 0 where
@@ -62,18 +67,23 @@ pub record IsRead (n : ℕ) (old new : Held) (reader_old reader_new : Device) : 
   pub room : vec_len new.piece ≡ vec_len old.piece
   pub same : new ≡ record old { piece = new.piece }
 
--- Some bytes were decoded, and the lines of the paragraphs that are known to end then were gathered. The run ends with a fault, or
--- the bytes behind the characters wait.
-pub record Gathers (rules : Rules) (width : ℕ) (print : Print) (bytes : List ℕ) (old new : Held) (fault : Option RunFault) : Type 0 where
-  pub is_long : Bool
-  pub pushed : Pushed rules width print (old.text.items ++ front_of bytes) new.text.items is_long old.page.bytes.items new.page.bytes.items
-  pub fault_is : fault ≡ (if is_long then Some f.ParagraphTooLong else (if is_bad bytes then Some (f.NotUtf8 new.decoded) else None))
+-- Some bytes were decoded, and the lines of the paragraphs that are known to end then were gathered. The bytes behind the
+-- characters wait, and are wrong or not.
+pub record Gathers (rules : Rules) (width : ℕ) (print : Print) (bytes : List ℕ) (old new : Held) (engine_old engine_new : Engine) (fault : Option RunFault) : Type 0 where
+  pub pushed : Pushed rules width print (old.text.items ++ front_of bytes) new.text.items old.page.bytes.items new.page.bytes.items engine_old engine_new
+  pub fault_is : fault ≡ (if is_bad bytes then Some (f.NotUtf8 new.decoded) else None)
   pub decoded : new.decoded ≡ old.decoded + utf8_valid_len bytes
   pub waiting : take new.waiting new.piece.items ≡ drop (utf8_valid_len bytes) bytes
   pub few : new.waiting + utf8_valid_len bytes ≡ length bytes
   pub beginning : is_bad bytes ≡ false → length bytes < utf8_valid_len bytes + 4
   pub written : new.written ≡ old.written
   pub room : vec_len new.piece ≡ vec_len old.piece
+
+-- or the first paragraph is too long with the characters of these bytes, and they are left as they are
+pub record FindsLong (rules : Rules) (bytes : List ℕ) (old new : Held) (fault : Option RunFault) : Type 0 where
+  pub long : StartsLong (cut_by rules) (old.text.items ++ front_of bytes)
+  pub fault_is : fault ≡ Some f.ParagraphTooLong
+  pub same : new ≡ old
 
 -- what is written at the end of a text, of which some bytes are held
 abbrev pub last_lines : Rules → ℕ → Print → Held → List ℕ
@@ -102,7 +112,7 @@ Finishes rules width print held old new (Ok done) = (held.waiting ≡ 0) × Wrot
 Finishes rules width print held old new (Err (f.NotUtf8 n)) = (0 < held.waiting) × (n ≡ held.decoded) × (new ≡ old)
 Finishes rules width print held old new (Err (f.Write n)) =
     (held.waiting ≡ 0) × ((m : ℕ) × (n ≡ held.written + m) × StoppedAt m (last_lines rules width print held) old new)
-Finishes rules width print held old new (Err f.Memory) = new ≡ old
+Finishes rules width print held old new (Err f.Memory) = (held.waiting ≡ 0) × (new ≡ old)
 Finishes rules width print held old new (Err fault) = ⊥
 
 -- Between two states of its devices a run has read some bytes and written the lines of some paragraphs. It waits with some bytes at
@@ -120,8 +130,8 @@ pub record IsAt (rules : Rules) (width : ℕ) (print : Print) (reader_old reader
   pub lines_are : lines ≡ page rules width print gathered
   pub ahead : reader_new.passed ≤ reader_old.passed + length (encode_utf8_all (concat sent)) + read_ahead
 
--- so it does between two reads, where all lines are written
-pub record Stands (rules : Rules) (width : ℕ) (print : Print) (reader_old writer_old reader_new writer_new : Device) (held : Held) : Type 0 where
+-- so it does between two reads, where all lines are written, and counted
+pub record Stands (rules : Rules) (width : ℕ) (print : Print) (reader_old writer_old : Device) (engine_old : Engine) (reader_new writer_new : Device) (engine_new : Engine) (held : Held) : Type 0 where
   pub is_at : IsAt rules width print reader_old reader_new writer_old writer_new (take held.waiting held.piece.items) held.text.items []
   pub all_sent : is_at.gathered ≡ []
   pub decoded : held.decoded ≡ length is_at.decoded
@@ -129,16 +139,23 @@ pub record Stands (rules : Rules) (width : ℕ) (print : Print) (reader_old writ
   pub text : IsOpen (cut_by rules) held.text.items
   pub lines : held.page.bytes.items ≡ []
   pub beginning : IsBeginning (take held.waiting held.piece.items)
-  pub room : vec_len held.piece ≡ 65536
+  pub room : vec_len held.piece ≡ PIECE
   pub waits : length (take held.waiting held.piece.items) ≡ held.waiting
+  pub fits : Prints 0 print engine_old engine_old
+  pub counts : Prints (length (concat is_at.sent)) print engine_old engine_new
 
 -- the run ends so
-pub record Ends (rules : Rules) (width : ℕ) (print : Print) (reader_old writer_old reader_new writer_new : Device) (result : Result (Unit {0}) RunFault) : Type 0 where
-  pub run : IsTextRun rules width print reader_old reader_new writer_old writer_new result
+pub record Ends (rules : Rules) (width : ℕ) (print : Print) (reader_old writer_old : Device) (engine_old : Engine) (reader_new writer_new : Device) (engine_new : Engine) (result : Result (Unit {0}) RunFault) : Type 0 where
+  pub run : IsTextRun rules width print reader_old reader_new writer_old writer_new engine_old engine_new result
   pub ahead : OnErr result (ReadsAhead rules width print reader_old reader_new writer_old writer_new)
+  pub at_most : OnErr result (PrintsNoMore print reader_old reader_new engine_old engine_new)
+  pub within : IsErrOf result f.Memory → ReadsWithin rules reader_old reader_new
 
 -- a step goes on, or ends the run
-abbrev pub Steps : Rules → ℕ → Print → Device → Device → Device → Device → Held → Result Bool RunFault → Type 0
-Steps rules width print reader_old writer_old reader_new writer_new held (Ok true) = Stands rules width print reader_old writer_old reader_new writer_new held
-Steps rules width print reader_old writer_old reader_new writer_new held (Ok false) = Ends rules width print reader_old writer_old reader_new writer_new (Ok tt)
-Steps rules width print reader_old writer_old reader_new writer_new held (Err fault) = Ends rules width print reader_old writer_old reader_new writer_new (Err fault)
+abbrev pub Steps : Rules → ℕ → Print → Device → Device → Engine → Device → Device → Engine → Held → Result Bool RunFault → Type 0
+Steps rules width print reader_old writer_old engine_old reader_new writer_new engine_new held (Ok true) =
+    Stands rules width print reader_old writer_old engine_old reader_new writer_new engine_new held
+Steps rules width print reader_old writer_old engine_old reader_new writer_new engine_new held (Ok false) =
+    Ends rules width print reader_old writer_old engine_old reader_new writer_new engine_new (Ok tt)
+Steps rules width print reader_old writer_old engine_old reader_new writer_new engine_new held (Err fault) =
+    Ends rules width print reader_old writer_old engine_old reader_new writer_new engine_new (Err fault)

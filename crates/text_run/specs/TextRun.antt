@@ -1,5 +1,5 @@
 -- What is written for a text, and how its run ends.
-use Rattle.std.specs.Prelude.{◌≡◌, ◌≢◌, ℕ, ◌+◌, ◌-◌, ◌==◌, nat_le, Bool, List, ◌++◌, ◌≤◌, length, take, drop, take_while, encode_utf8_all, Option, Some, None, IfSome, ⊤, is_some, is_none, Result, Ok, Err, if◌then◌else◌}
+use Rattle.std.specs.Prelude.{◌≡◌, ◌≢◌, ℕ, ◌+◌, ◌-◌, ◌*◌, ◌==◌, nat_le, Bool, true, List, ◌++◌, ◌≤◌, length, take, drop, take_while, encode_utf8_all, Option, Some, None, IfSome, ⊤, is_some, is_none, Result, Ok, Err, if◌then◌else◌}
 use Rattle.std.specs.List.{concat, list_all}
 use Rattle.std.specs.Str.{chars}
 use Rattle.std.specs.Str.Lossy.{utf8_valid_len, utf8_error_len}
@@ -7,9 +7,14 @@ use Rattle.std.specs.Io.KnownBytes.{Consumes, IsAtEnd}
 use Rattle.bidi.specs.Cuts.{paragraphs}
 use Rattle.lines.specs.Layouts.{Rules, cut_by}
 use Rattle.lines.specs.Pages.{page}
+use Rattle.lines.specs.declared.engine.TheConstants.{PARAGRAPH_LIMIT}
+use Rattle.lines.specs.declared.engine.Engine.{Engine}
 use Rattle.lines.specs.declared.print.Print.{Print}
+use Rattle.lines.specs.Engine.{Prints}
+use Rattle.text_run.specs.Counts.{PrintsAtMost}
 use Rattle.text_run.specs.declared.faults.RunFault.{RunFault}
 use Rattle.text_run.specs.declared.faults.RunFault.TheVariants as fault
+use Rattle.text_run.specs.declared.text.TheConstants.{PIECE}
 use Rattle.text_run.specs.declared.text.Ending.{Ending}
 use Rattle.text_run.specs.declared.text.Ending.TheVariants.{AtEnd, AtFailure}
 use Rattle.device.specs.Device.{Device, FailedLast, Took, Wrote, StoppedAt}
@@ -30,7 +35,7 @@ input_fault AtFailure bytes = if is_bad bytes then Some (fault.NotUtf8 (utf8_val
 
 -- a paragraph's length is limited
 abbrev pub is_within : List ℕ → Bool
-is_within paragraph = nat_le (length paragraph) 1048576
+is_within paragraph = nat_le (length paragraph) PARAGRAPH_LIMIT
 
 abbrev pub are_within : List (List ℕ) → Bool
 are_within pars = list_all is_within pars
@@ -69,11 +74,17 @@ abbrev pub HasReadAll : Option RunFault → Device → Device → List ℕ → T
 HasReadAll None old new bytes = IsAtEnd new.bytes × (new.passed ≡ old.passed + length bytes)
 HasReadAll (Some wrong) old new bytes = ⊤
 
+-- and has printed each of its characters once
+abbrev pub HasPrintedAll : Option RunFault → List ℕ → Print → Engine → Engine → Type 0
+HasPrintedAll None bytes print old new = Prints (length (chars bytes)) print old new
+HasPrintedAll (Some wrong) bytes print old new = ⊤
+
 -- The run of a text: what the reader gave has a front, whose paragraphs are written as far as they go.
-abbrev pub IsTextRun : Rules → ℕ → Print → Device → Device → Device → Device → Result (Unit {0}) RunFault → Type 0
-IsTextRun rules width print reader_old reader_new writer_old writer_new result =
+abbrev pub IsTextRun : Rules → ℕ → Print → Device → Device → Device → Device → Engine → Engine → Result (Unit {0}) RunFault → Type 0
+IsTextRun rules width print reader_old reader_new writer_old writer_new engine_old engine_new result =
     (ending : Ending) × (bytes : List ℕ) × Gave reader_old reader_new ending bytes
     × HasReadAll (fault_of result) reader_old reader_new bytes
+    × HasPrintedAll (fault_of result) bytes print engine_old engine_new
     × (let pars = front_paragraphs rules bytes in
     let wrong = input_fault ending bytes in
     EndsWith (page rules width print) (written_of pars (is_none wrong)) (ending_of pars wrong) writer_old writer_new (fault_of result))
@@ -82,9 +93,22 @@ IsTextRun rules width print reader_old reader_new writer_old writer_new result =
 abbrev pub TellsReads : {A : Type 0} → Result A RunFault → Device → Device → Type 0
 TellsReads result old new = result ≢ Err fault.Read → new.failures ≡ old.failures
 
--- how many bytes a run reads behind the paragraphs that it has written, at most: 1,048,577 characters, and one piece of 65,536 bytes
+-- what was read of a source between two states
+abbrev pub HasRead : Device → Device → List ℕ → Type 0
+HasRead old new bytes = Consumes old.bytes new.bytes bytes × (new.passed ≡ old.passed + length bytes)
+
+-- among the characters that were read there is no paragraph that is too long
+abbrev pub ReadsWithin : Rules → Device → Device → Type 0
+ReadsWithin rules old new = (bytes : List ℕ) × HasRead old new bytes × (are_within (front_paragraphs rules bytes) ≡ true)
+
+-- at most the characters that were read were printed, up to the first byte that is not UTF-8
+abbrev pub PrintsNoMore : Print → Device → Device → Engine → Engine → Type 0
+PrintsNoMore print reader_old reader_new engine_old engine_new =
+    (bytes : List ℕ) × HasRead reader_old reader_new bytes × PrintsAtMost (length (front_of bytes)) print engine_old engine_new
+
+-- how many bytes a run reads behind the paragraphs that it has written, at most: those of one character more than a paragraph may have, and one piece
 abbrev pub read_ahead : ℕ
-read_ahead = 4259844
+read_ahead = 4 * (PARAGRAPH_LIMIT + 1) + PIECE
 
 -- Where a run ended with a fault, the lines of the first k paragraphs of what the reader gave were written, and n bytes of the next
 -- one's. At most so many bytes behind these k paragraphs were read.

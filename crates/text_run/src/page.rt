@@ -1,9 +1,11 @@
 //! What is written for a text, gathered in memory: so the writer gets it in large pieces, however
 //! short the lines are.
-ghost use Rattle.std.specs.Prelude.{◌≡◌, ◌++◌, ◌<◌, [], OnOk};
-ghost use Rattle.lines.specs.Engine.{rules_of, SameRules};
+ghost use Rattle.std.specs.Prelude.{◌≡◌, ◌++◌, ◌<◌, [], length, OnOk};
+ghost use Rattle.lines.specs.Engine.{rules_of, Prints, SameRules};
 ghost use Rattle.lines.specs.Layouts.{IsParagraph};
 ghost use Rattle.lines.specs.Pages.{paragraph_bytes};
+ghost use Rattle.lines.specs.declared.print.Print.{Print};
+ghost use Rattle.text_run.specs.Counts.{PrintsAtMost};
 
 use device::Sink;
 use lines::{Engine, Print};
@@ -75,10 +77,21 @@ pub fn push_paragraph(
     requires width { 0 < width }
     ensures ok { OnOk result (page.new.bytes.items ≡ page.old.bytes.items
         ++ paragraph_bytes (rules_of engine.old) width print.now paragraph.now) }
+    ensures counts { OnOk result (Prints (length paragraph.now) print.now engine.old engine.new) }
+    ensures at_most { PrintsAtMost (length paragraph.now) print.now engine.old engine.new }
     ensures rules { SameRules engine.old engine.new }
 {
     match engine.write_paragraph(alloc, paragraph, width, print, page) {
         Ok(()) => Ok(()),
         Err(_) => Err(AllocError),
     }
+}
+
+/// What an engine counts are numbers of 64 bits: so its counts are as they were where nothing is printed.
+pub fn counts_fit(engine: &Engine)
+    ensures { (print : Print) → Prints 0 print engine.now engine.now }
+{
+    engine.analysed();
+    engine.filled();
+    engine.written();
 }

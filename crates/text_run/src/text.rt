@@ -1,20 +1,24 @@
 //! The run of a text: its bytes are read piece by piece, its paragraphs are laid out as soon as it is known
 //! where they end, and their lines are written before more is read. What is written and how the run ends is
 //! one function of what the source gives.
-ghost use Rattle.std.specs.Prelude.{◌≡◌, ◌+◌, ◌-◌, ◌<◌, ◌≤◌, ◌^◌, [], true, None, Some, Ok};
+ghost use Rattle.std.specs.Prelude.{◌≡◌, ◌+◌, ◌-◌, ◌++◌, ◌<◌, ◌≤◌, ◌^◌, ◌⊎◌, [], true, None, Some, Ok};
 ghost use Rattle.std.specs.Prelude.{take, drop, length, vec_len};
-ghost use Rattle.std.specs.Prelude.{IfOk, IfErr, OnOk, OnErr, if◌then◌else◌};
-ghost use Rattle.bidi.specs.Cuts.{SplitsAt};
+ghost use Rattle.std.specs.Prelude.{IfOk, IfErr, IsErrOf, OnOk, OnErr, if◌then◌else◌};
+ghost use Rattle.bidi.specs.Cuts.{paragraphs, SplitsAt};
 ghost use Rattle.device.specs.Device.{Device, Fails};
-ghost use Rattle.lines.specs.Engine.{rules_of, SameRules};
+ghost use Rattle.lines.specs.Engine.{rules_of, Prints, SameRules};
 ghost use Rattle.lines.specs.Layouts.{cut_by};
-ghost use Rattle.text_run.specs.Streaming.{Finishes, Gathers, GathersLast, IsRead, IsReadTo};
+ghost use Rattle.lines.specs.declared.engine.Engine.{Engine};
+ghost use Rattle.lines.specs.declared.engine.TheConstants.{PARAGRAPH_LIMIT};
+ghost use Rattle.text_run.specs.Counts.{PrintsAtMost};
+ghost use Rattle.text_run.specs.Streaming.{FindsLong, Finishes, Gathers, GathersLast, IsRead, IsReadTo};
 ghost use Rattle.text_run.specs.Streaming.{Stands, Steps, StopsWriting, Writes};
-ghost use Rattle.text_run.specs.TextRun.{IsTextRun, ReadsAhead, TellsReads};
+ghost use Rattle.text_run.specs.TextRun.{are_within, front_of};
+ghost use Rattle.text_run.specs.TextRun.{IsTextRun, PrintsNoMore, ReadsAhead, ReadsWithin, TellsReads};
 
 use crate::faults::RunFault;
-use crate::page::{Page, push_paragraph};
-use crate::paragraphs::push_paragraphs;
+use crate::page::{Page, counts_fit, push_paragraph};
+use crate::paragraphs::{grows_long, push_paragraphs};
 use crate::pieces::decode;
 use device::{Sink, Source, write_all};
 use lines::{Engine, Print};
@@ -81,15 +85,11 @@ fn read_to<R: Source>(reader: &mut R, buffer: &mut [u8], place: usize) -> Result
     }
 }
 
-// What ends a run that has decoded so many bytes: a paragraph that is too long, or else bytes that
-// are no text.
-fn fault_of(is_long: bool, is_bad: bool, decoded: u64) -> Option<RunFault>
-    ensures { result ≡ (if is_long then Some RunFault.ParagraphTooLong else
-        (if is_bad then Some (RunFault.NotUtf8 decoded) else None)) }
+// What ends a run that has decoded so many bytes, behind which no character begins.
+fn fault_of(is_bad: bool, decoded: u64) -> Option<RunFault>
+    ensures { result ≡ (if is_bad then Some (RunFault.NotUtf8 decoded) else None) }
 {
-    if is_long {
-        Some(RunFault::ParagraphTooLong)
-    } else if is_bad {
+    if is_bad {
         Some(RunFault::NotUtf8(decoded))
     } else {
         None
@@ -98,7 +98,7 @@ fn fault_of(is_long: bool, is_bad: bool, decoded: u64) -> Option<RunFault>
 
 impl Held {
     fn new(alloc: Global) -> Result<Held, AllocError>
-        ensures room { IfOk result (λ held. vec_len held.piece ≡ 65536) }
+        ensures room { IfOk result (λ held. vec_len held.piece ≡ PIECE) }
         ensures waiting { IfOk result (λ held. (held.waiting ≡ 0) × (held.decoded ≡ 0) × (held.written ≡ 0)) }
         ensures text { IfOk result (λ held. held.text.items ≡ []) }
         ensures page { IfOk result (λ held. held.page.bytes.items ≡ []) }
@@ -124,7 +124,8 @@ impl Held {
     }
 
     // Decodes the bytes that wait and `len` more, and gathers the lines of the paragraphs that are known to
-    // end then. Says what is wrong with the text, if anything.
+    // end then. Says what is wrong with the text, if anything. Memory is asked for only where no paragraph is
+    // too long.
     fn gather(
         &mut self,
         alloc: Global,
@@ -135,29 +136,33 @@ impl Held {
     ) -> Result<Option<RunFault>, AllocError>
         requires width { 0 < width }
         requires uncut { SplitsAt (cut_by (rules_of engine.old)) self.old.text.items None }
+        requires short { length self.old.text.items ≤ PARAGRAPH_LIMIT }
+        requires room { vec_len self.old.piece ≡ PIECE }
         requires len { self.old.waiting + len ≤ vec_len self.old.piece }
         requires counted { self.old.decoded + (self.old.waiting + len) ≤ 2 ^ 64 - 1 }
-        ensures gathers { IfOk result (Gathers (rules_of engine.old) width print.now
-            (take (self.old.waiting + len) self.old.piece.items) self.old self.new) }
+        ensures gathers { IfOk result (λ fault. FindsLong (rules_of engine.old)
+            (take (self.old.waiting + len) self.old.piece.items) self.old self.new fault
+            ⊎ Gathers (rules_of engine.old) width print.now
+            (take (self.old.waiting + len) self.old.piece.items) self.old self.new engine.old engine.new fault) }
+        ensures memory { OnErr result (are_within (paragraphs (cut_by (rules_of engine.old))
+            (self.old.text.items ++ front_of (take (self.old.waiting + len) self.old.piece.items))) ≡ true) }
+        ensures at_most { PrintsAtMost
+            (length (self.old.text.items ++ front_of (take (self.old.waiting + len) self.old.piece.items)))
+            print.now engine.old engine.new }
         ensures rules { SameRules engine.old engine.new }
     {
         let seen = self.text.len();
         let filled = self.waiting + len;
+        if grows_long(engine, &self.text, &self.piece[..filled]) {
+            return Ok(Some(RunFault::ParagraphTooLong));
+        }
         let (front, is_bad) = decode(&self.piece[..filled], &mut self.text)?;
         let text = self.text.as_slice();
-        let (rest, is_long) = push_paragraphs(
-            alloc,
-            &mut self.page,
-            engine,
-            width,
-            print,
-            text,
-            seen,
-        )?;
+        let rest = push_paragraphs(alloc, &mut self.page, engine, width, print, text, seen)?;
         let rest = rest.len();
         self.keep_text(rest);
         self.keep_bytes(front, filled);
-        Ok(fault_of(is_long, is_bad, self.decoded))
+        Ok(fault_of(is_bad, self.decoded))
     }
 
     // Gathers the lines of the last paragraph of a text, if there is one.
@@ -170,11 +175,15 @@ impl Held {
     ) -> Result<(), AllocError>
         requires width { 0 < width }
         requires uncut { SplitsAt (cut_by (rules_of engine.old)) self.old.text.items None }
-        requires short { length self.old.text.items ≤ 1048576 }
+        requires short { length self.old.text.items ≤ PARAGRAPH_LIMIT }
         ensures lines { OnOk result (GathersLast (rules_of engine.old) width print.now self.old self.new) }
+        ensures counts { OnOk result
+            (Prints (length self.old.text.items) print.now engine.old engine.new) }
+        ensures at_most { PrintsAtMost (length self.old.text.items) print.now engine.old engine.new }
         ensures rules { SameRules engine.old engine.new }
     {
         if self.text.is_empty() {
+            counts_fit(engine);
             return Ok(());
         }
         push_paragraph(alloc, &mut self.page, engine, width, print, &self.text)?;
@@ -242,10 +251,12 @@ fn finish<W: Sink>(
 ) -> Result<(), RunFault>
     requires width { 0 < width }
     requires uncut { SplitsAt (cut_by (rules_of engine.old)) held.old.text.items None }
-    requires short { length held.old.text.items ≤ 1048576 }
+    requires short { length held.old.text.items ≤ PARAGRAPH_LIMIT }
     requires counted { held.old.written ≤ (W.state writer.old).passed }
     ensures ends { Finishes (rules_of engine.old) width print.now held.old
         (W.state writer.old) (W.state writer.new) result }
+    ensures counts { OnOk result (Prints (length held.old.text.items) print.now engine.old engine.new) }
+    ensures at_most { PrintsAtMost (length held.old.text.items) print.now engine.old engine.new }
     ensures rules { SameRules engine.old engine.new }
 {
     if held.waiting > 0 {
@@ -269,15 +280,19 @@ fn step<R: Source, W: Sink>(
     held: &mut Held,
 ) -> Result<bool, RunFault>
     requires width { 0 < width }
-    requires stands { (reader_start : Device) × (writer_start : Device)
-        × Stands (rules_of engine.old) width print.now reader_start writer_start
-        (R.state reader.old) (W.state writer.old) held.old }
-    ensures steps { (reader_start : Device) (writer_start : Device)
-        → Stands (rules_of engine.old) width print.now reader_start writer_start
-        (R.state reader.old) (W.state writer.old) held.old
-        → Steps (rules_of engine.old) width print.now reader_start writer_start
-        (R.state reader.new) (W.state writer.new) held.new result }
+    requires stands { (reader_start : Device) × (writer_start : Device) × (engine_start : Engine)
+        × Stands (rules_of engine.old) width print.now reader_start writer_start engine_start
+        (R.state reader.old) (W.state writer.old) engine.old held.old }
+    ensures steps { (reader_start : Device) (writer_start : Device) (engine_start : Engine)
+        → Stands (rules_of engine.old) width print.now reader_start writer_start engine_start
+        (R.state reader.old) (W.state writer.old) engine.old held.old
+        → Steps (rules_of engine.old) width print.now reader_start writer_start engine_start
+        (R.state reader.new) (W.state writer.new) engine.new held.new result }
     ensures reads { TellsReads result (R.state reader.old) (R.state reader.new) }
+
+    // So want of memory is not answered in place of a fault that was found in the piece: in front of that
+    // stand its lines.
+    ensures memory { IsErrOf result RunFault.Memory → W.state writer.new ≡ W.state writer.old }
     ensures rises { result ≡ Ok true → (R.state reader.old).passed < (R.state reader.new).passed }
     ensures counted { result ≡ Ok true → (R.state reader.new).passed ≤ 2 ^ 64 - 1 }
     ensures rules { SameRules engine.old engine.new }
@@ -316,12 +331,18 @@ pub fn run_text<R: Source, W: Sink>(
 ) -> Result<(), RunFault>
     requires { 0 < width }
     ensures run { IsTextRun (rules_of engine.old) width print.now
-        (R.state reader.old) (R.state reader.new) (W.state writer.old) (W.state writer.new) result }
+        (R.state reader.old) (R.state reader.new) (W.state writer.old) (W.state writer.new)
+        engine.old engine.new result }
+    ensures at_most { OnErr result (PrintsNoMore print.now
+        (R.state reader.old) (R.state reader.new) engine.old engine.new) }
+    ensures memory { IsErrOf result RunFault.Memory
+        → ReadsWithin (rules_of engine.old) (R.state reader.old) (R.state reader.new) }
     ensures reads { TellsReads result (R.state reader.old) (R.state reader.new) }
     ensures ahead { OnErr result (ReadsAhead (rules_of engine.old) width print.now
         (R.state reader.old) (R.state reader.new) (W.state writer.old) (W.state writer.new)) }
     ensures rules { SameRules engine.old engine.new }
 {
+    counts_fit(engine);
     let Ok(mut held) = Held::new(alloc) else {
         return Err(RunFault::Memory);
     };

@@ -9,7 +9,7 @@ invariant-loop-end l =
     let rules = rules_of l.fn.engine in
     record {
       kept : rules_of l.engine ≡ rules;
-      so_far : PushedSoFar rules l.width l.print l.text l.fn.page.bytes.items l.rest l.seen l.page.bytes.items;
+      so_far : PushedSoFar rules l.width l.print l.text l.fn.page.bytes.items l.fn.engine l.rest l.seen l.page.bytes.items l.engine;
     }
 
 abbrev pub decreases-loop-end : goal.decreases-loop-end

@@ -11,7 +11,7 @@ invariant-loop-held g l =
     let writer = g.W.Sink.state in
     record {
       kept : rules_of l.engine ≡ rules_of l.fn.engine;
-      stands : Stands (rules_of l.fn.engine) l.width l.print (reader l.fn.reader) (writer l.fn.writer) (reader l.reader) (writer l.writer) l.held;
+      stands : Stands (rules_of l.fn.engine) l.width l.print (reader l.fn.reader) (writer l.fn.writer) l.fn.engine (reader l.reader) (writer l.writer) l.engine l.held;
     }
 
 abbrev pub decreases-loop-held : goal.decreases-loop-held

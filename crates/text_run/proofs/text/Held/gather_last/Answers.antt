@@ -1,8 +1,19 @@
-use Rattle.std.proofs.Common.{◌≡◌, ◌∙◌, ◌++◌, ◌==◌, [], ◌∷◌, Bool, false, length, sym, ap, refl, if◌then◌else◌}
+use Rattle.std.proofs.Common.{◌≡◌, ◌∙◌, ◌++◌, ◌==◌, ℕ, [], ◌∷◌, Bool, false, true, length, sym, subst, ap, arith, refl, if◌then◌else◌}
+use Rattle.std.proofs.lemmas.Bool.Decides.{nat_tests}
 use Rattle.std.proofs.lemmas.List.{append-nil}
-use Rattle.lines.specs.Engine.{rules_of}
+use Rattle.lines.specs.Engine.{rules_of, Prints}
 use Rattle.lines.specs.Pages.{page, paragraph_bytes}
 use Rattle.text_run.proofs.text.Held.gather_last.Goals as goal
+
+nothing : (n : ℕ) → (n == 0) ≡ true → 0 ≡ n
+nothing n is = grind (arith, nat_tests)
+
+-- there is no last paragraph
+pub returns-then-is_empty-clause-counts : goal.returns-then-is_empty-clause-counts
+returns-then-is_empty-clause-counts c =
+    let text = c.args.self.now.text.items in
+    let empty = nothing _ (sym c.if-is_empty.ensures) in
+    subst (λ n. Prints n c.args.print.now c.args.engine.now c.args.engine.now) (omega (arith, empty, c.args.self.now.text.ok.0)) (c.counts_fit.ensures c.args.print.now)
 
 pub returns-clause-lines : goal.returns-clause-lines
 returns-clause-lines c =

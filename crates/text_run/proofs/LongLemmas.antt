@@ -1,0 +1,137 @@
+-- Whether the first paragraph of a text without a cut is too long, one character more after another.
+use Rattle.std.proofs.Common.{◌≡◌, ℕ, zero, suc, get_or, ◌+◌, ◌-◌, ◌<◌, ◌≤◌, ◌&&◌, Bool, true, false, List, [], ◌∷◌, ◌++◌, length, map, map-id, take, drop, Option, Some, None, MatchOption, encode_utf8_all, refl, sym, subst, ap, ◌∙◌, arith, sub-one, if◌then◌else◌}
+use Rattle.std.specs.Prelude.{⊤}
+use Rattle.std.specs.List.{concat, onto_first, slice_get}
+use Rattle.std.specs.Str.{chars}
+use Rattle.std.specs.Str.Lossy.{utf8_valid_len}
+use Rattle.std.proofs.lemmas.List.{append_assoc, length-append, length-take-le}
+use Rattle.std.proofs.lemmas.Str.{encodes-chars, len_utf8_bounds, length-encode, utf8_valid_len_le}
+use Rattle.bidi.specs.Cuts.{paragraphs, SplitsAt}
+use Rattle.bidi.specs.Pieces.{ParagraphsArePieces}
+use Rattle.text_run.specs.TextRun.{are_within, front_of, is_within}
+use Rattle.text_run.specs.Streaming.{StartsLong}
+use Rattle.text_run.proofs.Fronts.{join, long_more, long_uncut, onto}
+use Rattle.text_run.proofs.StreamLemmas.{short_is}
+use Rattle.text_run.proofs.Utf8Lemmas.{utf8_front}
+use lib.Utf8.{encode}
+
+-- paragraphs that are few characters together
+few_within : (ps : List (List ℕ)) → length (concat ps) ≤ 1048576 → are_within ps ≡ true
+few_within [] few = refl
+few_within (p ∷ ps) few =
+    ap (λ (b : Bool). is_within p && b) (few_within ps (omega (arith, few, length-append p (concat ps))))
+    ∙ ap (λ (b : Bool). b && true) (short_is p (omega (arith, few, length-append p (concat ps))))
+
+pub text_within : ParagraphsArePieces → (is_cut : ℕ → ℕ → Bool) (text : List ℕ) → length text ≤ 1048576 → are_within (paragraphs is_cut text) ≡ true
+text_within law is_cut text few = few_within (paragraphs is_cut text) (omega (arith, few, ap length (law.whole is_cut text)))
+
+-- characters are no more than their bytes
+encodes_few : (cs : List ℕ) → length cs ≤ length (encode_utf8_all cs)
+encodes_few [] = omega arith
+encodes_few (c ∷ cs) = omega (arith, length-append (encode c) (encode_utf8_all cs), length-encode c, (len_utf8_bounds c).0, encodes_few cs)
+
+pub front_few : (bytes : List ℕ) → length (front_of bytes) ≤ length bytes
+front_few bytes =
+    let front = take (utf8_valid_len bytes) bytes in
+    omega (arith, encodes_few (chars front), ap length (encodes-chars front (utf8_front bytes)), length-take-le (utf8_valid_len bytes) bytes (utf8_valid_len_le bytes), utf8_valid_len_le bytes)
+
+-- ---- characters one after another
+
+-- the next of them
+next_of : (all : List ℕ) (n c : ℕ) → n < length all → c ≡ get_or all n c → all ≡ take n all ++ c ∷ drop (suc n) all
+next_of [] n c less is = absurd (omega arith)
+next_of (x ∷ all) zero c less is = ap (λ y. y ∷ all) (sym is)
+next_of (x ∷ all) (suc n) c less is = ap (λ t. x ∷ t) (next_of all n c (omega arith) is)
+
+-- the one at hand, where some were taken
+pub at_hand : (all taken : List ℕ) (c : ℕ) → map (λ x. x) taken ≡ take (length taken) all → (length taken < length all) × (c ≡ get_or all (length taken) c) → all ≡ taken ++ c ∷ drop (suc (length taken)) all
+at_hand all taken c so_far turn =
+    next_of all (length taken) c turn.0 turn.1 ∙ ap (λ t. t ++ c ∷ drop (suc (length taken)) all) (sym so_far ∙ map-id taken)
+
+-- the last
+
+get_last-cons : (a b : ℕ) (text : List ℕ) → slice_get (a ∷ b ∷ text) (length (a ∷ b ∷ text) - 1) ≡ slice_get (b ∷ text) (length (b ∷ text) - 1)
+get_last-cons a b text = rw (sub-one (length (a ∷ b ∷ text)), sub-one (length (b ∷ text))) refl
+
+last_some : (text : List ℕ) (a : ℕ) → slice_get text (length text - 1) ≡ Some a → (front : List ℕ) × (text ≡ front ++ a ∷ [])
+last_some [] a is = absurd cc
+last_some (b ∷ []) a is = ([], cc)
+last_some (b ∷ c ∷ text) a is =
+    let later = last_some (c ∷ text) a (sym (get_last-cons b c text) ∙ is) in
+    (b ∷ later.0, ap (λ t. b ∷ t) later.1)
+
+last_none : (text : List ℕ) → slice_get text (length text - 1) ≡ None → text ≡ []
+last_none [] is = refl
+last_none (b ∷ []) is = absurd cc
+last_none (b ∷ c ∷ text) is = absurd (some (last_none (c ∷ text) (sym (get_last-cons b c text) ∙ is)))
+  where
+    some : c ∷ text ≡ [] → ⊥
+    some is = cc
+
+last_pushed : (text : List ℕ) (c : ℕ) → slice_get (text ++ c ∷ []) (length (text ++ c ∷ []) - 1) ≡ Some c
+last_pushed [] c = refl
+last_pushed (a ∷ []) c = refl
+last_pushed (a ∷ b ∷ text) c = get_last-cons a b (text ++ c ∷ []) ∙ last_pushed (b ∷ text) c
+
+module _ (is_cut : ℕ → ℕ → Bool) where
+  -- a text that has no cut, and isn't too long
+  pub record HasTaken (text : List ℕ) (last : Option ℕ) (len : ℕ) : Type 0 where
+    pub uncut : SplitsAt is_cut text None
+    pub last_is : last ≡ slice_get text (length text - 1)
+    pub len_is : len ≡ length text
+    pub short : len ≤ 1048576
+
+  uncut_more : (text : List ℕ) (last : Option ℕ) (c : ℕ) → slice_get text (length text - 1) ≡ last → SplitsAt is_cut text None → MatchOption last ⊤ (λ a. is_cut a c ≡ false) → SplitsAt is_cut (text ++ c ∷ []) None
+  uncut_more text None c last_is uncut no_cut some = ap (λ t. paragraphs is_cut (t ++ c ∷ [])) none ∙ ap (λ t. (t ++ c ∷ []) ∷ []) (sym none)
+    where
+      none : text ≡ []
+      none = last_none text last_is
+  uncut_more text (Some a) c last_is uncut no_cut some =
+      let parts = last_some text a last_is in
+      let xs = parts.0 in
+      let len : 0 < length text = omega (arith, ap length parts.1, length-append xs (a ∷ [])) in
+      let whole : paragraphs is_cut (xs ++ a ∷ []) ≡ (xs ++ a ∷ []) ∷ [] = subst (λ (t : List ℕ). paragraphs is_cut t ≡ t ∷ []) parts.1 (uncut len) in
+      let text_is : text ++ c ∷ [] ≡ xs ++ a ∷ c ∷ [] = ap (λ t. t ++ c ∷ []) parts.1 ∙ append_assoc xs (a ∷ []) (c ∷ []) in
+      ap (paragraphs is_cut) text_is
+      ∙ join is_cut xs a (c ∷ []) (a ∷ c ∷ []) [] whole (onto is_cut a c [] (c ∷ []) [] no_cut refl)
+      ∙ ap (λ t. t ∷ []) (sym text_is)
+
+  -- one more character, behind which the text isn't too long
+  pub take_one : (text : List ℕ) (last : Option ℕ) (len c : ℕ) → HasTaken text last len → MatchOption last ⊤ (λ a. is_cut a c ≡ false) → len < 1048576 → HasTaken (text ++ c ∷ []) (Some c) (len + 1)
+  take_one text last len c taken no_cut less = record {
+    uncut = uncut_more text last c (sym taken.last_is) taken.uncut no_cut;
+    last_is = sym (last_pushed text c);
+    len_is = omega (arith, taken.len_is, length-append text (c ∷ []));
+    short = omega (arith, less);
+  }
+
+  -- with which it is
+  pub one_too_many : (text more : List ℕ) (last : Option ℕ) (len c : ℕ) → HasTaken text last len → MatchOption last ⊤ (λ a. is_cut a c ≡ false) → len ≡ 1048576 → StartsLong is_cut (text ++ c ∷ more)
+  one_too_many text more last len c taken no_cut full =
+      subst (λ (t : List ℕ). StartsLong is_cut t) (append_assoc text (c ∷ []) more)
+      (long_more is_cut (text ++ c ∷ []) more
+      (long_uncut is_cut (text ++ c ∷ []) (uncut_more text last c (sym taken.last_is) taken.uncut no_cut) (omega (arith, full, taken.len_is, length-append text (c ∷ [])))))
+
+  -- which begins a paragraph
+  pub cut_in_front : ParagraphsArePieces → (text more : List ℕ) (last : Option ℕ) (len c a : ℕ) → HasTaken text last len → last ≡ Some a → is_cut a c ≡ true → length (c ∷ more) ≤ 1048576 → are_within (paragraphs is_cut (text ++ c ∷ more)) ≡ true
+  cut_in_front law text more last len c a taken last_is cut few =
+      let parts = last_some text a (sym taken.last_is ∙ last_is) in
+      let xs = parts.0 in
+      let some : 0 < length text = omega (arith, ap length parts.1, length-append xs (a ∷ [])) in
+      let whole : paragraphs is_cut (xs ++ a ∷ []) ≡ (xs ++ a ∷ []) ∷ [] = subst (λ (t : List ℕ). paragraphs is_cut t ≡ t ∷ []) parts.1 (taken.uncut some) in
+      let text_is : text ++ c ∷ more ≡ xs ++ a ∷ c ∷ more = ap (λ t. t ++ c ∷ more) parts.1 ∙ append_assoc xs (a ∷ []) (c ∷ more) in
+      let here : paragraphs is_cut (a ∷ c ∷ more) ≡ (a ∷ []) ∷ paragraphs is_cut (c ∷ more) =
+      ap (λ (t : Bool). if t then (a ∷ []) ∷ paragraphs is_cut (c ∷ more) else onto_first a (paragraphs is_cut (c ∷ more))) cut in
+      let split : paragraphs is_cut (text ++ c ∷ more) ≡ text ∷ paragraphs is_cut (c ∷ more) =
+      ap (paragraphs is_cut) text_is ∙ join is_cut xs a (c ∷ more) (a ∷ []) (paragraphs is_cut (c ∷ more)) whole here ∙ ap (λ t. t ∷ paragraphs is_cut (c ∷ more)) (sym parts.1) in
+      ap are_within split
+      ∙ ap (λ (b : Bool). is_within text && b) (text_within law is_cut (c ∷ more) few)
+      ∙ ap (λ (b : Bool). b && true) (short_is text (omega (arith, taken.short, taken.len_is)))
+
+  -- no more characters come
+  pub none_too_many : (text : List ℕ) (last : Option ℕ) (len : ℕ) → HasTaken text last len → are_within (paragraphs is_cut text) ≡ true
+  none_too_many text last len taken = go text taken.uncut (omega (arith, taken.short, taken.len_is))
+    where
+      go : (text : List ℕ) → SplitsAt is_cut text None → length text ≤ 1048576 → are_within (paragraphs is_cut text) ≡ true
+      go [] uncut few = refl
+      go (a ∷ text) uncut few = ap are_within (uncut (omega arith)) ∙ ap (λ (b : Bool). b && true) (short_is (a ∷ text) few)
