@@ -1,5 +1,5 @@
-//! What is answered to a change of a session. An answer is short: it is put together in an array, so that none
-//! ever wants for memory.
+//! What is answered to a change of a session. An answer is short, and is put together in an array: so
+//! none ever wants for memory.
 ghost use Rattle.std.specs.Prelude.{◌≡◌, ◌+◌, ◌++◌, ◌≤◌, length};
 ghost use Rattle.std.specs.Fmt.{decimal};
 ghost use Rattle.arrayvec.specs.ArrayVec.{array_vec_len};

@@ -13,9 +13,9 @@ ghost use Rattle.std.specs.Io.KnownBytes.{IsAtEnd};
 ghost use Rattle.text_run.specs.TextRun.{TellsReads};
 ghost use Rattle.text_run.specs.declared.text.TheConstants.{PIECE};
 ghost use Rattle.tool.specs.Commands.{order_of};
-ghost use Rattle.tool.specs.Reading.{CanFeed, Changed, EndsIn, FailsAt, FailsIn, Feeds, Grows, GrowsNot};
-ghost use Rattle.tool.specs.Reading.{IsAt, NoEnd, Obeys, ObeysLine, ObeysNot, Steps, Stops, Takes};
-ghost use Rattle.tool.specs.Reading.{change_text, lacks_memory};
+ghost use Rattle.tool.specs.Reading.{CanFeed, Changed, EndsIn, FailsAt, FailsIn, Feeds, Grows};
+ghost use Rattle.tool.specs.Reading.{GrowsNot, IsAt, NoEnd, Obeys, ObeysLine, ObeysNot, Steps, Stops};
+ghost use Rattle.tool.specs.Reading.{Takes, change_text, lacks_memory};
 ghost use Rattle.tool.specs.ScriptEnds.{IsScriptRun};
 ghost use Rattle.tool.specs.Scripts.{Deletion, Filling, Insertion, order_of_line};
 ghost use Rattle.tool.specs.Work.{LineWorks, OrderWorks};
@@ -81,8 +81,8 @@ fn insert<S: ParagraphStore<Kept>>(
 ) -> Result<Damage, EditFault>
     ensures changed { Changed (rules_of session.old.engine) (Insertion pos (chars piece.now))
         (held_at session.old) (held_at session.new) result }
-    ensures works { OrderWorks (rules_of session.old.engine) (held_at session.old) (Insertion pos (chars piece.now))
-        session.old.engine session.new.engine }
+    ensures works { OrderWorks (rules_of session.old.engine) (held_at session.old)
+        (Insertion pos (chars piece.now)) session.old.engine session.new.engine }
     ensures rules { SameRules session.old.engine session.new.engine }
 {
     // Shows that what is kept is laid out.
@@ -185,8 +185,8 @@ fn obey<W: Sink, S: ParagraphStore<Kept>>(
     write_answer(writer, written, &change)
 }
 
-// What the bytes of a line ask for, if they are a line of a script. Whether they are UTF-8 is told before
-// there is need of memory.
+// What the bytes of a line ask for, if they are a line of a script. Whether they are UTF-8 is told
+// before there is need of memory.
 fn read_line(
     alloc: Global,
     line: &[u8],
@@ -252,8 +252,8 @@ fn obey_line<W: Sink, S: ParagraphStore<Kept>>(
     }
 }
 
-// Adds bytes to the beginning of a line, unless it is too long with them, which is told before there is need
-// of memory.
+// Adds bytes to the beginning of a line, unless it is too long with them, which is told before there
+// is need of memory.
 fn grow(reading: &mut Reading, bytes: &[u8]) -> Result<(), RunFault>
     requires { reading.old.lines < 2 ^ 64 - 1 }
     ensures ok { OnOk result (Grows bytes.now reading.old reading.new) }
@@ -411,11 +411,11 @@ fn step<R: Source, W: Sink, S: ParagraphStore<Kept>>(
     }
 }
 
-/// Obeys the lines of a script over a session. Each line is obeyed as soon as its end was read, and its answer
-/// is written before more is read: of the script, no more is held than a line and one piece. However the run
-/// ends, the session has made the changes of the lines that were answered, and no more work than these ask for;
-/// where a write fails, that of the line whose answer it was; and where memory runs out, which it does only
-/// while a line is read or a change made, that line changes nothing.
+/// Obeys the lines of a script over a session. Each line is obeyed as soon as its end was read, and its
+/// answer is written before more is read: of the script, no more is held than a line and one piece.
+/// However the run ends, the session has made the changes of the lines that were answered, and worked no
+/// more than these ask for; where a write failed, also that of the line whose answer it was. Memory runs
+/// out only while a line is read or its change is made, and that line changes nothing then.
 pub fn run_script<R: Source, W: Sink, S: ParagraphStore<Kept>>(
     alloc: Global,
     reader: &mut R,
