@@ -290,8 +290,8 @@ fn step<R: Source, W: Sink>(
         (R.state reader.new) (W.state writer.new) engine.new held.new result }
     ensures reads { TellsReads result (R.state reader.old) (R.state reader.new) }
 
-    // Where memory ran out nothing was written: so this isn't answered for a fault of the piece, in front of
-    // which its lines are written.
+    // Where memory ran out nothing was written: so this isn't answered once the lines in front of a fault
+    // are.
     ensures memory { IsErrOf result RunFault.Memory → W.state writer.new ≡ W.state writer.old }
     ensures rises { result ≡ Ok true → (R.state reader.old).passed < (R.state reader.new).passed }
     ensures counted { result ≡ Ok true → (R.state reader.new).passed ≤ 2 ^ 64 - 1 }
