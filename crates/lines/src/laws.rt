@@ -13,8 +13,9 @@ pub fn lines_are_few()
         → length (lines_of rules width text) ≤ length text }
 {}
 
-/// What is written of a paragraph is what is written of each of its lines, one after another: a law, which
-/// takes no time. (`Laid::line` tells the n-th of these lines, and `VisualLine::write` what is written of it.)
+/// What is written of a paragraph is what is written of each of its lines, one after another: a law,
+/// which takes no time. (`Laid::line` tells the n-th of these lines, and `VisualLine::write` what is
+/// written of it.)
 pub fn paragraphs_print_their_lines()
     ensures { (width : ℕ) (print : Print) (layout : Layout)
         → layout_bytes width print layout ≡ flat_map (line_bytes width print) (visuals layout) }

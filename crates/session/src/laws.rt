@@ -8,12 +8,14 @@ ghost use Rattle.session.specs.Kept.{layouts_of, IsCutAt};
 
 use bidi::paragraphs_are_pieces;
 
-/// Of a text that is parted where a cut stands, the layouts of the paragraphs are those of its parts, one list
-/// behind the other, by whatever rules and at whatever width, and so is what is printed of it: a law, which
-/// takes no time. So parts of a long text may be laid out anywhere and in any order.
+/// Of a text that is parted where a cut stands, the layouts of the paragraphs are those of its parts, one
+/// list behind the other, by whatever rules and at whatever width, and so is what is printed of it: a law,
+/// which takes no time. So parts of a long text may be laid out anywhere and in any order.
 pub fn texts_are_laid_out_in_parts()
-    ensures layouts { (rules : Rules) (width : ℕ) (front rest : List ℕ) → IsCutAt (cut_by rules) front rest
-        → layouts_of rules width (front ++ rest) ≡ layouts_of rules width front ++ layouts_of rules width rest }
+    ensures layouts { (rules : Rules) (width : ℕ) (front rest : List ℕ)
+        → IsCutAt (cut_by rules) front rest
+        → layouts_of rules width (front ++ rest)
+        ≡ layouts_of rules width front ++ layouts_of rules width rest }
     ensures pages { (rules : Rules) (width : ℕ) (print : Print) (front rest : List ℕ)
         → IsCutAt (cut_by rules) front rest
         → page rules width print (paragraphs (cut_by rules) (front ++ rest))

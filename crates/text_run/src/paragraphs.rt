@@ -74,8 +74,8 @@ fn is_cut_behind(engine: &Engine, last: Option<char>, c: char) -> bool
     }
 }
 
-/// Adds to a page the lines of the paragraphs of a text that a cut ends. None of them is too long, and there is
-/// no cut among the first `seen` characters. Gives what is left of the text.
+/// Adds to a page the lines of the paragraphs of a text that a cut ends. None of them is too long, and
+/// there is no cut among the first `seen` characters. Gives what is left of the text.
 pub fn push_paragraphs<'a>(
     alloc: Global,
     page: &mut Page,

@@ -143,7 +143,8 @@ impl Held {
         ensures gathers { IfOk result (λ fault. FindsLong (rules_of engine.old)
             (take (self.old.waiting + len) self.old.piece.items) self.old self.new fault
             ⊎ Gathers (rules_of engine.old) width print.now
-            (take (self.old.waiting + len) self.old.piece.items) self.old self.new engine.old engine.new fault) }
+            (take (self.old.waiting + len) self.old.piece.items) self.old self.new
+            engine.old engine.new fault) }
         ensures memory { OnErr result (are_within (paragraphs (cut_by (rules_of engine.old))
             (self.old.text.items ++ front_of (take (self.old.waiting + len) self.old.piece.items))) ≡ true) }
         ensures at_most { PrintsAtMost
