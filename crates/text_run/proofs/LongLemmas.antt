@@ -1,6 +1,6 @@
 -- Whether the first paragraph of a text without a cut is too long, one character more after another.
 use Rattle.std.proofs.Common.{◌≡◌, ℕ, zero, suc, get_or, ◌+◌, ◌-◌, ◌<◌, ◌≤◌, ◌&&◌, Bool, true, false, List, [], ◌∷◌, ◌++◌, length, map, map-id, take, drop, Option, Some, None, MatchOption, encode_utf8_all, refl, sym, subst, ap, ◌∙◌, arith, sub-one, if◌then◌else◌}
-use Rattle.std.specs.Prelude.{⊤}
+use Rattle.std.specs.Prelude.{⊤, IsUtf8}
 use Rattle.std.specs.List.{concat, onto_first, slice_get}
 use Rattle.std.specs.Str.{chars}
 use Rattle.std.specs.Str.Lossy.{utf8_valid_len}
@@ -9,7 +9,7 @@ use Rattle.std.proofs.lemmas.Str.{encodes-chars, len_utf8_bounds, length-encode,
 use Rattle.bidi.specs.Cuts.{paragraphs, SplitsAt}
 use Rattle.bidi.specs.Pieces.{ParagraphsArePieces}
 use Rattle.text_run.specs.TextRun.{are_within, front_of, is_within}
-use Rattle.text_run.specs.Streaming.{StartsLong}
+use Rattle.text_run.specs.Streaming.{IsEnded, IsOpen, StartsLong}
 use Rattle.text_run.proofs.Fronts.{join, long_more, long_uncut, onto}
 use Rattle.text_run.proofs.StreamLemmas.{short_is}
 use Rattle.text_run.proofs.Utf8Lemmas.{utf8_front}
@@ -29,6 +29,9 @@ text_within law is_cut text few = few_within (paragraphs is_cut text) (omega (ar
 encodes_few : (cs : List ℕ) → length cs ≤ length (encode_utf8_all cs)
 encodes_few [] = omega arith
 encodes_few (c ∷ cs) = omega (arith, length-append (encode c) (encode_utf8_all cs), length-encode c, (len_utf8_bounds c).0, encodes_few cs)
+
+pub text_few : (bytes : List ℕ) → IsUtf8 bytes → length (chars bytes) ≤ length bytes
+text_few bytes utf8 = omega (arith, encodes_few (chars bytes), ap length (encodes-chars bytes utf8))
 
 pub front_few : (bytes : List ℕ) → length (front_of bytes) ≤ length bytes
 front_few bytes =
@@ -73,6 +76,11 @@ last_pushed [] c = refl
 last_pushed (a ∷ []) c = refl
 last_pushed (a ∷ b ∷ text) c = get_last-cons a b (text ++ c ∷ []) ∙ last_pushed (b ∷ text) c
 
+-- characters stand in some paragraph
+some_pars : (pars : List (List ℕ)) → 0 < length (concat pars) → 0 < length pars
+some_pars [] some = absurd (omega (arith, some))
+some_pars (p ∷ pars) some = omega arith
+
 module _ (is_cut : ℕ → ℕ → Bool) where
   -- a text that has no cut, and isn't too long
   pub record HasTaken (text : List ℕ) (last : Option ℕ) (len : ℕ) : Type 0 where
@@ -113,7 +121,7 @@ module _ (is_cut : ℕ → ℕ → Bool) where
       (long_uncut is_cut (text ++ c ∷ []) (uncut_more text last c (sym taken.last_is) taken.uncut no_cut) (omega (arith, full, taken.len_is, length-append text (c ∷ [])))))
 
   -- which begins a paragraph
-  pub cut_in_front : ParagraphsArePieces → (text more : List ℕ) (last : Option ℕ) (len c a : ℕ) → HasTaken text last len → last ≡ Some a → is_cut a c ≡ true → length (c ∷ more) ≤ 1048576 → are_within (paragraphs is_cut (text ++ c ∷ more)) ≡ true
+  pub cut_in_front : ParagraphsArePieces → (text more : List ℕ) (last : Option ℕ) (len c a : ℕ) → HasTaken text last len → last ≡ Some a → is_cut a c ≡ true → length (c ∷ more) ≤ 1048576 → IsEnded is_cut (text ++ c ∷ more)
   cut_in_front law text more last len c a taken last_is cut few =
       let parts = last_some text a (sym taken.last_is ∙ last_is) in
       let xs = parts.0 in
@@ -124,14 +132,16 @@ module _ (is_cut : ℕ → ℕ → Bool) where
       ap (λ (t : Bool). if t then (a ∷ []) ∷ paragraphs is_cut (c ∷ more) else onto_first a (paragraphs is_cut (c ∷ more))) cut in
       let split : paragraphs is_cut (text ++ c ∷ more) ≡ text ∷ paragraphs is_cut (c ∷ more) =
       ap (paragraphs is_cut) text_is ∙ join is_cut xs a (c ∷ more) (a ∷ []) (paragraphs is_cut (c ∷ more)) whole here ∙ ap (λ t. t ∷ paragraphs is_cut (c ∷ more)) (sym parts.1) in
-      ap are_within split
-      ∙ ap (λ (b : Bool). is_within text && b) (text_within law is_cut (c ∷ more) few)
-      ∙ ap (λ (b : Bool). b && true) (short_is text (omega (arith, taken.short, taken.len_is)))
+      let whole_more : c ∷ more ≡ concat (paragraphs is_cut (c ∷ more)) = sym (law.whole is_cut (c ∷ more)) in
+      record {
+        within =
+            ap are_within split
+            ∙ ap (λ (b : Bool). is_within text && b) (text_within law is_cut (c ∷ more) few)
+            ∙ ap (λ (b : Bool). b && true) (short_is text (omega (arith, taken.short, taken.len_is)));
+        more = omega (arith, ap length split, some_pars (paragraphs is_cut (c ∷ more)) (omega (arith, ap length whole_more)));
+      }
 
-  -- no more characters come
-  pub none_too_many : (text : List ℕ) (last : Option ℕ) (len : ℕ) → HasTaken text last len → are_within (paragraphs is_cut text) ≡ true
-  none_too_many text last len taken = go text taken.uncut (omega (arith, taken.short, taken.len_is))
-    where
-      go : (text : List ℕ) → SplitsAt is_cut text None → length text ≤ 1048576 → are_within (paragraphs is_cut text) ≡ true
-      go [] uncut few = refl
-      go (a ∷ text) uncut few = ap are_within (uncut (omega arith)) ∙ ap (λ (b : Bool). b && true) (short_is (a ∷ text) few)
+-- no paragraph of an open text is too long
+pub open_within : (is_cut : ℕ → ℕ → Bool) (text : List ℕ) → IsOpen is_cut text → are_within (paragraphs is_cut text) ≡ true
+open_within is_cut [] is_open = refl
+open_within is_cut (a ∷ text) is_open = ap are_within (is_open.uncut (omega arith)) ∙ ap (λ (b : Bool). b && true) (short_is (a ∷ text) is_open.short)

@@ -6,6 +6,7 @@ use Rattle.std.specs.Str.{chars}
 use Rattle.std.specs.Str.Lossy.{utf8_valid_len, utf8_error_len}
 use Rattle.std.specs.Io.KnownBytes.{Consumes}
 use Rattle.std.proofs.lemmas.Bool.Decides.{nat_tests}
+use Rattle.std.proofs.Math.Seq.{take-append_seam}
 use Rattle.std.proofs.lemmas.List.Folds.{concat-append}
 use Rattle.std.proofs.lemmas.List.{append_assoc, append-nil, length-append, length-take-le, length-drop, take-append-drop}
 use Rattle.std.proofs.lemmas.Grind.{flat_map-append}
@@ -21,9 +22,9 @@ use Rattle.text_run.specs.declared.faults.RunFault.{RunFault}
 use Rattle.text_run.specs.declared.faults.RunFault.TheVariants as f
 use Rattle.text_run.specs.declared.text.Held.{Held}
 use Rattle.text_run.specs.declared.text.Ending.TheVariants.{AtEnd, AtFailure}
-use Rattle.text_run.specs.TextRun.{are_within, input_fault, front_of, front_paragraphs, is_bad, written_of, Gave, HasRead, PrintsNoMore, ReadsWithin}
+use Rattle.text_run.specs.TextRun.{are_within, input_fault, front_of, front_paragraphs, is_bad, written_of, Gave, HasRead, PrintsNoMore, WantsMemory}
 use Rattle.text_run.specs.Counts.{PrintsAtMost}
-use Rattle.text_run.specs.Streaming.{Ends, FindsLong, Finishes, Gathers, IsAt, IsBeginning, IsFront, IsOpen, IsRead, Stands, StartsLong, Steps, StopsWriting, Writes, last_lines}
+use Rattle.text_run.specs.Streaming.{Ends, FindsFault, Finishes, Gathers, IsAt, IsBeginning, IsFront, IsFaultAhead, IsOpen, IsRead, Stands, Steps, StopsWriting, Writes, last_lines}
 use Rattle.text_run.proofs.CountLemmas.{at_most_more, at_most_none, at_most_printed, prints_more}
 use Rattle.text_run.proofs.Devices.{Took-nothing}
 use Rattle.text_run.proofs.Fronts.{front_join, front_more, front_none}
@@ -82,8 +83,10 @@ module _ (rules : Rules) (width : ℕ) (print : Print) (reader_old writer_old : 
 
 -- what is found in a piece is no want of memory
 pub no_memory : (rules : Rules) (width : ℕ) (print : Print) (bytes : List ℕ) (old new : Held) (engine_old engine_new : Engine) (fault : Option RunFault) (wrong : RunFault)
-    → FindsLong rules bytes old new fault ⊎ Gathers rules width print bytes old new engine_old engine_new fault → fault ≡ Some wrong → wrong ≡ f.Memory → ⊥
-no_memory rules width print bytes old new engine_old engine_new fault wrong (inl l) is memory = cc (is, memory, l.fault_is)
+    → FindsFault rules bytes old new fault ⊎ Gathers rules width print bytes old new engine_old engine_new fault → fault ≡ Some wrong → wrong ≡ f.Memory → ⊥
+no_memory rules width print bytes old new engine_old engine_new fault wrong (inl l) is memory =
+    let wrong_is : l.wrong ≡ f.Memory = cc (is, memory, l.fault_is) in
+    subst (IsFaultAhead (cut_by rules) (old.text.items ++ front_of bytes) (is_bad bytes) (old.decoded + utf8_valid_len bytes)) wrong_is l.ahead
 no_memory rules width print bytes old new engine_old engine_new fault wrong (inr g) is memory = go (is_bad bytes) (sym is ∙ g.fault_is)
   where
     go : (b : Bool) → Some wrong ≡ (if b then Some (f.NotUtf8 new.decoded) else None) → ⊥
@@ -95,12 +98,12 @@ pub none_written : (rules : Rules) (width : ℕ) (print : Print) (held : Held) (
 none_written rules width print held old new fault is memory = (subst (λ (w : RunFault). Finishes rules width print held old new (Err w)) memory is).1
 
 module _ (rules : Rules) (width : ℕ) (print : Print) (reader_old writer_old : Device) (engine_old : Engine) (reader writer : Device) (engine : Engine) where
-  -- a run that stops has counted no more than the characters that were read, and where memory ran out no paragraph of these is too long
+  -- a run that stops has counted no more than the characters that were read
   ended : (reader_new writer_new : Device) (engine_new : Engine) (fault : RunFault) → Stops rules width print reader_old writer_old reader_new writer_new fault
-      → PrintsNoMore print reader_old reader_new engine_old engine_new → (fault ≡ f.Memory → ReadsWithin rules reader_old reader_new)
+      → PrintsNoMore print reader_old reader_new engine_old engine_new → (fault ≡ f.Memory → WantsMemory rules width print reader_old reader_new writer_old writer_new)
       → Ends rules width print reader_old writer_old engine_old reader_new writer_new engine_new (Err fault)
-  ended reader_new writer_new engine_new fault stops no_more within =
-      record { run = stops.run engine_old engine_new; ahead = stops.ahead; at_most = no_more; within = λ is. within (cc is) }
+  ended reader_new writer_new engine_new fault stops no_more wants =
+      record { run = stops.run engine_old engine_new; ahead = stops.ahead; at_most = no_more; wants = λ is. wants (cc is) }
 
   no_more : (reader_new : Device) (engine_new : Engine) (bytes : List ℕ) (n : ℕ) → HasRead reader_old reader_new bytes → PrintsAtMost n print engine_old engine_new → n ≤ length (front_of bytes) → PrintsNoMore print reader_old reader_new engine_old engine_new
   no_more reader_new engine_new bytes n has_read at_most few = (bytes, has_read, at_most_more print engine_old engine_old engine_new 0 n (length (front_of bytes)) (at_most_none print engine_old) at_most (omega (arith, few)))
@@ -121,6 +124,12 @@ module _ (rules : Rules) (width : ℕ) (print : Print) (reader_old writer_old : 
     front_len behind =
         let is = front_is rules width print reader_old reader writer_old writer (take held.waiting held.piece.items) held.text.items [] s.is_at behind in
         omega (arith, held_len, ap length is, length-append (chars s.is_at.decoded) (front_of behind))
+
+    -- what waits is the beginning of a character, or nothing
+    no_bad : is_bad (s.is_at.decoded ++ take held.waiting held.piece.items) ≡ false
+    no_bad =
+        let waiting = take held.waiting held.piece.items in
+        is_bad-behind s.is_at.decoded waiting s.is_at.utf8 ∙ ap (λ n. is_some (utf8_error_len (drop n waiting))) s.beginning.none ∙ ap is_some s.beginning.fault
 
   -- some bytes more were read
   pub at_read : (reader_new : Device) (waiting text more : List ℕ) (at : IsAt rules width print reader_old reader writer_old writer waiting text []) → at.gathered ≡ [] → length text ≤ 1048576 → length waiting < 4
@@ -153,8 +162,7 @@ module _ (rules : Rules) (width : ℕ) (print : Print) (reader_old writer_old : 
   ends_read reader_new held s fails =
       let at = s.is_at in
       let waiting = take held.waiting held.piece.items in
-      let good : is_bad (at.decoded ++ waiting) ≡ false =
-      is_bad-behind at.decoded waiting at.utf8 ∙ ap (λ n. is_some (utf8_error_len (drop n waiting))) s.beginning.none ∙ ap is_some s.beginning.fault in
+      let good : is_bad (at.decoded ++ waiting) ≡ false = no_bad held s in
       let has_read : HasRead reader_old reader_new (at.decoded ++ waiting) = (Consumes-kept reader_old.bytes reader.bytes reader_new.bytes (at.decoded ++ waiting) at.read fails.bytes, fails.passed ∙ at.passed) in
       ended reader_new writer engine f.Read
       (at_fault rules width print reader_old reader writer_old writer waiting held.text.items [] at s.all_sent reader_new AtFailure waiting f.Read (
@@ -267,7 +275,7 @@ module _ (rules : Rules) (width : ℕ) (print : Print) (reader_old writer_old : 
             );
             ahead = tt;
             at_most = tt;
-            within = λ is. absurd (cc is);
+            wants = λ is. absurd (cc is);
           }
 
       finish_stopped : (writer_new : Device) (m n : ℕ) → StoppedAt m (last_lines rules width print held) writer writer_new → n ≡ held.written + m → Stops rules width print reader_old writer_old reader_new writer_new (f.Write n)
@@ -300,7 +308,7 @@ module _ (rules : Rules) (width : ℕ) (print : Print) (reader_old writer_old : 
           let next = at_read reader_new (take held.waiting held.piece.items) held.text.items [] s.is_at s.all_sent s.text.short s.beginning.few gives.bytes (omega (arith, gives.passes.passed)) gives.passes.failures (omega arith) in
           subst (λ (w : Device). Ends rules width print reader_old writer_old engine_old reader_new w engine_new (Err f.Memory)) (sym is.1)
           (ended reader_new writer engine_new f.Memory (at_memory rules width print reader_old reader_new writer_old writer (take held.waiting held.piece.items ++ []) held.text.items [] next.0) no_more_last
-          (λ same. (s.is_at.decoded ++ take held.waiting held.piece.items, has_read, ap are_within (pars_last is.0) ∙ within_last is.0)))
+          (λ same. (s.is_at.decoded ++ take held.waiting held.piece.items, has_read, (ap are_within (pars_last is.0) ∙ within_last is.0, λ bad. absurd (true≢false (sym bad ∙ no_bad held s))))))
       ends_finish piece writer_new (Err f.Read) is counts = absurd is
       ends_finish piece writer_new (Err f.ParagraphTooLong) is counts = absurd is
       ends_finish piece writer_new (Err (f.BadLine n)) is counts = absurd is
@@ -357,8 +365,9 @@ module _ (rules : Rules) (width : ℕ) (print : Print) (reader_old writer_old : 
           (at_most_more print engine_old engine engine_new (length (concat s.is_at.sent)) n _ (counted_now held s) at_most (omega arith))
           (omega (arith, len, front_len held s bytes_read))
 
-      pub read_memory : are_within (paragraphs (cut_by rules) (held_read.text.items ++ front_of bytes_read)) ≡ true → Ends rules width print reader_old writer_old engine_old reader_new writer engine_new (Err f.Memory)
-      read_memory within =
+      pub read_memory : are_within (paragraphs (cut_by rules) (held_read.text.items ++ front_of bytes_read)) ≡ true
+          → (is_bad bytes_read ≡ true → 1 < length (paragraphs (cut_by rules) (held_read.text.items ++ front_of bytes_read))) → Ends rules width print reader_old writer_old engine_old reader_new writer engine_new (Err f.Memory)
+      read_memory within ended_is =
           let sent = s.is_at.sent in
           let text = held.text.items ++ front_of bytes_read in
           let pars : front_paragraphs rules (s.is_at.decoded ++ bytes_read) ≡ sent ++ paragraphs (cut_by rules) text =
@@ -368,7 +377,14 @@ module _ (rules : Rules) (width : ℕ) (print : Print) (reader_old writer_old : 
           (λ is. (
             s.is_at.decoded ++ bytes_read,
             has_read_more,
-            ap are_within pars ∙ within_more sent (paragraphs (cut_by rules) text) sent_is ∙ ap (λ t. are_within (paragraphs (cut_by rules) (t ++ front_of bytes_read))) (sym text_same) ∙ within,
+            (
+              ap are_within pars ∙ within_more sent (paragraphs (cut_by rules) text) sent_is ∙ ap (λ t. are_within (paragraphs (cut_by rules) (t ++ front_of bytes_read))) (sym text_same) ∙ within,
+              λ bad. (
+                length sent,
+                omega (arith, ended_is (sym (is_bad-behind s.is_at.decoded bytes_read s.is_at.utf8) ∙ bad), ap length pars, length-append sent (paragraphs (cut_by rules) text), ap (λ t. length (paragraphs (cut_by rules) (t ++ front_of bytes_read))) text_same),
+                subst (λ (ps : List (List ℕ)). Wrote (page rules width print ps) writer_old writer) (sym (ap (take (length sent)) pars ∙ take-append_seam sent (paragraphs (cut_by rules) text))) s.is_at.wrote,
+              ),
+            ),
           ))
 
     abbrev left : List ℕ
@@ -418,37 +434,68 @@ module _ (rules : Rules) (width : ℕ) (print : Print) (reader_old writer_old : 
     no_lines : held_read.page.bytes.items ≡ []
     no_lines = ap (λ (h : Held). h.page.bytes.items) same ∙ s.lines
 
-    -- the first paragraph is too long: its lines and those behind it are not written, nor is anything more
-    module _ (held_new : Held) (fault : Option RunFault) (l : FindsLong rules bytes_read held_read held_new fault) where
-      text_long : StartsLong (cut_by rules) (held.text.items ++ front_of bytes_read)
-      text_long = subst (λ (h : Held). StartsLong (cut_by rules) (h.text.items ++ front_of bytes_read)) same l.long
+    -- the bytes behind the front are bad
+    ends_bad : (writer_new : Device) (text_new : List ℕ) (at : IsAt rules width print reader_old reader_new writer_old writer_new left text_new []) → at.gathered ≡ [] → (place : ℕ) → length at.decoded ≡ place
+        → IsOpen (cut_by rules) text_new → is_bad bytes_read ≡ true → Stops rules width print reader_old writer_old reader_new writer_new (f.NotUtf8 place)
+    ends_bad writer_new text_new at sent place place_is is_open bad =
+        let rest = unwrap_or reader_new.bytes [] in
+        let behind = left ++ rest in
+        let none : utf8_valid_len behind ≡ 0 = bad_stays left rest left_none bad in
+        let some : 0 < length left = some_bad left bad in
+        let valid : utf8_valid_len (at.decoded ++ behind) ≡ length at.decoded + utf8_valid_len behind = utf8_valid_len-behind at.decoded behind at.utf8 in
+        let here : utf8_valid_len (at.decoded ++ behind) ≡ place = omega (arith, valid, none, place_is) in
+        let less : utf8_valid_len (at.decoded ++ behind) < length (at.decoded ++ behind) = omega (arith, valid, none, some, length-append at.decoded behind, length-append left rest) in
+        at_fault rules width print reader_old reader_new writer_old writer_new left text_new [] at sent reader_new AtEnd behind (f.NotUtf8 place)
+        (gave_all rules width print reader_old reader_new writer_old writer_new left text_new [] at)
+        (sent_ahead rules width print reader_old reader_new writer_old writer_new left text_new [] at) is_open none
+        (ap (λ (b : Bool). if b then None else Some (f.NotUtf8 (utf8_valid_len (at.decoded ++ behind)))) (not_all (utf8_valid_len (at.decoded ++ behind)) (length (at.decoded ++ behind)) less) ∙ ap (λ k. Some (f.NotUtf8 k)) here)
+        (λ written wrong is wrote. (is, wrote))
 
-      long_is : (next : IsAt rules width print reader_old reader_new writer_old writer left (held.text.items ++ front_of bytes_read) [])
+    -- a fault is found before the first paragraph ends: its lines and those behind it are not written, nor is anything more
+    module _ (held_new : Held) (fault : Option RunFault) (l : FindsFault rules bytes_read held_read held_new fault) where
+      abbrev text_ahead : List ℕ
+      text_ahead = held.text.items ++ front_of bytes_read
+
+      found_at : (next : IsAt rules width print reader_old reader_new writer_old writer left text_ahead [])
           × (length next.decoded ≡ length s.is_at.decoded + utf8_valid_len bytes_read) × (next.sent ≡ s.is_at.sent) × (next.gathered ≡ [])
-      long_is = decoded_is [] (held.text.items ++ front_of bytes_read) [] (front_none (cut_by rules) (held.text.items ++ front_of bytes_read)) refl
+      found_at = decoded_is [] text_ahead [] (front_none (cut_by rules) text_ahead) refl
 
       page_is : held_new.page.bytes.items ≡ []
       page_is = ap (λ (h : Held). h.page.bytes.items) l.same ∙ no_lines
 
-      long_stopped : (writer_new : Device) (wrong : RunFault) → StopsWriting held_new wrong writer writer_new → Stops rules width print reader_old writer_old reader_new writer_new wrong
-      long_stopped writer_new wrong stops =
-          let at = long_is.0 in
+      found_stopped : (writer_new : Device) (wrong : RunFault) → StopsWriting held_new wrong writer writer_new → Stops rules width print reader_old writer_old reader_new writer_new wrong
+      found_stopped writer_new wrong stops =
+          let at = found_at.0 in
           let count : held_new.written + stops.0 ≡ length (page rules width print at.sent) + stops.0 =
-          omega (arith, ap (λ (h : Held). h.written) l.same, ap (λ (h : Held). h.written) same, s.written, ap (λ ps. length (page rules width print ps)) long_is.2) in
+          omega (arith, ap (λ (h : Held). h.written) l.same, ap (λ (h : Held). h.written) same, s.written, ap (λ ps. length (page rules width print ps)) found_at.2) in
           subst (λ (w : RunFault). Stops rules width print reader_old writer_old reader_new writer_new w) (sym stops.1)
-          (at_write rules width print reader_old reader_new writer_old writer left (held.text.items ++ front_of bytes_read) [] at writer_new stops.0 (held_new.written + stops.0)
+          (at_write rules width print reader_old reader_new writer_old writer left text_ahead [] at writer_new stops.0 (held_new.written + stops.0)
           (subst (λ (t : List ℕ). StoppedAt stops.0 t writer writer_new) page_is stops.2) count)
 
-      long_fault : (writer_new : Device) (held_last : Held) (wrong : RunFault) → Writes held_new held_last writer writer_new → fault ≡ Some wrong → Stops rules width print reader_old writer_old reader_new writer_new wrong
-      long_fault writer_new held_last wrong writes is =
-          let written = at_written rules width print reader_old reader_new writer_old writer left (held.text.items ++ front_of bytes_read) [] long_is.0 writer_new
-          (subst (λ (t : List ℕ). Wrote t writer writer_new) page_is writes.wrote) in
-          let wrong_is : f.ParagraphTooLong ≡ wrong = cc (is, l.fault_is) in
-          subst (λ (w : RunFault). Stops rules width print reader_old writer_old reader_new writer_new w) wrong_is
-          (at_long rules width print reader_old reader_new writer_old writer_new left (held.text.items ++ front_of bytes_read) [] written.0 written.1 text_long)
+      module _ (writer_new : Device) (held_last : Held) (writes : Writes held_new held_last writer writer_new) where
+        found_written : (next : IsAt rules width print reader_old reader_new writer_old writer_new left text_ahead []) × (next.gathered ≡ []) × (next.decoded ≡ found_at.0.decoded) × (next.sent ≡ found_at.0.sent ++ found_at.0.gathered)
+        found_written = at_written rules width print reader_old reader_new writer_old writer left text_ahead [] found_at.0 writer_new
+            (subst (λ (t : List ℕ). Wrote t writer writer_new) page_is writes.wrote)
 
-      long_ends : fault ≡ None → ⊥
-      long_ends is = cc (is, l.fault_is)
+        found_ends : (wrong : RunFault) → IsFaultAhead (cut_by rules) text_ahead (is_bad bytes_read) (held.decoded + utf8_valid_len bytes_read) wrong → Stops rules width print reader_old writer_old reader_new writer_new wrong
+        found_ends f.ParagraphTooLong long =
+            at_long rules width print reader_old reader_new writer_old writer_new left text_ahead [] found_written.0 found_written.1 long
+        found_ends (f.NotUtf8 n) is =
+            ends_bad writer_new text_ahead found_written.0 found_written.1 n (omega (arith, ap length found_written.2, found_at.1, s.decoded, is.2)) is.0 is.1
+        found_ends f.Read is = absurd is
+        found_ends (f.Write n) is = absurd is
+        found_ends (f.BadLine n) is = absurd is
+        found_ends f.Memory is = absurd is
+        found_ends f.TextTooLong is = absurd is
+
+        found_fault : (wrong : RunFault) → fault ≡ Some wrong → Stops rules width print reader_old writer_old reader_new writer_new wrong
+        found_fault wrong is =
+            let wrong_is : l.wrong ≡ wrong = cc (is, l.fault_is) in
+            subst (λ (w : RunFault). Stops rules width print reader_old writer_old reader_new writer_new w) wrong_is
+            (found_ends l.wrong (subst (λ (h : Held). IsFaultAhead (cut_by rules) (h.text.items ++ front_of bytes_read) (is_bad bytes_read) (h.decoded + utf8_valid_len bytes_read) l.wrong) same l.ahead))
+
+      found_goes_on : fault ≡ None → ⊥
+      found_goes_on is = cc (is, l.fault_is)
 
     module _ (held_new : Held) (engine_new : Engine) (fault : Option RunFault) (g : Gathers rules width print bytes_read held_read held_new engine engine_new fault) where
       gathered_is : (next : IsAt rules width print reader_old reader_new writer_old writer left held_new.text.items held_new.page.bytes.items)
@@ -471,22 +518,6 @@ module _ (rules : Rules) (width : ℕ) (print : Print) (reader_old writer_old : 
       module _ (writer_new : Device) (held_last : Held) (writes : Writes held_new held_last writer writer_new) where
         written_is : (next : IsAt rules width print reader_old reader_new writer_old writer_new left held_new.text.items []) × (next.gathered ≡ []) × (next.decoded ≡ gathered_is.0.decoded) × (next.sent ≡ gathered_is.0.sent ++ gathered_is.0.gathered)
         written_is = at_written rules width print reader_old reader_new writer_old writer left held_new.text.items held_new.page.bytes.items gathered_is.0 writer_new writes.wrote
-
-        ends_bad : IsOpen (cut_by rules) held_new.text.items → is_bad bytes_read ≡ true → Stops rules width print reader_old writer_old reader_new writer_new (f.NotUtf8 held_new.decoded)
-        ends_bad is_open bad =
-            let at = written_is.0 in
-            let rest = unwrap_or reader_new.bytes [] in
-            let behind = left ++ rest in
-            let none : utf8_valid_len behind ≡ 0 = bad_stays left rest left_none bad in
-            let some : 0 < length left = some_bad left bad in
-            let valid : utf8_valid_len (at.decoded ++ behind) ≡ length at.decoded + utf8_valid_len behind = utf8_valid_len-behind at.decoded behind at.utf8 in
-            let here : utf8_valid_len (at.decoded ++ behind) ≡ held_new.decoded = omega (arith, valid, none, ap length written_is.2, gathered_is.1) in
-            let less : utf8_valid_len (at.decoded ++ behind) < length (at.decoded ++ behind) = omega (arith, valid, none, some, length-append at.decoded behind, length-append left rest) in
-            at_fault rules width print reader_old reader_new writer_old writer_new left held_new.text.items [] at written_is.1 reader_new AtEnd behind (f.NotUtf8 held_new.decoded)
-            (gave_all rules width print reader_old reader_new writer_old writer_new left held_new.text.items [] at)
-            (sent_ahead rules width print reader_old reader_new writer_old writer_new left held_new.text.items [] at) is_open none
-            (ap (λ (b : Bool). if b then None else Some (f.NotUtf8 (utf8_valid_len (at.decoded ++ behind)))) (not_all (utf8_valid_len (at.decoded ++ behind)) (length (at.decoded ++ behind)) less) ∙ ap (λ k. Some (f.NotUtf8 k)) here)
-            (λ written wrong is wrote. (is, wrote))
 
         stands_on : IsOpen (cut_by rules) held_new.text.items → is_bad bytes_read ≡ false → Stands rules width print reader_old writer_old engine_old reader_new writer_new engine_new held_last
         stands_on is_open good =
@@ -520,7 +551,8 @@ module _ (rules : Rules) (width : ℕ) (print : Print) (reader_old writer_old : 
             go : (b : Bool) → is_bad bytes_read ≡ b → Some wrong ≡ (if b then Some (f.NotUtf8 held_new.decoded) else None) → Stops rules width print reader_old writer_old reader_new writer_new wrong
             go true bad same_fault =
                 let wrong_is : f.NotUtf8 held_new.decoded ≡ wrong = cc in
-                subst (λ (w : RunFault). Stops rules width print reader_old writer_old reader_new writer_new w) wrong_is (ends_bad g.pushed.left bad)
+                subst (λ (w : RunFault). Stops rules width print reader_old writer_old reader_new writer_new w) wrong_is
+                (ends_bad writer_new held_new.text.items written_is.0 written_is.1 held_new.decoded (omega (arith, ap length written_is.2, gathered_is.1)) g.pushed.left bad)
             go false good same_fault = absurd cc
 
         gathers_on : fault ≡ None → Stands rules width print reader_old writer_old engine_old reader_new writer_new engine_new held_last
@@ -533,24 +565,24 @@ module _ (rules : Rules) (width : ℕ) (print : Print) (reader_old writer_old : 
     -- by what was found
     module _ (held_new : Held) (engine_new : Engine) (fault : Option RunFault) where
       abbrev Found : Type 0
-      Found = FindsLong rules bytes_read held_read held_new fault ⊎ Gathers rules width print bytes_read held_read held_new engine engine_new fault
+      Found = FindsFault rules bytes_read held_read held_new fault ⊎ Gathers rules width print bytes_read held_read held_new engine engine_new fault
 
       pub read_stopped : PrintsAtMost (length (held_read.text.items ++ front_of bytes_read)) print engine engine_new → Found → (writer_new : Device) (wrong : RunFault) → StopsWriting held_new wrong writer writer_new
           → Ends rules width print reader_old writer_old engine_old reader_new writer_new engine_new (Err wrong)
       read_stopped at_most found writer_new wrong stops =
           ended reader_new writer_new engine_new wrong
-          (⊎_elim (λ l. long_stopped held_new fault l writer_new wrong stops) (λ g. gathers_stopped held_new engine_new fault g writer_new wrong stops) found)
+          (⊎_elim (λ l. found_stopped held_new fault l writer_new wrong stops) (λ g. gathers_stopped held_new engine_new fault g writer_new wrong stops) found)
           (no_more_read engine_new at_most) (λ is. absurd (cc (is, stops.1)))
 
       pub read_fault : PrintsAtMost (length (held_read.text.items ++ front_of bytes_read)) print engine engine_new → Found → (writer_new : Device) (held_last : Held) → Writes held_new held_last writer writer_new
           → (wrong : RunFault) → fault ≡ Some wrong → Ends rules width print reader_old writer_old engine_old reader_new writer_new engine_new (Err wrong)
       read_fault at_most found writer_new held_last writes wrong is =
           ended reader_new writer_new engine_new wrong
-          (⊎_elim (λ l. long_fault held_new fault l writer_new held_last wrong writes is) (λ g. gathers_fault held_new engine_new fault g writer_new held_last writes wrong is) found)
+          (⊎_elim (λ l. found_fault held_new fault l writer_new held_last writes wrong is) (λ g. gathers_fault held_new engine_new fault g writer_new held_last writes wrong is) found)
           (no_more_read engine_new at_most) (λ memory. absurd (no_memory rules width print bytes_read held_read held_new engine engine_new fault wrong found is memory))
 
       pub read_on : Found → (writer_new : Device) (held_last : Held) → Writes held_new held_last writer writer_new → fault ≡ None → Stands rules width print reader_old writer_old engine_old reader_new writer_new engine_new held_last
-      read_on (inl l) writer_new held_last writes is = absurd (long_ends held_new fault l is)
+      read_on (inl l) writer_new held_last writes is = absurd (found_goes_on held_new fault l is)
       read_on (inr g) writer_new held_last writes is = gathers_on held_new engine_new fault g writer_new held_last writes is
 
 -- ---- the start of a run
@@ -584,7 +616,7 @@ module _ (rules : Rules) (width : ℕ) (print : Print) (reader writer : Device) 
         run = stops.run engine engine;
         ahead = stops.ahead;
         at_most = ([], read, at_most_more print engine engine engine 0 0 (length (front_of [])) (at_most_none print engine) (at_most_none print engine) (omega arith));
-        within = λ is. ([], read, ap (λ t. are_within (paragraphs (cut_by rules) t)) none);
+        wants = λ is. ([], read, (ap (λ t. are_within (paragraphs (cut_by rules) t)) none, λ bad. absurd (true≢false (sym bad ∙ ap (λ n. is_some (utf8_error_len (drop n []))) (nothing_valid [] refl) ∙ ap is_some utf8_error_len-nil))));
       }
 
   pub stands_at_start : Prints 0 print engine engine → (held : Held) → held.waiting ≡ 0 → held.decoded ≡ 0 → held.written ≡ 0 → held.text.items ≡ [] → held.page.bytes.items ≡ [] → vec_len held.piece ≡ 65536

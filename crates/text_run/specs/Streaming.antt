@@ -12,7 +12,7 @@ use Rattle.lines.specs.Pages.{page}
 use Rattle.lines.specs.declared.engine.TheConstants.{PARAGRAPH_LIMIT}
 use Rattle.lines.specs.declared.engine.Engine.{Engine}
 use Rattle.lines.specs.declared.print.Print.{Print}
-use Rattle.text_run.specs.TextRun.{are_within, is_within, front_of, is_bad, read_ahead, IsTextRun, PrintsNoMore, ReadsAhead, ReadsWithin}
+use Rattle.text_run.specs.TextRun.{are_within, is_within, front_of, is_bad, read_ahead, IsTextRun, PrintsNoMore, ReadsAhead, WantsMemory}
 use Rattle.text_run.specs.declared.faults.RunFault.{RunFault}
 use Rattle.text_run.specs.declared.faults.RunFault.TheVariants as f
 use Rattle.text_run.specs.declared.text.TheConstants.{PIECE}
@@ -37,6 +37,17 @@ module _ (is_cut : ℕ → ℕ → Bool) where
   pub record IsOpen (text : List ℕ) : Type 0 where
     pub uncut : SplitsAt is_cut text None
     pub short : length text ≤ PARAGRAPH_LIMIT
+
+  -- none of its paragraphs is too long, and the first one is ended
+  pub record IsEnded (text : List ℕ) : Type 0 where
+    pub within : are_within (paragraphs is_cut text) ≡ true
+    pub more : 1 < length (paragraphs is_cut text)
+
+  -- what is wrong with a text behind which bad bytes stand or not: its first paragraph is too long, or is open there
+  abbrev pub IsFaultAhead : List ℕ → Bool → ℕ → RunFault → Type 0
+  IsFaultAhead text bad place f.ParagraphTooLong = StartsLong text
+  IsFaultAhead text bad place (f.NotUtf8 n) = IsOpen text × (bad ≡ true) × (n ≡ place)
+  IsFaultAhead text bad place fault = ⊥
 
 -- the lines of the first paragraphs of a text are put to a page, each of their characters is counted once, and no cut is in what is left
 pub record Pushed (rules : Rules) (width : ℕ) (print : Print) (text rest before after : List ℕ) (engine_old engine_new : Engine) : Type 0 where
@@ -79,10 +90,11 @@ pub record Gathers (rules : Rules) (width : ℕ) (print : Print) (bytes : List �
   pub written : new.written ≡ old.written
   pub room : vec_len new.piece ≡ vec_len old.piece
 
--- or the first paragraph is too long with the characters of these bytes, and they are left as they are
-pub record FindsLong (rules : Rules) (bytes : List ℕ) (old new : Held) (fault : Option RunFault) : Type 0 where
-  pub long : StartsLong (cut_by rules) (old.text.items ++ front_of bytes)
-  pub fault_is : fault ≡ Some f.ParagraphTooLong
+-- or a fault is found before any paragraph ends, and they are left as they are
+pub record FindsFault (rules : Rules) (bytes : List ℕ) (old new : Held) (fault : Option RunFault) : Type 0 where
+  pub wrong : RunFault
+  pub ahead : IsFaultAhead (cut_by rules) (old.text.items ++ front_of bytes) (is_bad bytes) (old.decoded + utf8_valid_len bytes) wrong
+  pub fault_is : fault ≡ Some wrong
   pub same : new ≡ old
 
 -- what is written at the end of a text, of which some bytes are held
@@ -149,7 +161,7 @@ pub record Ends (rules : Rules) (width : ℕ) (print : Print) (reader_old writer
   pub run : IsTextRun rules width print reader_old reader_new writer_old writer_new engine_old engine_new result
   pub ahead : OnErr result (ReadsAhead rules width print reader_old reader_new writer_old writer_new)
   pub at_most : OnErr result (PrintsNoMore print reader_old reader_new engine_old engine_new)
-  pub within : IsErrOf result f.Memory → ReadsWithin rules reader_old reader_new
+  pub wants : IsErrOf result f.Memory → WantsMemory rules width print reader_old reader_new writer_old writer_new
 
 -- a step goes on, or ends the run
 abbrev pub Steps : Rules → ℕ → Print → Device → Device → Engine → Device → Device → Engine → Held → Result Bool RunFault → Type 0

@@ -1,5 +1,5 @@
 -- What is written for a text, and how its run ends.
-use Rattle.std.specs.Prelude.{◌≡◌, ◌≢◌, ℕ, ◌+◌, ◌-◌, ◌*◌, ◌==◌, nat_le, Bool, true, List, ◌++◌, ◌≤◌, length, take, drop, take_while, encode_utf8_all, Option, Some, None, IfSome, ⊤, is_some, is_none, Result, Ok, Err, if◌then◌else◌}
+use Rattle.std.specs.Prelude.{◌≡◌, ◌≢◌, ℕ, ◌+◌, ◌-◌, ◌*◌, ◌<◌, ◌==◌, nat_le, Bool, true, List, ◌++◌, ◌≤◌, length, take, drop, take_while, encode_utf8_all, Option, Some, None, IfSome, ⊤, is_some, is_none, Result, Ok, Err, if◌then◌else◌}
 use Rattle.std.specs.List.{concat, list_all}
 use Rattle.std.specs.Str.{chars}
 use Rattle.std.specs.Str.Lossy.{utf8_valid_len, utf8_error_len}
@@ -97,9 +97,14 @@ TellsReads result old new = result ≢ Err fault.Read → new.failures ≡ old.f
 abbrev pub HasRead : Device → Device → List ℕ → Type 0
 HasRead old new bytes = Consumes old.bytes new.bytes bytes × (new.passed ≡ old.passed + length bytes)
 
--- among the characters that were read there is no paragraph that is too long
-abbrev pub ReadsWithin : Rules → Device → Device → Type 0
-ReadsWithin rules old new = (bytes : List ℕ) × HasRead old new bytes × (are_within (front_paragraphs rules bytes) ≡ true)
+-- Memory was wanted for what was read: no paragraph of it is too long, and where it has bytes that are not UTF-8, lines of a
+-- paragraph that ends before them are still to be written.
+abbrev pub WantsMemory : Rules → ℕ → Print → Device → Device → Device → Device → Type 0
+WantsMemory rules width print reader_old reader_new writer_old writer_new =
+    (bytes : List ℕ) × HasRead reader_old reader_new bytes
+    × (let pars = front_paragraphs rules bytes in
+    (are_within pars ≡ true)
+    × (is_bad bytes ≡ true → (k : ℕ) × (k + 1 < length pars) × Wrote (page rules width print (take k pars)) writer_old writer_new))
 
 -- at most the characters that were read were printed, up to the first byte that is not UTF-8
 abbrev pub PrintsNoMore : Print → Device → Device → Engine → Engine → Type 0

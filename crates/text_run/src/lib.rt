@@ -8,5 +8,5 @@ mod pieces;
 mod text;
 
 pub use faults::RunFault;
-pub use pieces::{decode, front};
+pub use pieces::front;
 pub use text::{PIECE, room, run_text};

@@ -1,64 +1,102 @@
 //! The paragraphs of a text whose end isn't known: those that a cut ends are laid out, and the rest waits.
 ghost use Rattle.std.specs.Prelude.{◌≡◌, ◌++◌, ◌<◌, ◌≤◌, ℕ, ⊤, false, true, length, take};
-ghost use Rattle.std.specs.Prelude.{None, Some, IfOk, MatchOption};
+ghost use Rattle.std.specs.Prelude.{None, Some, IfOk, IfSome, MatchOption, if◌then◌else◌};
 ghost use Rattle.std.specs.Str.{chars};
 ghost use Rattle.bidi.specs.Cuts.{paragraphs, SplitsAt};
 ghost use Rattle.lines.specs.Engine.{rules_of, SameRules};
 ghost use Rattle.lines.specs.Layouts.{cut_by};
 ghost use Rattle.text_run.specs.Counts.{PrintsAtMost};
-ghost use Rattle.text_run.specs.Streaming.{Pushed, StartsLong};
-ghost use Rattle.text_run.specs.TextRun.{are_within, front_of};
+ghost use Rattle.text_run.specs.Streaming.{IsEnded, IsFaultAhead, IsOpen, Pushed, StartsLong};
+ghost use Rattle.text_run.specs.TextRun.{are_within};
 
+use crate::faults::RunFault;
 use crate::page::{Page, counts_fit, push_paragraph};
-use crate::pieces::front;
 use bidi::paragraphs_are_pieces;
 use lines::{Engine, PARAGRAPH_LIMIT, Print};
 use std::alloc::{AllocError, Global};
 
-/// Whether the first paragraph of a text without a cut, which isn't too long, is too long with the characters
-/// that some bytes begin with. They are no more than a paragraph may have, and no memory is taken.
-pub fn grows_long(engine: &Engine, text: &[char], bytes: &[u8]) -> bool
-    requires uncut { SplitsAt (cut_by (rules_of engine.now)) text.now None }
-    requires short { length text.now ≤ PARAGRAPH_LIMIT }
-    requires few { length bytes.now ≤ PARAGRAPH_LIMIT }
-    ensures long { result ≡ true
-        → StartsLong (cut_by (rules_of engine.now)) (text.now ++ front_of bytes.now) }
-    ensures within { result ≡ false → are_within
-        (paragraphs (cut_by (rules_of engine.now)) (text.now ++ front_of bytes.now)) ≡ true }
-{
-    paragraphs_are_pieces();
-    // Nearly always the two are too few to be looked at.
-    if text.len() + bytes.len() <= PARAGRAPH_LIMIT {
-        return false;
-    }
-    let (more, _) = front(bytes);
-    is_long_with(engine, text, more)
+// What the characters that come behind a text make of its first paragraph.
+#[derive(Clone, Copy, Debug, PartialEq, Eq)]
+enum Ahead {
+    // It is too long.
+    TooLong,
+    // It ends.
+    Ended,
+    // It may go on.
+    Open,
 }
 
-// The same, of the characters of a text.
-fn is_long_with(engine: &Engine, text: &[char], more: &str) -> bool
+/// What is wrong with a text without a cut, which isn't too long, by the characters that follow, which are no
+/// more than a paragraph may have, and whether bytes that are bad stand behind them, at a place in the input:
+/// where its first paragraph is too long with them, or is not ended by them and the bytes are bad. No memory is
+/// taken.
+pub fn fault_ahead(
+    engine: &Engine,
+    text: &[char],
+    more: &str,
+    is_bad: bool,
+    place: u64,
+) -> Option<RunFault>
     requires uncut { SplitsAt (cut_by (rules_of engine.now)) text.now None }
     requires short { length text.now ≤ PARAGRAPH_LIMIT }
     requires few { length (chars more.now) ≤ PARAGRAPH_LIMIT }
-    ensures long { result ≡ true
+    ensures some { IfSome result (λ fault.
+        IsFaultAhead (cut_by (rules_of engine.now)) (text.now ++ chars more.now) is_bad place fault) }
+    ensures within { result ≡ None
+        → are_within (paragraphs (cut_by (rules_of engine.now)) (text.now ++ chars more.now)) ≡ true }
+    ensures ended { result ≡ None → is_bad ≡ true
+        → 1 < length (paragraphs (cut_by (rules_of engine.now)) (text.now ++ chars more.now)) }
+{
+    paragraphs_are_pieces();
+    // Nearly always the bytes are good, and the two are too few to be looked at.
+    if !is_bad && text.len() + more.len() <= PARAGRAPH_LIMIT {
+        return None;
+    }
+    match look_ahead(engine, text, more) {
+        Ahead::TooLong => Some(RunFault::ParagraphTooLong),
+        Ahead::Ended => None,
+        Ahead::Open => bad_at(is_bad, place),
+    }
+}
+
+/// The fault of bytes that are bad, if they are, at a place in the input.
+pub fn bad_at(is_bad: bool, place: u64) -> Option<RunFault>
+    ensures { result ≡ (if is_bad then Some (RunFault.NotUtf8 place) else None) }
+{
+    if is_bad {
+        Some(RunFault::NotUtf8(place))
+    } else {
+        None
+    }
+}
+
+// What some characters, which are no more than a paragraph may have, make of a text without a cut that isn't
+// too long.
+fn look_ahead(engine: &Engine, text: &[char], more: &str) -> Ahead
+    requires uncut { SplitsAt (cut_by (rules_of engine.now)) text.now None }
+    requires short { length text.now ≤ PARAGRAPH_LIMIT }
+    requires few { length (chars more.now) ≤ PARAGRAPH_LIMIT }
+    ensures long { result ≡ Ahead.TooLong
         → StartsLong (cut_by (rules_of engine.now)) (text.now ++ chars more.now) }
-    ensures within { result ≡ false → are_within
-        (paragraphs (cut_by (rules_of engine.now)) (text.now ++ chars more.now)) ≡ true }
+    ensures ended { result ≡ Ahead.Ended
+        → IsEnded (cut_by (rules_of engine.now)) (text.now ++ chars more.now) }
+    ensures open { result ≡ Ahead.Open
+        → IsOpen (cut_by (rules_of engine.now)) (text.now ++ chars more.now) }
 {
     paragraphs_are_pieces();
     let mut len = text.len();
     let mut last = text.last().copied();
     for c in more.chars() {
         if is_cut_behind(engine, last, c) {
-            return false;
+            return Ahead::Ended;
         }
         if len == PARAGRAPH_LIMIT {
-            return true;
+            return Ahead::TooLong;
         }
         len += 1;
         last = Some(c);
     }
-    false
+    Ahead::Open
 }
 
 // Whether there is a cut in front of a character, behind the one that was last, if one was.

@@ -1,26 +1,14 @@
 //! The characters of a text whose bytes come in pieces, each of which may end inside a character.
-ghost use Rattle.std.specs.Prelude.{◌≡◌, ◌+◌, ◌++◌, ◌<◌, ◌≤◌, false, true, None, length, take, IfOk, OnOk};
+ghost use Rattle.std.specs.Prelude.{◌≡◌, ◌+◌, ◌++◌, ◌<◌, ◌≤◌, false, true, None, length, take, OnOk};
 ghost use Rattle.std.specs.Str.{chars};
 ghost use Rattle.std.specs.Str.Lossy.{utf8_valid_len, utf8_error_len};
-ghost use Rattle.text_run.specs.TextRun.{front_of, is_bad};
+ghost use Rattle.text_run.specs.TextRun.{is_bad};
 
 use simdutf8::compat::from_utf8;
 use std::alloc::AllocError;
 
-/// Adds the characters of the longest front of some bytes that is UTF-8. Says how many bytes these are, and
-/// whether the bytes behind them can begin no character, whatever follows.
-pub fn decode(bytes: &[u8], characters: &mut Vec<char>) -> Result<(usize, bool), AllocError>
-    ensures len { IfOk result (λ r. r.0 ≡ utf8_valid_len bytes.now) }
-    ensures bad { IfOk result (λ r. r.1 ≡ is_bad bytes.now) }
-    ensures few { IfOk result (λ r. r.1 ≡ false → length bytes.now < r.0 + 4) }
-    ensures characters { OnOk result (characters.new.items ≡ characters.old.items ++ front_of bytes.now) }
-{
-    let (text, is_bad) = front(bytes);
-    push_characters(text, characters)?;
-    Ok((text.len(), is_bad))
-}
-
-fn push_characters(text: &str, characters: &mut Vec<char>) -> Result<(), AllocError>
+/// Adds the characters of a text.
+pub fn push_characters(text: &str, characters: &mut Vec<char>) -> Result<(), AllocError>
     ensures { OnOk result (characters.new.items ≡ characters.old.items ++ chars text.now) }
 {
     for c in text.chars() {

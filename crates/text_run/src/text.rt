@@ -11,15 +11,15 @@ ghost use Rattle.lines.specs.Layouts.{cut_by};
 ghost use Rattle.lines.specs.declared.engine.Engine.{Engine};
 ghost use Rattle.lines.specs.declared.engine.TheConstants.{PARAGRAPH_LIMIT};
 ghost use Rattle.text_run.specs.Counts.{PrintsAtMost};
-ghost use Rattle.text_run.specs.Streaming.{FindsLong, Finishes, Gathers, GathersLast, IsRead, IsReadTo};
+ghost use Rattle.text_run.specs.Streaming.{FindsFault, Finishes, Gathers, GathersLast, IsRead, IsReadTo};
 ghost use Rattle.text_run.specs.Streaming.{Stands, Steps, StopsWriting, Writes};
-ghost use Rattle.text_run.specs.TextRun.{are_within, front_of};
-ghost use Rattle.text_run.specs.TextRun.{IsTextRun, PrintsNoMore, ReadsAhead, ReadsWithin, TellsReads};
+ghost use Rattle.text_run.specs.TextRun.{are_within, front_of, is_bad};
+ghost use Rattle.text_run.specs.TextRun.{IsTextRun, PrintsNoMore, ReadsAhead, TellsReads, WantsMemory};
 
 use crate::faults::RunFault;
 use crate::page::{Page, counts_fit, push_paragraph};
-use crate::paragraphs::{grows_long, push_paragraphs};
-use crate::pieces::decode;
+use crate::paragraphs::{bad_at, fault_ahead, push_paragraphs};
+use crate::pieces::{front, push_characters};
 use device::{Sink, Source, write_all};
 use lines::{Engine, Print};
 use std::alloc::{AllocError, Global};
@@ -85,17 +85,6 @@ fn read_to<R: Source>(reader: &mut R, buffer: &mut [u8], place: usize) -> Result
     }
 }
 
-// What ends a run that has decoded so many bytes, behind which no character begins.
-fn fault_of(is_bad: bool, decoded: u64) -> Option<RunFault>
-    ensures { result ≡ (if is_bad then Some (RunFault.NotUtf8 decoded) else None) }
-{
-    if is_bad {
-        Some(RunFault::NotUtf8(decoded))
-    } else {
-        None
-    }
-}
-
 impl Held {
     fn new(alloc: Global) -> Result<Held, AllocError>
         ensures room { IfOk result (λ held. vec_len held.piece ≡ PIECE) }
@@ -125,7 +114,7 @@ impl Held {
 
     // Decodes the bytes that wait and `len` more, and gathers the lines of the paragraphs that are known to
     // end then. Says what is wrong with the text, if anything. Memory is asked for only where no paragraph is
-    // too long.
+    // too long, and where bytes are bad only if a paragraph ends before them.
     fn gather(
         &mut self,
         alloc: Global,
@@ -140,13 +129,16 @@ impl Held {
         requires room { vec_len self.old.piece ≡ PIECE }
         requires len { self.old.waiting + len ≤ vec_len self.old.piece }
         requires counted { self.old.decoded + (self.old.waiting + len) ≤ 2 ^ 64 - 1 }
-        ensures gathers { IfOk result (λ fault. FindsLong (rules_of engine.old)
+        ensures gathers { IfOk result (λ fault. FindsFault (rules_of engine.old)
             (take (self.old.waiting + len) self.old.piece.items) self.old self.new fault
             ⊎ Gathers (rules_of engine.old) width print.now
             (take (self.old.waiting + len) self.old.piece.items) self.old self.new
             engine.old engine.new fault) }
         ensures memory { OnErr result (are_within (paragraphs (cut_by (rules_of engine.old))
             (self.old.text.items ++ front_of (take (self.old.waiting + len) self.old.piece.items))) ≡ true) }
+        ensures ended { OnErr result (is_bad (take (self.old.waiting + len) self.old.piece.items) ≡ true
+            → 1 < length (paragraphs (cut_by (rules_of engine.old))
+            (self.old.text.items ++ front_of (take (self.old.waiting + len) self.old.piece.items)))) }
         ensures at_most { PrintsAtMost
             (length (self.old.text.items ++ front_of (take (self.old.waiting + len) self.old.piece.items)))
             print.now engine.old engine.new }
@@ -154,16 +146,19 @@ impl Held {
     {
         let seen = self.text.len();
         let filled = self.waiting + len;
-        if grows_long(engine, &self.text, &self.piece[..filled]) {
-            return Ok(Some(RunFault::ParagraphTooLong));
+        let (more, is_bad) = front(&self.piece[..filled]);
+        let front = more.len();
+        let place = self.decoded + front as u64;
+        if let Some(fault) = fault_ahead(engine, &self.text, more, is_bad, place) {
+            return Ok(Some(fault));
         }
-        let (front, is_bad) = decode(&self.piece[..filled], &mut self.text)?;
+        push_characters(more, &mut self.text)?;
         let text = self.text.as_slice();
         let rest = push_paragraphs(alloc, &mut self.page, engine, width, print, text, seen)?;
         let rest = rest.len();
         self.keep_text(rest);
         self.keep_bytes(front, filled);
-        Ok(fault_of(is_bad, self.decoded))
+        Ok(bad_at(is_bad, place))
     }
 
     // Gathers the lines of the last paragraph of a text, if there is one.
@@ -337,7 +332,8 @@ pub fn run_text<R: Source, W: Sink>(
     ensures at_most { OnErr result (PrintsNoMore print.now
         (R.state reader.old) (R.state reader.new) engine.old engine.new) }
     ensures memory { IsErrOf result RunFault.Memory
-        → ReadsWithin (rules_of engine.old) (R.state reader.old) (R.state reader.new) }
+        → WantsMemory (rules_of engine.old) width print.now
+        (R.state reader.old) (R.state reader.new) (W.state writer.old) (W.state writer.new) }
     ensures reads { TellsReads result (R.state reader.old) (R.state reader.new) }
     ensures ahead { OnErr result (ReadsAhead (rules_of engine.old) width print.now
         (R.state reader.old) (R.state reader.new) (W.state writer.old) (W.state writer.new)) }

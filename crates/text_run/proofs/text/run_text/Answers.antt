@@ -14,7 +14,7 @@ pub returns-in_default-clause-at_most : goal.returns-in_default-clause-at_most
 returns-in_default-clause-at_most g c = (ends_at_once (rules_of c.args.engine.now) c.args.width c.args.print.now (g.R.Source.state c.args.reader.now) (g.W.Sink.state c.args.writer.now) c.args.engine.now).at_most
 
 pub returns-in_default-clause-memory : goal.returns-in_default-clause-memory
-returns-in_default-clause-memory g c = (ends_at_once (rules_of c.args.engine.now) c.args.width c.args.print.now (g.R.Source.state c.args.reader.now) (g.W.Sink.state c.args.writer.now) c.args.engine.now).within
+returns-in_default-clause-memory g c = (ends_at_once (rules_of c.args.engine.now) c.args.width c.args.print.now (g.R.Source.state c.args.reader.now) (g.W.Sink.state c.args.writer.now) c.args.engine.now).wants
 
 pub loop-held-init : goal.loop-held-init
 loop-held-init g c =
@@ -57,7 +57,7 @@ returns-in-Err-clause-at_most g c =
 pub returns-in-Err-clause-memory : goal.returns-in-Err-clause-memory
 returns-in-Err-clause-memory g c =
     (stepped_as (rules_of c.args.engine.now) (rules_of c.loop-held.engine) c.args.width c.args.print.now _ _ c.args.engine.now _ _ c.loop-held.engine _ _ c.step.new.engine c.loop-held.held c.step.new.held c.loop-held.invariant.kept c.loop-held.invariant.stands c.step.result
-    (c.step.ensures.steps (g.R.Source.state c.args.reader.now) (g.W.Sink.state c.args.writer.now) c.args.engine.now) (Err c.in-Err.fault) c.in-Err.is).within
+    (c.step.ensures.steps (g.R.Source.state c.args.reader.now) (g.W.Sink.state c.args.writer.now) c.args.engine.now) (Err c.in-Err.fault) c.in-Err.is).wants
 
 -- a step that ends otherwise than by a failed read adds no failure, and those before it added none
 pub returns-in-Ok-false-clause-reads : goal.returns-in-Ok-false-clause-reads

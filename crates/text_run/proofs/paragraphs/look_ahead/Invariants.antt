@@ -2,7 +2,7 @@ use Rattle.std.proofs.Common.{◌++◌}
 use Rattle.lines.specs.Engine.{rules_of}
 use Rattle.lines.specs.Layouts.{cut_by}
 use Rattle.text_run.proofs.LongLemmas.{HasTaken}
-use Rattle.text_run.proofs.paragraphs.is_long_with.Given as goal
+use Rattle.text_run.proofs.paragraphs.look_ahead.Given as goal
 
 -- the characters so far have no cut, and aren't too many
 abbrev pub invariant-loop-c : goal.invariant-loop-c

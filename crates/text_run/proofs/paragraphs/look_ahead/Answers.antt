@@ -3,16 +3,14 @@ use Rattle.std.specs.Str.{chars}
 use Rattle.std.proofs.lemmas.Iterator.{YieldsList-from_chars}
 use Rattle.std.proofs.lemmas.Iterator.Consumers.{YieldsList-end, YieldsList-so_far, YieldsList-turn}
 use Rattle.std.proofs.lemmas.List.{append_assoc, length-append}
-use Rattle.bidi.specs.Cuts.{paragraphs}
 use Rattle.lines.specs.Engine.{rules_of}
 use Rattle.lines.specs.Layouts.{cut_by}
-use Rattle.text_run.specs.TextRun.{are_within}
-use Rattle.text_run.specs.Streaming.{StartsLong}
-use Rattle.text_run.proofs.LongLemmas.{HasTaken, cut_in_front, at_hand, none_too_many, one_too_many, take_one}
-use Rattle.text_run.proofs.paragraphs.is_long_with.Goals as goal
+use Rattle.text_run.specs.Streaming.{IsEnded, IsOpen, StartsLong}
+use Rattle.text_run.proofs.LongLemmas.{HasTaken, at_hand, cut_in_front, one_too_many, take_one}
+use Rattle.text_run.proofs.paragraphs.look_ahead.Goals as goal
 
-pub returns-then-is_cut_behind-clause-within : goal.returns-then-is_cut_behind-clause-within
-returns-then-is_cut_behind-clause-within c = λ is.
+pub returns-then-is_cut_behind-clause-ended : goal.returns-then-is_cut_behind-clause-ended
+returns-then-is_cut_behind-clause-ended c = λ is.
     let is_cut = cut_by (rules_of c.args.engine.now) in
     let taken = c.loop-c.yielded in
     let yields = YieldsList-from_chars c.args.more.now c.utf8.more cc in
@@ -22,9 +20,9 @@ returns-then-is_cut_behind-clause-within c = λ is.
     let cut = c.is_cut_behind.ensures.cut c.if-is_cut_behind.true in
     let text_is : c.args.text.now ++ chars c.args.more.now ≡ (c.args.text.now ++ c.loop-c.yielded) ++ c.in-Some.c ∷ more =
     ap (λ t. c.args.text.now ++ t) all ∙ sym (append_assoc c.args.text.now c.loop-c.yielded (c.in-Some.c ∷ more)) in
-    ap (λ t. are_within (paragraphs is_cut t)) text_is
-    ∙ cut_in_front is_cut c.paragraphs_are_pieces.ensures (c.args.text.now ++ c.loop-c.yielded) more c.loop-c.last c.loop-c.len c.in-Some.c cut.0 c.loop-c.invariant cut.1 cut.2
-    (omega (arith, c.requires.few, ap length all, length-append c.loop-c.yielded (c.in-Some.c ∷ more)))
+    subst (λ (t : List ℕ). IsEnded is_cut t) (sym text_is)
+    (cut_in_front is_cut c.paragraphs_are_pieces.ensures (c.args.text.now ++ c.loop-c.yielded) more c.loop-c.last c.loop-c.len c.in-Some.c cut.0 c.loop-c.invariant cut.1 cut.2
+    (omega (arith, c.requires.few, ap length all, length-append c.loop-c.yielded (c.in-Some.c ∷ more))))
 
 pub returns-then-len-eq-PARAGRAPH_LIMIT-clause-long :
     goal.returns-then-len-eq-PARAGRAPH_LIMIT-clause-long
@@ -47,9 +45,9 @@ loop-c-preserved c =
     (take_one is_cut (c.args.text.now ++ c.loop-c.yielded) c.loop-c.last c.loop-c.len c.in-Some.c c.loop-c.invariant (c.is_cut_behind.ensures.none c.if-is_cut_behind.false)
     (omega (arith, c.loop-c.invariant.short, c.if-len-eq-PARAGRAPH_LIMIT.false)))
 
-pub returns-clause-within : goal.returns-clause-within
-returns-clause-within c = λ is.
+pub returns-clause-open : goal.returns-clause-open
+returns-clause-open c = λ is.
     let is_cut = cut_by (rules_of c.args.engine.now) in
     let last = YieldsList-end (YieldsList-from_chars c.args.more.now c.utf8.more cc) c.loop-c.yielded _ c.loop-c.yielded_by _ _ c.in-None.is c.next.ensures.steps in
-    ap (λ t. are_within (paragraphs is_cut (c.args.text.now ++ t))) (sym last.0 ∙ map-id c.loop-c.yielded)
-    ∙ none_too_many is_cut (c.args.text.now ++ c.loop-c.yielded) c.loop-c.last c.loop-c.len c.loop-c.invariant
+    subst (λ (t : List ℕ). IsOpen is_cut (c.args.text.now ++ t)) (sym (map-id c.loop-c.yielded) ∙ last.0)
+    (record { uncut = c.loop-c.invariant.uncut; short = omega (arith, c.loop-c.invariant.short, c.loop-c.invariant.len_is) })
