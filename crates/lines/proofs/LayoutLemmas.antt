@@ -1,5 +1,5 @@
 -- A layout from its parts, and what an exchange leaves.
-use Rattle.std.proofs.Common.{◌≡◌, ℕ, List, length, refl, ap, ap₂, subst, sym, ◌∙◌}
+use Rattle.std.proofs.Common.{◌≡◌, ℕ, List, Result, Ok, Err, IfOk, length, refl, ap, ap₂, subst, sym, ◌∙◌}
 use Rattle.breaks.specs.declared.mark.Mark.{Mark}
 use Rattle.lines.specs.Extents.{extents_of, reflowed, Spans}
 use Rattle.lines.specs.Layouts.{fill_of, layout_of, AreLinesOf, Exchanges, Filled, IsLaidOut, IsParagraph, Layout, Rules}
@@ -18,6 +18,10 @@ laid_out_by rules same width text laid e paragraph is =
 
 pub lines_by : (rules same : Rules) (width : ℕ) (text : List ℕ) (fill : Filled) → same ≡ rules → fill ≡ fill_of rules width text → AreLinesOf same text fill
 lines_by rules same width text fill e is = rw (e, is) (record { width = width; from_scratch = refl })
+
+pub all_lines_by : {E : Type 0} (rules same : Rules) (width : ℕ) (text : List ℕ) (result : Result Filled E) → same ≡ rules → IfOk result (λ fill. fill ≡ fill_of rules width text) → IfOk result (AreLinesOf same text)
+all_lines_by rules same width text (Ok fill) e is = lines_by rules same width text fill e is
+all_lines_by rules same width text (Err error) e is = tt
 
 -- lines of a length
 pub filled_as : (lines seen : List Line) (len size : ℕ) → lines ≡ seen → len ≡ size

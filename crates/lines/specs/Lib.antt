@@ -2,6 +2,7 @@ pub mod Bare
 pub mod BarePlaces
 pub mod Bytes
 pub mod Clusters
+pub mod Counts
 pub mod Engine
 pub mod Extents
 pub mod Filling

@@ -12,6 +12,7 @@ ghost use Rattle.lines.specs.Pages.{lines_bytes, paragraph_bytes};
 ghost use Rattle.lines.specs.Printing.{FailedAs, skips_lines};
 
 use crate::bytes::write_base;
+use crate::counts::{Counts, raise};
 use crate::extents::{Extents, Room};
 use crate::laid::Laid;
 use crate::options::Options;
@@ -33,9 +34,7 @@ pub const PARAGRAPH_LIMIT: usize = 1_048_576;
 pub struct Engine {
     tables: Tables,
     options: Options,
-    analysed: u64,
-    filled: u64,
-    written: u64,
+    counts: Counts,
     // Made for the first paragraph, and kept for the next ones.
     work: Option<Work>,
     // What the last paragraph that was written consisted of.
@@ -47,9 +46,7 @@ impl Drop for Engine {
         let Engine {
             tables: _,
             options: _,
-            analysed: _,
-            filled: _,
-            written: _,
+            counts: _,
             work: _,
             kept: _,
         } = self;
@@ -63,9 +60,9 @@ impl Model for Engine {
 
     ghost view = { λ e. record {
       rules = record { tables = e.tables; options = e.options };
-      analysed = e.analysed;
-      filled = e.filled;
-      written = e.written;
+      analysed = e.counts.analysed;
+      filled = e.counts.filled;
+      written = e.counts.written;
     } };
 }
 
@@ -91,9 +88,11 @@ impl Engine {
         Engine {
             tables,
             options,
-            analysed: 0,
-            filled: 0,
-            written: 0,
+            counts: Counts {
+                analysed: 0,
+                filled: 0,
+                written: 0,
+            },
             work: None,
             kept: None,
         }
@@ -118,21 +117,21 @@ impl Engine {
     pub fn analysed(&self) -> u64
         ensures { result ≡ analysed_of self.now }
     {
-        self.analysed
+        self.counts.analysed
     }
 
     /// How many characters were filled into lines, up to the greatest `u64`, at which the count stays.
     pub fn filled(&self) -> u64
         ensures { result ≡ filled_of self.now }
     {
-        self.filled
+        self.counts.filled
     }
 
     /// Of how many characters the lines were written, up to the greatest `u64`, at which the count stays.
     pub fn written(&self) -> u64
         ensures { result ≡ written_of self.now }
     {
-        self.written
+        self.counts.written
     }
 
     /// Lays out one paragraph at a width in columns, which is not 0. Where there is no memory, the
@@ -152,10 +151,6 @@ impl Engine {
         ensures at_most { LaysOutAtMost (length text.items) self.old self.new }
         ensures rules { SameRules self.old self.new }
     {
-        let len = text.len() as u64;
-        self.analysed = self.analysed.saturating_add(len);
-        self.filled = self.filled.saturating_add(len);
-        self.written = self.written.saturating_add(len);
         match self.parts(alloc, &text, width) {
             Ok(parts) => Ok(Laid {
                 text,
@@ -180,11 +175,7 @@ impl Engine {
         ensures rules { SameRules self.old self.new }
     {
         let text = laid.text();
-        let fill = self.fill(alloc, text, laid.base(), laid.levels(), laid.marks(), width)?;
-        let len = text.len() as u64;
-        self.filled = self.filled.saturating_add(len);
-        self.written = self.written.saturating_add(len);
-        Ok(fill)
+        self.fill(alloc, text, laid.base(), laid.levels(), laid.marks(), width)
     }
 
     /// Writes the lines of one paragraph at a width in columns, which is not 0, and keeps nothing of them.
@@ -213,14 +204,10 @@ impl Engine {
             × (written_of self.new ≡ written_of self.old) }
         ensures rules { SameRules self.old self.new }
     {
-        let len = text.len() as u64;
-        self.analysed = self.analysed.saturating_add(len);
         if print.skips_lines() {
             marks_are_as_many(&self.tables, text, self.options.whole_numbers);
             return self.write_base(text, print, writer);
         }
-        self.filled = self.filled.saturating_add(len);
-        self.written = self.written.saturating_add(len);
         self.write_lines(alloc, text, width, print, writer)
     }
 
@@ -236,10 +223,7 @@ impl Engine {
         ensures at_most { FindsExtentsAtMost (length laid.now.text) self.old self.new }
         ensures rules { SameRules self.old self.new }
     {
-        let text = laid.text();
-        let extents = self.find_extents(alloc, text, laid.marks(), width)?;
-        self.filled = self.filled.saturating_add(text.len() as u64);
-        Ok(extents)
+        self.find_extents(alloc, laid.text(), laid.marks(), width)
     }
 
     /// Room in which the lines of any paragraph of at most so many characters can be written.
@@ -275,7 +259,7 @@ impl Engine {
         ensures at_most { RewritesAtMost room.written self.old self.new }
         ensures rules { SameRules self.old self.new }
     {
-        self.written = self.written.saturating_add(room.end());
+        self.counts.written = self.counts.written.saturating_add(room.end());
     }
 
     // Writes the lines of a paragraph.
@@ -293,32 +277,52 @@ impl Engine {
         ensures err { IfErr result (λ fault.
             FailedAs fault (paragraph_bytes (rules_of self.old) width print.now text.now)
             (W.state writer.old) (W.state writer.new)) }
-        ensures same { self.new ≡ self.old }
+        ensures counts { OnOk result (LaysOut (length text.now) self.old self.new) }
+        ensures at_most { LaysOutAtMost (length text.now) self.old self.new }
+        ensures rules { SameRules self.old self.new }
     {
         let work = self.work.get_or_insert_with(|| Work::new(alloc));
         let kept = self.kept.get_or_insert_with(|| Kept::new(alloc));
-        let Ok(base) = work.lay_out(alloc, &self.tables, self.options, text, width, kept) else {
+        let counts = &mut self.counts;
+        let Ok(base) = work.lay_out(alloc, &self.tables, self.options, text, width, kept, counts)
+        else {
             return Err(PrintFault::Memory);
         };
         write_lists(alloc, &mut kept.lines, text, base, writer, width, print)
     }
 
+    // The base level of a paragraph. Counts the characters.
+    fn find_base(&mut self, text: &[char]) -> u8
+        ensures base { result ≡ base_of (rules_of self.old) text.now }
+        ensures counts { self.new ≡ record self.old {
+          analysed = counted (analysed_of self.old) (length text.now);
+        } }
+        ensures least { analysed_of self.old ≤ analysed_of self.new }
+    {
+        raise(&mut self.counts.analysed, text.len());
+        base_level(&self.tables, text, self.options.base)
+    }
+
     // Writes the direction of a paragraph, if it is asked for.
     fn write_base<W: Sink>(
-        &self,
+        &mut self,
         text: &[char],
         print: &Print,
         writer: &mut W,
     ) -> Result<(), PrintFault>
         ensures ok { OnOk result (Wrote
-            (if print.now.basedir then direction_line (base_of (rules_of self.now) text.now) else [])
+            (if print.now.basedir then direction_line (base_of (rules_of self.old) text.now) else [])
             (W.state writer.old) (W.state writer.new)) }
         ensures err { IfErr result (λ fault. FailedAs fault
-            (if print.now.basedir then direction_line (base_of (rules_of self.now) text.now) else [])
+            (if print.now.basedir then direction_line (base_of (rules_of self.old) text.now) else [])
             (W.state writer.old) (W.state writer.new)) }
         ensures memory { ¬ (IsErrOf result PrintFault.Memory) }
+        ensures counts { self.new ≡ record self.old {
+          analysed = counted (analysed_of self.old) (length text.now);
+        } }
+        ensures least { analysed_of self.old ≤ analysed_of self.new }
     {
-        let base = base_level(&self.tables, text, self.options.base);
+        let base = self.find_base(text);
         match write_base(writer, 0, print.basedir, base) {
             Ok(_) => Ok(()),
             Err(fault) => Err(PrintFault::Write(fault)),
@@ -338,11 +342,22 @@ impl Engine {
             parts.lines ≡ fill_of (rules_of self.old) width text.now) }
         ensures len { IfOk result (λ parts. length parts.levels.items ≡ length text.now) }
         ensures within { IfOk result (λ parts. AreWithin (length text.now) parts.lines.lines) }
-        ensures same { self.new ≡ self.old }
+        ensures counts { OnOk result (LaysOut (length text.now) self.old self.new) }
+        ensures at_most { LaysOutAtMost (length text.now) self.old self.new }
+        ensures rules { SameRules self.old self.new }
     {
         let work = self.work.get_or_insert_with(|| Work::new(alloc));
         let mut kept = Kept::new(alloc);
-        let base = work.lay_out(alloc, &self.tables, self.options, text, width, &mut kept)?;
+        let counts = &mut self.counts;
+        let base = work.lay_out(
+            alloc,
+            &self.tables,
+            self.options,
+            text,
+            width,
+            &mut kept,
+            counts,
+        )?;
         Ok(Parts {
             base,
             levels: kept.levels,
@@ -364,10 +379,21 @@ impl Engine {
         requires within { length text.now ≤ PARAGRAPH_LIMIT }
         ensures extents { IfOk result (λ extents. extents
             ≡ extents_of (rules_of self.old) width text.now) }
-        ensures same { self.new ≡ self.old }
+        ensures counts { OnOk result (FindsExtents (length text.now) self.old self.new) }
+        ensures at_most { FindsExtentsAtMost (length text.now) self.old self.new }
+        ensures rules { SameRules self.old self.new }
     {
         let work = self.work.get_or_insert_with(|| Work::new(alloc));
-        work.extents(alloc, &self.tables, self.options, text, marks, width)
+        let counts = &mut self.counts;
+        work.extents(
+            alloc,
+            &self.tables,
+            self.options,
+            text,
+            marks,
+            width,
+            counts,
+        )
     }
 
     // The lines of a paragraph, of which all else is known.
@@ -389,7 +415,9 @@ impl Engine {
         requires within { length text.now ≤ PARAGRAPH_LIMIT }
         ensures lines { IfOk result (λ fill. fill ≡ fill_of (rules_of self.old) width text.now) }
         ensures within { IfOk result (λ fill. AreWithin (length text.now) fill.lines) }
-        ensures same { self.new ≡ self.old }
+        ensures counts { OnOk result (Fills (length text.now) self.old self.new) }
+        ensures at_most { FillsAtMost (length text.now) self.old self.new }
+        ensures rules { SameRules self.old self.new }
     {
         let work = self.work.get_or_insert_with(|| Work::new(alloc));
         work.fill(
@@ -401,6 +429,7 @@ impl Engine {
             levels,
             marks,
             width,
+            &mut self.counts,
         )
     }
 }

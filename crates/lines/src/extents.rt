@@ -29,7 +29,7 @@ impl Model for Extents {
 #[derive(Debug)]
 pub struct Room {
     pub(crate) properties: Vec<Properties>,
-    written: u64,
+    pub(crate) written: u64,
 }
 
 impl Model for Room {
@@ -42,8 +42,6 @@ impl Model for Room {
 }
 
 impl Room {
-    ghost use Rattle.lines.specs.Engine.{counted};
-
     /// Room for so many characters.
     pub(crate) fn new(alloc: Global, tables: &Tables, len: usize) -> Result<Room, AllocError>
         ensures { IfOk result (λ room. room ≡ record { len = len; written = 0 }) }
@@ -54,14 +52,6 @@ impl Room {
             properties,
             written: 0,
         })
-    }
-
-    /// Counts so many characters more.
-    pub(crate) fn count(&mut self, len: usize)
-        ensures counts { self.new ≡ record self.old { written = counted self.old.written len } }
-        ensures least { self.old.written ≤ self.new.written }
-    {
-        self.written = self.written.saturating_add(len as u64);
     }
 
     /// Lets go of it, and says of how many characters the lines were written.

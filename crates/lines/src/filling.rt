@@ -3,6 +3,7 @@ ghost use Rattle.std.specs.Prelude.{◌≡◌, ◌+◌, ◌||◌, ◌<◌, ◌�
 ghost use Rattle.std.specs.Prelude.{None, Some, IfOk, IfSome, OnOk, if◌then◌else◌};
 ghost use Rattle.lines.specs.Bare.{AreAlike, with_ends};
 ghost use Rattle.lines.specs.Clusters.{cluster_ends};
+ghost use Rattle.lines.specs.Engine.{counted};
 ghost use Rattle.lines.specs.Filling.{by_break, by_cluster, first_end, line_end};
 ghost use Rattle.lines.specs.Filling.{is_break, is_must, line_len, line_starts_of, stop};
 ghost use Rattle.lines.specs.Kept.{AreStarts};
@@ -11,12 +12,14 @@ ghost use Rattle.lines.specs.declared.places.Place.{Place};
 ghost use Rattle.lines.specs.declared.engine.TheConstants.{PARAGRAPH_LIMIT};
 
 use crate::clusters::mark_clusters;
+use crate::counts::raise;
 use crate::places::Place;
 use breaks::Mark;
 use std::alloc::{AllocError, Global};
 
 /// Puts where each line of a paragraph starts, at a width, in place of what a list has. Where clusters end
-/// isn't known of the places: it is found, and put to them, for the first line that needs it.
+/// isn't known of the places: it is found, and put to them, for the first line that needs it. Counts the
+/// characters.
 pub fn line_starts(
     alloc: Global,
     text: &[char],
@@ -24,6 +27,7 @@ pub fn line_starts(
     width: u16,
     nobreak: bool,
     starts: &mut Vec<u32>,
+    filled: &mut u64,
 ) -> Result<(), AllocError>
     requires len { length places.old ≡ length text.now }
     requires within { length places.old ≤ PARAGRAPH_LIMIT }
@@ -31,7 +35,10 @@ pub fn line_starts(
         ≡ line_starts_of nobreak width (with_ends places.old (cluster_ends text.now))) }
     ensures starts { OnOk result (AreStarts (length text.now) starts.new.items) }
     ensures alike { OnOk result (AreAlike places.new places.old) }
+    ensures counts { filled.new ≡ counted filled.old (length text.now) }
+    ensures least { filled.old ≤ filled.new }
 {
+    raise(filled, text.len());
     starts.clear();
     let mut start = 0;
     let mut is_known = false;

@@ -186,7 +186,7 @@ impl Laid {
         ensures least { room.old.written ≤ room.new.written }
     {
         let text = self.text.as_slice();
-        room.count(text.len());
+        let mut written = room.written;
         let properties = &mut room.properties[..text.len()];
         look_up(tables, text, properties);
         self.lines.reflow(
@@ -197,7 +197,9 @@ impl Laid {
             self.base,
             &self.levels,
             extents,
+            &mut written,
         );
+        room.written = written;
     }
 
     /// Puts the lines of this paragraph at another width in, and hands the old ones out. Both are

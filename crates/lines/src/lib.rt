@@ -3,6 +3,7 @@
 
 mod bytes;
 mod clusters;
+mod counts;
 mod engine;
 mod extents;
 mod fill;

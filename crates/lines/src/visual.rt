@@ -6,6 +6,7 @@ ghost use Rattle.ucd.specs.Properties.{properties_of};
 ghost use Rattle.bidi.specs.Classes.{class_in};
 ghost use Rattle.lines.specs.Spaces.{line_levels};
 ghost use Rattle.bidi.specs.Runs.{AreWithin};
+ghost use Rattle.lines.specs.Engine.{counted, RisesBy};
 ghost use Rattle.lines.specs.Extents.{extents_in, shown_from};
 ghost use Rattle.lines.specs.Filling.{columns, shown};
 ghost use Rattle.lines.specs.Kept.{AreStarts};
@@ -18,6 +19,7 @@ ghost use Rattle.lines.specs.Visual.{lines_from};
 ghost use Rattle.lines.specs.declared.places.Place.{Place};
 ghost use Rattle.lines.specs.declared.engine.TheConstants.{PARAGRAPH_LIMIT};
 
+use crate::counts::raise;
 use crate::extents::Extents;
 use crate::mirror::visual_chars;
 use crate::options::Options;
@@ -108,6 +110,7 @@ impl Fill {
         base: u8,
         levels: &[u8],
         extents: &mut Extents,
+        written: &mut u64,
     )
         requires len { self.old.len ≡ length text.now }
         requires properties { properties.now ≡ map (properties_of tables.now) text.now }
@@ -123,6 +126,8 @@ impl Fill {
         ensures len { self.new.len ≡ length text.now }
         ensures within { Layouts.AreWithin (length text.now) self.new.lines }
         ensures extents { extents.new ≡ extents_in self.old.lines }
+        ensures counts { written.new ≡ counted written.old (length text.now) }
+        ensures least { written.old ≤ written.new }
     {
         std::mem::swap(&mut self.starts, &mut extents.starts);
         std::mem::swap(&mut self.shown, &mut extents.shown);
@@ -139,6 +144,7 @@ impl Fill {
             &mut self.ltov,
             &mut self.vtol,
             &mut self.chars,
+            written,
         );
     }
 
@@ -199,6 +205,7 @@ pub(crate) fn show_lines(
     levels: &[u8],
     places: &[Place],
     lists: &mut Lists,
+    written: &mut u64,
 ) -> Result<(), AllocError>
     requires properties { properties.now ≡ map (properties_of tables.now) text.now }
     requires text { (length text.now ≡ length places.now) × (length text.now ≤ PARAGRAPH_LIMIT) }
@@ -209,6 +216,8 @@ pub(crate) fn show_lines(
         ≡ lines_from tables.now options base text.now levels.now places.now lists.old.starts.items) }
     ensures within { OnOk result (Layouts.AreWithin (length text.now) (held_lines lists.new)) }
     ensures lines_len { OnOk result (length lists.new.levels.items ≡ length text.now) }
+    ensures counts { OnOk result (written.new ≡ counted written.old (length text.now)) }
+    ensures at_most { RisesBy (length text.now) written.old written.new }
 {
     take_shown(places, &lists.starts, &mut lists.shown)?;
     copy(levels, &mut lists.levels)?;
@@ -227,6 +236,7 @@ pub(crate) fn show_lines(
         &mut lists.ltov,
         &mut lists.vtol,
         &mut lists.chars,
+        written,
     );
     Ok(())
 }
@@ -278,7 +288,7 @@ pub(crate) fn take_shown(
     Ok(())
 }
 
-// Writes what belongs to each line to its place, over the levels before L1.
+// Writes what belongs to each line to its place, over the levels before L1. Counts the characters.
 fn show_each(
     tables: &Tables,
     text: &[char],
@@ -291,6 +301,7 @@ fn show_each(
     ltov: &mut [u32],
     vtol: &mut [u32],
     chars: &mut [char],
+    written: &mut u64,
 )
     requires properties { properties.now ≡ map (properties_of tables.now) text.now }
     requires text { length text.now ≤ PARAGRAPH_LIMIT }
@@ -300,9 +311,12 @@ fn show_each(
     requires ltov { length ltov.old ≡ length text.now }
     requires vtol { length vtol.old ≡ length text.now }
     requires chars { length chars.old ≡ length text.now }
-    ensures { AreShown tables.now options base text.now levels.old starts.now (length starts.now)
+    ensures shown { AreShown tables.now options base text.now levels.old starts.now (length starts.now)
         shown.now levels.new ltov.new vtol.new chars.new }
+    ensures counts { written.new ≡ counted written.old (length text.now) }
+    ensures least { written.old ≤ written.new }
 {
+    raise(written, text.len());
     let mut k = 0;
     while k < starts.len() {
         let start = starts[k] as usize;

@@ -5,6 +5,8 @@ ghost use Rattle.bidi.specs.Levels.{levels_of};
 ghost use Rattle.breaks.specs.Marks.{marks_of};
 ghost use Rattle.lines.specs.Bare.{with_ends};
 ghost use Rattle.lines.specs.Clusters.{cluster_ends};
+ghost use Rattle.lines.specs.Counts.{FillsAll, FillsSome};
+ghost use Rattle.lines.specs.Engine.{counted};
 ghost use Rattle.lines.specs.Extents.{shown_from};
 ghost use Rattle.lines.specs.Filling.{line_starts_of};
 ghost use Rattle.lines.specs.Layouts.{AreWithin, base_of, lines_of};
@@ -13,6 +15,7 @@ ghost use Rattle.lines.specs.Places.{places_of};
 ghost use Rattle.lines.specs.Visual.{lines_from};
 ghost use Rattle.lines.specs.declared.engine.TheConstants.{PARAGRAPH_LIMIT};
 
+use crate::counts::{Counts, raise};
 use crate::extents::Extents;
 use crate::filling::line_starts;
 use crate::options::Options;
@@ -76,6 +79,8 @@ impl Work {
     ghost use Rattle.ucd.specs.Properties.{properties_of};
     ghost use Rattle.bidi.specs.Levels.{levels_of};
     ghost use Rattle.breaks.specs.Marks.{marks_of};
+    ghost use Rattle.lines.specs.Counts.{FillsAll, FillsSome, FindsAll, FindsSome, LaysOutAll, LaysOutSome};
+    ghost use Rattle.lines.specs.Engine.{counted};
     ghost use Rattle.lines.specs.Extents.{extents_of};
     ghost use Rattle.lines.specs.Layouts.{AreWithin, base_of, fill_of, layout_of};
     ghost use Rattle.lines.specs.Lists.{held_lines, AreSound};
@@ -98,6 +103,7 @@ impl Work {
         text: &[char],
         width: u16,
         kept: &mut Kept,
+        counts: &mut Counts,
     ) -> Result<u8, AllocError>
         requires { length text.now ≤ PARAGRAPH_LIMIT }
         ensures base { IfOk result (λ base. base ≡ (layout_of
@@ -112,8 +118,16 @@ impl Work {
         ensures sound { OnOk result (AreSound kept.new.lines) }
         ensures within { OnOk result (AreWithin (length text.now) (held_lines kept.new.lines)) }
         ensures lines_len { OnOk result (length kept.new.lines.levels.items ≡ length text.now) }
+        ensures counts { OnOk result (LaysOutAll (length text.now) counts.old counts.new) }
+        ensures at_most { LaysOutSome (length text.now) counts.old counts.new }
     {
-        let base = self.resolve(tables, options, text, &mut kept.levels)?;
+        let base = self.resolve(
+            tables,
+            options,
+            text,
+            &mut kept.levels,
+            &mut counts.analysed,
+        )?;
         let properties = self.properties.as_slice();
         make_room(&mut kept.marks, text.len())?;
         marks_into(
@@ -136,18 +150,20 @@ impl Work {
             &kept.marks,
             width,
             &mut kept.lines,
+            counts,
         )?;
         Ok(base)
     }
 
     // The base level of a paragraph, and its levels, put into a list. What the tables say of its characters
-    // is looked up for it, and stays.
+    // is looked up for it, and stays. Counts the characters.
     fn resolve(
         &mut self,
         tables: &Tables,
         options: Options,
         text: &[char],
         levels: &mut Vec<u8>,
+        analysed: &mut u64,
     ) -> Result<u8, AllocError>
         ensures base { IfOk result (λ base.
             base ≡ base_of (record { tables = tables.now; options = options }) text.now) }
@@ -155,7 +171,10 @@ impl Work {
         ensures len { OnOk result (length levels.new.items ≡ length text.now) }
         ensures properties { OnOk result
             (self.new.properties.items ≡ map (properties_of tables.now) text.now) }
+        ensures counts { analysed.new ≡ counted analysed.old (length text.now) }
+        ensures least { analysed.old ≤ analysed.new }
     {
+        raise(analysed, text.len());
         take_properties(tables, text, &mut self.properties)?;
         make_room(levels, text.len())?;
         self.resolver
@@ -171,17 +190,27 @@ impl Work {
         text: &[char],
         marks: &[Mark],
         width: u16,
+        counts: &mut Counts,
     ) -> Result<Extents, AllocError>
         requires marks { marks.now ≡ marks_of tables.now options.whole_numbers text.now }
         requires within { length text.now ≤ PARAGRAPH_LIMIT }
-        ensures { IfOk result (λ extents. extents
+        ensures extents { IfOk result (λ extents. extents
             ≡ extents_of (record { tables = tables.now; options = options }) width text.now) }
+        ensures counts { OnOk result (FindsAll (length text.now) counts.old counts.new) }
+        ensures at_most { FindsSome (length text.now) counts.old counts.new }
     {
         take_properties(tables, text, &mut self.properties)?;
         let whole_numbers = options.whole_numbers;
         let places = &mut self.places;
         take_places(tables, text, &self.properties, whole_numbers, marks, places)?;
-        extents_of_places(alloc, text, places, width, options.nobreak)
+        extents_of_places(
+            alloc,
+            text,
+            places,
+            width,
+            options.nobreak,
+            &mut counts.filled,
+        )
     }
 
     /// The lines of a paragraph that is laid out.
@@ -195,6 +224,7 @@ impl Work {
         levels: &[u8],
         marks: &[Mark],
         width: u16,
+        counts: &mut Counts,
     ) -> Result<Fill, AllocError>
         requires base { base
             ≡ base_of (record { tables = tables.now; options = options }) text.now }
@@ -205,6 +235,8 @@ impl Work {
         ensures lines { IfOk result (λ fill. fill
             ≡ fill_of (record { tables = tables.now; options = options }) width text.now) }
         ensures within { IfOk result (λ fill. AreWithin (length text.now) fill.lines) }
+        ensures counts { OnOk result (FillsAll (length text.now) counts.old counts.new) }
+        ensures at_most { FillsSome (length text.now) counts.old counts.new }
     {
         take_properties(tables, text, &mut self.properties)?;
         let properties = self.properties.as_slice();
@@ -212,7 +244,7 @@ impl Work {
         let mut lists = Lists::new(alloc);
         put_lines(
             alloc, tables, options, text, properties, places, base, levels, marks, width,
-            &mut lists,
+            &mut lists, counts,
         )?;
         Ok(Fill::of(lists))
     }
@@ -241,6 +273,7 @@ fn extents_of_places(
     places: &mut [Place],
     width: u16,
     nobreak: bool,
+    filled: &mut u64,
 ) -> Result<Extents, AllocError>
     requires len { length places.old ≡ length text.now }
     requires within { length text.now ≤ PARAGRAPH_LIMIT }
@@ -248,9 +281,11 @@ fn extents_of_places(
         ≡ line_starts_of nobreak width (with_ends places.old (cluster_ends text.now))) }
     ensures shown { IfOk result (λ extents. extents.shown
         ≡ shown_from (length text.now) (with_ends places.old (cluster_ends text.now)) extents.starts) }
+    ensures counts { filled.new ≡ counted filled.old (length text.now) }
+    ensures least { filled.old ≤ filled.new }
 {
     let mut starts = Vec::new(alloc);
-    line_starts(alloc, text, places, width, nobreak, &mut starts)?;
+    line_starts(alloc, text, places, width, nobreak, &mut starts, filled)?;
     let mut shown = Vec::new(alloc);
     take_shown(places, &starts, &mut shown)?;
     Ok(Extents { starts, shown })
@@ -269,6 +304,7 @@ fn put_lines(
     marks: &[Mark],
     width: u16,
     lists: &mut Lists,
+    counts: &mut Counts,
 ) -> Result<(), AllocError>
     requires properties { properties.now ≡ map (properties_of tables.now) text.now }
     requires base { base
@@ -282,11 +318,13 @@ fn put_lines(
     ensures sound { OnOk result (AreSound lists.new) }
     ensures within { OnOk result (AreWithin (length text.now) (held_lines lists.new)) }
     ensures lines_len { OnOk result (length lists.new.levels.items ≡ length text.now) }
+    ensures counts { OnOk result (FillsAll (length text.now) counts.old counts.new) }
+    ensures at_most { FillsSome (length text.now) counts.old counts.new }
 {
     let whole_numbers = options.whole_numbers;
     take_places(tables, text, properties, whole_numbers, marks, places)?;
     put_lines_of_places(
-        alloc, tables, options, text, properties, places, base, levels, width, lists,
+        alloc, tables, options, text, properties, places, base, levels, width, lists, counts,
     )
 }
 
@@ -302,6 +340,7 @@ fn put_lines_of_places(
     levels: &[u8],
     width: u16,
     lists: &mut Lists,
+    counts: &mut Counts,
 ) -> Result<(), AllocError>
     requires properties { properties.now ≡ map (properties_of tables.now) text.now }
     requires places { with_ends places.old (cluster_ends text.now)
@@ -314,6 +353,8 @@ fn put_lines_of_places(
     ensures sound { OnOk result (AreSound lists.new) }
     ensures within { OnOk result (AreWithin (length text.now) (held_lines lists.new)) }
     ensures lines_len { OnOk result (length lists.new.levels.items ≡ length text.now) }
+    ensures counts { OnOk result (FillsAll (length text.now) counts.old counts.new) }
+    ensures at_most { FillsSome (length text.now) counts.old counts.new }
 {
     line_starts(
         alloc,
@@ -322,8 +363,17 @@ fn put_lines_of_places(
         width,
         options.nobreak,
         &mut lists.starts,
+        &mut counts.filled,
     )?;
     show_lines(
-        tables, text, properties, options, base, levels, places, lists,
+        tables,
+        text,
+        properties,
+        options,
+        base,
+        levels,
+        places,
+        lists,
+        &mut counts.written,
     )
 }

@@ -22,11 +22,13 @@ returns c =
     c.deref.ensures.value c.in_ok-take_shown.ensures in
     let count = ap length parts ∙ length-shown_from (length c.args.text.now) c.args.places.now c.args.lists.now.starts.items in
     let shown = shown_as c.args.tables.now c.args.options c.args.base c.args.text.now c.args.levels.now c.deref_mut.result.now c.args.lists.now.starts.items c.deref-2.result.now
-    c.take_shown.new.shown.items c.deref-3.result.now (c.deref_mut.ensures.value ∙ c.in_ok-copy.ensures) c.deref-2.ensures.value c.deref-3.ensures.value c.show_each.ensures in
+    c.take_shown.new.shown.items c.deref-3.result.now (c.deref_mut.ensures.value ∙ c.in_ok-copy.ensures) c.deref-2.ensures.value c.deref-3.ensures.value c.show_each.ensures.shown in
     record {
       sound = rw (l, t, v, h) (sound _ _ _ _ _ _ _ _ _ _ _ c.requires.starts count (omega (arith, ap length c.in_ok-copy.ensures))
           (omega (arith, c.in_ok-make_numbers.ensures)) (omega (arith, c.in_ok-make_numbers-2.ensures)) (omega (arith, c.in_ok-make_characters.ensures)) shown);
       lines = rw (l, t, v, h) (all_shown _ _ _ _ _ _ _ _ _ _ _ _ parts shown);
       within = rw (l, t, v, h) (all_within _ _ _ _ _ _ _ _ _ _ _ c.requires.starts count (omega (arith, ap length c.in_ok-copy.ensures)) shown);
       lines_len = rw l (search rules);
+      counts = c.show_each.ensures.counts;
+      at_most = record { least = c.show_each.ensures.least; most = omega (arith, c.show_each.ensures.counts) };
     }

@@ -11,13 +11,11 @@ use Rattle.lines.proofs.engine.Engine.write_paragraph.Goals as goal
 
 pub returns-clause-ok : goal.returns-clause-ok
 returns-clause-ok g c =
-    subst (λ (e : State). OnOk c.write_lines.result (Wrote (paragraph_bytes (rules_of e) c.args.width c.args.print.now c.args.text.now)
-    (g.W.Sink.state c.args.writer.now) (g.W.Sink.state c.write_lines.new.writer))) c.self.view_is c.write_lines.ensures.ok
+    c.write_lines.ensures.ok
 
 pub returns-clause-err : goal.returns-clause-err
 returns-clause-err g c =
-    subst (λ (e : State). IfErr c.write_lines.result (λ fault. FailedAs fault (paragraph_bytes (rules_of e) c.args.width c.args.print.now c.args.text.now)
-    (g.W.Sink.state c.args.writer.now) (g.W.Sink.state c.write_lines.new.writer))) c.self.view_is c.write_lines.ensures.err
+    c.write_lines.ensures.err
 
 -- where no line is printed, the direction is all there is
 pub returns-then-skips_lines-clause-ok : goal.returns-then-skips_lines-clause-ok
@@ -26,8 +24,7 @@ returns-then-skips_lines-clause-ok g c =
     let print = c.args.print.now in
     let rules = rules_of c.args.self.now in
     let marks = subst (λ (e : State). length (marks_of (rules_of e).tables (rules_of e).options.whole_numbers text) ≡ length text) c.self.view_is c.marks_are_as_many.ensures in
-    let same = ap (λ (e : State). if print.basedir then direction_line (base_of (rules_of e) text) else []) c.self.view_is
-    ∙ direction_only rules c.args.width print text (sym c.skips_lines.ensures ∙ c.if-skips_lines.true) c.requires.paragraph marks in
+    let same = direction_only rules c.args.width print text (sym c.skips_lines.ensures ∙ c.if-skips_lines.true) c.requires.paragraph marks in
     subst (λ (bytes : List ℕ). OnOk c.write_base.result (Wrote bytes (g.W.Sink.state c.args.writer.now) (g.W.Sink.state c.write_base.new.writer))) same c.write_base.ensures.ok
 
 pub returns-then-skips_lines-clause-err : goal.returns-then-skips_lines-clause-err
@@ -36,6 +33,5 @@ returns-then-skips_lines-clause-err g c =
     let print = c.args.print.now in
     let rules = rules_of c.args.self.now in
     let marks = subst (λ (e : State). length (marks_of (rules_of e).tables (rules_of e).options.whole_numbers text) ≡ length text) c.self.view_is c.marks_are_as_many.ensures in
-    let same = ap (λ (e : State). if print.basedir then direction_line (base_of (rules_of e) text) else []) c.self.view_is
-    ∙ direction_only rules c.args.width print text (sym c.skips_lines.ensures ∙ c.if-skips_lines.true) c.requires.paragraph marks in
+    let same = direction_only rules c.args.width print text (sym c.skips_lines.ensures ∙ c.if-skips_lines.true) c.requires.paragraph marks in
     subst (λ (bytes : List ℕ). IfErr c.write_base.result (λ fault. FailedAs fault bytes (g.W.Sink.state c.args.writer.now) (g.W.Sink.state c.write_base.new.writer))) same c.write_base.ensures.err

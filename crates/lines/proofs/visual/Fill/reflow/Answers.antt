@@ -21,7 +21,7 @@ invariant_of-self c =
     let h = with_items_is c.self.inside.chars c.show_each.new.chars (omega arith) in
     let shown = shown_as c.args.tables.now c.args.options c.args.base c.args.text.now c.args.levels.now c.deref_mut.result.now c.args.extents.now.starts c.deref.result.now
     c.args.extents.now.shown c.deref-2.result.now (c.deref_mut.ensures.value ∙ c.copy_from_slice.ensures.items) (c.deref.ensures.value ∙ starts) (c.deref-2.ensures.value ∙ parts)
-    c.show_each.ensures in
+    c.show_each.ensures.shown in
     let count : length c.args.extents.now.shown ≡ length c.args.extents.now.starts =
     ap length c.requires.shown.1 ∙ length-shown_from (length c.args.text.now) c.requires.shown.0 c.args.extents.now.starts in
     let levels_len : length c.show_each.new.levels ≡ length c.args.text.now = omega (arith, len) in
@@ -41,7 +41,7 @@ returns-clause-lines c places is =
     let h = with_items_is c.self.inside.chars c.show_each.new.chars (omega arith) in
     let shown = shown_as c.args.tables.now c.args.options c.args.base c.args.text.now c.args.levels.now c.deref_mut.result.now c.args.extents.now.starts c.deref.result.now
     c.args.extents.now.shown c.deref-2.result.now (c.deref_mut.ensures.value ∙ c.copy_from_slice.ensures.items) (c.deref.ensures.value ∙ starts) (c.deref-2.ensures.value ∙ parts)
-    c.show_each.ensures in
+    c.show_each.ensures.shown in
     rw (l, t, v, h, starts, parts) (all_shown _ _ _ _ _ _ _ _ _ _ _ _ is shown)
 
 pub returns-clause-within : goal.returns-clause-within
@@ -55,7 +55,7 @@ returns-clause-within c =
     let h = with_items_is c.self.inside.chars c.show_each.new.chars (omega arith) in
     let shown = shown_as c.args.tables.now c.args.options c.args.base c.args.text.now c.args.levels.now c.deref_mut.result.now c.args.extents.now.starts c.deref.result.now
     c.args.extents.now.shown c.deref-2.result.now (c.deref_mut.ensures.value ∙ c.copy_from_slice.ensures.items) (c.deref.ensures.value ∙ starts) (c.deref-2.ensures.value ∙ parts)
-    c.show_each.ensures in
+    c.show_each.ensures.shown in
     let count : length c.args.extents.now.shown ≡ length c.args.extents.now.starts =
     ap length c.requires.shown.1 ∙ length-shown_from (length c.args.text.now) c.requires.shown.0 c.args.extents.now.starts in
     let levels_len : length c.show_each.new.levels ≡ length c.args.text.now = omega (arith, len) in
