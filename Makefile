@@ -2,10 +2,10 @@
 #             make demo TEXT=FILE OPTIONS="--width 60 --basedir"
 # make        proves and builds the program, as bin/fribidi
 # make ucd    the seven table files of Unicode 15.0, from Debian's package unicode-data, into ucd/
-# make check  what to run before each commit, once make has built: the cases, the calls that fail, Unicode's conformance
-#             tests, the libraries' tests, the stored runs and the format
-# make test   the gate: every proof from nothing, the must-fail edits, the tests and the stored runs; then the cases, each
-#             allocation refused in turn, and each call of a device failing
+# make check  what to run before each commit, once make has built: what the documents name, the cases, the calls
+#             that fail, Unicode's conformance tests, the libraries' tests, the stored runs and the format
+# make test   the gate: every proof from nothing, the must-fail edits, the tests and the stored runs; then what the
+#             documents name, the cases, each allocation refused in turn, and each call of a device failing
 # make attack the other wrong bodies, many at a time, over what make has built: make attack CRATES="lines session"
 # make conformance  Unicode 15.0's three conformance tests, of the same package, over what the proved library finds
 # make bench  the time of the command beside that of Debian's fribidi and of ICU, edits a second of a session and lines a
@@ -75,7 +75,8 @@ check: ucd
 	.ci/check
 
 test:
-	@log=$$(mktemp) && bash -o pipefail -c "RT_JOBS=$$(.ci/lanes) rt ci | tee $$log && cases/run $$log | tee -a $$log && faults/run $$log"; status=$$?; rm -f $$log; exit $$status
+	@log=$$(mktemp) && bash -o pipefail -c "RT_JOBS=$$(.ci/lanes) rt ci | tee $$log && .ci/names $$log | tee -a $$log \
+		&& cases/run $$log | tee -a $$log && faults/run $$log"; status=$$?; rm -f $$log; exit $$status
 
 attack:
 	attack/run $(CRATES)
