@@ -2,7 +2,7 @@
 //! or may not end.
 #![tactic(auto)]
 
-mod character;
+mod entries;
 mod mark;
 mod symbol;
 mod table;
