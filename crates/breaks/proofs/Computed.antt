@@ -2,17 +2,18 @@
 use Rattle.std.proofs.Common.{◌≡◌, ℕ, ◌+◌, ◌*◌, ◌/◌, ◌%◌, ◌==◌, nat_lt, nat_le, Bool, true, false, not, ◌&&◌, ◌||◌, List, [], ◌∷◌, map, get_or, refl, if◌then◌else◌}
 use Rattle.std.proofs.Math.ListN.{set}
 use Rattle.ucd.specs.declared.line_class.LineClass.TheVariants.{CM, NU, OP, ZWJ}
-use Rattle.breaks.specs.Bases.{Base, alone}
+use Rattle.breaks.specs.Bases.{Base, Character, alone}
 use Rattle.breaks.specs.Classes.{is_same, is_one_of}
 use Rattle.breaks.specs.Rules.{rows_before_numbers, rows_of_numbers, rows_behind_numbers, is}
 use Rattle.breaks.specs.Symbols.{shown}
 use Rattle.breaks.specs.Walk.{base, bases_at, unattached, answers, carried, decided_at, mark_of, rows}
-use Rattle.breaks.specs.declared.character.Character.{Character}
 use Rattle.breaks.specs.declared.mark.Mark.{Mark}
 use Rattle.breaks.specs.declared.mark.Mark.TheVariants.{Never, May, Must}
-use Rattle.breaks.specs.declared.symbol.TheConstants.{ATTACHED, DIGIT, JOINER, SYMBOLS}
-use Rattle.breaks.specs.declared.table.TheConstants.{PARTS, STAYS, TABLE, WAITS}
+use Rattle.breaks.specs.declared.symbol.TheConstants.{ATTACHED, DIGIT, JOINER, SYMBOLS, SYMBOL_COUNT}
+use Rattle.breaks.specs.declared.entries.TheConstants.{TABLE}
+use Rattle.breaks.specs.declared.table.TheConstants.{ENTRY_COUNT, LAST_ROW, PARTS, STATE_COUNT, STAYS, WAITS}
 use Rattle.breaks.proofs.BoolLemmas.{same, all_same, all_below}
+use Rattle.ucd.specs.declared.properties.TheConstants.{LINE_INDEX_COUNT}
 
 -- the mark of the first rule of which both answers are true, and LB31 where there is none
 abbrev pub decide : List Mark → List Bool → List Bool → Mark
@@ -91,15 +92,15 @@ leads whole_numbers false state symbol outcome next =
 
 abbrev pub entry_leads : Bool → ℕ → ℕ → ℕ → ℕ → Bool
 entry_leads whole_numbers state symbol entry next =
-    (entry / PARTS == next * 40)
-    && (nat_lt next 41 && leads whole_numbers (stays state symbol) state symbol (entry % PARTS) next)
+    (entry / PARTS == next * SYMBOL_COUNT)
+    && (nat_lt next STATE_COUNT && leads whole_numbers (stays state symbol) state symbol (entry % PARTS) next)
 
 abbrev pub is_right : Bool → ℕ → ℕ → ℕ → Bool
-is_right whole_numbers state symbol entry = entry_leads whole_numbers state symbol entry (entry / PARTS / 40)
+is_right whole_numbers state symbol entry = entry_leads whole_numbers state symbol entry (entry / PARTS / SYMBOL_COUNT)
 
 abbrev pub all_right : Bool → ℕ → Bool
 all_right whole_numbers state =
-    all_below 40 (λ symbol. is_right whole_numbers state symbol (get_or TABLE (state * 40 + symbol) 0))
+    all_below SYMBOL_COUNT (λ symbol. is_right whole_numbers state symbol (get_or TABLE (state * SYMBOL_COUNT + symbol) 0))
 
 -- A test that computes to true has a proof, so that one that computes to false is refused at once.
 abbrev Holds : Bool → Type 0
@@ -110,25 +111,25 @@ holds : (b : Bool) → Holds b → b ≡ true
 holds true h = refl
 holds false h = absurd h
 
-pub table_is_right : all_below 41 (all_right false) ≡ true
+pub table_is_right : all_below STATE_COUNT (all_right false) ≡ true
 unfolding rows rows_before_numbers rows_of_numbers rows_behind_numbers
-table_is_right = holds (all_below 41 (all_right false)) tt
+table_is_right = holds (all_below STATE_COUNT (all_right false)) tt
 
-pub table_is_right_whole : all_below 41 (all_right true) ≡ true
+pub table_is_right_whole : all_below STATE_COUNT (all_right true) ≡ true
 unfolding rows rows_before_numbers rows_of_numbers rows_behind_numbers
-table_is_right_whole = holds (all_below 41 (all_right true)) tt
+table_is_right_whole = holds (all_below STATE_COUNT (all_right true)) tt
 
-pub entries_are_within : all_below 1640 (λ place. nat_le (get_or TABLE place 0 / PARTS) 1600) ≡ true
+pub entries_are_within : all_below ENTRY_COUNT (λ place. nat_le (get_or TABLE place 0 / PARTS) LAST_ROW) ≡ true
 entries_are_within = refl
 
-pub symbols_are_within : all_below 512 (λ place. nat_lt (get_or SYMBOLS place 0) 40) ≡ true
+pub symbols_are_within : all_below LINE_INDEX_COUNT (λ place. nat_lt (get_or SYMBOLS place 0) SYMBOL_COUNT) ≡ true
 symbols_are_within = refl
 
-pub joiner_is_one : all_below 40 (λ symbol. same (symbol == JOINER) (is_same (shown symbol).class ZWJ)) ≡ true
+pub joiner_is_one : all_below SYMBOL_COUNT (λ symbol. same (symbol == JOINER) (is_same (shown symbol).class ZWJ)) ≡ true
 joiner_is_one = refl
 
-pub digit_is_one : all_below 40 (λ symbol. same (symbol == DIGIT) (is_same (shown symbol).class NU)) ≡ true
+pub digit_is_one : all_below SYMBOL_COUNT (λ symbol. same (symbol == DIGIT) (is_same (shown symbol).class NU)) ≡ true
 digit_is_one = refl
 
-pub attached_are_last : all_below 40 (λ symbol. same (nat_lt symbol ATTACHED) (not (is_one_of (CM ∷ ZWJ ∷ []) (shown symbol).class))) ≡ true
+pub attached_are_last : all_below SYMBOL_COUNT (λ symbol. same (nat_lt symbol ATTACHED) (not (is_one_of (CM ∷ ZWJ ∷ []) (shown symbol).class))) ≡ true
 attached_are_last = refl

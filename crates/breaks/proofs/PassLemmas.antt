@@ -3,16 +3,16 @@ use Rattle.std.proofs.Common.{◌≡◌, ℕ, ◌+◌, ◌*◌, ◌/◌, ◌%◌
 use Rattle.std.proofs.lemmas.Bool.{cases_Bool}
 use Rattle.ucd.specs.declared.line_class.LineClass.{LineClass}
 use Rattle.ucd.specs.declared.line_class.LineClass.TheVariants.{CM, NU, OP, ZWJ}
-use Rattle.breaks.specs.Bases.{Base, alone, base_class, bases_of, end_of, joined, stays_with}
+use Rattle.breaks.specs.Bases.{Base, Character, alone, base_class, bases_of, end_of, joined, stays_with}
 use Rattle.breaks.specs.Classes.{is_same, is_one_of}
 use Rattle.breaks.specs.Rules.{rows_before_numbers, rows_of_numbers, rows_behind_numbers, rules, mark_by, is}
 use Rattle.breaks.specs.Symbols.{shown, told}
 use Rattle.breaks.specs.Walk.{Stands, Passes, with_attached, bases_at, unattached, answers, carried, decided_at, is_before_digit, mark_of, rows}
-use Rattle.breaks.specs.declared.character.Character.{Character}
 use Rattle.breaks.specs.declared.mark.Mark.{Mark}
 use Rattle.breaks.specs.declared.mark.Mark.TheVariants.{Never, May, Must}
-use Rattle.breaks.specs.declared.symbol.TheConstants.{JOINER}
-use Rattle.breaks.specs.declared.table.TheConstants.{NEVER, PARTS, STAYS, TABLE, UNLESS, WAITS}
+use Rattle.breaks.specs.declared.symbol.TheConstants.{JOINER, SYMBOL_COUNT}
+use Rattle.breaks.specs.declared.entries.TheConstants.{TABLE}
+use Rattle.breaks.specs.declared.table.TheConstants.{ENTRY_COUNT, LAST_ROW, NEVER, PARTS, STATE_COUNT, STAYS, UNLESS, WAITS}
 use Rattle.breaks.specs.declared.walk.Walk.{Walk}
 use Rattle.breaks.proofs.BoolLemmas.{both, same, same_is, all_same, all_same_is, below, is_below, is_within, is_equal}
 use Rattle.breaks.proofs.Computed.{all_right, decide, marks_by_row, behinds, answered_with, is_mark, stays, is_as, gives_both, gives_each, leads, is_right, table_is_right, table_is_right_whole, entries_are_within, waits_for_base}
@@ -71,23 +71,23 @@ given whole_numbers state symbol outcome true is_pictograph before_digit free ea
 -- what an entry says
 pub record Leads (whole_numbers : Bool) (state symbol entry : ℕ) : Type 0 where
   pub next : ℕ
-  pub below : next < 41
-  pub row : entry / PARTS ≡ next * 40
+  pub below : next < STATE_COUNT
+  pub row : entry / PARTS ≡ next * SYMBOL_COUNT
   pub leads : leads whole_numbers (stays state symbol) state symbol (entry % PARTS) next ≡ true
 
-state_is_right : (whole_numbers : Bool) (state : ℕ) → state < 41 → all_right whole_numbers state ≡ true
-state_is_right true state state_lt = below 41 (all_right true) table_is_right_whole state state_lt
-state_is_right false state state_lt = below 41 (all_right false) table_is_right state state_lt
+state_is_right : (whole_numbers : Bool) (state : ℕ) → state < STATE_COUNT → all_right whole_numbers state ≡ true
+state_is_right true state state_lt = below STATE_COUNT (all_right true) table_is_right_whole state state_lt
+state_is_right false state state_lt = below STATE_COUNT (all_right false) table_is_right state state_lt
 
-pub entry_is_right : (whole_numbers : Bool) (state symbol row entry : ℕ) → state < 41 → symbol < 40 → row ≡ state * 40 → entry ≡ get_or TABLE (row + symbol) 0 → Leads whole_numbers state symbol entry
+pub entry_is_right : (whole_numbers : Bool) (state symbol row entry : ℕ) → state < STATE_COUNT → symbol < SYMBOL_COUNT → row ≡ state * SYMBOL_COUNT → entry ≡ get_or TABLE (row + symbol) 0 → Leads whole_numbers state symbol entry
 entry_is_right whole_numbers state symbol row entry state_lt symbol_lt begins reads =
     let at_state = state_is_right whole_numbers state state_lt in
-    let at_symbol = below 40 (λ symbol. is_right whole_numbers state symbol (get_or TABLE (state * 40 + symbol) 0)) at_state symbol symbol_lt in
+    let at_symbol = below SYMBOL_COUNT (λ symbol. is_right whole_numbers state symbol (get_or TABLE (state * SYMBOL_COUNT + symbol) 0)) at_state symbol symbol_lt in
     let right : is_right whole_numbers state symbol entry ≡ true = rw (reads, begins) at_symbol in
-    let next : ℕ = entry / PARTS / 40 in
+    let next : ℕ = entry / PARTS / SYMBOL_COUNT in
     let leading : Bool = leads whole_numbers (stays state symbol) state symbol (entry % PARTS) next in
-    let row_and : ((entry / PARTS == next * 40) ≡ true) × ((nat_lt next 41 && leading) ≡ true) = both _ _ right in
-    let next_and : (nat_lt next 41 ≡ true) × (leading ≡ true) = both _ _ row_and.1 in
+    let row_and : ((entry / PARTS == next * SYMBOL_COUNT) ≡ true) × ((nat_lt next STATE_COUNT && leading) ≡ true) = both _ _ right in
+    let next_and : (nat_lt next STATE_COUNT ≡ true) × (leading ≡ true) = both _ _ row_and.1 in
     record { next = next; below = is_below _ _ next_and.0; row = is_equal _ _ row_and.0; leads = next_and.1 }
 
 -- what it says in front of a character that begins a base
@@ -119,7 +119,7 @@ beginning whole_numbers state symbol outcome next led =
     }
 
 -- a character that begins a base, behind bases that carry what those of a state do
-pub begins : (whole_numbers : Bool) (state symbol entry : ℕ) (c : Character) (before : List Base) → symbol < 40 → shown symbol ≡ told c → Leads whole_numbers state symbol entry → stays state symbol ≡ false → carried before ≡ carried (bases_at state) → Stands whole_numbers (record { row = entry / PARTS; is_joined = symbol == JOINER; is_pictograph = c.is_future_pictograph }) (alone c) before
+pub begins : (whole_numbers : Bool) (state symbol entry : ℕ) (c : Character) (before : List Base) → symbol < SYMBOL_COUNT → shown symbol ≡ told c → Leads whole_numbers state symbol entry → stays state symbol ≡ false → carried before ≡ carried (bases_at state) → Stands whole_numbers (record { row = entry / PARTS; is_joined = symbol == JOINER; is_pictograph = c.is_future_pictograph }) (alone c) before
 begins whole_numbers state symbol entry c before symbol_lt shows entry_leads begun carry =
     let says : Begins whole_numbers state symbol (entry % PARTS) entry_leads.next = beginning _ _ _ _ _ (rw begun at entry_leads.leads) in
     record {
@@ -138,7 +138,7 @@ begins whole_numbers state symbol entry c before symbol_lt shows entry_leads beg
     }
 
 -- a character that stays with the last base
-attached : (whole_numbers : Bool) (walk : Walk) (last : Base) (others : List Base) (stands : Stands whole_numbers walk last others) (symbol entry : ℕ) (c : Character) → symbol < 40 → shown symbol ≡ told c → Leads whole_numbers stands.state symbol entry → stays stands.state symbol ≡ true → Stands whole_numbers (record { row = entry / PARTS; is_joined = symbol == JOINER; is_pictograph = walk.is_pictograph }) (with_attached last c) others
+attached : (whole_numbers : Bool) (walk : Walk) (last : Base) (others : List Base) (stands : Stands whole_numbers walk last others) (symbol entry : ℕ) (c : Character) → symbol < SYMBOL_COUNT → shown symbol ≡ told c → Leads whole_numbers stands.state symbol entry → stays stands.state symbol ≡ true → Stands whole_numbers (record { row = entry / PARTS; is_joined = symbol == JOINER; is_pictograph = walk.is_pictograph }) (with_attached last c) others
 attached whole_numbers walk last others stands symbol entry c symbol_lt shows entry_leads stay =
     let led : leads whole_numbers true stands.state symbol (entry % PARTS) entry_leads.next ≡ true = rw stay at entry_leads.leads in
     let here : List Base = bases_at stands.state in
@@ -298,7 +298,7 @@ never_stays whole_numbers outcome false is_pictograph before_digit stay =
     ap (λ o. mark_of whole_numbers (decided_at o false is_pictograph) before_digit) (is_equal outcome STAYS stay)
     ∙ never_outcome whole_numbers before_digit is_pictograph
 
-pub passes : (whole_numbers : Bool) (walk : Walk) (symbol entry : ℕ) (c : Character) → symbol < 40 → shown symbol ≡ told c → entry ≡ get_or TABLE (walk.row + symbol) 0 → (last : Base) (others : List Base) → Stands whole_numbers walk last others → Passes whole_numbers (record { row = entry / PARTS; is_joined = symbol == JOINER; is_pictograph = kept walk (entry % PARTS) c }) last others c (decided_at (entry % PARTS) walk.is_joined walk.is_pictograph)
+pub passes : (whole_numbers : Bool) (walk : Walk) (symbol entry : ℕ) (c : Character) → symbol < SYMBOL_COUNT → shown symbol ≡ told c → entry ≡ get_or TABLE (walk.row + symbol) 0 → (last : Base) (others : List Base) → Stands whole_numbers walk last others → Passes whole_numbers (record { row = entry / PARTS; is_joined = symbol == JOINER; is_pictograph = kept walk (entry % PARTS) c }) last others c (decided_at (entry % PARTS) walk.is_joined walk.is_pictograph)
 passes whole_numbers walk symbol entry c symbol_lt shows reads last others stands =
     let entry_leads : Leads whole_numbers stands.state symbol entry = entry_is_right whole_numbers stands.state symbol walk.row entry stands.below symbol_lt stands.row reads in
     let whether = stays_is whole_numbers walk last others stands symbol c shows in
@@ -317,17 +317,17 @@ passes whole_numbers walk symbol entry c symbol_lt shows reads last others stand
     ]
 
 -- a text's start is to what follows as BK is
-pub starts : (symbol entry : ℕ) (c : Character) → symbol < 40 → shown symbol ≡ told c → entry ≡ get_or TABLE (0 + symbol) 0 → (whole_numbers : Bool) → Stands whole_numbers (record { row = entry / PARTS; is_joined = symbol == JOINER; is_pictograph = c.is_future_pictograph }) (alone c) []
+pub starts : (symbol entry : ℕ) (c : Character) → symbol < SYMBOL_COUNT → shown symbol ≡ told c → entry ≡ get_or TABLE (0 + symbol) 0 → (whole_numbers : Bool) → Stands whole_numbers (record { row = entry / PARTS; is_joined = symbol == JOINER; is_pictograph = c.is_future_pictograph }) (alone c) []
 starts symbol entry c symbol_lt shows reads whole_numbers =
     begins whole_numbers 0 symbol entry c [] symbol_lt shows (entry_is_right whole_numbers 0 symbol 0 entry (omega arith) symbol_lt refl reads) (and_false _) refl
 
 -- the same, of what a step makes of what is kept
-pub passes_as : (walk : Walk) (symbol entry : ℕ) (c : Character) (is_pictograph : Bool) (decided : ℕ) → symbol < 40 → shown symbol ≡ told c → entry ≡ get_or TABLE (walk.row + symbol) 0 → kept walk (entry % PARTS) c ≡ is_pictograph → decided ≡ decided_at (entry % PARTS) walk.is_joined walk.is_pictograph → (whole_numbers : Bool) (last : Base) (others : List Base) → Stands whole_numbers walk last others → Passes whole_numbers (record { row = entry / PARTS; is_joined = symbol == JOINER; is_pictograph = is_pictograph }) last others c decided
+pub passes_as : (walk : Walk) (symbol entry : ℕ) (c : Character) (is_pictograph : Bool) (decided : ℕ) → symbol < SYMBOL_COUNT → shown symbol ≡ told c → entry ≡ get_or TABLE (walk.row + symbol) 0 → kept walk (entry % PARTS) c ≡ is_pictograph → decided ≡ decided_at (entry % PARTS) walk.is_joined walk.is_pictograph → (whole_numbers : Bool) (last : Base) (others : List Base) → Stands whole_numbers walk last others → Passes whole_numbers (record { row = entry / PARTS; is_joined = symbol == JOINER; is_pictograph = is_pictograph }) last others c decided
 passes_as walk symbol entry c is_pictograph decided symbol_lt shows reads keeps is whole_numbers last others stands =
     rw (← keeps, is) (passes whole_numbers walk symbol entry c symbol_lt shows reads last others stands)
 
 -- each entry's next row is one of the table
-pub row_within : (place entry : ℕ) → place < 1640 → entry ≡ get_or TABLE place 0 → entry / PARTS ≤ 1600
+pub row_within : (place entry : ℕ) → place < ENTRY_COUNT → entry ≡ get_or TABLE place 0 → entry / PARTS ≤ LAST_ROW
 row_within place entry lt reads =
-    let test : nat_le (get_or TABLE place 0 / PARTS) 1600 ≡ true = below 1640 (λ place. nat_le (get_or TABLE place 0 / PARTS) 1600) entries_are_within place lt in
-    is_within (entry / PARTS) 1600 (ap (λ e. nat_le (e / PARTS) 1600) reads ∙ test)
+    let test : nat_le (get_or TABLE place 0 / PARTS) LAST_ROW ≡ true = below ENTRY_COUNT (λ place. nat_le (get_or TABLE place 0 / PARTS) LAST_ROW) entries_are_within place lt in
+    is_within (entry / PARTS) LAST_ROW (ap (λ e. nat_le (e / PARTS) LAST_ROW) reads ∙ test)

@@ -4,13 +4,12 @@ use Rattle.std.specs.List.{prefix_len}
 use Rattle.std.proofs.lemmas.Bool.Decides.{nat_tests}
 use Rattle.ucd.specs.declared.line_class.LineClass.{LineClass}
 use Rattle.ucd.specs.declared.line_class.LineClass.TheVariants.{B2, BA, CL, CM, CP, HL, HY, NU, OP, QU, RI, SP, ZW, ZWJ}
-use Rattle.breaks.specs.Bases.{Base, alone, class_of, end_of, last_of}
+use Rattle.breaks.specs.Bases.{Base, Character, alone, class_of, end_of, last_of}
 use Rattle.breaks.specs.Classes.{is_same, is_one_of}
 use Rattle.breaks.specs.Numbers.{affix, closing, middle, opening, is_in_number}
 use Rattle.breaks.specs.Rules.{Row, Rule, rule_of, rules, rows_before_numbers, rows_of_numbers, rows_behind_numbers, mark_by, is, is_pair, is_spaced, without_spaces, ends_in_odd_run}
 use Rattle.breaks.specs.Symbols.{narrow, told}
 use Rattle.breaks.specs.Walk.{answers, begins_unaffixed, carried, ends_in_closed_digits, ends_in_digits, goes_on_behind_digits, number_rows, rows}
-use Rattle.breaks.specs.declared.character.Character.{Character}
 use Rattle.breaks.specs.declared.mark.Mark.{Mark}
 use Rattle.breaks.specs.declared.mark.Mark.TheVariants.{Never, May}
 use Rattle.breaks.proofs.BoolLemmas.{cons}

@@ -5,17 +5,16 @@ use Rattle.std.specs.List.{slice_get}
 use Rattle.std.proofs.lemmas.Bool.{cases_Bool}
 use Rattle.std.proofs.lemmas.Bool.Decides.{nat_tests}
 use Rattle.std.proofs.lemmas.List.{at_drop_more, drop_all, length-map, length-set, take_all, take_more_set}
-use Rattle.breaks.specs.Bases.{Base, alone, joined, stays_with, bases_of, end_of, character}
+use Rattle.breaks.specs.Bases.{Base, Character, alone, joined, stays_with, bases_of, end_of, character}
 use Rattle.breaks.specs.Marks.{marks_behind, marks_of}
 use Rattle.breaks.specs.Classes.{is_same, is_one_of}
 use Rattle.breaks.specs.Rules.{rules, rows_before_numbers, mark_by}
 use Rattle.breaks.specs.Symbols.{character_by, shown, told}
 use Rattle.breaks.specs.Walk.{Passes, Stands, is_before_digit, mark_of, with_attached}
 use Rattle.ucd.specs.declared.line_class.LineClass.TheVariants.{CM, NU, ZWJ}
-use Rattle.breaks.specs.declared.character.Character.{Character}
 use Rattle.breaks.specs.declared.mark.Mark.{Mark}
 use Rattle.breaks.specs.declared.mark.Mark.TheVariants.{Never, Must}
-use Rattle.breaks.specs.declared.symbol.TheConstants.{ATTACHED, DIGIT}
+use Rattle.breaks.specs.declared.symbol.TheConstants.{ATTACHED, DIGIT, SYMBOL_COUNT}
 use Rattle.breaks.specs.declared.walk.Walk.{Walk}
 use Rattle.ucd.specs.declared.properties.Properties.{Properties}
 use Rattle.ucd.specs.declared.tables.Tables.{Tables}
@@ -122,23 +121,23 @@ not_other : (b : Bool) → not b ≡ false → b ≡ true
 not_other true h = refl
 not_other false h = cc
 
-attached_class : (symbol : ℕ) (c : Character) → symbol < 40 → shown symbol ≡ told c → nat_lt symbol ATTACHED ≡ false → is_one_of (CM ∷ ZWJ ∷ []) c.class ≡ true
+attached_class : (symbol : ℕ) (c : Character) → symbol < SYMBOL_COUNT → shown symbol ≡ told c → nat_lt symbol ATTACHED ≡ false → is_one_of (CM ∷ ZWJ ∷ []) c.class ≡ true
 attached_class symbol c below shows stays =
     ap (λ d. is_one_of (CM ∷ ZWJ ∷ []) d.class) (sym shows) ∙ not_other _ (sym (is_not_attached symbol below) ∙ stays)
 
-other_class : (symbol : ℕ) (c : Character) → symbol < 40 → shown symbol ≡ told c → nat_lt symbol ATTACHED ≡ true → is_one_of (CM ∷ ZWJ ∷ []) c.class ≡ false
+other_class : (symbol : ℕ) (c : Character) → symbol < SYMBOL_COUNT → shown symbol ≡ told c → nat_lt symbol ATTACHED ≡ true → is_one_of (CM ∷ ZWJ ∷ []) c.class ≡ false
 other_class symbol c below shows begins =
     ap (λ d. is_one_of (CM ∷ ZWJ ∷ []) d.class) (sym shows) ∙ not_is _ (sym (is_not_attached symbol below) ∙ begins)
 
 module _ {X : Type 0} (read : X → Character) (rest : List X) where
   -- looking for NU over what is attached: one more, or the answer
-  pub looks_on : (i : ℕ) (x : X) (symbol : ℕ) → i < length rest → x ≡ get_or rest i x → symbol < 40 → shown symbol ≡ told (read x) → ATTACHED ≤ symbol → is_before_digit (map read (drop i rest)) ≡ is_before_digit (map read (drop (i + 1) rest))
+  pub looks_on : (i : ℕ) (x : X) (symbol : ℕ) → i < length rest → x ≡ get_or rest i x → symbol < SYMBOL_COUNT → shown symbol ≡ told (read x) → ATTACHED ≤ symbol → is_before_digit (map read (drop i rest)) ≡ is_before_digit (map read (drop (i + 1) rest))
   looks_on i x symbol lt is below shows stays =
       let here : drop i rest ≡ x ∷ drop (i + 1) rest = at_drop_more (λ xs. xs) rest i x lt ∙ ap (λ y. y ∷ drop (i + 1) rest) (sym is) in
       let attached : is_one_of (CM ∷ ZWJ ∷ []) (read x).class ≡ true = attached_class symbol (read x) below shows (is_no_less symbol ATTACHED stays) in
       rw (here, attached) refl
 
-  pub finds : (i : ℕ) (x : X) (symbol : ℕ) → i < length rest → x ≡ get_or rest i x → symbol < 40 → shown symbol ≡ told (read x) → symbol < ATTACHED → (symbol == DIGIT) ≡ is_before_digit (map read (drop i rest))
+  pub finds : (i : ℕ) (x : X) (symbol : ℕ) → i < length rest → x ≡ get_or rest i x → symbol < SYMBOL_COUNT → shown symbol ≡ told (read x) → symbol < ATTACHED → (symbol == DIGIT) ≡ is_before_digit (map read (drop i rest))
   finds i x symbol lt is below shows stays =
       let here : drop i rest ≡ x ∷ drop (i + 1) rest = at_drop_more (λ xs. xs) rest i x lt ∙ ap (λ y. y ∷ drop (i + 1) rest) (sym is) in
       let other : is_one_of (CM ∷ ZWJ ∷ []) (read x).class ≡ false = other_class symbol (read x) below shows (is_less symbol ATTACHED stays) in

@@ -3,17 +3,17 @@
 use Rattle.std.specs.Prelude.{◌≡◌, ℕ, ◌*◌, ◌<◌, Bool, true, false, ◌||◌, ◌&&◌, ◌==◌, ◌++◌, List, [], ◌∷◌, map, MatchBool, get_or, if◌then◌else◌}
 use Rattle.ucd.specs.declared.line_class.LineClass.{LineClass}
 use Rattle.ucd.specs.declared.line_class.LineClass.TheVariants as class
-use Rattle.breaks.specs.Bases.{Base, alone, bases_of, class_of, end_of, stays_with}
+use Rattle.breaks.specs.Bases.{Base, Character, alone, bases_of, class_of, end_of, stays_with}
 use Rattle.breaks.specs.Classes.{is_same, is_one_of}
 use Rattle.breaks.specs.Numbers.{affix, closing, middle, opening}
 use Rattle.breaks.specs.Rules.{Row, rules, rows_before_numbers, rows_of_numbers, rows_behind_numbers, mark_by, never, is, is_spaced, ends_in_odd_run}
 use Rattle.breaks.specs.Symbols.{narrow}
-use Rattle.breaks.specs.declared.character.Character.{Character}
 use Rattle.breaks.specs.declared.mark.Mark.{Mark}
 use Rattle.breaks.specs.declared.mark.Mark.TheVariants.{Never}
-use Rattle.breaks.specs.declared.table.TheConstants.{NEVER, UNLESS, WAITS}
+use Rattle.breaks.specs.declared.table.TheConstants.{NEVER, STATE_COUNT, UNLESS, WAITS}
 use Rattle.breaks.specs.declared.walk.TheConstants.{MARKS, WHOLE_MARKS}
 use Rattle.breaks.specs.declared.walk.Walk.{Walk}
+use Rattle.breaks.specs.declared.symbol.TheConstants.{SYMBOL_COUNT}
 
 abbrev pub base : LineClass → Base
 base class = alone (narrow class)
@@ -139,8 +139,8 @@ carried bases =
 -- bases have the same answers, carry the same and take a CM or ZWJ where these do; and of the last base the two bits that aren't in it.
 pub record Stands (whole_numbers : Bool) (walk : Walk) (last : Base) (others : List Base) : Type 0 where
   pub state : ℕ
-  pub below : state < 41
-  pub row : walk.row ≡ state * 40
+  pub below : state < STATE_COUNT
+  pub row : walk.row ≡ state * SYMBOL_COUNT
   pub answered : answers whole_numbers (last ∷ others) ≡ answers whole_numbers (bases_at state)
   pub carries : carried (last ∷ others) ≡ carried (bases_at state)
   pub attaches : is_one_of unattached (end_of last).class ≡ is unattached (bases_at state)

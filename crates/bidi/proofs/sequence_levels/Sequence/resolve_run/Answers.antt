@@ -5,13 +5,13 @@ use Rattle.bidi.specs.Levels.{levels_in, put, sequence_levels}
 use Rattle.bidi.specs.Paragraphs.{AreSidesBetween}
 use Rattle.bidi.specs.Sequences.{direction, level_before, level_behind}
 use Rattle.bidi.proofs.AloneLemmas.{written_alone}
-use Rattle.bidi.proofs.levels.Sequence.resolve_run.Goals as goal
+use Rattle.bidi.proofs.sequence_levels.Sequence.resolve_run.Goals as goal
 
 pub returns : goal.returns
 returns c =
     let p = c.args.paragraph.now in
-    let bracket = bracket_of p.tables.now in
-    let characters = p.characters.now in
+    let bracket = bracket_of p.text.tables.now in
+    let characters = p.text.characters.now in
     let levels = p.stayed.now.levels.items in
     let classes = p.stayed.now.classes.items in
     let types = p.stayed.now.types.items in

@@ -1,7 +1,7 @@
 use Rattle.std.proofs.Common.{sym, ◌∙◌}
 use Rattle.breaks.specs.Symbols.{character_by}
 use Rattle.breaks.proofs.WalkLemmas.{finds, looks_on}
-use Rattle.breaks.proofs.mark.are_before_digit.Goals as goal
+use Rattle.breaks.proofs.mark.is_before_digit.Goals as goal
 
 -- a base begins
 pub returns-then-symbol-lt-ATTACHED : goal.returns-then-symbol-lt-ATTACHED

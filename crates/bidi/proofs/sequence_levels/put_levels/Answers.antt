@@ -1,7 +1,7 @@
 use Rattle.std.proofs.Common.{◌≡◌, ℕ, ◌+◌, ◌<◌, List, ◌∷◌, length, drop, set, get_or, sym, ap, ◌∙◌, arith}
 use Rattle.std.proofs.lemmas.List.{drop_more}
 use Rattle.bidi.specs.Levels.{put}
-use Rattle.bidi.proofs.levels.put_levels.Goals as goal
+use Rattle.bidi.proofs.sequence_levels.put_levels.Goals as goal
 
 -- one more level at its place
 stepped : (levels places values : List ℕ) (at : ℕ) (whole : List ℕ) → at < length places → length values ≡ length places

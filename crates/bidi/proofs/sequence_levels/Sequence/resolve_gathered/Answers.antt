@@ -8,16 +8,16 @@ use Rattle.bidi.specs.Classes.{class_at}
 use Rattle.bidi.specs.Levels.{put, sequence_levels}
 use Rattle.bidi.specs.Paragraphs.{AreSides, Takes, sequence_in}
 use Rattle.bidi.specs.Sequences.{eos, first_of, sos}
-use Rattle.bidi.proofs.levels.Sequence.resolve_gathered.Goals as goal
+use Rattle.bidi.proofs.sequence_levels.Sequence.resolve_gathered.Goals as goal
 
 pub resolve_types-requires-clause-brackets : goal.resolve_types-requires-clause-brackets
 resolve_types-requires-clause-brackets c = λ none.
     let p = c.args.paragraph.now in
-    let P : ℕ → Type 0 = λ b. bracket_of p.tables.now b ≡ None in
+    let P : ℕ → Type 0 = λ b. bracket_of p.text.tables.now b ≡ None in
     let taken : Takes p c.args.start c.take.new.self = c.in_ok-take.ensures in
-    let size : length p.stayed.now.levels.items ≡ length p.characters.now = sym c.requires.paragraph.characters in
-    let within : AreWithin (length p.characters.now) c.take.new.self.places.items = subst (λ (n : ℕ). AreWithin n c.take.new.self.places.items) size taken.within in
-    subst (All P) (sym (c.deref-2.ensures.value ∙ taken.characters_are)) (All-places P p.characters.now c.take.new.self.places.items (c.requires.paragraph.brackets none) within)
+    let size : length p.stayed.now.levels.items ≡ length p.text.characters.now = sym c.requires.paragraph.characters in
+    let within : AreWithin (length p.text.characters.now) c.take.new.self.places.items = subst (λ (n : ℕ). AreWithin n c.take.new.self.places.items) size taken.within in
+    subst (All P) (sym (c.deref-2.ensures.value ∙ taken.characters_are)) (All-places P p.text.characters.now c.take.new.self.places.items (c.requires.paragraph.brackets none) within)
 
 pub returns : goal.returns
 returns c =
@@ -34,11 +34,11 @@ returns c =
     let before : sides.sos ≡ sos p.base levels sequence = are.sos_is ∙ ap (sos p.base levels) here in
     let behind : sides.eos ≡ eos p.base classes levels sequence = are.eos_is ∙ ap (eos p.base classes levels) here in
     let places : c.deref-4.result.now ≡ sequence = c.deref-4.ensures.value ∙ taken.places_are in
-    let characters : c.deref-2.result.now ≡ map (slice_index p.characters.now) sequence =
-    c.deref-2.ensures.value ∙ taken.characters_are ∙ ap (map (slice_index p.characters.now)) taken.places_are in
+    let characters : c.deref-2.result.now ≡ map (slice_index p.text.characters.now) sequence =
+    c.deref-2.ensures.value ∙ taken.characters_are ∙ ap (map (slice_index p.text.characters.now)) taken.places_are in
     let found : c.take.new.self.explicit.items ≡ map (class_at explicit) sequence = taken.explicit_are ∙ ap (map (class_at explicit)) taken.places_are in
     let types : c.deref_mut.result.now ≡ map (class_at explicit) sequence = c.deref_mut.ensures.value ∙ taken.types_are ∙ found in
-    let made : c.resolve_types.new.levels ≡ sequence_levels (bracket_of p.tables.now) sides.level sides.sos sides.eos c.deref-2.result.now c.deref_mut.result.now =
+    let made : c.resolve_types.new.levels ≡ sequence_levels (bracket_of p.text.tables.now) sides.level sides.sos sides.eos c.deref-2.result.now c.deref_mut.result.now =
     c.in_ok-resolve_types.ensures in
     let kept : length c.resolve_types.new.levels ≡ length c.deref_mut-2.result.now = c.resolve_types.auto.levels in
     let after : c.deref-5.result.now ≡ c.resolve_types.new.levels =

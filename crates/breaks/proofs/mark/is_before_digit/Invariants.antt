@@ -1,7 +1,7 @@
 use Rattle.std.proofs.Common.{◌≡◌, map, drop}
 use Rattle.breaks.specs.Symbols.{character_by}
 use Rattle.breaks.specs.Walk.{is_before_digit}
-use Rattle.breaks.proofs.mark.are_before_digit.Given as goal
+use Rattle.breaks.proofs.mark.is_before_digit.Given as goal
 
 -- what is read so far is attached to what stands before
 abbrev pub invariant-loop-i : goal.invariant-loop-i

@@ -1,7 +1,7 @@
 use Rattle.std.proofs.Common.{◌-◌, length, arith}
 use Rattle.bidi.proofs.AloneLemmas.{alone}
 use Rattle.bidi.proofs.RunLemmas.{last_match, match_at-above}
-use Rattle.bidi.proofs.levels.Sequence.resolve.Goals as goal
+use Rattle.bidi.proofs.sequence_levels.Sequence.resolve.Goals as goal
 
 pub next_run-requires-clause-above : goal.next_run-requires-clause-above
 next_run-requires-clause-above c =
