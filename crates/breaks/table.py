@@ -26,7 +26,7 @@ SPECS = {name: re.sub(r"(?m)^\s*--.*\n", "", read(f"specs/{name}.antt")) for nam
 
 
 def body(spec, head):
-    """What stands behind `head =`, up to the next line that isn't indented."""
+    """What stands after `head =`, up to the next line that isn't indented."""
     text = re.search(rf"(?ms)^{re.escape(head)} =(.*?)(?=^\S|\Z)", SPECS[spec])
     if not text:
         sys.exit(f"table.py: no `{head}` in specs/{spec}.antt")
@@ -110,7 +110,7 @@ def ends_in_digits(bases):
 
 
 def row(mark):
-    return lambda before: lambda behind: (before, behind, mark)
+    return lambda before: lambda after: (before, after, mark)
 
 
 MEANINGS = {
@@ -138,7 +138,7 @@ MEANINGS = {
 
 # The rows of all rules, without whole numbers and with them.
 ROWS = [
-    value("rows_before_numbers") + value(parsed(body("Walk", f"number_rows {option}"))) + value("rows_behind_numbers")
+    value("rows_before_numbers") + value(parsed(body("Walk", f"number_rows {option}"))) + value("rows_after_numbers")
     for option in ("false", "true")
 ]
 CARRIED = parsed(body("Walk", "carried bases"))
@@ -167,12 +167,12 @@ def known(bases):
     return answers, value(CARRIED), has(UNATTACHED)(bases)
 
 
-def mark(rows, before, behind):
+def mark(rows, before, after):
     """The mark of the first rule that holds, and LB31 where there is none."""
-    return next((mark for holds, follows, mark in rows if holds(before) and follows(behind)), "May")
+    return next((mark for holds, follows, mark in rows if holds(before) and follows(after)), "May")
 
 
-# The letter of an outcome by the marks that it gives: without whole numbers, with them where the base behind the next one
+# The letter of an outcome by the marks that it gives: without whole numbers, with them where the base after the next one
 # isn't NU, and where it is.
 LETTERS = {
     ("Never", "Never", "Never"): "N",
@@ -187,9 +187,9 @@ LETTERS = {
 def outcome(state, symbol):
     def letter(is_future_pictograph):
         before = [Base(STATES[state][0].shown, is_future_pictograph=is_future_pictograph), *STATES[state][1:]]
-        behind = [Base(SYMBOLS[symbol])]
-        digit_behind = behind + [Base(("NU", False))]
-        marks = mark(ROWS[0], before, behind), mark(ROWS[1], before, behind), mark(ROWS[1], before, digit_behind)
+        after = [Base(SYMBOLS[symbol])]
+        digit_after = after + [Base(("NU", False))]
+        marks = mark(ROWS[0], before, after), mark(ROWS[1], before, after), mark(ROWS[1], before, digit_after)
         return LETTERS.get(marks)
 
     letters = letter(False), letter(True)

@@ -5,7 +5,7 @@ use Rattle.bidi.specs.Classes.{class_at}
 use Rattle.bidi.specs.Isolates.{matches_of}
 use Rattle.bidi.specs.Levels.{levels_in, put, resolved}
 use Rattle.bidi.specs.Runs.{AreWithin, sequence_at}
-use Rattle.bidi.specs.Sequences.{direction, first_of, last_of, level_before, level_behind}
+use Rattle.bidi.specs.Sequences.{direction, first_of, last_of, level_before, level_after}
 use Rattle.bidi.specs.Stayed.{HasAll}
 use Rattle.bidi.specs.declared.sequence_levels.Paragraph.{Paragraph}
 use Rattle.bidi.specs.declared.sequence_levels.Sequence.{Sequence}
@@ -39,7 +39,7 @@ resolved_by p = resolved (bracket_of p.text.tables.now) p.base p.text.characters
 pub record AreSidesBetween (p : Paragraph) (first last : ℕ) (sides : Sides) : Type 0 where
   pub level_is : sides.level ≡ slice_index p.stayed.now.levels.items first
   pub sos_is : sides.sos ≡ direction (max (slice_index p.stayed.now.levels.items first) (level_before p.base p.stayed.now.levels.items first))
-  pub eos_is : sides.eos ≡ direction (max (slice_index p.stayed.now.levels.items last) (level_behind p.base p.stayed.now.classes.items p.stayed.now.levels.items last))
+  pub eos_is : sides.eos ≡ direction (max (slice_index p.stayed.now.levels.items last) (level_after p.base p.stayed.now.classes.items p.stayed.now.levels.items last))
 
 abbrev pub AreSides : Paragraph → List ℕ → Sides → Type 0
 AreSides p places sides = AreSidesBetween p (first_of places) (last_of places) sides

@@ -134,10 +134,10 @@ fn put_back(
     let mut rest = resolved;
     for class in classes {
         if !is_removed(*class)
-            && let [next, behind @ ..] = rest
+            && let [next, after @ ..] = rest
         {
             level = *next;
-            rest = behind;
+            rest = after;
         }
         levels.push(level)?;
     }

@@ -4,7 +4,7 @@ use Rattle.std.proofs.Math.ListN.{set}
 use Rattle.ucd.specs.declared.line_class.LineClass.TheVariants.{CM, NU, OP, ZWJ}
 use Rattle.breaks.specs.Bases.{Base, Character, alone}
 use Rattle.breaks.specs.Classes.{is_same, is_one_of}
-use Rattle.breaks.specs.Rules.{rows_before_numbers, rows_of_numbers, rows_behind_numbers, is}
+use Rattle.breaks.specs.Rules.{rows_before_numbers, rows_of_numbers, rows_after_numbers, is}
 use Rattle.breaks.specs.Symbols.{shown}
 use Rattle.breaks.specs.Walk.{base, bases_at, unattached, answers, carried, decided_at, mark_of, rows}
 use Rattle.breaks.specs.declared.mark.Mark.{Mark}
@@ -17,19 +17,19 @@ use Rattle.ucd.specs.declared.properties.TheConstants.{LINE_INDEX_COUNT}
 
 -- the mark of the first rule of which both answers are true, and LB31 where there is none
 abbrev pub decide : List Mark → List Bool → List Bool → Mark
-decide (mark ∷ marks) (before ∷ befores) (behind ∷ behinds) = if before && behind then mark else decide marks befores behinds
+decide (mark ∷ marks) (before ∷ befores) (after ∷ afters) = if before && after then mark else decide marks befores afters
 decide _ _ _ = May
 
 abbrev pub marks_by_row : Bool → List Mark
 marks_by_row whole_numbers = map (λ row. row.mark) (rows whole_numbers)
 
--- the answers of what stands behind: a character that begins a base, and whether the base behind that is NU
-abbrev pub bases_behind : Character → Bool → List Base
-bases_behind c true = alone c ∷ base NU ∷ []
-bases_behind c false = alone c ∷ []
+-- the answers of what stands after: a character that begins a base, and whether the base after that is NU
+abbrev pub bases_after : Character → Bool → List Base
+bases_after c true = alone c ∷ base NU ∷ []
+bases_after c false = alone c ∷ []
 
-abbrev pub behinds : Bool → Character → Bool → List Bool
-behinds whole_numbers c before_digit = map (λ row. row.behind (bases_behind c before_digit)) (rows whole_numbers)
+abbrev pub answers_after : Bool → Character → Bool → List Bool
+answers_after whole_numbers c before_digit = map (λ row. row.after (bases_after c before_digit)) (rows whole_numbers)
 
 -- the answers of all rows: LB8a is the eighth, LB30b of pictographs the last
 abbrev pub last_row : Bool → ℕ
@@ -55,15 +55,15 @@ abbrev pub is_as : Bool → List Base → List Base → Bool
 is_as whole_numbers bases others =
     all_same (answers whole_numbers bases) (answers whole_numbers others) && all_same (carried bases) (carried others)
 
--- An outcome is the mark that the rules give, by what a state answers and what stands behind, which are computed once.
-module _ (whole_numbers : Bool) (answered : List Bool) (behind digit_behind : List Bool) (outcome : ℕ) where
+-- An outcome is the mark that the rules give, by what a state answers and what stands after, which are computed once.
+module _ (whole_numbers : Bool) (answered : List Bool) (after digit_after : List Bool) (outcome : ℕ) where
   abbrev pub gives : List Bool → Bool → Bool → Bool → Bool
-  gives behind is_joined is_pictograph before_digit =
+  gives after is_joined is_pictograph before_digit =
       is_mark (mark_of whole_numbers (decided_at outcome is_joined is_pictograph) before_digit)
-      (decide (marks_by_row whole_numbers) (answered_with whole_numbers is_joined is_pictograph answered) behind)
+      (decide (marks_by_row whole_numbers) (answered_with whole_numbers is_joined is_pictograph answered) after)
 
   abbrev pub gives_both : Bool → Bool → Bool
-  gives_both is_joined is_pictograph = gives behind is_joined is_pictograph false && gives digit_behind is_joined is_pictograph true
+  gives_both is_joined is_pictograph = gives after is_joined is_pictograph false && gives digit_after is_joined is_pictograph true
 
   -- where a ZWJ is the last character, the last base is one to which a character may be attached
   abbrev pub gives_all : Bool → Bool
@@ -72,10 +72,10 @@ module _ (whole_numbers : Bool) (answered : List Bool) (behind digit_behind : Li
 
 abbrev pub gives_each : Bool → ℕ → ℕ → ℕ → Bool
 gives_each whole_numbers state symbol outcome =
-    gives_all whole_numbers (answers whole_numbers (bases_at state)) (behinds whole_numbers (shown symbol) false)
-    (behinds whole_numbers (shown symbol) true) outcome (is unattached (bases_at state))
+    gives_all whole_numbers (answers whole_numbers (bases_at state)) (answers_after whole_numbers (shown symbol) false)
+    (answers_after whole_numbers (shown symbol) true) outcome (is unattached (bases_at state))
 
--- what waits is in front of a character to which others may be attached
+-- what waits is before a character to which others may be attached
 abbrev pub waits_for_base : ℕ → ℕ → Bool
 waits_for_base symbol outcome = not (outcome == WAITS) || is_one_of (OP ∷ []) (shown symbol).class
 
@@ -112,11 +112,11 @@ holds true h = refl
 holds false h = absurd h
 
 pub table_is_right : all_below STATE_COUNT (all_right false) ≡ true
-unfolding rows rows_before_numbers rows_of_numbers rows_behind_numbers
+unfolding rows rows_before_numbers rows_of_numbers rows_after_numbers
 table_is_right = holds (all_below STATE_COUNT (all_right false)) tt
 
 pub table_is_right_whole : all_below STATE_COUNT (all_right true) ≡ true
-unfolding rows rows_before_numbers rows_of_numbers rows_behind_numbers
+unfolding rows rows_before_numbers rows_of_numbers rows_after_numbers
 table_is_right_whole = holds (all_below STATE_COUNT (all_right true)) tt
 
 pub entries_are_within : all_below ENTRY_COUNT (λ place. nat_le (get_or TABLE place 0 / PARTS) LAST_ROW) ≡ true

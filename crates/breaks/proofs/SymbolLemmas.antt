@@ -6,14 +6,14 @@ use Rattle.ucd.specs.contracts.line_class.LineClass.{the_type}
 use denote.Enum.Declared.{tag_of}
 use Rattle.breaks.specs.Bases.{Character, resolved, base_class}
 use Rattle.breaks.specs.Classes.{is_same, is_one_of}
-use Rattle.breaks.specs.Rules.{rows_before_numbers, rows_of_numbers, rows_behind_numbers}
+use Rattle.breaks.specs.Rules.{rows_before_numbers, rows_of_numbers, rows_after_numbers}
 use Rattle.breaks.specs.Walk.{rows}
 use Rattle.ucd.specs.declared.properties.Properties.{Properties}
 use Rattle.ucd.specs.Answers.{line_index}
 use Rattle.breaks.specs.Symbols.{character_by, shown, told}
 use Rattle.breaks.specs.declared.symbol.TheConstants.{ATTACHED, DIGIT, JOINER, SYMBOLS, SYMBOL_COUNT}
 use Rattle.breaks.proofs.BoolLemmas.{same, same_is, below, is_below}
-use Rattle.breaks.proofs.Computed.{attached_are_last, behinds, digit_is_one, joiner_is_one, symbols_are_within}
+use Rattle.breaks.proofs.Computed.{attached_are_last, answers_after, digit_is_one, joiner_is_one, symbols_are_within}
 use Rattle.ucd.specs.declared.properties.TheConstants.{LINE_INDEX_COUNT}
 
 -- the table has the symbol of a class
@@ -93,16 +93,16 @@ pub narrow_before : (class : LineClass) (is_wide : Bool) → (is_one_of (CP ∷ 
 narrow_before CP is_wide = refl
 narrow_before class is_wide = refl
 
-narrow_behind : (class : LineClass) (is_wide : Bool) → (is_one_of (OP ∷ []) (base_class class) && not is_wide) ≡ (is_one_of (OP ∷ []) (base_class class) && not (is_one_of (CP ∷ OP ∷ []) class && is_wide))
-narrow_behind OP is_wide = refl
-narrow_behind class is_wide = refl
+narrow_after : (class : LineClass) (is_wide : Bool) → (is_one_of (OP ∷ []) (base_class class) && not is_wide) ≡ (is_one_of (OP ∷ []) (base_class class) && not (is_one_of (CP ∷ OP ∷ []) class && is_wide))
+narrow_after OP is_wide = refl
+narrow_after class is_wide = refl
 
-pub behinds_told : (whole_numbers : Bool) (c : Character) (before_digit : Bool) → behinds whole_numbers c before_digit ≡ behinds whole_numbers (told c) before_digit
-unfolding rows rows_before_numbers rows_of_numbers rows_behind_numbers
-behinds_told true c true = rw (narrow_behind c.class c.is_wide) refl
-behinds_told true c false = rw (narrow_behind c.class c.is_wide) refl
-behinds_told false c true = rw (narrow_behind c.class c.is_wide) refl
-behinds_told false c false = rw (narrow_behind c.class c.is_wide) refl
+pub answers_after_told : (whole_numbers : Bool) (c : Character) (before_digit : Bool) → answers_after whole_numbers c before_digit ≡ answers_after whole_numbers (told c) before_digit
+unfolding rows rows_before_numbers rows_of_numbers rows_after_numbers
+answers_after_told true c true = rw (narrow_after c.class c.is_wide) refl
+answers_after_told true c false = rw (narrow_after c.class c.is_wide) refl
+answers_after_told false c true = rw (narrow_after c.class c.is_wide) refl
+answers_after_told false c false = rw (narrow_after c.class c.is_wide) refl
 
 -- the symbol that the table has for some properties
 pub symbol_shown : (p : Properties) (index symbol : ℕ) → index ≡ line_index p → symbol ≡ get_or SYMBOLS index 0 → shown symbol ≡ told (character_by p)

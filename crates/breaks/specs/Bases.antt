@@ -40,7 +40,7 @@ abbrev pub stays_with : Character → Character → Bool
 stays_with before c =
     is_one_of (CM ∷ ZWJ ∷ []) c.class && not (is_one_of (BK ∷ CR ∷ LF ∷ NL ∷ SP ∷ ZW ∷ []) before.class)
 
--- a character in front of bases: it begins one, or the first of them stays with it
+-- a character before bases: it begins one, or the first of them stays with it
 abbrev pub alone : Character → Base
 alone c = record { first = c; attached = [] }
 

@@ -7,8 +7,7 @@ ghost use Rattle.breaks.specs.declared.table.TheConstants.{ENTRY_COUNT};
 use crate::entries::TABLE;
 use crate::symbol::SYMBOL_COUNT;
 
-// The states, which number the rows: what the last base is, and what the rules ask of those in front of
-// it.
+/// The states, which number the rows: what the last base is, and what the rules ask of those before it.
 #[derive(Clone, Copy)]
 pub enum State {
     BK,
@@ -16,17 +15,17 @@ pub enum State {
     /// LF or NL.
     LF,
     ZW,
-    /// A space, behind none of the following.
+    /// A space, after none of the following.
     SP,
-    /// Spaces behind ZW.
+    /// Spaces after ZW.
     SpaceAfterZW,
-    /// Spaces behind OP.
+    /// Spaces after OP.
     SpaceAfterOP,
-    /// Spaces behind QU.
+    /// Spaces after QU.
     SpaceAfterQU,
-    /// Spaces behind CL or CP.
+    /// Spaces after CL or CP.
     SpaceAfterCL,
-    /// Spaces behind B2.
+    /// Spaces after B2.
     SpaceAfterB2,
     WJ,
     GL,
@@ -42,9 +41,9 @@ pub enum State {
     CB,
     BA,
     HY,
-    /// BA behind HL.
+    /// BA after HL.
     HebrewBA,
-    /// HY behind HL.
+    /// HY after HL.
     HebrewHY,
     BB,
     NU,
@@ -65,13 +64,13 @@ pub enum State {
     RI,
     /// EX, IN, NS or an even number of RI.
     Other,
-    /// IS behind a number, as `NU (NU | SY | IS)*`, that may go on behind it.
+    /// IS after a number, as `NU (NU | SY | IS)*`, that may go on after it.
     NumberIS,
-    /// SY behind one.
+    /// SY after one.
     NumberSY,
-    /// CL behind one, or CP that is wide.
+    /// CL after one, or CP that is wide.
     NumberCL,
-    /// CP that isn't wide behind one.
+    /// CP that isn't wide after one.
     NumberCP,
 }
 
@@ -96,7 +95,7 @@ pub const PAIR: u16 = 5;
 /// Inside a number, and not by LB25 of two bases: a line may end there, but not where numbers stay whole.
 pub const INSIDE: u16 = 6;
 
-/// LB25 of two bases: no line ends there, but a line may where numbers stay whole and the base behind the
+/// LB25 of two bases: no line ends there, but a line may where numbers stay whole and the base after the
 /// next one isn't NU.
 pub const WAITS: u16 = 7;
 
@@ -113,10 +112,10 @@ pub const LAST_ROW: usize = ENTRY_COUNT - SYMBOL_COUNT;
 /// does.
 pub const PARTS: u16 = 8;
 
-/// What an entry has for each row that the next one stands behind another.
+/// By how much entries grow from one next row to the one after it.
 pub const ROW: u16 = SYMBOL_COUNT as u16 * PARTS;
 
-/// The row of a text's start, at which a line begins as behind BK.
+/// The row of a text's start, at which a line begins as after BK.
 pub const START: usize = 0;
 
 /// The entry of a row for a symbol.

@@ -37,7 +37,7 @@ impl Walk {
         }
     }
 
-    /// What a line does in front of the next character, which is one of those before it from then on.
+    /// What a line does before the next character, which is passed from then on.
     pub fn pass(&mut self, next: Properties) -> u16
         requires { self.old.row ≤ LAST_ROW }
         ensures passes { (whole_numbers : Bool) (last : Base) (others : List Base)
@@ -78,7 +78,7 @@ fn decide(outcome: u16, is_joined: bool, is_pictograph: bool) -> u16
     }
 }
 
-/// The mark in front of the next character, where what stands behind it doesn't matter.
+/// The mark before the next character, where what stands after it doesn't matter.
 pub fn mark_alone(decided: u16, whole_numbers: bool) -> Mark
     requires { decided < 8 }
     ensures { result ≡ get_or (marks_alone whole_numbers) decided Never }

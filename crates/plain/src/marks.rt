@@ -13,7 +13,7 @@ use breaks::{Mark, Tailoring};
 use std::alloc::AllocError;
 use ucd::{LineClass, Tables};
 
-/// The mark of the position behind each character of a text, in place of what a list holds. Another list
+/// The mark of the position after each character of a text, in place of what a list holds. Another list
 /// is used for the classes of the bases.
 pub fn plain_marks(
     tables: &Tables,

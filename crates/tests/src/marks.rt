@@ -102,8 +102,8 @@ static NUMBERS: [(&str, &str, &str); 23] = [
     ("%(1.)$1", "××××××!", "××××××!"),
 ];
 
-// The same of a degree sign and a euro sign. A line may end behind a space, inside what would else be a
-// number, but not behind one that is no break.
+// The same of a degree sign and a euro sign. A line may end after a space, inside what would else be a
+// number, but not after one that is no break.
 static SIGNS: [(&str, &str, &str); 3] = [
     ("-5\u{B0}", "××!", "××!"),
     ("\u{20AC}\u{A0}30", "×××!", "×××!"),
@@ -205,9 +205,9 @@ fn check_pictograph(
     Ok(result?)
 }
 
-// A modifier stands behind a pictograph that is unassigned, and behind no other.
+// A modifier stands after a pictograph that is unassigned, and after no other.
 #[test]
-fn marks_behind_pictographs(rt: HostRuntime) -> Result<(), Fail> {
+fn marks_after_pictographs(rt: HostRuntime) -> Result<(), Fail> {
     for (categories, want) in &PICTOGRAPHS {
         check_pictograph(&rt, rt.alloc(), categories, want)?;
     }

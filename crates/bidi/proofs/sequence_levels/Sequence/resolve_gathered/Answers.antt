@@ -32,7 +32,7 @@ returns c =
     let here : c.deref.result.now ≡ sequence = c.deref.ensures.value ∙ taken.places_are in
     let level : sides.level ≡ slice_index levels (first_of sequence) = are.level_is ∙ ap (λ xs. slice_index levels (first_of xs)) here in
     let before : sides.sos ≡ sos p.base levels sequence = are.sos_is ∙ ap (sos p.base levels) here in
-    let behind : sides.eos ≡ eos p.base classes levels sequence = are.eos_is ∙ ap (eos p.base classes levels) here in
+    let after : sides.eos ≡ eos p.base classes levels sequence = are.eos_is ∙ ap (eos p.base classes levels) here in
     let places : c.deref-4.result.now ≡ sequence = c.deref-4.ensures.value ∙ taken.places_are in
     let characters : c.deref-2.result.now ≡ map (slice_index p.text.characters.now) sequence =
     c.deref-2.ensures.value ∙ taken.characters_are ∙ ap (map (slice_index p.text.characters.now)) taken.places_are in
@@ -41,7 +41,7 @@ returns c =
     let made : c.resolve_types.new.levels ≡ sequence_levels (bracket_of p.text.tables.now) sides.level sides.sos sides.eos c.deref-2.result.now c.deref_mut.result.now =
     c.in_ok-resolve_types.ensures in
     let kept : length c.resolve_types.new.levels ≡ length c.deref_mut-2.result.now = c.resolve_types.auto.levels in
-    let after : c.deref-5.result.now ≡ c.resolve_types.new.levels =
+    let found_levels : c.deref-5.result.now ≡ c.resolve_types.new.levels =
     c.deref-5.ensures.value ∙ with_items_is c.resize.new.self c.resolve_types.new.levels (kept ∙ c.deref_mut-2.ensures.len) in
     let written : c.put_levels.new.levels ≡ put c.args.resolved.now c.deref-4.result.now c.deref-5.result.now = c.put_levels.ensures in
-    rw (after, made, places, characters, types, level, before, behind) at written
+    rw (found_levels, made, places, characters, types, level, before, after) at written

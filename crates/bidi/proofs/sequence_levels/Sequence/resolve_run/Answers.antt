@@ -3,7 +3,7 @@ use Rattle.std.proofs.lemmas.List.{drop-drop, length-drop, length-take}
 use Rattle.ucd.specs.Tables.{bracket_of}
 use Rattle.bidi.specs.Levels.{levels_in, put, sequence_levels}
 use Rattle.bidi.specs.Paragraphs.{AreSidesBetween}
-use Rattle.bidi.specs.Sequences.{direction, level_before, level_behind}
+use Rattle.bidi.specs.Sequences.{direction, level_before, level_after}
 use Rattle.bidi.proofs.AloneLemmas.{written_alone}
 use Rattle.bidi.proofs.sequence_levels.Sequence.resolve_run.Goals as goal
 
@@ -28,7 +28,7 @@ returns c =
     let made : values ≡ sequence_levels bracket sides.level sides.sos sides.eos (take n (drop start characters)) c.deref_mut.result.now = c.in_ok-resolve_types.ensures in
     let values_are : values ≡ sequence_levels bracket (slice_index levels start)
     (direction (max (slice_index levels start) (level_before p.base levels start)))
-    (direction (max (slice_index levels (end - 1)) (level_behind p.base classes levels (end - 1))))
+    (direction (max (slice_index levels (end - 1)) (level_after p.base classes levels (end - 1))))
     (take n (drop start characters)) (take n (drop start types)) =
     rw (own, are.level_is, are.sos_is, are.eos_is) at made in
     let count : length values ≡ n = c.resolve_types.auto.levels
