@@ -1,18 +1,21 @@
 # make demo   the command on the sample texts, compiled and not yet proved: one minute. A text of one's own:
 #             make demo TEXT=FILE OPTIONS="--width 60 --basedir"
 # make        proves and builds the program, as bin/fribidi
-# make ucd    the seven table files of Unicode 15.0, from Debian's package unicode-data, into ucd/
-# make check  what to run before each commit, once make has built: the cases, the calls that fail, Unicode's conformance
-#             tests, the libraries' tests, the stored runs and the format
-# make test   the gate: every proof from nothing, the must-fail edits, the tests and the stored runs; then the cases, each
-#             allocation refused in turn, and each call of a device failing
+# make ucd    the seven table files of the Unicode version that crates/ucd/src/version.rt names, from Debian's package
+#             unicode-data, into ucd/
+# make check  what to run before each commit, once make has built: what the documents name, the cases, the calls
+#             that fail, Unicode's conformance tests, the libraries' tests, the stored runs, the format and the
+#             table of break marks
+# make test   the gate: every proof from nothing, the must-fail edits, the tests and the stored runs; then what the
+#             documents name, the cases, each allocation refused in turn, and each call of a device failing
 # make attack the other wrong bodies, many at a time, over what make has built: make attack CRATES="lines session"
-# make conformance  Unicode 15.0's three conformance tests, of the same package, over what the proved library finds
+# make conformance  Unicode's three conformance tests, of that version and package, over what the proved library finds
 # make bench  the time of the command beside that of Debian's fribidi and of ICU, edits a second of a session and lines a
 #             second of a script, and the time of levels, of break marks and of filling by what a text is made of, of stores,
 #             of a long text, and of hostile ones
 
 UNICODE = /usr/share/unicode
+VERSION := $(shell sed -n 's/^pub const UNICODE_VERSION: &str = "\(.*\)";/\1/p' crates/ucd/src/version.rt)
 JOBS := $(shell nproc)
 TABLES = DerivedBidiClass BidiBrackets BidiMirroring LineBreak DerivedGeneralCategory EastAsianWidth emoji-data
 OPTIONS = --width 44 --basedir
@@ -56,8 +59,9 @@ ucd:
 	@mkdir -p ucd
 	@cd $(UNICODE) && cp extracted/DerivedBidiClass.txt BidiBrackets.txt BidiMirroring.txt LineBreak.txt \
 		extracted/DerivedGeneralCategory.txt EastAsianWidth.txt emoji/emoji-data.txt $(CURDIR)/ucd/
-	@for file in ucd/*.txt; do head -n 12 $$file | grep -q '15\.0' \
-		|| { echo "$$file is not of Unicode 15.0"; exit 1; }; done
+	@[ -n '$(VERSION)' ] || { echo "crates/ucd/src/version.rt names no version"; exit 1; }
+	@for file in ucd/*.txt; do head -n 12 $$file | grep -qF '$(VERSION)' \
+		|| { echo "$$file is not of Unicode $(VERSION)"; exit 1; }; done
 
 # The program runs in a new folder, with copies of the files that are handed in: for each text of demo/, with its words.
 try = cd crates/fribidi && rt try $(foreach table,$(TABLES),--data ucd/$(table).txt=$(CURDIR)/ucd/$(table).txt)
@@ -75,7 +79,8 @@ check: ucd
 	.ci/check
 
 test:
-	@log=$$(mktemp) && bash -o pipefail -c "RT_JOBS=$$(.ci/lanes) rt ci | tee $$log && cases/run $$log | tee -a $$log && faults/run $$log"; status=$$?; rm -f $$log; exit $$status
+	@log=$$(mktemp) && bash -o pipefail -c "RT_JOBS=$$(.ci/lanes) rt ci | tee $$log && .ci/names $$log | tee -a $$log \
+		&& cases/run $$log | tee -a $$log && faults/run $$log"; status=$$?; rm -f $$log; exit $$status
 
 attack:
 	attack/run $(CRATES)

@@ -2,7 +2,7 @@
 use crate::paragraphs::{lay_out, let_go, tables};
 use anyhow::{Result, bail};
 use bidi::Base;
-use breaks::{Mark, marks};
+use breaks::{Mark, Tailoring, marks};
 use lines::{Engine, Laid, Options};
 use std::alloc::Global;
 use std::io;
@@ -30,7 +30,10 @@ fn write_all_marks<W: Write>(rt: &HostRuntime, tables: &Tables, output: &mut W) 
 
 fn write_marks<W: Write>(alloc: Global, tables: &Tables, line: &str, output: &mut W) -> Result<()> {
     let text = characters(alloc, line)?;
-    let marks = marks(alloc, tables, &text, true)?;
+    let tailoring = Tailoring {
+        whole_numbers: true,
+    };
+    let marks = marks(alloc, tables, &text, tailoring)?;
     write_signs(output, &marks)
 }
 

@@ -9,7 +9,7 @@ use Rattle.bidi.specs.Classes.{class_at}
 use Rattle.bidi.specs.Isolates.{matches_of}
 use Rattle.bidi.specs.Levels.{levels_in, put, sequence_levels}
 use Rattle.bidi.specs.Runs.{IsRunEnd, next_start, sequence_at}
-use Rattle.bidi.specs.Sequences.{direction, eos, level_before, level_behind}
+use Rattle.bidi.specs.Sequences.{direction, eos, level_before, level_after}
 use Rattle.bidi.proofs.RunLemmas.{first_of-range, last_match, last_of-range, rest_of, sequence_at-run}
 
 -- values written to places in a row
@@ -32,7 +32,7 @@ range-part xs d start (suc n) within =
     ap (λ more. get_or xs start d ∷ more) (range-part xs d (start + 1) n (omega (arith, within)))
     ∙ sym (ap (take (suc n)) (drop_more xs start d (omega (arith, within))))
 
--- a run whose last character no other run begins behind
+-- a run whose last character no other run begins after
 pub alone : (classes : List BidiClass) (levels matches : List ℕ) (start end : ℕ) → matches ≡ matches_of classes → length classes ≡ length levels → IsRunEnd levels start end
     → None ≡ next_start levels (get_or matches (end - 1) 0) → sequence_at classes levels start ≡ range_with_len start (end - start)
 alone classes levels matches start end e size run none =
@@ -55,22 +55,22 @@ module _ (bracket : ℕ → Option Bracket) (base : ℕ) (characters : List ℕ)
   abbrev before : ℕ → BidiClass
   before k = direction (max (slice_index levels k) (level_before base levels k))
 
-  abbrev behind : ℕ → BidiClass
-  behind k = direction (max (slice_index levels k) (level_behind base classes levels k))
+  abbrev after : ℕ → BidiClass
+  after k = direction (max (slice_index levels k) (level_after base classes levels k))
 
   values_are : levels_in bracket base characters classes levels types places
-      ≡ sequence_levels bracket (slice_index levels start) (before start) (behind (end - 1)) (take n (drop start characters)) (take n (drop start types))
+      ≡ sequence_levels bracket (slice_index levels start) (before start) (after (end - 1)) (take n (drop start characters)) (take n (drop start types))
   values_are =
       let cs = map (slice_index characters) places in
       let ts = map (class_at types) places in
       ap (λ k. sequence_levels bracket (slice_index levels k) (before k) (eos base classes levels places) cs ts) (first_of-range start end above)
-      ∙ ap (λ k. sequence_levels bracket (slice_index levels start) (before start) (behind k) cs ts) (last_of-range start end above)
-      ∙ ap (λ xs. sequence_levels bracket (slice_index levels start) (before start) (behind (end - 1)) xs ts) (range-part characters 0 start n (omega (arith, above, within, characters_size)))
-      ∙ ap (sequence_levels bracket (slice_index levels start) (before start) (behind (end - 1)) (take n (drop start characters))) (range-part types ON start n (omega (arith, above, within, types_size)))
+      ∙ ap (λ k. sequence_levels bracket (slice_index levels start) (before start) (after k) cs ts) (last_of-range start end above)
+      ∙ ap (λ xs. sequence_levels bracket (slice_index levels start) (before start) (after (end - 1)) xs ts) (range-part characters 0 start n (omega (arith, above, within, characters_size)))
+      ∙ ap (sequence_levels bracket (slice_index levels start) (before start) (after (end - 1)) (take n (drop start characters))) (range-part types ON start n (omega (arith, above, within, types_size)))
 
   -- written where it stands
   pub written_alone : (done values : List ℕ) → length done ≡ length levels → length values ≡ n
-      → values ≡ sequence_levels bracket (slice_index levels start) (before start) (behind (end - 1)) (take n (drop start characters)) (take n (drop start types))
+      → values ≡ sequence_levels bracket (slice_index levels start) (before start) (after (end - 1)) (take n (drop start characters)) (take n (drop start types))
       → take start done ++ (values ++ drop (start + n) done) ≡ put done places (levels_in bracket base characters classes levels types places)
   written_alone done values size count are =
       ap (λ m. take start done ++ (values ++ drop (start + m) done)) (sym count)

@@ -57,9 +57,9 @@ module _ {T : Type 0} where
       list_any_none p (slice_range xs a b) (All-from_get_or (λ x. p x ≡ false) (slice_range xs a b) d (λ i h.
       ap p (range_item xs a b i d (omega arith)) ∙ none (a + i) (omega arith) (omega arith)))
 
--- a bracket, and marks directly behind it up to a place
+-- a bracket, and marks directly after it up to a place
 pub record Row (marks : List Bool) (p q : ℕ) : Type 0 where
-  pub in_front : p ≤ q
+  pub order : p ≤ q
   pub marked : (m : ℕ) → p < m → m ≤ q → get_or marks m false ≡ true
 
 pub Row-set : (marks : List Bool) (p q : ℕ) → q < length marks → Row marks p q → is_set_with marks p q ≡ true
@@ -67,24 +67,24 @@ Row-set marks p q within row =
     elim (cases_eq p q) [
       | inl same ↦ or_left (p == q) (nat_lt p q && list_all (λ mark. mark) (slice_range marks (p + 1) (q + 1))) (eq-eqb p q same)
       | inr ne ↦ or_right (p == q) (nat_lt p q && list_all (λ mark. mark) (slice_range marks (p + 1) (q + 1)))
-          (and_from (nat_lt p q) (list_all (λ mark. mark) (slice_range marks (p + 1) (q + 1))) (lt-ltb p q (omega (arith, row.in_front)))
+          (and_from (nat_lt p q) (list_all (λ mark. mark) (slice_range marks (p + 1) (q + 1))) (lt-ltb p q (omega (arith, row.order)))
           (range_all (λ mark. mark) marks (p + 1) (q + 1) false (omega arith) (λ m above below. row.marked m (omega arith) (omega arith))))
     ]
 
 pub set-Row : (marks : List Bool) (p q : ℕ) → q < length marks → is_set_with marks p q ≡ true → Row marks p q
 set-Row marks p q within set =
     elim (cases_order p q) [
-      | inl same ↦ record { in_front = omega arith; marked = λ m above below. absurd (omega arith) }
+      | inl same ↦ record { order = omega arith; marked = λ m above below. absurd (omega arith) }
       | inr (inl before) ↦
           elim (or_cases (p == q) (nat_lt p q && list_all (λ mark. mark) (slice_range marks (p + 1) (q + 1))) set) [
             | inl same ↦ absurd (both_ways (p == q) (ne_eqb p q (λ e. omega arith)) same)
             | inr more ↦ record {
-              in_front = omega arith;
+              order = omega arith;
               marked = λ m above below. range_all_at (λ mark. mark) marks (p + 1) (q + 1) m false (omega arith)
                   (and_parts (nat_lt p q) (list_all (λ mark. mark) (slice_range marks (p + 1) (q + 1))) more).1 (omega arith) (omega arith);
             }
           ]
-      | inr (inr behind) ↦ absurd (both_ways (is_set_with marks p q)
+      | inr (inr after) ↦ absurd (both_ways (is_set_with marks p q)
           (or_from (p == q) (nat_lt p q && list_all (λ mark. mark) (slice_range marks (p + 1) (q + 1))) (ne_eqb p q (λ e. omega arith))
           (and_left (nat_lt p q) (list_all (λ mark. mark) (slice_range marks (p + 1) (q + 1))) (le-ltb p q (omega arith)))) set)
     ]
@@ -112,7 +112,7 @@ pub set_with-kept : (marks : List Bool) (d : BidiClass) (types : List BidiClass)
 set_with-kept marks d types p q e within free =
     set_with-at marks d types p q e within ∙ cond-false (is_set_with marks p q) d (class_at types q) free
 
--- what a walk over the marks behind a bracket knows at a place
+-- what a walk over the marks after a bracket knows at a place
 pub record Marked (explicit old current : List BidiClass) (d : BidiClass) (place k : ℕ) : Type 0 where
   pub sizes : length current ≡ length old
   pub reached : place < k
@@ -166,11 +166,11 @@ Marked-end explicit old current d place k w sizes stops =
     fill_by_all (λ m. if is_set_with marks place m then d else class_at old m) current (length old) ON w.sizes (λ m within.
     elim (cases_lt m place) [
       | inl before ↦ w.front m before ∙ sym (cond-false (is_set_with marks place m) d (class_at old m)
-          (no_Row marks place m (omega arith) (λ row. omega (arith, row.in_front))))
+          (no_Row marks place m (omega arith) (λ row. omega (arith, row.order))))
       | inr above ↦ elim (cases_lt m k) [
         | inl inside ↦ w.done m above inside ∙ sym (cond-true (is_set_with marks place m) d (class_at old m)
-            (Row-set marks place m (omega arith) (record { in_front = above; marked = λ i after upto. mark_at explicit i ∙ w.marked i after (omega arith) })))
-        | inr behind ↦ w.rest m behind ∙ sym (cond-false (is_set_with marks place m) d (class_at old m)
+            (Row-set marks place m (omega arith) (record { order = above; marked = λ i after upto. mark_at explicit i ∙ w.marked i after (omega arith) })))
+        | inr after ↦ w.rest m after ∙ sym (cond-false (is_set_with marks place m) d (class_at old m)
             (no_Row marks place m (omega arith) (λ row. both_ways (is_mark (class_at explicit k)) (stops (omega arith))
             (sym (mark_at explicit k) ∙ row.marked k (omega arith) (omega arith)))))
       ]
@@ -185,12 +185,12 @@ none_more p xs from k d e passed within here m above below =
       | inr ne ↦ passed m above (omega arith)
     ]
 
--- whether the next strong type of a direction stands in front of the closer
+-- whether the next strong type of a direction stands before the closer
 pub stands_is : (left : Bool) (types : List BidiClass) (place closer next : ℕ) → closer ≤ length types → place < next
     → ((m : ℕ) → place < m → m < next → m < closer → is_toward left (class_at types m) ≡ false)
     → (next < closer → is_toward left (class_at types next) ≡ true)
     → nat_lt next closer ≡ stands left types place closer
-stands_is left types place closer next within behind passed stops =
+stands_is left types place closer next within after passed stops =
     elim (cases_lt next closer) [
       | inl inside ↦ lt-ltb next closer inside
           ∙ sym (range_any_at (is_toward left) types (place + 1) closer next ON within (omega arith) inside (stops inside))
@@ -205,7 +205,7 @@ pub stands_as_before : (left : Bool) (types before : List BidiClass) (place clos
     → ((m : ℕ) → from ≤ m → m < next → is_toward left (class_at before m) ≡ false)
     → (next < length before → is_toward left (class_at before next) ≡ true)
     → nat_lt next closer ≡ stands left types place closer
-stands_as_before left types before place closer old from next within sizes clear kept reached behind covered passed stops =
+stands_as_before left types before place closer old from next within sizes clear kept reached after covered passed stops =
     stands_is left types place closer next (omega arith) (omega arith)
     (λ m above below inside. ap (is_toward left) (kept m above inside) ∙ elim (cases_lt m from) [
       | inl early ↦ clear.passed m above (covered m above early)
@@ -213,17 +213,17 @@ stands_as_before left types before place closer old from next within sizes clear
     ])
     (λ inside. ap (is_toward left) (kept next (omega arith) inside) ∙ stops (omega arith))
 
--- a place that a pair so far has set: it is in a row behind a bracket of that pair, and none in the row is ON now
+-- a place that a pair so far has set: it is in a row after a bracket of that pair, and none in the row is ON now
 pub record Touched (closers : List ℕ) (current : List BidiClass) (k q : ℕ) : Type 0 where
   pub opener : ℕ
   pub place : ℕ
   pub earlier : opener < k
   pub paired : slice_index closers opener < length closers
   pub bracket : (place ≡ opener) ⊎ (place ≡ slice_index closers opener)
-  pub in_front : place ≤ q
+  pub order : place ≤ q
   pub row : (m : ℕ) → place ≤ m → m ≤ q → is_other (class_at current m) ≡ false
 
--- the pairs whose openers stand in front of a place have changed only what they have set
+-- the pairs whose openers stand before a place have changed only what they have set
 pub record Changed (closers : List ℕ) (old current : List BidiClass) (k : ℕ) : Type 0 where
   pub sizes : length current ≡ length old
   pub cases : (q : ℕ) → q < length old → (class_at current q ≡ class_at old q) ⊎ Touched closers current k q
@@ -233,7 +233,7 @@ Changed-next closers old current k changed = record {
   sizes = changed.sizes;
   cases = λ q within. elim (changed.cases q within) [
     | inl same ↦ inl same
-    | inr t ↦ inr (record { opener = t.opener; place = t.place; earlier = omega (arith, t.earlier); paired = t.paired; bracket = t.bracket; in_front = t.in_front; row = t.row })
+    | inr t ↦ inr (record { opener = t.opener; place = t.place; earlier = omega (arith, t.earlier); paired = t.paired; bracket = t.bracket; order = t.order; row = t.row })
   ];
 }
 
@@ -260,9 +260,9 @@ Changed-set marks closers old current k opener p d changed sizes earlier paired 
           earlier = earlier;
           paired = paired;
           bracket = bracket;
-          in_front = (set-Row marks p q (omega arith) set).in_front;
+          order = (set-Row marks p q (omega arith) set).order;
           row = λ m above below. ap is_other (set_with-set marks d current p m ON (omega arith) (omega arith)
-              (record { in_front = above; marked = λ i after upto. (set-Row marks p q (omega arith) set).marked i after (omega arith) })) ∙ sided;
+              (record { order = above; marked = λ i after upto. (set-Row marks p q (omega arith) set).marked i after (omega arith) })) ∙ sided;
         })
         | inr free ↦ elim (changed.cases q within) [
           | inl same ↦ inl (set_with-kept marks d current p q ON (omega arith) free ∙ same)
@@ -272,7 +272,7 @@ Changed-set marks closers old current k opener p d changed sizes earlier paired 
             earlier = t.earlier;
             paired = t.paired;
             bracket = t.bracket;
-            in_front = t.in_front;
+            order = t.order;
             row = λ m above below. kept_sided marks d current p m sided (omega arith) (t.row m above below);
           })
         ]
@@ -305,18 +305,18 @@ unchanged closers old current k m changed nested sizes within paired other above
     elim (changed.cases m (omega arith)) [
       | inl same ↦ same
       | inr t ↦ elim (cases_lt k t.place) [
-        | inl behind ↦ absurd (elim t.bracket [
+        | inl after ↦ absurd (elim t.bracket [
           | inl e ↦ omega (arith, e, t.earlier)
           | inr e ↦ elim (nested.apart t.opener k t.earlier within t.paired paired) [
             | inl closed ↦ omega (arith, e, closed)
-            | inr outside ↦ omega (arith, e, outside, t.in_front)
+            | inr outside ↦ omega (arith, e, outside, t.order)
           ]
         ])
         | inr front ↦ absurd (both_ways (is_other (class_at current k)) (t.row k front (omega arith)) other)
       ]
     ]
 
--- the types in front of a bracket that is set
+-- the types before a bracket that is set
 take-set_with : (marks : List Bool) (d : BidiClass) (types : List BidiClass) (p k : ℕ) → k ≤ p → k ≤ length types → length marks ≡ length types
     → take k (set_with marks d types p) ≡ take k types
 take-set_with marks d types p k front within sizes =
@@ -324,7 +324,7 @@ take-set_with marks d types p k front within sizes =
     let front_size : length (take k (set_with marks d types p)) ≡ k = length-take-le k (set_with marks d types p) (omega arith) in
     same_lists (take k (set_with marks d types p)) (take k types) (front_size ∙ sym (length-take-le k types within)) (λ i e inside.
     get_or-take k (set_with marks d types p) i e (omega arith)
-    ∙ set_with-kept marks d types p i e (omega arith) (no_Row marks p i (omega arith) (λ row. omega (arith, row.in_front)))
+    ∙ set_with-kept marks d types p i e (omega arith) (no_Row marks p i (omega arith) (λ row. omega (arith, row.order)))
     ∙ get_or_default types i ON e (omega arith)
     ∙ sym (get_or-take k types i e (omega arith)))
 
@@ -369,7 +369,7 @@ pub Resolved-pair : (embedding sos : BidiClass) (explicit : List BidiClass) (clo
     → (next : List BidiClass) → next ≡ set_pair (map is_mark explicit) current k (slice_index closers k) (pair_direction (is_left embedding) sos current k (slice_index closers k))
     → further ≡ (if is_direction (get_or next k e) then get_or next k e else strong)
     → Resolved embedding sos explicit closers old next further (k + 1)
-Resolved-pair embedding sos explicit closers old current strong further k e r within sizes paired behind next made carries =
+Resolved-pair embedding sos explicit closers old current strong further k e r within sizes paired after next made carries =
     let marks : List Bool = map is_mark explicit in
     let b : ℕ = slice_index closers k in
     let direction : Option BidiClass = pair_direction (is_left embedding) sos current k b in

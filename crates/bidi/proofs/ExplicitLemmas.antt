@@ -30,7 +30,7 @@ numbers-more : (k : ℕ) → range_with_len 0 (k + 1) ≡ range_with_len 0 k ++ 
 numbers-more k =
     sym (map-id (range_with_len 0 (k + 1))) ∙ map-range_with_len_more (λ x. x) 0 k k (zero-add k) ∙ ap (λ (l : List ℕ). l ++ k ∷ []) (map-id (range_with_len 0 k))
 
--- the indexes in front of k that stay
+-- the indexes before k that stay
 abbrev pub stayed_to : List BidiClass → ℕ → List ℕ
 stayed_to classes k = filter (λ i. not (is_removed (class_at classes i))) (range_with_len 0 k)
 
@@ -124,7 +124,7 @@ module _ (classes : List BidiClass) (k : ℕ) (within : k < length classes) (cla
       ap (λ (o : Option BidiClass). if is_separator class then class else unwrap_or o class) (ap (λ (s : Status). s.overriding) inner ∙ innermost-override base (chain_at classes k))
       ∙ ap (λ (c : BidiClass). if is_separator c then c else unwrap_or (inside_at base classes k).override c) at
 
--- the openers in front of k, and what is left of the characters there
+-- the openers before k, and what is left of the characters there
 pub record IsWalked (classes : List BidiClass) (base : ℕ) (k : ℕ) (openers : Openers) (left : Stayed) : Type 0 where
   pub holds : Holds base openers (open_chain classes k)
   pub classes_are : left.classes.items ≡ map (class_at classes) (stayed_to classes k)

@@ -15,12 +15,12 @@ use Rattle.bidi.specs.Levels.{levels_by, paragraph_levels, put_back, resolved, s
 use Rattle.bidi.specs.Neighbours.{nearest}
 use Rattle.bidi.specs.Neutral.{agree, side}
 use Rattle.bidi.specs.Plain.{is_flat}
-use Rattle.bidi.specs.Rows.{levels_behind}
+use Rattle.bidi.specs.Rows.{levels_after}
 use Rattle.bidi.specs.Sequences.{is_removed, stayed}
 use Rattle.bidi.specs.Waiting.{carry, digit_type, mark_type}
-use Rattle.bidi.specs.Weak.{is_left, is_mark, is_number, mark_behind, w3_type, w6_type, weak}
+use Rattle.bidi.specs.Weak.{is_left, is_mark, is_number, mark_after, w3_type, w6_type, weak}
 use Rattle.bidi.proofs.BracketLemmas.{length-set_with}
-use Rattle.bidi.proofs.NeutralLemmas.{levels_behind-is}
+use Rattle.bidi.proofs.NeutralLemmas.{levels_after-is}
 use Rattle.bidi.proofs.PlainLemmas.{directed-none, level_at-base, map-agree, map-same, resolved-one, type_at-class}
 use Rattle.bidi.proofs.WeakLemmas.{any, ends_row, left_type, separator_type, terminator_type, weak-later}
 
@@ -28,7 +28,7 @@ use Rattle.bidi.proofs.WeakLemmas.{any, ends_row, left_type, separator_type, ter
 abbrev Passes : (BidiClass → Bool) → List BidiClass → Type 0
 Passes test types = All (λ type. test type ≡ true) types
 
--- what is left of such a paragraph: before W1, behind it, behind W6, and behind W7
+-- what is left of such a paragraph: before W1, after it, after W6, and after W7
 abbrev is_first : BidiClass → Bool
 is_first type = is_flat type && not (is_removed type)
 
@@ -63,7 +63,7 @@ is_calm type = false
 
 -- a rule that makes of each type that passes a test one that passes another
 carry-passes : (rule : BidiClass → BidiClass → List BidiClass → BidiClass) (test kept passes makes : BidiClass → Bool)
-    → ((before type : BidiClass) (behind : List BidiClass) → kept before ≡ true → passes type ≡ true → makes (rule before type behind) ≡ true)
+    → ((before type : BidiClass) (after : List BidiClass) → kept before ≡ true → passes type ≡ true → makes (rule before type after) ≡ true)
     → ((before type : BidiClass) → kept before ≡ true → passes type ≡ true → kept (if test type then type else before) ≡ true)
     → (before : BidiClass) (types : List BidiClass) → kept before ≡ true → Passes passes types → Passes makes (carry rule test before types)
 carry-passes rule test kept passes makes step next before [] k p = All-nil (λ t. makes t ≡ true)
@@ -76,16 +76,16 @@ length-carry : (rule : BidiClass → BidiClass → List BidiClass → BidiClass)
 length-carry rule test before [] = refl
 length-carry rule test before (type ∷ types) = ap suc (length-carry rule test (if test type then type else before) types)
 
-mark-kept : (type : BidiClass) → is_marked type ≡ true → is_marked (mark_behind type) ≡ true
+mark-kept : (type : BidiClass) → is_marked type ≡ true → is_marked (mark_after type) ≡ true
 mark-kept LRI e = refl
 mark-kept RLI e = refl
 mark-kept FSI e = refl
 mark-kept PDI e = refl
 mark-kept _ e = e
 
-mark-step : (before type : BidiClass) (behind : List BidiClass) → is_marked before ≡ true → is_first type ≡ true → is_marked (mark_type before type) ≡ true
-mark-step before NSM behind k p = mark-kept before k
-mark-step before _ behind k p = p
+mark-step : (before type : BidiClass) (after : List BidiClass) → is_marked before ≡ true → is_first type ≡ true → is_marked (mark_type before type) ≡ true
+mark-step before NSM after k p = mark-kept before k
+mark-step before _ after k p = p
 
 mark-next : (before type : BidiClass) → is_marked before ≡ true → is_first type ≡ true → is_marked (if not (is_mark type) then type else before) ≡ true
 mark-next before NSM k p = k
@@ -95,9 +95,9 @@ digit-left : (strong : BidiClass) → is_left strong ≡ true → is_marked (dig
 digit-left L k = refl
 digit-left _ k = absurd (cc)
 
-digit-step : (strong type : BidiClass) (behind : List BidiClass) → is_left strong ≡ true → is_marked type ≡ true → is_marked (digit_type strong type) ≡ true
-digit-step strong EN behind k p = digit-left strong k
-digit-step strong _ behind k p = p
+digit-step : (strong type : BidiClass) (after : List BidiClass) → is_left strong ≡ true → is_marked type ≡ true → is_marked (digit_type strong type) ≡ true
+digit-step strong EN after k p = digit-left strong k
+digit-step strong _ after k p = p
 
 strong-next : (strong type : BidiClass) → is_left strong ≡ true → is_marked type ≡ true → is_left (if is_strong type then type else strong) ≡ true
 strong-next strong L k p = refl
@@ -109,24 +109,24 @@ w3-step : (type : BidiClass) → is_marked type ≡ true → is_marked (w3_type 
 w3-step AL p = absurd (cc)
 w3-step _ p = p
 
-separator-step : (before type : BidiClass) (behind : List BidiClass) → is_marked before ≡ true → is_marked type ≡ true → is_marked (separator_type before type behind) ≡ true
+separator-step : (before type : BidiClass) (after : List BidiClass) → is_marked before ≡ true → is_marked type ≡ true → is_marked (separator_type before type after) ≡ true
 separator-step EN ES [] k p = refl
-separator-step EN ES (EN ∷ behind) k p = refl
-separator-step EN ES (_ ∷ behind) k p = refl
+separator-step EN ES (EN ∷ after) k p = refl
+separator-step EN ES (_ ∷ after) k p = refl
 separator-step EN CS [] k p = refl
-separator-step EN CS (EN ∷ behind) k p = refl
-separator-step EN CS (_ ∷ behind) k p = refl
-separator-step EN _ behind k p = p
-separator-step AN type behind k p = absurd (cc)
-separator-step _ type behind k p = p
+separator-step EN CS (EN ∷ after) k p = refl
+separator-step EN CS (_ ∷ after) k p = refl
+separator-step EN _ after k p = p
+separator-step AN type after k p = absurd (cc)
+separator-step _ type after k p = p
 
 either-marked : (number : Bool) → is_marked (if number then EN else ET) ≡ true
 either-marked true = refl
 either-marked false = refl
 
-terminator-step : (before type : BidiClass) (behind : List BidiClass) → true ≡ true → is_marked type ≡ true → is_marked (terminator_type before type behind) ≡ true
-terminator-step before ET behind k p = either-marked (is_number before || is_number (nearest ends_row ON behind))
-terminator-step before _ behind k p = p
+terminator-step : (before type : BidiClass) (after : List BidiClass) → true ≡ true → is_marked type ≡ true → is_marked (terminator_type before type after) ≡ true
+terminator-step before ET after k p = either-marked (is_number before || is_number (nearest ends_row ON after))
+terminator-step before _ after k p = p
 
 w6-step : (type : BidiClass) → is_marked type ≡ true → is_joined (w6_type type) ≡ true
 w6-step ES p = refl
@@ -134,13 +134,13 @@ w6-step ET p = refl
 w6-step CS p = refl
 w6-step _ p = p
 
-number-left : (strong : BidiClass) (behind : List BidiClass) → is_left strong ≡ true → is_calm (left_type strong EN behind) ≡ true
-number-left L behind k = refl
-number-left _ behind k = absurd (cc)
+number-left : (strong : BidiClass) (after : List BidiClass) → is_left strong ≡ true → is_calm (left_type strong EN after) ≡ true
+number-left L after k = refl
+number-left _ after k = absurd (cc)
 
-left-step : (strong type : BidiClass) (behind : List BidiClass) → is_left strong ≡ true → is_joined type ≡ true → is_calm (left_type strong type behind) ≡ true
-left-step strong EN behind k p = number-left strong behind k
-left-step strong _ behind k p = p
+left-step : (strong type : BidiClass) (after : List BidiClass) → is_left strong ≡ true → is_joined type ≡ true → is_calm (left_type strong type after) ≡ true
+left-step strong EN after k p = number-left strong after k
+left-step strong _ after k p = p
 
 left-next : (strong type : BidiClass) → is_left strong ≡ true → is_joined type ≡ true → is_left (if is_strong type then type else strong) ≡ true
 left-next strong L k p = refl
@@ -148,11 +148,11 @@ left-next strong R k p = absurd (cc)
 left-next strong AL k p = absurd (cc)
 left-next strong _ k p = k
 
--- behind the weak rules all types are L or neutral
+-- after the weak rules all types are L or neutral
 weak-calm : (types : List BidiClass) → Passes is_first types → Passes is_calm (weak L types)
 weak-calm types first =
-    let mark = λ (b type : BidiClass) (behind : List BidiClass). mark_type b type in
-    let digit = λ (s type : BidiClass) (behind : List BidiClass). digit_type s type in
+    let mark = λ (b type : BidiClass) (after : List BidiClass). mark_type b type in
+    let digit = λ (s type : BidiClass) (after : List BidiClass). digit_type s type in
     let unmarked = carry mark (λ type. not (is_mark type)) L types in
     let digits = carry digit is_strong L unmarked in
     let read = map w3_type digits in
@@ -173,8 +173,8 @@ weak-calm types first =
 
 length-weak : (types : List BidiClass) → length (weak L types) ≡ length types
 length-weak types =
-    let mark = λ (b type : BidiClass) (behind : List BidiClass). mark_type b type in
-    let digit = λ (s type : BidiClass) (behind : List BidiClass). digit_type s type in
+    let mark = λ (b type : BidiClass) (after : List BidiClass). mark_type b type in
+    let digit = λ (s type : BidiClass) (after : List BidiClass). digit_type s type in
     let unmarked = carry mark (λ type. not (is_mark type)) L types in
     let digits = carry digit is_strong L unmarked in
     let read = map w3_type digits in
@@ -244,8 +244,8 @@ zeros n = replicate n 0
 more-zeros : (n m : ℕ) → zeros ((n + 1) + m) ≡ zeros (n + suc m)
 more-zeros n m = let e : (n + 1) + m ≡ n + suc m = omega arith in ap zeros e
 
-calm-step : (n : ℕ) (type : BidiClass) (types : List BidiClass) → is_calm type ≡ true → ((m : ℕ) → levels_behind 0 L m L types ≡ replicate (m + length types) 0)
-    → levels_behind 0 L n L (type ∷ types) ≡ replicate (n + suc (length types)) 0
+calm-step : (n : ℕ) (type : BidiClass) (types : List BidiClass) → is_calm type ≡ true → ((m : ℕ) → levels_after 0 L m L types ≡ replicate (m + length types) 0)
+    → levels_after 0 L n L (type ∷ types) ≡ replicate (n + suc (length types)) 0
 calm-step n L types e rest =
     ap (λ xs. replicate n 0 ++ 0 ∷ xs) (rest 0 ∙ ap zeros (zero-add (length types)))
     ∙ replicate-append-replicate n (suc (length types)) 0
@@ -255,7 +255,7 @@ calm-step n WS types e rest = rest (n + 1) ∙ more-zeros n (length types)
 calm-step n ON types e rest = rest (n + 1) ∙ more-zeros n (length types)
 calm-step n _ types e rest = absurd (cc)
 
-calm_levels : (n : ℕ) (types : List BidiClass) → Passes is_calm types → levels_behind 0 L n L types ≡ replicate (n + length types) 0
+calm_levels : (n : ℕ) (types : List BidiClass) → Passes is_calm types → levels_after 0 L n L types ≡ replicate (n + length types) 0
 calm_levels n [] calm = ap zeros (sym (add-zero n))
 calm_levels n (type ∷ types) calm =
     calm-step n type types (All-head (λ t. is_calm t ≡ true) type types calm) (λ m. calm_levels m types (All-tail (λ t. is_calm t ≡ true) type types calm))
@@ -267,7 +267,7 @@ sequence_levels-zero bracket characters types first =
     let now : IsCalm (length types) paired =
     fold-calm (length types) (map is_mark types) (closer_of (pairs_of bracket characters (weak L types))) (range_with_len 0 (length (weak L types))) (weak L types)
     (record { calm = weak-calm types first; size = length-weak types }) in
-    sym (levels_behind-is 0 L L paired) ∙ calm_levels 0 paired now.calm ∙ ap zeros (zero-add (length paired) ∙ now.size)
+    sym (levels_after-is 0 L L paired) ∙ calm_levels 0 paired now.calm ∙ ap zeros (zero-add (length paired) ∙ now.size)
 
 -- the levels put back are 0 too
 put_back-zero : (classes : List BidiClass) (m : ℕ) → put_back 0 classes (replicate m 0) ≡ replicate (length classes) 0

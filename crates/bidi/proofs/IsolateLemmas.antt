@@ -49,7 +49,7 @@ Lowest-kept o s k d e low next some = record {
 pub Lowest-here : (o s : ℕ → ℕ) (k : ℕ) (low : Lowest o s k 0) (m : ℕ) → m ≤ k → o k + s m ≤ o m + s k
 Lowest-here o s k low m h = omega (arith, Lowest-all o s k 0 low m h, low.depth)
 
--- from a place to one that is not higher, behind a step up, some step comes back to the height
+-- from a place to one that is not higher, after a step up, some step comes back to the height
 pub returns_to : (o s : ℕ → ℕ) (i k : ℕ) (steps : (m : ℕ) → m < k → (o m ≤ o (m + 1)) × (s (m + 1) ≤ s m + 1)) → i < k
     → o i + s (i + 1) < o (i + 1) + s i → o k + s i ≤ o i + s k
     → (j : ℕ) × (i < j) × (j < k) × (o (j + 1) + s i ≡ o i + s (j + 1))

@@ -60,7 +60,7 @@ open-match_at classes i within =
           ∙ ap (λ m. is_initiator (class_at classes i) && (m == length classes)) (sym e)
     ]
 
--- what the match of an initiator tells: behind it, up to its match, no part is balanced, and the part up to its match is
+-- what the match of an initiator tells: after it, up to its match, no part is balanced, and the part up to its match is
 module _ (classes : List BidiClass) (i : ℕ) (within : i < length classes) (opens : is_initiator (class_at classes i) ≡ true) where
   found : match_at classes i ≡ unwrap_or (match_of classes i) (length classes)
   found = cond-true (is_initiator (class_at classes i)) (unwrap_or (match_of classes i) (length classes)) (length classes) opens
@@ -94,7 +94,7 @@ first_strong_level-none s none =
     ap (option_map (λ m. strong_level (class_at s m)))
     (least_none (λ m. is_strong (class_at s m) && is_outside s m) 0 (length s) (λ m above below. none m (omega arith)))
 
--- an initiator in a list whose part up to each place behind it isn't balanced: all behind it lies in its span
+-- an initiator in a list whose part up to each place after it isn't balanced: all after it lies in its span
 module _ (s : List BidiClass) (j : ℕ) (within : j < length s) (opens : is_initiator (class_at s j) ≡ true) where
   spans : (k : ℕ) → j < k → ((m : ℕ) → j < m → m ≤ k → is_balanced s j m ≡ false) → is_outside s k ≡ false
   spans k after none =
@@ -111,11 +111,11 @@ module _ (s : List BidiClass) (j : ℕ) (within : j < length s) (opens : is_init
 
   -- up to the match each place is higher
   higher : (k : ℕ) → k ≤ length s → ((m : ℕ) → j < m → m < k → is_balanced s j m ≡ false) → (m : ℕ) → j < m → m ≤ k → opened s j + closed s m < opened s m + closed s j
-  higher k inside none m behind upto =
+  higher k inside none m after upto =
       elim (cases_lt (opened s j + closed s m) (opened s m + closed s j)) [
         | inl high ↦ high
         | inr low ↦
-            let back = returns_to (opened s) (closed s) j m (λ q l. steps s q (omega arith)) behind raised low in
+            let back = returns_to (opened s) (closed s) j m (λ q l. steps s q (omega arith)) after raised low in
             absurd (both_ways (is_balanced s j back.0) (none back.0 back.1 (omega (arith, back.2))) (balanced s j back.0 (omega (arith, back.1)) back.3))
       ]
 
@@ -132,10 +132,10 @@ module _ (s : List BidiClass) (j : ℕ) (within : j < length s) (opens : is_init
       ]
 
   -- where no part is balanced, there is no strong character outside
-  pub none_behind : Reached s j 0 → ((m : ℕ) → j < m → m < length s → is_balanced s j m ≡ false) → first_strong_level s ≡ None
-  none_behind reached none = first_strong_level-none s (none_outside (length s) reached none)
+  pub none_after : Reached s j 0 → ((m : ℕ) → j < m → m < length s → is_balanced s j m ≡ false) → first_strong_level s ≡ None
+  none_after reached none = first_strong_level-none s (none_outside (length s) reached none)
 
-  -- behind the match
+  -- after the match
   pub Reached-jump : (k : ℕ) → j < k → k < length s → Reached s j 0 → ((m : ℕ) → j < m → m < k → is_balanced s j m ≡ false) → is_balanced s j k ≡ true → Reached s (k + 1) 0
   Reached-jump k after inside reached none here =
       let level : opened s (k + 1) + closed s j ≡ opened s j + closed s (k + 1) = level_at_match s j k (omega arith) here in
@@ -144,7 +144,7 @@ module _ (s : List BidiClass) (j : ℕ) (within : j < length s) (opens : is_init
         bounded = omega arith;
         lowest = Lowest-fresh (opened s) (closed s) k (λ m h. elim (cases_lt j m) [
           | inr before ↦ omega (arith, Lowest-here (opened s) (closed s) j reached.lowest m before)
-          | inl behind ↦ omega (arith, high m behind h)
+          | inl after ↦ omega (arith, high m after h)
         ]);
         none = λ m h. elim (cases_eq m k) [
           | inl e ↦ rw e (and_left (is_strong (class_at s k)) (is_outside s k) (false_from_ne_true (is_strong (class_at s k)) (λ strong. omega (
@@ -160,7 +160,7 @@ module _ (s : List BidiClass) (j : ℕ) (within : j < length s) (opens : is_init
 -- What the walk through the span of an initiator knows at a place: up to the span's end, that no strong character before it stands
 -- outside all isolates inside the span, and past it, that none does.
 pub record Walks (classes : List BidiClass) (initiator at : ℕ) : Type 0 where
-  pub behind : initiator < at
+  pub after : initiator < at
   pub bounded : at ≤ length classes + 1
   pub inside : at ≤ match_at classes initiator → Reached (span_of classes initiator) (at - (initiator + 1)) 0
   pub past : match_at classes initiator < at → first_strong_level (span_of classes initiator) ≡ None
@@ -180,12 +180,12 @@ module _ (classes : List BidiClass) (i : ℕ) (within : i < length classes) (ope
   length-is = ap length span-is ∙ length-span classes (i + 1) (match_at classes i) (omega (arith, end-above)) (match_at-le classes i within)
 
   class-is : (at : ℕ) → i < at → at < match_at classes i → class_at (span_of classes i) (at - (i + 1)) ≡ class_at classes at
-  class-is at behind before =
+  class-is at after before =
       let e : i + 1 + (at - (i + 1)) ≡ at = omega arith in
       ap (λ s. class_at s (at - (i + 1))) span-is ∙ class_at-span classes (i + 1) (match_at classes i) (at - (i + 1)) (omega arith) ∙ ap (class_at classes) e
 
   balance-is : (at m : ℕ) → i < at → at ≤ m → m < match_at classes i → is_balanced (span_of classes i) (at - (i + 1)) (m - (i + 1)) ≡ is_balanced classes at m
-  balance-is at m behind order before =
+  balance-is at m after order before =
       let e : i + 1 + (at - (i + 1)) ≡ at = omega arith in
       let f : i + 1 + (m - (i + 1)) ≡ m = omega arith in
       ap (λ s. is_balanced s (at - (i + 1)) (m - (i + 1))) span-is
@@ -194,7 +194,7 @@ module _ (classes : List BidiClass) (i : ℕ) (within : i < length classes) (ope
 
   pub Walks-start : Walks classes i (i + 1)
   Walks-start = record {
-    behind = omega arith;
+    after = omega arith;
     bounded = omega arith;
     inside = λ h. let e : i + 1 - (i + 1) ≡ 0 = omega arith in rw e (Reached-start (span_of classes i));
     past = λ h. absurd (omega (arith, end-above));
@@ -202,15 +202,15 @@ module _ (classes : List BidiClass) (i : ℕ) (within : i < length classes) (ope
 
   pub Walks-strong : (at : ℕ) → at < match_at classes i → Walks classes i at → is_strong (class_at classes at) ≡ true → first_strong_level (span_of classes i) ≡ Some (strong_level (class_at classes at))
   Walks-strong at before walk strong =
-      let here = class-is at walk.behind before in
-      let behind = walk.behind in
+      let here = class-is at walk.after before in
+      let after = walk.after in
       Reached-strong (span_of classes i) (at - (i + 1)) (omega (arith, length-is)) (walk.inside (omega arith)) (ap is_strong here ∙ strong) ∙ ap (λ class. Some (strong_level class)) here
 
   -- past a character that opens no isolate
   pub Walks-step : (at : ℕ) → at < match_at classes i → Walks classes i at → is_strong (class_at classes at) ≡ false → is_initiator (class_at classes at) ≡ false → Walks classes i (at + 1)
   Walks-step at before walk weak other =
-      let behind = walk.behind in
-      let here = class-is at walk.behind before in
+      let after = walk.after in
+      let here = class-is at walk.after before in
       let reached = walk.inside (omega arith) in
       let next = Reached-next (span_of classes i) (at - (i + 1)) 0 (omega (arith, length-is)) reached (λ strong. absurd (both_ways (is_strong (class_at classes at)) weak (ap is_strong (sym here) ∙ strong))) in
       let flat : cond (is_initiator (class_at (span_of classes i) (at - (i + 1)))) (0 + 1) (cond (is_pdi (class_at (span_of classes i) (at - (i + 1)))) (0 - 1) 0) ≡ 0 =
@@ -218,7 +218,7 @@ module _ (classes : List BidiClass) (i : ℕ) (within : i < length classes) (ope
       ∙ cond_both (is_pdi (class_at (span_of classes i) (at - (i + 1)))) (0 - 1) 0 (λ n. n ≡ 0) (λ e. refl) (λ e. refl) in
       let place : at + 1 - (i + 1) ≡ at - (i + 1) + 1 = omega arith in
       record {
-        behind = omega arith;
+        after = omega arith;
         bounded = omega (arith, match_at-le classes i within);
         inside = λ h. rw place (rw flat at next);
         past = λ h. absurd (omega arith);
@@ -227,18 +227,18 @@ module _ (classes : List BidiClass) (i : ℕ) (within : i < length classes) (ope
   -- past an isolate
   pub Walks-jump : (at : ℕ) → at < match_at classes i → Walks classes i at → is_initiator (class_at classes at) ≡ true → Walks classes i (match_at classes at + 1)
   Walks-jump at before walk inner =
-      let behind = walk.behind in
+      let after = walk.after in
       let ends = match_at-le classes i within in
       let inside : at < length classes = omega arith in
       let j = at - (i + 1) in
       let s = span_of classes i in
       let within_span : j < length s = omega (arith, length-is) in
-      let opens_there : is_initiator (class_at s j) ≡ true = ap is_initiator (class-is at behind before) ∙ inner in
+      let opens_there : is_initiator (class_at s j) ≡ true = ap is_initiator (class-is at after before) ∙ inner in
       let reached : Reached s j 0 = walk.inside (omega arith) in
       let none : (m : ℕ) → j < m → m < length s → m + (i + 1) < match_at classes at → is_balanced s j m ≡ false =
       λ m from to below.
       let e : m + (i + 1) - (i + 1) ≡ m = omega arith in
-      ap (is_balanced s j) (sym e) ∙ balance-is at (m + (i + 1)) behind (omega arith) (omega (arith, length-is)) ∙ unbalanced_before classes at inside inner (m + (i + 1)) (omega arith) below in
+      ap (is_balanced s j) (sym e) ∙ balance-is at (m + (i + 1)) after (omega arith) (omega (arith, length-is)) ∙ unbalanced_before classes at inside inner (m + (i + 1)) (omega arith) below in
       elim (cases_lt (match_at classes at) (match_at classes i)) [
         | inl nested ↦
             let found_there = balanced_at classes at inside inner (omega arith) in
@@ -246,17 +246,17 @@ module _ (classes : List BidiClass) (i : ℕ) (within : i < length classes) (ope
             let k = match_at classes at - (i + 1) in
             let place : match_at classes at + 1 - (i + 1) ≡ k + 1 = omega arith in
             record {
-              behind = omega arith;
+              after = omega arith;
               bounded = omega arith;
               inside = λ h. rw place (Reached-jump s j within_span opens_there k (omega arith) (omega (arith, length-is)) reached
-                  (λ m from to. none m from (omega (arith, length-is)) (omega arith)) (balance-is at (match_at classes at) behind (omega arith) nested ∙ found_there.1));
+                  (λ m from to. none m from (omega (arith, length-is)) (omega arith)) (balance-is at (match_at classes at) after (omega arith) nested ∙ found_there.1));
               past = λ h. absurd (omega arith);
             }
         | inr past ↦ record {
-          behind = omega arith;
+          after = omega arith;
           bounded = omega (arith, match_at-le classes at inside);
           inside = λ h. absurd (omega arith);
-          past = λ h. none_behind s j within_span opens_there reached (λ m from to. none m from to (omega (arith, length-is)));
+          past = λ h. none_after s j within_span opens_there reached (λ m from to. none m from to (omega (arith, length-is)));
         }
       ]
 

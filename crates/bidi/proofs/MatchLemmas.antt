@@ -10,7 +10,7 @@ use Rattle.bidi.specs.Isolates.{match_at, matches_of}
 use Rattle.bidi.proofs.IsolateLemmas.{opened, closed, opened-next, closed-next, opens_shuts_none, balanced, unbalanced}
 use Rattle.bidi.proofs.LeastLemmas.{least_found, least_none}
 
--- an initiator before k to whose height no place behind it up to k comes back
+-- an initiator before k to whose height no place after it up to k comes back
 pub record IsOpen (classes : List BidiClass) (k i : ℕ) : Type 0 where
   pub below : i < k
   pub opens : is_initiator (class_at classes i) ≡ true
@@ -25,7 +25,7 @@ pub record Opens (classes : List BidiClass) (k : ℕ) (stack found : List ℕ) :
   pub ahead : (i : ℕ) → k ≤ i → i < length classes → get_or found i 0 ≡ length classes
   pub passed : (i : ℕ) → i < k → ((m : ℕ) × (m < length stack) × (get_or stack m 0 ≡ i)) ⊎ (get_or found i 0 ≡ match_at classes i)
 
--- the height behind a character
+-- the height after a character
 up : (classes : List BidiClass) (k : ℕ) → k < length classes → is_initiator (class_at classes k) ≡ true
     → (opened classes (k + 1) ≡ opened classes k + 1) × (closed classes (k + 1) ≡ closed classes k)
 up classes k within opens =
@@ -70,7 +70,7 @@ Opens-start classes = record {
   passed = λ i h. absurd (omega arith);
 }
 
--- behind an initiator
+-- after an initiator
 pub Opens-up : (classes : List BidiClass) (k : ℕ) (stack found : List ℕ) → k < length classes → is_initiator (class_at classes k) ≡ true
     → Opens classes k stack found → Opens classes (k + 1) (stack ++ k ∷ []) found
 Opens-up classes k stack found within opens now =
@@ -107,7 +107,7 @@ Opens-up classes k stack found within opens now =
       ];
     }
 
--- behind a PDI where nothing is open
+-- after a PDI where nothing is open
 pub Opens-down_none : (classes : List BidiClass) (k : ℕ) (found : List ℕ) → k < length classes → is_initiator (class_at classes k) ≡ false
     → Opens classes k [] found → Opens classes (k + 1) [] found
 Opens-down_none classes k found within opens now = record {
@@ -140,7 +140,7 @@ match_at-open classes i now =
     ∙ ap (λ o. unwrap_or o (length classes)) (least_none (is_balanced classes i) (i + 1) (length classes - (i + 1))
     (λ m from to. unbalanced classes i m (omega arith) (now.above (m + 1) (omega arith) (omega arith))))
 
--- behind a PDI where some are open
+-- after a PDI where some are open
 pub Opens-down : (classes : List BidiClass) (k : ℕ) (stack found : List ℕ) → k < length classes → is_initiator (class_at classes k) ≡ false → is_pdi (class_at classes k) ≡ true
     → 0 < length stack → Opens classes k stack found
     → Opens classes (k + 1) (take (length stack - 1) stack) (set found (get_or stack (length stack - 1) 0) k)
@@ -177,7 +177,7 @@ Opens-down classes k stack found within opens shuts some now =
       ];
     }
 
--- behind any other character
+-- after any other character
 pub Opens-flat : (classes : List BidiClass) (k : ℕ) (stack found : List ℕ) → k < length classes → is_initiator (class_at classes k) ≡ false → is_pdi (class_at classes k) ≡ false
     → Opens classes k stack found → Opens classes (k + 1) stack found
 Opens-flat classes k stack found within opens shuts now =

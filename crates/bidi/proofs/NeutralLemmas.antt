@@ -1,11 +1,11 @@
--- The neutral and implicit rules in one walk, with a row of neutrals that waits for what stands behind it.
+-- The neutral and implicit rules in one walk, with a row of neutrals that waits for what stands after it.
 use Rattle.std.proofs.Common.{◌≡◌, ℕ, ◌+◌, ◌-◌, ◌<◌, ◌≤◌, true, false, not, List, [], ◌∷◌, ◌++◌, length, get_or, set, take, drop, map, replicate, refl, sym, ap, ◌∙◌, inl, inr, arith, append_assoc}
 use Rattle.std.proofs.lemmas.Bool.{cond-true, cond-false, cases_Bool, not_from_true, not_from_false}
 use Rattle.std.proofs.lemmas.List.{append-nil, length-set, drop_more, drop_all, take_all, take_more_set, replicate_more}
 use Rattle.ucd.specs.declared.bidi_class.BidiClass.{BidiClass}
 use Rattle.bidi.specs.Neighbours.{each_by, nearest}
 use Rattle.bidi.specs.Neutral.{between, implicit_level, is_neutral, neutral, neutral_at}
-use Rattle.bidi.specs.Rows.{row_level, levels_behind, AreLevelsSoFar}
+use Rattle.bidi.specs.Rows.{row_level, levels_after, AreLevelsSoFar}
 use Rattle.bidi.specs.Sequences.{direction}
 
 -- the nearest type that is no neutral
@@ -22,11 +22,11 @@ module _ (level : ℕ) (sos eos : BidiClass) where
   side-other : (other type : BidiClass) (types : List BidiClass) → is_neutral type ≡ false → side_of other (type ∷ types) ≡ type
   side-other other type types e = cond-true (not (is_neutral type)) type (side_of other types) (not_from_false (is_neutral type) e)
 
-  -- what the walk makes of the types behind a row is what the rules make of both
-  behind-is : (n : ℕ) (before : BidiClass) (front types : List BidiClass) → before ≡ side_of sos front
-      → levels_behind level eos n before types ≡ replicate n (row_level level before (side_of eos types)) ++ rules front types
-  behind-is n before front [] e = sym (append-nil (replicate n (row_level level before eos)))
-  behind-is n before front (type ∷ types) e =
+  -- what the walk makes of the types after a row is what the rules make of both
+  after-is : (n : ℕ) (before : BidiClass) (front types : List BidiClass) → before ≡ side_of sos front
+      → levels_after level eos n before types ≡ replicate n (row_level level before (side_of eos types)) ++ rules front types
+  after-is n before front [] e = sym (append-nil (replicate n (row_level level before eos)))
+  after-is n before front (type ∷ types) e =
       let here = neutral_at (direction level) sos eos front type types in
       elim (cases_Bool (is_neutral type)) [
         | inl row ↦
@@ -34,22 +34,22 @@ module _ (level : ℕ) (sos eos : BidiClass) where
             let is_here : here ≡ between (direction level) before (side_of eos types) =
             cond-true (is_neutral type) (between (direction level) (side_of sos front) (side_of eos types)) type row
             ∙ ap (λ b. between (direction level) b (side_of eos types)) (sym e) in
-            cond-true (is_neutral type) (levels_behind level eos (n + 1) before types) (replicate n (row_level level before type) ++ implicit_level level type ∷ levels_behind level eos 0 type types) row
-            ∙ behind-is (n + 1) before (type ∷ front) types (e ∙ sym (side-neutral sos type front row))
+            cond-true (is_neutral type) (levels_after level eos (n + 1) before types) (replicate n (row_level level before type) ++ implicit_level level type ∷ levels_after level eos 0 type types) row
+            ∙ after-is (n + 1) before (type ∷ front) types (e ∙ sym (side-neutral sos type front row))
             ∙ ap (λ xs. xs ++ rules (type ∷ front) types) (sym (replicate_more n value))
             ∙ append_assoc (replicate n value) (value ∷ []) (rules (type ∷ front) types)
             ∙ ap (λ b. replicate n value ++ (implicit_level level b ∷ rules (type ∷ front) types)) (sym is_here)
             ∙ ap (λ b. replicate n (row_level level before b) ++ (implicit_level level here ∷ rules (type ∷ front) types)) (sym (side-neutral eos type types row))
         | inr other ↦
             let is_here : here ≡ type = cond-false (is_neutral type) (between (direction level) (side_of sos front) (side_of eos types)) type other in
-            cond-false (is_neutral type) (levels_behind level eos (n + 1) before types) (replicate n (row_level level before type) ++ implicit_level level type ∷ levels_behind level eos 0 type types) other
-            ∙ ap (λ xs. replicate n (row_level level before type) ++ implicit_level level type ∷ xs) (behind-is 0 type (type ∷ front) types (sym (side-other sos type front other)))
+            cond-false (is_neutral type) (levels_after level eos (n + 1) before types) (replicate n (row_level level before type) ++ implicit_level level type ∷ levels_after level eos 0 type types) other
+            ∙ ap (λ xs. replicate n (row_level level before type) ++ implicit_level level type ∷ xs) (after-is 0 type (type ∷ front) types (sym (side-other sos type front other)))
             ∙ ap (λ b. replicate n (row_level level before type) ++ (implicit_level level b ∷ rules (type ∷ front) types)) (sym is_here)
             ∙ ap (λ b. replicate n (row_level level before b) ++ (implicit_level level here ∷ rules (type ∷ front) types)) (sym (side-other eos type types other))
       ]
 
-  pub levels_behind-is : (types : List BidiClass) → levels_behind level eos 0 sos types ≡ map (implicit_level level) (neutral (direction level) sos eos types)
-  levels_behind-is types = behind-is 0 sos [] types refl
+  pub levels_after-is : (types : List BidiClass) → levels_after level eos 0 sos types ≡ map (implicit_level level) (neutral (direction level) sos eos types)
+  levels_after-is types = after-is 0 sos [] types refl
 
   module _ {types : List BidiClass} {levels : List ℕ} {before : BidiClass} {start at : ℕ} (so_far : AreLevelsSoFar level sos eos types levels before start at) (d : BidiClass) where
     -- past a neutral, nothing is written
@@ -61,10 +61,10 @@ module _ (level : ℕ) (sos eos : BidiClass) where
         record {
           sizes = so_far.sizes;
           order = omega arith;
-          whole = ap (λ n. take start levels ++ levels_behind level eos n before (drop (at + 1) types)) more
-              ∙ ap (λ xs. take start levels ++ xs) (sym (cond-true (is_neutral type) (levels_behind level eos ((at - start) + 1) before (drop (at + 1) types))
-              (replicate (at - start) (row_level level before type) ++ implicit_level level type ∷ levels_behind level eos 0 type (drop (at + 1) types)) row))
-              ∙ ap (λ xs. take start levels ++ levels_behind level eos (at - start) before xs) (sym (drop_more types at d within))
+          whole = ap (λ n. take start levels ++ levels_after level eos n before (drop (at + 1) types)) more
+              ∙ ap (λ xs. take start levels ++ xs) (sym (cond-true (is_neutral type) (levels_after level eos ((at - start) + 1) before (drop (at + 1) types))
+              (replicate (at - start) (row_level level before type) ++ implicit_level level type ∷ levels_after level eos 0 type (drop (at + 1) types)) row))
+              ∙ ap (λ xs. take start levels ++ levels_after level eos (at - start) before xs) (sym (drop_more types at d within))
               ∙ so_far.whole;
         }
 
@@ -80,15 +80,15 @@ module _ (level : ℕ) (sos eos : BidiClass) where
         record {
           sizes = length-set written at value ∙ size ∙ so_far.sizes;
           order = omega arith;
-          whole = ap (λ n. take (at + 1) (set written at value) ++ levels_behind level eos n type (drop (at + 1) types)) none
-              ∙ ap (λ xs. xs ++ levels_behind level eos 0 type (drop (at + 1) types)) (take_more_set written at value inside)
-              ∙ append_assoc (take at written) (value ∷ []) (levels_behind level eos 0 type (drop (at + 1) types))
-              ∙ ap (λ xs. xs ++ (value ∷ levels_behind level eos 0 type (drop (at + 1) types))) row
-              ∙ append_assoc (take start levels) front (value ∷ levels_behind level eos 0 type (drop (at + 1) types))
-              ∙ ap (λ n. take start levels ++ (front ++ (n ∷ levels_behind level eos 0 type (drop (at + 1) types)))) here
-              ∙ ap (λ xs. take start levels ++ xs) (sym (cond-false (is_neutral type) (levels_behind level eos ((at - start) + 1) before (drop (at + 1) types))
-              (front ++ implicit_level level type ∷ levels_behind level eos 0 type (drop (at + 1) types)) other))
-              ∙ ap (λ xs. take start levels ++ levels_behind level eos (at - start) before xs) (sym (drop_more types at d within))
+          whole = ap (λ n. take (at + 1) (set written at value) ++ levels_after level eos n type (drop (at + 1) types)) none
+              ∙ ap (λ xs. xs ++ levels_after level eos 0 type (drop (at + 1) types)) (take_more_set written at value inside)
+              ∙ append_assoc (take at written) (value ∷ []) (levels_after level eos 0 type (drop (at + 1) types))
+              ∙ ap (λ xs. xs ++ (value ∷ levels_after level eos 0 type (drop (at + 1) types))) row
+              ∙ append_assoc (take start levels) front (value ∷ levels_after level eos 0 type (drop (at + 1) types))
+              ∙ ap (λ n. take start levels ++ (front ++ (n ∷ levels_after level eos 0 type (drop (at + 1) types)))) here
+              ∙ ap (λ xs. take start levels ++ xs) (sym (cond-false (is_neutral type) (levels_after level eos ((at - start) + 1) before (drop (at + 1) types))
+              (front ++ implicit_level level type ∷ levels_after level eos 0 type (drop (at + 1) types)) other))
+              ∙ ap (λ xs. take start levels ++ levels_after level eos (at - start) before xs) (sym (drop_more types at d within))
               ∙ so_far.whole;
         }
 
@@ -100,5 +100,5 @@ module _ (level : ℕ) (sos eos : BidiClass) where
         let whole : length written ≤ length types = omega (arith, size, so_far.sizes) in
         sym (take_all (length types) written whole) ∙ row
         ∙ ap (λ n. take start levels ++ replicate (n - start) (row_level level before eos)) (sym at_end)
-        ∙ ap (λ xs. take start levels ++ levels_behind level eos (at - start) before xs) (sym (drop_all at types past))
-        ∙ so_far.whole ∙ levels_behind-is types
+        ∙ ap (λ xs. take start levels ++ levels_after level eos (at - start) before xs) (sym (drop_all at types past))
+        ∙ so_far.whole ∙ levels_after-is types

@@ -40,7 +40,7 @@ cases_last (s ∷ items) =
       | inr w ↦ inr (s ∷ w.0, w.1, ap (λ (l : List Status). s ∷ l) w.2)
     ]
 
--- Entries in front of the last isolate, when the last entry is taken off: it is that isolate,
+-- Entries below the last isolate, when the last entry is taken off: it is that isolate,
 pub popped_isolate : (front entries rest : List Status) (status : Status) → AreBeforeIsolate front entries → entries ≡ rest ++ status ∷ [] → status.is_isolate ≡ true → rest ≡ front
 popped_isolate front entries rest status h popped isolate =
     elim (cases_last h.inner) [
@@ -52,7 +52,7 @@ popped_isolate front entries rest status h popped isolate =
           absurd (both_ways w.1.is_isolate (or_parts w.1.is_isolate false (or_parts (list_any (λ (s : Status). s.is_isolate) w.0) (w.1.is_isolate || false) none).1).0 (sym (ap (λ (s : Status). s.is_isolate) same) ∙ isolate))
     ]
 
--- or it stands behind it
+-- or it stands above it
 pub popped_other : (front entries rest : List Status) (status : Status) → AreBeforeIsolate front entries → entries ≡ rest ++ status ∷ [] → status.is_isolate ≡ false → AreBeforeIsolate front rest
 popped_other front entries rest status h popped other =
     elim (cases_last h.inner) [
@@ -74,7 +74,7 @@ popped_other front entries rest status h popped other =
 pub popped_none : (front entries : List Status) → AreBeforeIsolate front entries → length entries ≡ 0 → ⊥
 popped_none front entries h none = omega (arith, ap length h.split, length-append front (h.isolate ∷ h.inner))
 
--- an entry that is no isolate behind them
+-- an entry that is no isolate above them
 AreBeforeIsolate-more : (front entries : List Status) (status : Status) → AreBeforeIsolate front entries → status.is_isolate ≡ false → AreBeforeIsolate front (entries ++ status ∷ [])
 AreBeforeIsolate-more front entries status h other = record {
   isolate = h.isolate;

@@ -139,27 +139,27 @@ lives-greatest live fit test (suc k) same =
           ∙ ap (λ (l : List ℕ). item_of l (greatest test (length l))) (sym e)
     ]
 
--- those in front of one of them
+-- those before one of them
 pub lives-cut : (live other : ℕ → Bool) (k m : ℕ) → m < length (lives live k)
     → ((i : ℕ) → i < get_or (lives live k) m 0 → other i ≡ live i) → ((i : ℕ) → get_or (lives live k) m 0 ≤ i → i < k → other i ≡ false)
     → lives other k ≡ take m (lives live k)
-lives-cut live other zero m h below behind = absurd (omega arith)
-lives-cut live other (suc k) m h below behind =
+lives-cut live other zero m h below after = absurd (omega arith)
+lives-cut live other (suc k) m h below after =
     elim (cases_Bool (live k)) [
       | inl passed ↦
           let e = lives-yes live k passed in
           elim (cases_eq m (length (lives live k))) [
             | inl last ↦
                 let top : get_or (lives live (suc k)) m 0 ≡ k = ap (λ (l : List ℕ). get_or l m 0) e ∙ get_or_push (lives live k) k 0 m (sym last) in
-                lives-no other k (behind k (omega arith) (omega arith))
+                lives-no other k (after k (omega arith) (omega arith))
                 ∙ lives-same other live k (λ i lt. below i (omega arith))
                 ∙ sym (ap (take m) e ∙ ap (λ n. take n (lives live k ++ k ∷ [])) last ∙ take-append_seam (lives live k) (k ∷ []))
             | inr ne ↦
                 let lt : m < length (lives live k) = omega (arith, ap length e, length_push (lives live k) k) in
                 let same : get_or (lives live (suc k)) m 0 ≡ get_or (lives live k) m 0 = ap (λ (l : List ℕ). get_or l m 0) e ∙ get_or_append_left (lives live k) (k ∷ []) 0 m lt in
                 let inside = (lives-item live k m lt).0 in
-                lives-no other k (behind k (omega (arith, inside)) (omega arith))
-                ∙ lives-cut live other k m lt (λ i b. below i (omega arith)) (λ i a b. behind i (omega arith) (omega arith))
+                lives-no other k (after k (omega (arith, inside)) (omega arith))
+                ∙ lives-cut live other k m lt (λ i b. below i (omega arith)) (λ i a b. after i (omega arith) (omega arith))
                 ∙ sym (ap (take m) e ∙ take-append-le m (lives live k) (k ∷ []) (omega arith))
           ]
       | inr failed ↦
@@ -167,8 +167,8 @@ lives-cut live other (suc k) m h below behind =
           let lt : m < length (lives live k) = omega (arith, ap length e) in
           let same : get_or (lives live (suc k)) m 0 ≡ get_or (lives live k) m 0 = ap (λ (l : List ℕ). get_or l m 0) e in
           let inside = (lives-item live k m lt).0 in
-          lives-no other k (behind k (omega (arith, inside)) (omega arith))
-          ∙ lives-cut live other k m lt (λ i b. below i (omega arith)) (λ i a b. behind i (omega arith) (omega arith))
+          lives-no other k (after k (omega (arith, inside)) (omega arith))
+          ∙ lives-cut live other k m lt (λ i b. below i (omega arith)) (λ i a b. after i (omega arith) (omega arith))
           ∙ sym (ap (take m) e)
     ]
 
@@ -180,7 +180,7 @@ or-no : (x y : Bool) → y ≡ false → (x || y) ≡ x
 or-no true y e = refl
 or-no false y e = e
 
--- whether a pair begins at a place or before it, and ends behind it
+-- whether a pair begins at a place or before it, and ends after it
 abbrev pub covers : List Pair → ℕ → Bool
 covers pairs i = list_any (λ (pair : Pair). nat_le pair.opener i && nat_lt i pair.closer) pairs
 
@@ -232,10 +232,10 @@ covers-before pairs i j x before =
     covers-with pairs i j x
     ∙ or-no (covers pairs x) ((nat_le i x && nat_lt x j) || false) (or_from (nat_le i x && nat_lt x j) false (and_left (nat_le i x) (nat_lt x j) (lt-leb i x before)) refl)
 
-covers-behind : (pairs : List Pair) (i j x : ℕ) → j ≤ x → covers (with_pair pairs i j) x ≡ covers pairs x
-covers-behind pairs i j x behind =
+covers-after : (pairs : List Pair) (i j x : ℕ) → j ≤ x → covers (with_pair pairs i j) x ≡ covers pairs x
+covers-after pairs i j x after =
     covers-with pairs i j x
-    ∙ or-no (covers pairs x) ((nat_le i x && nat_lt x j) || false) (or_from (nat_le i x && nat_lt x j) false (and_right (nat_le i x) (nat_lt x j) (le-ltb x j behind)) refl)
+    ∙ or-no (covers pairs x) ((nat_le i x && nat_lt x j) || false) (or_from (nat_le i x && nat_lt x j) false (and_right (nat_le i x) (nat_lt x j) (le-ltb x j after)) refl)
 
 opening_closes_none : (o : Option Bracket) → is_opening o ≡ true → is_closing o ≡ false
 opening_closes_none (Some bracket) e = not_from_true bracket.opens e
@@ -288,7 +288,7 @@ module _ (bracket_of : ℕ → Option Bracket) (characters : List ℕ) (types : 
   live_parts : (pairs : List Pair) (i : ℕ) → live pairs i ≡ true → (opens i ≡ true) × (covers pairs i ≡ false)
   live_parts pairs i e = let parts = and_parts (opens i) (not (covers pairs i)) e in (parts.0, not-true (covers pairs i) parts.1)
 
-  -- the pairs behind one more place
+  -- the pairs after one more place
   pairs-no : (k : ℕ) → closes k ≡ false → before (suc k) ≡ before k
   pairs-no k e = ap (λ l. before k ++ l) (cond-false (closes k) (paired_with bracket_of characters types (match_for k) k) [] e) ∙ append-nil (before k)
 
@@ -322,7 +322,7 @@ module _ (bracket_of : ℕ → Option Bracket) (characters : List ℕ) (types : 
   covers_none (suc k) x h =
       elim (cases_step k) [
         | inl same ↦ ap (λ l. covers l x) same ∙ covers_none k x (omega arith)
-        | inr w ↦ ap (λ l. covers l x) (pairs-some k w.0 w.1 w.2) ∙ covers-behind (before k) w.0 k x (omega arith) ∙ covers_none k x (omega arith)
+        | inr w ↦ ap (λ l. covers l x) (pairs-some k w.0 w.1 w.2) ∙ covers-after (before k) w.0 k x (omega arith) ∙ covers_none k x (omega arith)
       ]
 
   pub record ArePaired (pairs : List Pair) (k : ℕ) : Type 0 where
@@ -403,7 +403,7 @@ module _ (bracket_of : ℕ → Option Bracket) (characters : List ℕ) (types : 
             let w = one a (omega arith) (omega arith) in
             let opener = (now.made a w.0 w.1).2 in
             other_is_on (class_at types a) (and_parts (is_other (class_at types a)) (is_opening (bracket_of (get_or characters a 0))) opener).0;
-        behind = λ a h. elim (cases_Option (closer_of (before k) a)) [
+        after = λ a h. elim (cases_Option (closer_of (before k) a)) [
           | inl none ↦ let e = closer a (omega arith) ∙ ap (λ o. unwrap_or o len) none in omega arith
           | inr w ↦ let e = closer a (omega arith) ∙ ap (λ o. unwrap_or o len) w.1 in let f = (now.made a w.0 w.1).0 in omega arith
         ];
@@ -446,7 +446,7 @@ module _ (bracket_of : ℕ → Option Bracket) (characters : List ℕ) (types : 
         | inr ne ↦ room j (omega arith)
       ]
 
-  -- behind a place that changes nothing
+  -- after a place that changes nothing
   Walks-stay : (k : ℕ) (openers : List Opener) (closers : List ℕ) → before (suc k) ≡ before k → opens k ≡ false → Walks k openers closers → Walks (suc k) openers closers
   Walks-stay k openers closers same other now =
       record {
@@ -459,7 +459,7 @@ module _ (bracket_of : ℕ → Option Bracket) (characters : List ℕ) (types : 
   pub Walks-other : (k : ℕ) (openers : List Opener) (closers : List ℕ) → opens k ≡ false → closes k ≡ false → Walks k openers closers → Walks (suc k) openers closers
   Walks-other k openers closers other none now = Walks-stay k openers closers (pairs-no k none) other now
 
-  -- behind an opener
+  -- after an opener
   pub Walks-open : (k : ℕ) (openers : List Opener) (closers : List ℕ) (bracket : Bracket) → opens k ≡ true → bracket_of (get_or characters k 0) ≡ Some bracket → length openers < 63
       → Walks k openers closers → Walks (suc k) (openers ++ record { place = k; pair = bracket.pair } ∷ []) closers
   Walks-open k openers closers bracket opening is room now =
@@ -535,7 +535,7 @@ module _ (bracket_of : ℕ → Option Bracket) (characters : List ℕ) (types : 
         room = room-next k now.room (full k openers closers now ∙ and_left (opens k) (nat_le 63 (length openers)) other);
       }
 
-  -- behind a closer
+  -- after a closer
   pub Walks-close : (k : ℕ) (openers : List Opener) (closers : List ℕ) → k < length types → closes k ≡ true → Walks k openers closers
       → Walks (suc k) (left_by (newest openers (get_or characters k 0)) openers) (closed_by (newest openers (get_or characters k 0)) openers closers k)
   Walks-close k openers closers within closing now = Walks-close_by k openers closers (newest openers (get_or characters k 0)) refl within closing now

@@ -15,7 +15,7 @@ concat-onto_first a [] = refl
 concat-onto_first a (part ∷ parts) = refl
 
 module _ (is_cut : ℕ → ℕ → Bool) where
-  -- a character before a text, with a cut behind it and with none
+  -- a character before a text, with a cut after it and with none
   paragraphs-cut : (a b : ℕ) (text : List ℕ) → is_cut a b ≡ true → paragraphs is_cut (a ∷ b ∷ text) ≡ (a ∷ []) ∷ paragraphs is_cut (b ∷ text)
   paragraphs-cut a b text = cond-true (is_cut a b) ((a ∷ []) ∷ paragraphs is_cut (b ∷ text)) (onto_first a (paragraphs is_cut (b ∷ text)))
 
@@ -88,7 +88,7 @@ module _ (is_cut : ℕ → ℕ → Bool) where
         | inr joined ↦ let next = paragraphs-cons b text in (b ∷ next.0, next.1, paragraphs-uncut a b text joined ∙ ap (onto_first a) next.2)
       ]
 
-  -- a character put onto the first piece, where there is no cut behind it
+  -- a character put onto the first piece, where there is no cut after it
   ArePieces-onto_first : (a b : ℕ) (rest : List ℕ) (parts : List (List ℕ)) → is_cut a b ≡ false → ArePieces is_cut ((b ∷ rest) ∷ parts) → ArePieces is_cut ((a ∷ b ∷ rest) ∷ parts)
   ArePieces-onto_first a b rest [] joined piece = IsPiece-cons a b rest joined piece
   ArePieces-onto_first a b rest (next ∷ parts) joined pieces = (IsPiece-cons a b rest joined pieces.0, rw (last-cons a b rest) pieces.1, pieces.2)

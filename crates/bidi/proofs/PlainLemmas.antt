@@ -15,7 +15,7 @@ use Rattle.bidi.specs.Explicit.{directed, directed_at, inside, is_first_strong, 
 use Rattle.bidi.specs.Levels.{levels_by, levels_in, paragraph_levels, put, put_back, resolved, sequence_levels}
 use Rattle.bidi.specs.Plain.{is_plain}
 use Rattle.bidi.specs.Runs.{IsRunEnd, runs_from}
-use Rattle.bidi.specs.Sequences.{changes, direction, eos, first_of, is_removed, last_of, level_before, level_behind, sequences, sequences_from, sos, stayed}
+use Rattle.bidi.specs.Sequences.{changes, direction, eos, first_of, is_removed, last_of, level_before, level_after, sequences, sequences_from, sos, stayed}
 use Rattle.bidi.proofs.RunLemmas.{first_of-range, last_of-range, runs_from-end, runs_from-run}
 
 -- a function of the places of a list that reads its items
@@ -135,17 +135,17 @@ module _ (bracket : ℕ → Option Bracket) (base : ℕ) (characters : List ℕ)
       ap (λ k. direction (max (slice_index levels k) (level_before base levels k))) first_is
       ∙ ap (λ m. direction (max m base)) (level_is 0 some) ∙ ap direction same_max
 
-  behind_is : level_behind base classes levels (n - 1) ≡ base
-  behind_is =
+  after_is : level_after base classes levels (n - 1) ≡ base
+  after_is =
       let end : (n - 1) + 1 ≡ length levels = omega (arith, size) in
       ap (λ b. if b && is_none (match_of classes (n - 1)) then base else (if (n - 1) + 1 == length levels then base else slice_index levels ((n - 1) + 1))) last_is
       ∙ cond-true ((n - 1) + 1 == length levels) base (slice_index levels ((n - 1) + 1)) (eq-eqb ((n - 1) + 1) (length levels) end)
 
   eos_is : eos base classes levels places ≡ direction base
   eos_is =
-      ap (λ k. direction (max (slice_index levels k) (level_behind base classes levels k))) end_is
-      ∙ ap (λ m. direction (max m (level_behind base classes levels (n - 1)))) (level_is (n - 1) (omega arith))
-      ∙ ap (λ m. direction (max base m)) behind_is ∙ ap direction same_max
+      ap (λ k. direction (max (slice_index levels k) (level_after base classes levels k))) end_is
+      ∙ ap (λ m. direction (max m (level_after base classes levels (n - 1)))) (level_is (n - 1) (omega arith))
+      ∙ ap (λ m. direction (max base m)) after_is ∙ ap direction same_max
 
   characters_are : map (slice_index characters) places ≡ characters
   characters_are =

@@ -156,17 +156,17 @@ module _ (classes : List BidiClass) (levels : List ℕ) (sizes : length classes 
         | inr ne ↦
             let apart : continues_in classes run next ≡ false =
             continues-is run next l e last (first_of-range e end.0 above) (omega arith) ∙ ne_eqb (match_at classes l) e (omega arith) in
-            let behind : end.0 ≤ j =
+            let after : end.0 ≤ j =
             elim (cases_lt j end.0) [
               | inl before ↦ absurd (start (sym (end.1.same j (omega arith) before)))
               | inr after ↦ after
             ] in
             ap (joined classes run) (runs_from-run levels e end.0 end.1)
             ∙ cond-false (continues_in classes run next) (run ++ joined classes next (runs_from levels end.0)) (joined classes run (runs_from levels end.0)) apart
-            ∙ joined-some fuel end.0 l j run (omega arith) last found behind inside start
+            ∙ joined-some fuel end.0 l j run (omega arith) last found after inside start
       ]
 
-  -- the rest of a sequence behind its first run
+  -- the rest of a sequence after its first run
   abbrev pub rest_of : Option ℕ → List ℕ
   rest_of (Some j) = sequence_at classes levels j
   rest_of None = []

@@ -8,10 +8,10 @@ use Rattle.bidi.specs.declared.weak.Row.{Row}
 use Rattle.bidi.specs.declared.weak.Row.TheVariants.{Nothing, European, Arabic, EuropeanTerminators, EuropeanSeparator, ArabicSeparator, Terminators}
 use Rattle.bidi.specs.Classes.{is_strong}
 use Rattle.bidi.specs.Weak.{is_mark, is_left, w3_type, weak}
-use Rattle.bidi.specs.Waiting.{is_weak, mark_type, digit_type, read_types, waits, lengthens, completes, written, row_after, start_after, types_behind, AreTypesSoFar}
+use Rattle.bidi.specs.Waiting.{is_weak, mark_type, digit_type, read_types, waits, lengthens, completes, written, row_after, start_after, types_after, AreTypesSoFar}
 use Rattle.bidi.proofs.WeakLemmas.{left-w3, weak-is}
 
--- the strong type behind a type, before W3 and after it
+-- the strong type after a type, before W3 and after it
 strong-read : (marked strong : BidiClass)
     → w3_type (if is_strong marked then marked else strong) ≡ (if is_strong (w3_type (digit_type strong marked)) then w3_type (digit_type strong marked) else w3_type strong)
 strong-read EN AL = refl
@@ -60,7 +60,7 @@ waits-written row left _ e = absurd (cc)
 module _ (sos : BidiClass) (old current : List BidiClass) (before strong : BidiClass) (row : Row) (start at : ℕ) (so_far : AreTypesSoFar sos old current before strong row start at)
     (d : BidiClass) (within : at < length current) (marked type value : BidiClass) (filled : List BidiClass)
     (is_marked : marked ≡ mark_type before (get_or current at d)) (is_type : type ≡ w3_type (digit_type strong marked)) (is_value : value ≡ written row (is_left strong) type)
-    (size : length filled ≡ length current) (behind : drop at filled ≡ drop at current)
+    (size : length filled ≡ length current) (after : drop at filled ≡ drop at current)
     (front : take at filled ≡ take start current ++ replicate (at - start) (if completes row type then value else ON)) where
   abbrev unmarked : BidiClass
   unmarked = if not (is_mark (get_or current at d)) then get_or current at d else before
@@ -72,13 +72,13 @@ module _ (sos : BidiClass) (old current : List BidiClass) (before strong : BidiC
   later = read_types unmarked nearest_strong (drop (at + 1) old)
 
   abbrev whole : List BidiClass
-  whole = types_behind Nothing 0 (w3_type sos) (read_types sos sos old)
+  whole = types_after Nothing 0 (w3_type sos) (read_types sos sos old)
 
   beyond : drop (at + 1) current ≡ drop (at + 1) old
   beyond = sym (drop-drop 1 at current) ∙ ap (drop 1) so_far.rest ∙ drop-drop 1 at old
 
   -- the list so far, with the type read
-  opened : take start current ++ types_behind row (at - start) (w3_type strong) (type ∷ later) ≡ whole
+  opened : take start current ++ types_after row (at - start) (w3_type strong) (type ∷ later) ≡ whole
   opened =
       let item : drop at old ≡ get_or current at d ∷ drop (at + 1) old =
       sym so_far.rest ∙ drop_more current at d within ∙ ap (λ xs. get_or current at d ∷ xs) beyond in
@@ -86,7 +86,7 @@ module _ (sos : BidiClass) (old current : List BidiClass) (before strong : BidiC
       ap (read_types before strong) item
       ∙ ap (λ m. w3_type (digit_type strong m) ∷ read_types unmarked (if is_strong m then m else strong) (drop (at + 1) old)) (sym is_marked)
       ∙ ap (λ t. t ∷ later) (sym is_type) in
-      ap (λ xs. take start current ++ types_behind row (at - start) (w3_type strong) xs) (sym read) ∙ so_far.whole
+      ap (λ xs. take start current ++ types_after row (at - start) (w3_type strong) xs) (sym read) ∙ so_far.whole
 
   strong-next : w3_type nearest_strong ≡ (if is_strong type then type else w3_type strong)
   strong-next = strong-read marked strong ∙ ap (λ t. if is_strong t then t else w3_type strong) (sym is_type)
@@ -96,7 +96,7 @@ module _ (sos : BidiClass) (old current : List BidiClass) (before strong : BidiC
 
   rest-next : drop (at + 1) (set filled at value) ≡ drop (at + 1) old
   rest-next =
-      drop-set-lt (at + 1) filled at value (omega arith) ∙ sym (drop-drop 1 at filled) ∙ ap (drop 1) (behind ∙ so_far.rest) ∙ drop-drop 1 at old
+      drop-set-lt (at + 1) filled at value (omega arith) ∙ sym (drop-drop 1 at filled) ∙ ap (drop 1) (after ∙ so_far.rest) ∙ drop-drop 1 at old
 
   inside : at < length filled
   inside = omega (arith, size)
@@ -104,7 +104,7 @@ module _ (sos : BidiClass) (old current : List BidiClass) (before strong : BidiC
   front-next : take (at + 1) (set filled at value) ≡ take at filled ++ value ∷ []
   front-next = take_more_set filled at value inside
 
-  -- what stood in front of the row still does
+  -- what stood before the row still does
   kept : take start (set filled at value) ≡ take start current
   kept =
       let order : start ≤ at = so_far.order in
@@ -135,34 +135,34 @@ module _ (sos : BidiClass) (old current : List BidiClass) (before strong : BidiC
             ∙ ap (λ xs. take start current ++ xs) (replicate_more (at - start) ON)
             ∙ ap (λ n. take start current ++ replicate n ON) more
             ∙ ap (λ xs. xs ++ replicate ((at + 1) - start) ON) (sym kept);
-        whole = ap (λ xs. xs ++ types_behind (row_after row type) ((at + 1) - start) (w3_type nearest_strong) later) kept
-            ∙ ap (λ r. take start current ++ types_behind r ((at + 1) - start) (w3_type nearest_strong) later) (lengthened-row row type e)
-            ∙ ap (λ s. take start current ++ types_behind row ((at + 1) - start) s later) same
-            ∙ ap (λ n. take start current ++ types_behind row n (w3_type strong) later) (sym more)
-            ∙ ap (λ xs. take start current ++ xs) (sym (cond-true (lengthens row type) (types_behind row ((at - start) + 1) (w3_type strong) later)
+        whole = ap (λ xs. xs ++ types_after (row_after row type) ((at + 1) - start) (w3_type nearest_strong) later) kept
+            ∙ ap (λ r. take start current ++ types_after r ((at + 1) - start) (w3_type nearest_strong) later) (lengthened-row row type e)
+            ∙ ap (λ s. take start current ++ types_after row ((at + 1) - start) s later) same
+            ∙ ap (λ n. take start current ++ types_after row n (w3_type strong) later) (sym more)
+            ∙ ap (λ xs. take start current ++ xs) (sym (cond-true (lengthens row type) (types_after row ((at - start) + 1) (w3_type strong) later)
             (replicate (at - start) (if completes row type then written row (is_left (w3_type strong)) type else ON)
-            ++ (if waits (row_after row type) then types_behind (row_after row type) 1 (if is_strong type then type else w3_type strong) later
-            else written row (is_left (w3_type strong)) type ∷ types_behind (row_after row type) 0 (if is_strong type then type else w3_type strong) later)) e))
+            ++ (if waits (row_after row type) then types_after (row_after row type) 1 (if is_strong type then type else w3_type strong) later
+            else written row (is_left (w3_type strong)) type ∷ types_after (row_after row type) 0 (if is_strong type then type else w3_type strong) later)) e))
             ∙ opened;
       }
 
-  -- the types that waited, and what the walk makes of those behind them
+  -- the types that waited, and what the walk makes of those after them
   passed : lengthens row type ≡ false
-      → take at filled ++ (if waits (row_after row type) then types_behind (row_after row type) 1 (w3_type nearest_strong) later
-      else value ∷ types_behind (row_after row type) 0 (w3_type nearest_strong) later) ≡ whole
+      → take at filled ++ (if waits (row_after row type) then types_after (row_after row type) 1 (w3_type nearest_strong) later
+      else value ∷ types_after (row_after row type) 0 (w3_type nearest_strong) later) ≡ whole
   passed e =
-      ap (λ xs. xs ++ (if waits (row_after row type) then types_behind (row_after row type) 1 (w3_type nearest_strong) later
-      else value ∷ types_behind (row_after row type) 0 (w3_type nearest_strong) later)) front
-      ∙ append_assoc (take start current) (replicate (at - start) (if completes row type then value else ON)) (if waits (row_after row type) then types_behind (row_after row type) 1 (w3_type nearest_strong) later
-      else value ∷ types_behind (row_after row type) 0 (w3_type nearest_strong) later)
-      ∙ ap (λ s. take start current ++ (replicate (at - start) (if completes row type then value else ON) ++ (if waits (row_after row type) then types_behind (row_after row type) 1 s later
-      else value ∷ types_behind (row_after row type) 0 s later))) strong-next
-      ∙ ap (λ v. take start current ++ (replicate (at - start) (if completes row type then v else ON) ++ (if waits (row_after row type) then types_behind (row_after row type) 1 (if is_strong type then type else w3_type strong) later
-      else v ∷ types_behind (row_after row type) 0 (if is_strong type then type else w3_type strong) later))) value-is
-      ∙ ap (λ xs. take start current ++ xs) (sym (cond-false (lengthens row type) (types_behind row ((at - start) + 1) (w3_type strong) later)
+      ap (λ xs. xs ++ (if waits (row_after row type) then types_after (row_after row type) 1 (w3_type nearest_strong) later
+      else value ∷ types_after (row_after row type) 0 (w3_type nearest_strong) later)) front
+      ∙ append_assoc (take start current) (replicate (at - start) (if completes row type then value else ON)) (if waits (row_after row type) then types_after (row_after row type) 1 (w3_type nearest_strong) later
+      else value ∷ types_after (row_after row type) 0 (w3_type nearest_strong) later)
+      ∙ ap (λ s. take start current ++ (replicate (at - start) (if completes row type then value else ON) ++ (if waits (row_after row type) then types_after (row_after row type) 1 s later
+      else value ∷ types_after (row_after row type) 0 s later))) strong-next
+      ∙ ap (λ v. take start current ++ (replicate (at - start) (if completes row type then v else ON) ++ (if waits (row_after row type) then types_after (row_after row type) 1 (if is_strong type then type else w3_type strong) later
+      else v ∷ types_after (row_after row type) 0 (if is_strong type then type else w3_type strong) later))) value-is
+      ∙ ap (λ xs. take start current ++ xs) (sym (cond-false (lengthens row type) (types_after row ((at - start) + 1) (w3_type strong) later)
       (replicate (at - start) (if completes row type then written row (is_left (w3_type strong)) type else ON)
-      ++ (if waits (row_after row type) then types_behind (row_after row type) 1 (if is_strong type then type else w3_type strong) later
-      else written row (is_left (w3_type strong)) type ∷ types_behind (row_after row type) 0 (if is_strong type then type else w3_type strong) later)) e))
+      ++ (if waits (row_after row type) then types_after (row_after row type) 1 (if is_strong type then type else w3_type strong) later
+      else written row (is_left (w3_type strong)) type ∷ types_after (row_after row type) 0 (if is_strong type then type else w3_type strong) later)) e))
       ∙ opened
 
   waited : lengthens row type ≡ false → waits (row_after row type) ≡ true
@@ -177,10 +177,10 @@ module _ (sos : BidiClass) (old current : List BidiClass) (before strong : BidiC
         rest = rest-next;
         waiting = front-next ∙ ap (λ t. take at filled ++ t ∷ []) on ∙ ap (λ n. take at filled ++ replicate n ON) (sym one)
             ∙ ap (λ xs. xs ++ replicate ((at + 1) - at) ON) (sym same);
-        whole = ap (λ n. take at (set filled at value) ++ types_behind (row_after row type) n (w3_type nearest_strong) later) one
-            ∙ ap (λ xs. xs ++ types_behind (row_after row type) 1 (w3_type nearest_strong) later) same
-            ∙ ap (λ xs. take at filled ++ xs) (sym (cond-true (waits (row_after row type)) (types_behind (row_after row type) 1 (w3_type nearest_strong) later)
-            (value ∷ types_behind (row_after row type) 0 (w3_type nearest_strong) later) w))
+        whole = ap (λ n. take at (set filled at value) ++ types_after (row_after row type) n (w3_type nearest_strong) later) one
+            ∙ ap (λ xs. xs ++ types_after (row_after row type) 1 (w3_type nearest_strong) later) same
+            ∙ ap (λ xs. take at filled ++ xs) (sym (cond-true (waits (row_after row type)) (types_after (row_after row type) 1 (w3_type nearest_strong) later)
+            (value ∷ types_after (row_after row type) 0 (w3_type nearest_strong) later) w))
             ∙ passed e;
       }
 
@@ -193,11 +193,11 @@ module _ (sos : BidiClass) (old current : List BidiClass) (before strong : BidiC
         order = omega arith;
         rest = rest-next;
         waiting = sym (ap (λ n. take (at + 1) (set filled at value) ++ replicate n ON) none ∙ append-nil (take (at + 1) (set filled at value)));
-        whole = ap (λ n. take (at + 1) (set filled at value) ++ types_behind (row_after row type) n (w3_type nearest_strong) later) none
-            ∙ ap (λ xs. xs ++ types_behind (row_after row type) 0 (w3_type nearest_strong) later) front-next
-            ∙ append_assoc (take at filled) (value ∷ []) (types_behind (row_after row type) 0 (w3_type nearest_strong) later)
-            ∙ ap (λ xs. take at filled ++ xs) (sym (cond-false (waits (row_after row type)) (types_behind (row_after row type) 1 (w3_type nearest_strong) later)
-            (value ∷ types_behind (row_after row type) 0 (w3_type nearest_strong) later) w))
+        whole = ap (λ n. take (at + 1) (set filled at value) ++ types_after (row_after row type) n (w3_type nearest_strong) later) none
+            ∙ ap (λ xs. xs ++ types_after (row_after row type) 0 (w3_type nearest_strong) later) front-next
+            ∙ append_assoc (take at filled) (value ∷ []) (types_after (row_after row type) 0 (w3_type nearest_strong) later)
+            ∙ ap (λ xs. take at filled ++ xs) (sym (cond-false (waits (row_after row type)) (types_after (row_after row type) 1 (w3_type nearest_strong) later)
+            (value ∷ types_after (row_after row type) 0 (w3_type nearest_strong) later) w))
             ∙ passed e;
       }
 
@@ -264,5 +264,5 @@ pub types-end : (sos : BidiClass) (old current : List BidiClass) (before strong 
     → length current ≤ at → current ≡ weak sos old
 types-end sos old current before strong row start at so_far past =
     sym (take_all at current past) ∙ so_far.waiting
-    ∙ ap (λ xs. take start current ++ types_behind row (at - start) (w3_type strong) (read_types before strong xs)) (sym (drop_all at old (omega (arith, so_far.sizes))))
+    ∙ ap (λ xs. take start current ++ types_after row (at - start) (w3_type strong) (read_types before strong xs)) (sym (drop_all at old (omega (arith, so_far.sizes))))
     ∙ so_far.whole ∙ weak-is sos old

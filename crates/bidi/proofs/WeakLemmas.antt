@@ -7,11 +7,11 @@ use Rattle.bidi.specs.declared.weak.Row.TheVariants.{Nothing, European, Arabic, 
 use Rattle.bidi.specs.Classes.{is_strong}
 use Rattle.bidi.specs.Neighbours.{each_by, nearest}
 use Rattle.bidi.specs.Weak.{is_mark, is_number, is_left, is_terminator, w1_at, w1, w2_at, w2, w3, w3_type, w4_at, w4, w5_at, w5, w6, w6_type, w7_at, weak}
-use Rattle.bidi.specs.Waiting.{carry, mark_type, digit_type, read_types, number_type, types_behind}
+use Rattle.bidi.specs.Waiting.{carry, mark_type, digit_type, read_types, number_type, types_after}
 
 -- a rule that looks back at the nearest such item
 carry-is : {T : Type 0} (rule : List T → T → List T → T) (by_nearest : T → T → List T → T) (test : T → Bool) (other : T)
-    → ((front : List T) (item : T) (behind : List T) → rule front item behind ≡ by_nearest (nearest test other front) item behind)
+    → ((front : List T) (item : T) (after : List T) → rule front item after ≡ by_nearest (nearest test other front) item after)
     → (front items : List T) → each_by rule front items ≡ carry by_nearest test (nearest test other front) items
 carry-is rule by_nearest test other same front [] = refl
 carry-is rule by_nearest test other same front (item ∷ items) =
@@ -20,7 +20,7 @@ carry-is rule by_nearest test other same front (item ∷ items) =
 
 -- the rules as such
 abbrev pub separator_type : BidiClass → BidiClass → List BidiClass → BidiClass
-separator_type before type behind = w4_at (before ∷ []) type behind
+separator_type before type after = w4_at (before ∷ []) type after
 
 abbrev pub any : BidiClass → Bool
 any type = true
@@ -29,44 +29,44 @@ abbrev pub ends_row : BidiClass → Bool
 ends_row type = not (is_terminator type)
 
 abbrev pub terminator_type : BidiClass → BidiClass → List BidiClass → BidiClass
-terminator_type before type behind =
-    if is_terminator type then (if is_number before || is_number (nearest ends_row ON behind) then EN else ET) else type
+terminator_type before type after =
+    if is_terminator type then (if is_number before || is_number (nearest ends_row ON after) then EN else ET) else type
 
 abbrev pub left_type : BidiClass → BidiClass → List BidiClass → BidiClass
-left_type strong type behind = if is_number type && is_left strong then L else type
+left_type strong type after = if is_number type && is_left strong then L else type
 
-w1-by : (sos : BidiClass) (front : List BidiClass) (type : BidiClass) (behind : List BidiClass) → w1_at sos front type behind ≡ mark_type (nearest (λ t. not (is_mark t)) sos front) type
-w1-by sos front NSM behind = refl
-w1-by sos front _ behind = refl
+w1-by : (sos : BidiClass) (front : List BidiClass) (type : BidiClass) (after : List BidiClass) → w1_at sos front type after ≡ mark_type (nearest (λ t. not (is_mark t)) sos front) type
+w1-by sos front NSM after = refl
+w1-by sos front _ after = refl
 
-w2-by : (sos : BidiClass) (front : List BidiClass) (type : BidiClass) (behind : List BidiClass) → w2_at sos front type behind ≡ digit_type (nearest is_strong sos front) type
-w2-by sos front EN behind = refl
-w2-by sos front _ behind = refl
+w2-by : (sos : BidiClass) (front : List BidiClass) (type : BidiClass) (after : List BidiClass) → w2_at sos front type after ≡ digit_type (nearest is_strong sos front) type
+w2-by sos front EN after = refl
+w2-by sos front _ after = refl
 
-w4-by : (front : List BidiClass) (type : BidiClass) (behind : List BidiClass) → w4_at front type behind ≡ separator_type (nearest any ON front) type behind
-w4-by [] type behind = refl
+w4-by : (front : List BidiClass) (type : BidiClass) (after : List BidiClass) → w4_at front type after ≡ separator_type (nearest any ON front) type after
+w4-by [] type after = refl
 w4-by (EN ∷ front) ES [] = refl
-w4-by (EN ∷ front) ES (EN ∷ behind) = refl
-w4-by (EN ∷ front) ES (_ ∷ behind) = refl
+w4-by (EN ∷ front) ES (EN ∷ after) = refl
+w4-by (EN ∷ front) ES (_ ∷ after) = refl
 w4-by (EN ∷ front) CS [] = refl
-w4-by (EN ∷ front) CS (EN ∷ behind) = refl
-w4-by (EN ∷ front) CS (_ ∷ behind) = refl
-w4-by (EN ∷ front) _ behind = refl
+w4-by (EN ∷ front) CS (EN ∷ after) = refl
+w4-by (EN ∷ front) CS (_ ∷ after) = refl
+w4-by (EN ∷ front) _ after = refl
 w4-by (AN ∷ front) CS [] = refl
-w4-by (AN ∷ front) CS (AN ∷ behind) = refl
-w4-by (AN ∷ front) CS (_ ∷ behind) = refl
-w4-by (AN ∷ front) _ behind = refl
-w4-by (_ ∷ front) type behind = refl
+w4-by (AN ∷ front) CS (AN ∷ after) = refl
+w4-by (AN ∷ front) CS (_ ∷ after) = refl
+w4-by (AN ∷ front) _ after = refl
+w4-by (_ ∷ front) type after = refl
 
-w5-by : (front : List BidiClass) (type : BidiClass) (behind : List BidiClass) → w5_at front type behind ≡ terminator_type (nearest ends_row ON front) type behind
-w5-by front ET behind = refl
-w5-by front _ behind = refl
+w5-by : (front : List BidiClass) (type : BidiClass) (after : List BidiClass) → w5_at front type after ≡ terminator_type (nearest ends_row ON front) type after
+w5-by front ET after = refl
+w5-by front _ after = refl
 
-w7-by : (sos : BidiClass) (front : List BidiClass) (type : BidiClass) (behind : List BidiClass) → w7_at sos front type behind ≡ left_type (nearest is_strong sos front) type behind
-w7-by sos front EN behind = refl
-w7-by sos front _ behind = refl
+w7-by : (sos : BidiClass) (front : List BidiClass) (type : BidiClass) (after : List BidiClass) → w7_at sos front type after ≡ left_type (nearest is_strong sos front) type after
+w7-by sos front EN after = refl
+w7-by sos front _ after = refl
 
--- W4 to W7, behind the types that they look back at
+-- W4 to W7, after the types that they look back at
 abbrev pub later : BidiClass → BidiClass → BidiClass → List BidiClass → List BidiClass
 later before number strong types =
     carry left_type is_strong strong (map w6_type (carry terminator_type ends_row number (carry separator_type any before types)))
@@ -75,17 +75,17 @@ pub weak-later : (sos : BidiClass) (types : List BidiClass) → weak sos types �
 weak-later sos types =
     let first = w1 sos types in
     let second = w2 sos first in
-    let marked = carry-is (w1_at sos) (λ b type behind. mark_type b type) (λ t. not (is_mark t)) sos (w1-by sos) [] types in
+    let marked = carry-is (w1_at sos) (λ b type after. mark_type b type) (λ t. not (is_mark t)) sos (w1-by sos) [] types in
     let read : w3 second ≡ read_types sos sos types =
-    ap (map w3_type) (carry-is (w2_at sos) (λ s type behind. digit_type s type) is_strong sos (w2-by sos) [] first
-    ∙ ap (carry (λ s type behind. digit_type s type) is_strong sos) marked) in
+    ap (map w3_type) (carry-is (w2_at sos) (λ s type after. digit_type s type) is_strong sos (w2-by sos) [] first
+    ∙ ap (carry (λ s type after. digit_type s type) is_strong sos) marked) in
     carry-is (w7_at sos) left_type is_strong sos (w7-by sos) [] (w6 (w5 (w4 (w3 second))))
     ∙ ap (λ xs. carry left_type is_strong sos (map w6_type xs)) (
     carry-is w5_at terminator_type ends_row ON w5-by [] (w4 (w3 second))
     ∙ ap (carry terminator_type ends_row ON) (
     carry-is w4_at separator_type any ON w4-by [] (w3 second) ∙ ap (carry separator_type any ON) read))
 
--- what is in front matters to a separator only where it is a number
+-- what stands before matters to a separator only where it is a number
 
 abbrev joint : BidiClass → Bool
 joint EN = true
@@ -105,9 +105,9 @@ apart before (type ∷ types) e = ap (λ x. x ∷ carry separator_type any type 
 plain : (number : BidiClass) (types : List BidiClass) → is_number number ≡ false → carry terminator_type ends_row number types ≡ carry terminator_type ends_row ON types
 plain number [] e = refl
 plain number (ET ∷ types) e =
-    let behind = is_number (nearest ends_row ON types) in
-    ap (λ b. (if b || behind then EN else ET) ∷ carry terminator_type ends_row number types) e
-    ∙ ap (λ xs. (if behind then EN else ET) ∷ xs) (plain number types e)
+    let after = is_number (nearest ends_row ON types) in
+    ap (λ b. (if b || after then EN else ET) ∷ carry terminator_type ends_row number types) e
+    ∙ ap (λ xs. (if after then EN else ET) ∷ xs) (plain number types e)
 plain number (_ ∷ types) e = refl
 
 -- and to numbers only whether it is L
@@ -146,8 +146,8 @@ nearest-row (suc n) types = nearest-row n types
 abbrev has_number : List BidiClass → Bool
 has_number types = is_number (nearest ends_row ON (carry separator_type any ON types))
 
-one_first : (behind : Bool) (strong : BidiClass) (types : List BidiClass)
-    → carry left_type is_strong strong (map w6_type ((if behind then EN else ET) ∷ types)) ≡ (if behind then number_type (is_left strong) else ON) ∷ carry left_type is_strong strong (map w6_type types)
+one_first : (after : Bool) (strong : BidiClass) (types : List BidiClass)
+    → carry left_type is_strong strong (map w6_type ((if after then EN else ET) ∷ types)) ≡ (if after then number_type (is_left strong) else ON) ∷ carry left_type is_strong strong (map w6_type types)
 one_first true strong types = refl
 one_first false strong types = refl
 
@@ -168,81 +168,81 @@ later-row (suc n) strong types =
     ∙ ap (λ b. (if b then number_type (is_left strong) else ON) ∷ later ON ON strong (replicate n ET ++ types)) same
     ∙ ap (λ xs. value ∷ xs) (later-row n strong types)
 
--- the walk over some types makes of them what the rules make, from whatever stands in front
+-- the walk over some types makes of them what the rules make, whatever stands before them
 record IsWalked (types : List BidiClass) : Type 0 where
-  nothing : (strong : BidiClass) → types_behind Nothing 0 strong types ≡ later ON ON strong types
-  european : (strong : BidiClass) → types_behind European 0 strong types ≡ later EN EN strong types
-  arabic : (strong : BidiClass) → types_behind Arabic 0 strong types ≡ later AN ON strong types
-  european_terminators : (strong : BidiClass) → types_behind EuropeanTerminators 0 strong types ≡ later ON EN strong types
-  sign : (strong : BidiClass) → types_behind EuropeanSeparator 1 strong types ≡ later EN EN strong (ES ∷ types)
-  comma : (strong : BidiClass) → types_behind EuropeanSeparator 1 strong types ≡ later EN EN strong (CS ∷ types)
-  arabic_comma : (strong : BidiClass) → types_behind ArabicSeparator 1 strong types ≡ later AN ON strong (CS ∷ types)
-  terminators : (n : ℕ) (strong : BidiClass) → types_behind Terminators n strong types ≡ later ON ON strong (replicate n ET ++ types)
+  nothing : (strong : BidiClass) → types_after Nothing 0 strong types ≡ later ON ON strong types
+  european : (strong : BidiClass) → types_after European 0 strong types ≡ later EN EN strong types
+  arabic : (strong : BidiClass) → types_after Arabic 0 strong types ≡ later AN ON strong types
+  european_terminators : (strong : BidiClass) → types_after EuropeanTerminators 0 strong types ≡ later ON EN strong types
+  sign : (strong : BidiClass) → types_after EuropeanSeparator 1 strong types ≡ later EN EN strong (ES ∷ types)
+  comma : (strong : BidiClass) → types_after EuropeanSeparator 1 strong types ≡ later EN EN strong (CS ∷ types)
+  arabic_comma : (strong : BidiClass) → types_after ArabicSeparator 1 strong types ≡ later AN ON strong (CS ∷ types)
+  terminators : (n : ℕ) (strong : BidiClass) → types_after Terminators n strong types ≡ later ON ON strong (replicate n ET ++ types)
 
 module _ (types : List BidiClass) (walked : IsWalked types) where
-  abbrev strong_behind : BidiClass → BidiClass → BidiClass
-  strong_behind strong type = if is_strong type then type else strong
+  abbrev strong_after : BidiClass → BidiClass → BidiClass
+  strong_after strong type = if is_strong type then type else strong
 
-  european-more : (strong : BidiClass) → number_type (is_left strong) ∷ types_behind European 0 strong types ≡ number_type (is_left strong) ∷ later EN EN strong types
+  european-more : (strong : BidiClass) → number_type (is_left strong) ∷ types_after European 0 strong types ≡ number_type (is_left strong) ∷ later EN EN strong types
   european-more strong = ap (λ xs. number_type (is_left strong) ∷ xs) (walked.european strong)
 
-  arabic-more : (strong : BidiClass) → AN ∷ types_behind Arabic 0 strong types ≡ AN ∷ later AN AN strong types
+  arabic-more : (strong : BidiClass) → AN ∷ types_after Arabic 0 strong types ≡ AN ∷ later AN AN strong types
   arabic-more strong = ap (λ xs. AN ∷ xs) (walked.arabic strong ∙ sym (later-plain AN AN strong types refl))
 
   other-more : (before number : BidiClass) (value strong : BidiClass) → joint before ≡ false → is_number number ≡ false
-      → value ∷ types_behind Nothing 0 strong types ≡ value ∷ later before number strong types
+      → value ∷ types_after Nothing 0 strong types ≡ value ∷ later before number strong types
   other-more before number value strong e f = ap (λ xs. value ∷ xs) (walked.nothing strong ∙ sym (later-other before number strong types e f))
 
-  nothing-step : (type strong : BidiClass) → types_behind Nothing 0 strong (type ∷ types) ≡ later ON ON strong (type ∷ types)
+  nothing-step : (type strong : BidiClass) → types_after Nothing 0 strong (type ∷ types) ≡ later ON ON strong (type ∷ types)
   nothing-step EN strong = european-more strong
   nothing-step AN strong = arabic-more strong
   nothing-step ET strong = walked.terminators 1 strong
   nothing-step ES strong = other-more ES ES ON strong refl refl
   nothing-step CS strong = other-more CS CS ON strong refl refl
-  nothing-step type strong = other-more type type type (strong_behind strong type) refl refl
+  nothing-step type strong = other-more type type type (strong_after strong type) refl refl
 
-  european-step : (type strong : BidiClass) → types_behind European 0 strong (type ∷ types) ≡ later EN EN strong (type ∷ types)
+  european-step : (type strong : BidiClass) → types_after European 0 strong (type ∷ types) ≡ later EN EN strong (type ∷ types)
   european-step EN strong = european-more strong
   european-step AN strong = arabic-more strong
   european-step ET strong = ap (λ xs. number_type (is_left strong) ∷ xs) (walked.european_terminators strong ∙ sym (later-apart ET EN strong types refl))
   european-step ES strong = walked.sign strong
   european-step CS strong = walked.comma strong
-  european-step type strong = other-more type type type (strong_behind strong type) refl refl
+  european-step type strong = other-more type type type (strong_after strong type) refl refl
 
-  arabic-step : (type strong : BidiClass) → types_behind Arabic 0 strong (type ∷ types) ≡ later AN ON strong (type ∷ types)
+  arabic-step : (type strong : BidiClass) → types_after Arabic 0 strong (type ∷ types) ≡ later AN ON strong (type ∷ types)
   arabic-step EN strong = european-more strong
   arabic-step AN strong = arabic-more strong
   arabic-step ET strong = walked.terminators 1 strong
   arabic-step ES strong = other-more ES ES ON strong refl refl
   arabic-step CS strong = walked.arabic_comma strong
-  arabic-step type strong = other-more type type type (strong_behind strong type) refl refl
+  arabic-step type strong = other-more type type type (strong_after strong type) refl refl
 
-  european_terminators-step : (type strong : BidiClass) → types_behind EuropeanTerminators 0 strong (type ∷ types) ≡ later ON EN strong (type ∷ types)
+  european_terminators-step : (type strong : BidiClass) → types_after EuropeanTerminators 0 strong (type ∷ types) ≡ later ON EN strong (type ∷ types)
   european_terminators-step EN strong = european-more strong
   european_terminators-step AN strong = arabic-more strong
   european_terminators-step ET strong = ap (λ xs. number_type (is_left strong) ∷ xs) (walked.european_terminators strong ∙ sym (later-apart ET EN strong types refl))
   european_terminators-step ES strong = other-more ES ES ON strong refl refl
   european_terminators-step CS strong = other-more CS CS ON strong refl refl
-  european_terminators-step type strong = other-more type type type (strong_behind strong type) refl refl
+  european_terminators-step type strong = other-more type type type (strong_after strong type) refl refl
 
   -- a separator that no number follows
   lone : (separator type strong : BidiClass) → joint separator ≡ false → is_number separator ≡ false
-      → ON ∷ types_behind Nothing 0 strong (type ∷ types) ≡ ON ∷ later separator separator strong (type ∷ types)
+      → ON ∷ types_after Nothing 0 strong (type ∷ types) ≡ ON ∷ later separator separator strong (type ∷ types)
   lone separator type strong e f = ap (λ xs. ON ∷ xs) (nothing-step type strong ∙ sym (later-other separator separator strong (type ∷ types) e f))
 
-  sign-step : (type strong : BidiClass) → types_behind EuropeanSeparator 1 strong (type ∷ types) ≡ later EN EN strong (ES ∷ type ∷ types)
+  sign-step : (type strong : BidiClass) → types_after EuropeanSeparator 1 strong (type ∷ types) ≡ later EN EN strong (ES ∷ type ∷ types)
   sign-step EN strong = ap (λ xs. number_type (is_left strong) ∷ xs) (european-more strong)
   sign-step type strong = lone ES type strong refl refl
 
-  comma-step : (type strong : BidiClass) → types_behind EuropeanSeparator 1 strong (type ∷ types) ≡ later EN EN strong (CS ∷ type ∷ types)
+  comma-step : (type strong : BidiClass) → types_after EuropeanSeparator 1 strong (type ∷ types) ≡ later EN EN strong (CS ∷ type ∷ types)
   comma-step EN strong = ap (λ xs. number_type (is_left strong) ∷ xs) (european-more strong)
   comma-step type strong = lone CS type strong refl refl
 
-  arabic_comma-step : (type strong : BidiClass) → types_behind ArabicSeparator 1 strong (type ∷ types) ≡ later AN ON strong (CS ∷ type ∷ types)
+  arabic_comma-step : (type strong : BidiClass) → types_after ArabicSeparator 1 strong (type ∷ types) ≡ later AN ON strong (CS ∷ type ∷ types)
   arabic_comma-step AN strong = ap (λ xs. AN ∷ xs) (arabic-more strong)
   arabic_comma-step type strong = lone CS type strong refl refl
 
-  terminators-step : (type : BidiClass) (n : ℕ) (strong : BidiClass) → types_behind Terminators n strong (type ∷ types) ≡ later ON ON strong (replicate n ET ++ type ∷ types)
+  terminators-step : (type : BidiClass) (n : ℕ) (strong : BidiClass) → types_after Terminators n strong (type ∷ types) ≡ later ON ON strong (replicate n ET ++ type ∷ types)
   terminators-step EN n strong =
       ap (λ xs. replicate n (number_type (is_left strong)) ++ xs) (european-more strong) ∙ sym (later-row n strong (EN ∷ types))
   terminators-step ET n strong =
@@ -276,7 +276,7 @@ is_walked (type ∷ types) =
       terminators = terminators-step types walked type;
     }
 
-pub weak-is : (sos : BidiClass) (types : List BidiClass) → types_behind Nothing 0 (w3_type sos) (read_types sos sos types) ≡ weak sos types
+pub weak-is : (sos : BidiClass) (types : List BidiClass) → types_after Nothing 0 (w3_type sos) (read_types sos sos types) ≡ weak sos types
 weak-is sos types =
     let walked = is_walked (read_types sos sos types) in
     walked.nothing (w3_type sos)

@@ -61,12 +61,12 @@ lone_pdi_between = refl
 embedding_counts : base_level_of (RLE ∷ L ∷ PDF ∷ R ∷ []) WeakRtl ≡ 0
 embedding_counts = refl
 
--- a separator ends a paragraph, and U+000D with U+000A behind it is one separator
+-- a separator ends a paragraph, and U+000D with U+000A after it is one separator
 abbrev class_of_code : ℕ → BidiClass
 class_of_code c = cond (c == 10 || c == 13) B L
 
-cut_behind : cut class_of_code 10 97 ≡ true
-cut_behind = refl
+cut_after : cut class_of_code 10 97 ≡ true
+cut_after = refl
 
 no_cut_before : cut class_of_code 97 10 ≡ false
 no_cut_before = refl

@@ -13,11 +13,11 @@ abbrev pub is_balanced : List BidiClass → ℕ → ℕ → Bool
 is_balanced classes i j =
     let part = slice_range classes i (j + 1) in count_by is_initiator part == count_by is_pdi part
 
--- the match of the initiator at i: the least index behind it up to which they are balanced
+-- the match of the initiator at i: the least index after it up to which they are balanced
 abbrev pub match_of : List BidiClass → ℕ → Option ℕ
 match_of classes i = least (is_balanced classes i) (i + 1) (length classes - (i + 1))
 
--- k lies in the span of the initiator at i: between it and its match, or behind it where it has none
+-- k lies in the span of the initiator at i: between it and its match, or after it where it has none
 abbrev pub is_before : ℕ → Option ℕ → Bool
 is_before k (Some j) = nat_lt k j
 is_before k None = true

@@ -53,7 +53,7 @@ module _ (bracket_of : ℕ → Option Bracket) (characters : List ℕ) (types : 
   abbrev pub fits : ℕ → ℕ → Bool
   fits i j = is_pair_of (bracket_of (slice_index characters i)) (slice_index characters j)
 
-  -- an opener is live at j if no pair of those in front of j begins at it or before it, and ends behind it
+  -- an opener is live at j if no pair of those before j begins at it or before it, and ends after it
   abbrev pub is_live : List Pair → ℕ → Bool
   is_live pairs i = is_opener i && not (list_any (λ pair. nat_le pair.opener i && nat_lt i pair.closer) pairs)
 
@@ -62,7 +62,7 @@ module _ (bracket_of : ℕ → Option Bracket) (characters : List ℕ) (types : 
   paired_with (Some i) j = record { opener = i; closer = j } ∷ []
   paired_with None j = []
 
-  -- the pairs whose closer stands in front of j
+  -- the pairs whose closer stands before j
   abbrev pub pairs_before : ℕ → List Pair
   pairs_before zero = []
   pairs_before (suc j) =
@@ -98,25 +98,25 @@ is_toward left type = is_direction type && agree left (is_left type)
 abbrev pub stands : Bool → List BidiClass → ℕ → ℕ → Bool
 stands left types a b = list_any (is_toward left) (slice_range types (a + 1) b)
 
--- the nearest strong type in front of a place, or sos
+-- the nearest strong type before a place, or sos
 abbrev pub context : BidiClass → List BidiClass → ℕ → BidiClass
 context sos types a = nearest is_direction sos (reverse (take a types))
 
 -- N0: the direction that a pair takes, if it takes one. It is the embedding direction where a strong type of that stands inside; else,
--- where one of the opposite stands inside, the opposite if that stands in front too, and the embedding direction if not.
+-- where one of the opposite stands inside, the opposite if that stands before it too, and the embedding direction if not.
 abbrev pub pair_direction : Bool → BidiClass → List BidiClass → ℕ → ℕ → Option BidiClass
 pair_direction left sos types a b =
     if stands left types a b then Some (side left)
     else (if stands (not left) types a b then Some (side (if agree left (is_left (context sos types a)) then left else not left)) else None)
 
--- whether a place is that of a set bracket, or of a mark directly behind it, which was NSM before W1
+-- whether a place is that of a set bracket, or of a mark directly after it, which was NSM before W1
 abbrev pub is_set_with : List Bool → ℕ → ℕ → Bool
 is_set_with marks p k = (p == k) || (nat_lt p k && list_all (λ mark. mark) (slice_range marks (p + 1) (k + 1)))
 
 abbrev pub set_with : List Bool → BidiClass → List BidiClass → ℕ → List BidiClass
 set_with marks direction types p = map (λ k. if is_set_with marks p k then direction else class_at types k) (range_with_len 0 (length types))
 
--- the types behind one pair
+-- the types after one pair
 abbrev pub set_pair : List Bool → List BidiClass → ℕ → ℕ → Option BidiClass → List BidiClass
 set_pair marks types a b (Some direction) = set_with marks direction (set_with marks direction types a) b
 set_pair marks types a b None = types

@@ -13,10 +13,10 @@ closers_of pairs len = map (λ i. unwrap_or (closer_of pairs i) len) (range_with
 abbrev pub closer_in : List ℕ → ℕ → Option ℕ
 closer_in closers i = if nat_lt (slice_index closers i) (length closers) then Some (slice_index closers i) else None
 
--- pairs stand at characters of type ON, each closer behind its opener, and of two pairs one is in front of the other or inside it
+-- pairs stand at characters of type ON, each closer after its opener, and of two pairs one is before the other or inside it
 pub record AreNested (types : List BidiClass) (closers : List ℕ) : Type 0 where
   pub other : (a : ℕ) → a < length closers → slice_index closers a < length closers → class_at types a ≡ ON
-  pub behind : (a : ℕ) → a < length closers → a < slice_index closers a
+  pub after : (a : ℕ) → a < length closers → a < slice_index closers a
   pub apart : (a b : ℕ) → a < b → b < length closers → slice_index closers a < length closers → slice_index closers b < length closers
       → (slice_index closers a < b) ⊎ (slice_index closers b < slice_index closers a)
 
@@ -37,7 +37,7 @@ abbrev pub left_by : Option ℕ → List Opener → List Opener
 left_by (Some m) openers = take m openers
 left_by None openers = openers
 
--- the closers behind one at a place
+-- the closers after one at a place
 abbrev pub closed_by : Option ℕ → List Opener → List ℕ → ℕ → List ℕ
 closed_by (Some m) openers closers place = slice_set closers (place_of openers m) place
 closed_by None openers closers place = closers

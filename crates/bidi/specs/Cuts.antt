@@ -5,12 +5,12 @@ use Rattle.ucd.specs.declared.bidi_class.BidiClass.{BidiClass}
 use Rattle.bidi.specs.Least.{least}
 use Rattle.bidi.specs.Classes.{is_separator}
 
--- There is a cut behind a separator, but not between U+000D and U+000A where both are separators.
+-- There is a cut after a separator, but not between U+000D and U+000A where both are separators.
 abbrev pub cut : (ℕ → BidiClass) → ℕ → ℕ → Bool
 cut class_of before after =
     is_separator (class_of before) && not (before == 13 && (after == 10 && is_separator (class_of after)))
 
--- the pieces of a text between its cuts: a character goes onto the first piece of what follows it, unless a cut stands behind it
+-- the pieces of a text between its cuts: a character goes onto the first piece of what follows it, unless a cut stands after it
 abbrev pub paragraphs : (ℕ → ℕ → Bool) → List ℕ → List (List ℕ)
 paragraphs is_cut [] = []
 paragraphs is_cut (a ∷ []) = (a ∷ []) ∷ []

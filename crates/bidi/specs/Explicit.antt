@@ -6,7 +6,7 @@ use Rattle.ucd.specs.declared.bidi_class.BidiClass.TheVariants.{L, R, RLE, LRE, 
 use Rattle.bidi.specs.Classes.{class_at, is_initiator, is_pdi, is_separator}
 use Rattle.bidi.specs.Base.{match_of, first_strong_level}
 
--- the classes between the initiator at k and its match, or behind it where it has none
+-- the classes between the initiator at k and its match, or after it where it has none
 abbrev pub span_of : List BidiClass → ℕ → List BidiClass
 span_of classes k = slice_range classes (k + 1) (unwrap_or (match_of classes k) (length classes))
 
@@ -44,7 +44,7 @@ open_after openers PDF = close_embedding openers
 open_after openers PDI = close_isolate openers
 open_after openers class = openers
 
--- the open chain: the openers that are open in front of index k
+-- the open chain: the openers that are open before index k
 abbrev pub open_chain : List BidiClass → ℕ → List BidiClass
 open_chain classes k = fold open_after [] (take k classes)
 
@@ -80,7 +80,7 @@ abbrev pub inside : ℕ → List BidiClass → Inside
 inside base [] = record { level = base; override = None; is_void = false }
 inside base (opener ∷ outer) = enter (inside base outer) opener
 
--- the openers that a character stands in: a PDI stands behind those that it closes
+-- the openers that a character stands in: a PDI stands after those that it closes
 abbrev pub inside_at : ℕ → List BidiClass → ℕ → Inside
 inside_at base classes k = inside base (open_chain classes (if is_pdi (class_at classes k) then k + 1 else k))
 

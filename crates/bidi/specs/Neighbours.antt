@@ -1,11 +1,11 @@
--- Rules that decide each item of a list by the items in front of it and behind it.
+-- Rules that decide each item of a list by the items before it and after it.
 use Rattle.std.specs.Prelude.{Bool, List, [], ◌∷◌, if◌then◌else◌}
 
 module _ {T : Type 0} where
-  -- the list that a rule makes: of each item, by those in front of it, the nearest first, itself, and those behind it
+  -- the list that a rule makes: of each item, by those before it, the nearest first, itself, and those after it
   abbrev pub each_by : (List T → T → List T → T) → List T → List T → List T
   each_by rule before [] = []
-  each_by rule before (item ∷ behind) = rule before item behind ∷ each_by rule (item ∷ before) behind
+  each_by rule before (item ∷ after) = rule before item after ∷ each_by rule (item ∷ before) after
 
   -- the first item that passes the test, or else another
   abbrev pub nearest : (T → Bool) → T → List T → T

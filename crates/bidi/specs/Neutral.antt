@@ -28,12 +28,12 @@ side false = R
 
 -- N1 and N2: neutrals in a row take the direction of both sides where the sides agree, and else the embedding direction
 abbrev pub between : BidiClass → BidiClass → BidiClass → BidiClass
-between embedding before behind = if agree (is_left before) (is_left behind) then side (is_left before) else embedding
+between embedding before after = if agree (is_left before) (is_left after) then side (is_left before) else embedding
 
 abbrev pub neutral_at : BidiClass → BidiClass → BidiClass → List BidiClass → BidiClass → List BidiClass → BidiClass
-neutral_at embedding sos eos before type behind =
+neutral_at embedding sos eos before type after =
     if is_neutral type
-    then between embedding (nearest (λ type. not (is_neutral type)) sos before) (nearest (λ type. not (is_neutral type)) eos behind)
+    then between embedding (nearest (λ type. not (is_neutral type)) sos before) (nearest (λ type. not (is_neutral type)) eos after)
     else type
 
 abbrev pub neutral : BidiClass → BidiClass → BidiClass → List BidiClass → List BidiClass

@@ -65,7 +65,7 @@ pub record AreOpeners (openers : Openers) : Type 0 where
   pub short : length chain < 2 ^ 63
   pub holds : Holds base openers chain
 
--- the entries in front of the last isolate
+-- the entries below the last isolate
 pub record AreBeforeIsolate (front entries : List Status) : Type 0 where
   pub isolate : Status
   pub inner : List Status

@@ -1,4 +1,4 @@
--- What the walk of the neutral and implicit rules keeps: in front of the row of neutrals that it stands in, or behind which it stands, all
+-- What the walk of the neutral and implicit rules keeps: before the row of neutrals that it stands in, or after which it stands, all
 -- levels are written.
 use Rattle.std.specs.Prelude.{◌≡◌, ℕ, ◌+◌, ◌-◌, ◌≤◌, List, [], ◌∷◌, ◌++◌, length, take, drop, replicate, if◌then◌else◌}
 use Rattle.ucd.specs.declared.bidi_class.BidiClass.{BidiClass}
@@ -7,17 +7,17 @@ use Rattle.bidi.specs.Sequences.{direction}
 
 -- the level of neutrals in a row, by the types on both sides
 abbrev pub row_level : ℕ → BidiClass → BidiClass → ℕ
-row_level level before behind = implicit_level level (between (direction level) before behind)
+row_level level before after = implicit_level level (between (direction level) before after)
 
--- the levels of n neutrals behind a type that is none, and of the types behind them
-abbrev pub levels_behind : ℕ → BidiClass → ℕ → BidiClass → List BidiClass → List ℕ
-levels_behind level eos n before [] = replicate n (row_level level before eos)
-levels_behind level eos n before (type ∷ types) =
-    if is_neutral type then levels_behind level eos (n + 1) before types
-    else replicate n (row_level level before type) ++ implicit_level level type ∷ levels_behind level eos 0 type types
+-- the levels of n neutrals after a type that is none, and of the types after them
+abbrev pub levels_after : ℕ → BidiClass → ℕ → BidiClass → List BidiClass → List ℕ
+levels_after level eos n before [] = replicate n (row_level level before eos)
+levels_after level eos n before (type ∷ types) =
+    if is_neutral type then levels_after level eos (n + 1) before types
+    else replicate n (row_level level before type) ++ implicit_level level type ∷ levels_after level eos 0 type types
 
--- what the walk knows at a place, where the row begins at `start` behind the type `before`
+-- what the walk knows at a place, where the row begins at `start` after the type `before`
 pub record AreLevelsSoFar (level : ℕ) (sos eos : BidiClass) (types : List BidiClass) (levels : List ℕ) (before : BidiClass) (start at : ℕ) : Type 0 where
   pub sizes : length levels ≡ length types
   pub order : start ≤ at
-  pub whole : take start levels ++ levels_behind level eos (at - start) before (drop at types) ≡ levels_behind level eos 0 sos types
+  pub whole : take start levels ++ levels_after level eos (at - start) before (drop at types) ≡ levels_after level eos 0 sos types

@@ -44,7 +44,7 @@ module _ (classes : List BidiClass) where
   abbrev pub continues_in : List ℕ → List ℕ → Bool
   continues_in run next = is_initiator (class_at classes (last_of run)) && is_match (match_of classes (last_of run)) (first_of next)
 
-  -- a run with those that it continues in, of the runs behind it
+  -- a run with those that it continues in, of the runs after it
   abbrev pub joined : List ℕ → List (List ℕ) → List ℕ
   joined run [] = run
   joined run (next ∷ later) = if continues_in run next then run ++ joined next later else joined run later
@@ -72,11 +72,11 @@ module _ (base : ℕ) (levels : List ℕ) where
   sos sequence = direction (max (slice_index levels (first_of sequence)) (level_before (first_of sequence)))
 
 module _ (base : ℕ) (classes : List BidiClass) (levels : List ℕ) where
-  -- behind an initiator without a match stands the paragraph level
-  abbrev pub level_behind : ℕ → ℕ
-  level_behind k =
+  -- after an initiator without a match stands the paragraph level
+  abbrev pub level_after : ℕ → ℕ
+  level_after k =
       if is_initiator (class_at classes k) && is_none (match_of classes k) then base
       else (if k + 1 == length levels then base else slice_index levels (k + 1))
 
   abbrev pub eos : List ℕ → BidiClass
-  eos sequence = direction (max (slice_index levels (last_of sequence)) (level_behind (last_of sequence)))
+  eos sequence = direction (max (slice_index levels (last_of sequence)) (level_after (last_of sequence)))

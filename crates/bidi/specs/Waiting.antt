@@ -1,28 +1,28 @@
--- What the one walk of the weak rules keeps: types that wait for what stands behind them, and what W1 to W3 and W7 look back at.
+-- What the one walk of the weak rules keeps: types that wait for what stands after them, and what W1 to W3 and W7 look back at.
 use Rattle.std.specs.Prelude.{◌≡◌, ℕ, ◌+◌, ◌-◌, ◌≤◌, Bool, true, false, ◌&&◌, not, List, [], ◌∷◌, ◌++◌, length, map, take, drop, replicate, if◌then◌else◌}
 use Rattle.ucd.specs.declared.bidi_class.BidiClass.{BidiClass}
 use Rattle.ucd.specs.declared.bidi_class.BidiClass.TheVariants.{L, EN, ES, ET, AN, CS, ON}
 use Rattle.bidi.specs.declared.weak.Row.{Row}
 use Rattle.bidi.specs.declared.weak.Row.TheVariants.{Nothing, European, Arabic, EuropeanTerminators, EuropeanSeparator, ArabicSeparator, Terminators}
 use Rattle.bidi.specs.Classes.{is_strong}
-use Rattle.bidi.specs.Weak.{is_mark, mark_behind, is_number, is_arabic, is_left, w3_type}
+use Rattle.bidi.specs.Weak.{is_mark, mark_after, is_number, is_arabic, is_left, w3_type}
 
--- a rule that looks back at the nearest item that passes a test alone: the list that it makes, behind such an item
+-- a rule that looks back at the nearest item that passes a test alone: the list that it makes, after such an item
 abbrev pub carry : {T : Type 0} → (T → T → List T → T) → (T → Bool) → T → List T → List T
 carry rule test before [] = []
-carry rule test before (item ∷ behind) = rule before item behind ∷ carry rule test (if test item then item else before) behind
+carry rule test before (item ∷ after) = rule before item after ∷ carry rule test (if test item then item else before) after
 
 -- W1 and W2 of one type
 abbrev pub mark_type : BidiClass → BidiClass → BidiClass
-mark_type before type = if is_mark type then mark_behind before else type
+mark_type before type = if is_mark type then mark_after before else type
 
 abbrev pub digit_type : BidiClass → BidiClass → BidiClass
 digit_type strong type = if is_number type && is_arabic strong then AN else type
 
--- W1 to W3 of a list of types, behind a type that is no mark and a strong type
+-- W1 to W3 of a list of types, after a type that is no mark and a strong type
 abbrev pub read_types : BidiClass → BidiClass → List BidiClass → List BidiClass
 read_types before strong types =
-    map w3_type (carry (λ s type behind. digit_type s type) is_strong strong (carry (λ b type behind. mark_type b type) (λ type. not (is_mark type)) before types))
+    map w3_type (carry (λ s type after. digit_type s type) is_strong strong (carry (λ b type after. mark_type b type) (λ type. not (is_mark type)) before types))
 
 -- W7 of a European number
 abbrev pub number_type : Bool → BidiClass
@@ -37,11 +37,11 @@ is_weak AN = true
 is_weak CS = true
 is_weak type = false
 
--- whether a row of ET that begins here stands behind a European number
-abbrev pub is_behind_number : Row → Bool
-is_behind_number European = true
-is_behind_number EuropeanTerminators = true
-is_behind_number row = false
+-- whether a row of ET that begins here stands after a European number
+abbrev pub is_after_number : Row → Bool
+is_after_number European = true
+is_after_number EuropeanTerminators = true
+is_after_number row = false
 
 -- whether the types of a row wait
 abbrev pub waits : Row → Bool
@@ -65,47 +65,47 @@ completes row type = false
 -- what is written for a type: ON for one that waits (W6)
 abbrev pub written : Row → Bool → BidiClass → BidiClass
 written row left EN = number_type left
-written row left ET = if is_behind_number row then number_type left else ON
+written row left ET = if is_after_number row then number_type left else ON
 written row left ES = ON
 written row left CS = ON
 written row left type = type
 
--- what stands in front of the next type
-abbrev pub behind_comma : Row → Row
-behind_comma European = EuropeanSeparator
-behind_comma Arabic = ArabicSeparator
-behind_comma row = Nothing
+-- what stands before the next type
+abbrev pub after_comma : Row → Row
+after_comma European = EuropeanSeparator
+after_comma Arabic = ArabicSeparator
+after_comma row = Nothing
 
-abbrev pub behind_sign : Row → Row
-behind_sign European = EuropeanSeparator
-behind_sign row = Nothing
+abbrev pub after_sign : Row → Row
+after_sign European = EuropeanSeparator
+after_sign row = Nothing
 
 abbrev pub row_after : Row → BidiClass → Row
 row_after row EN = European
 row_after row AN = Arabic
-row_after row ET = if is_behind_number row then EuropeanTerminators else Terminators
-row_after row ES = behind_sign row
-row_after row CS = behind_comma row
+row_after row ET = if is_after_number row then EuropeanTerminators else Terminators
+row_after row ES = after_sign row
+row_after row CS = after_comma row
 row_after row type = Nothing
 
--- where the row begins behind a type
+-- where the row begins after a type
 abbrev pub start_after : Row → BidiClass → ℕ → ℕ → ℕ
 start_after row type start at = if lengthens row type then start else (if waits (row_after row type) then at else at + 1)
 
--- W4 to W7 of n types that wait and of the types behind them, by the strong type in front
-abbrev pub types_behind : Row → ℕ → BidiClass → List BidiClass → List BidiClass
-types_behind row n strong [] = replicate n ON
-types_behind row n strong (type ∷ types) =
-    if lengthens row type then types_behind row (n + 1) strong types
+-- W4 to W7 of n types that wait and of the types after them, by the strong type before them
+abbrev pub types_after : Row → ℕ → BidiClass → List BidiClass → List BidiClass
+types_after row n strong [] = replicate n ON
+types_after row n strong (type ∷ types) =
+    if lengthens row type then types_after row (n + 1) strong types
     else replicate n (if completes row type then written row (is_left strong) type else ON)
-    ++ (if waits (row_after row type) then types_behind (row_after row type) 1 (if is_strong type then type else strong) types
-    else written row (is_left strong) type ∷ types_behind (row_after row type) 0 (if is_strong type then type else strong) types)
+    ++ (if waits (row_after row type) then types_after (row_after row type) 1 (if is_strong type then type else strong) types
+    else written row (is_left strong) type ∷ types_after (row_after row type) 0 (if is_strong type then type else strong) types)
 
--- what the walk knows at a place: in front of `start` all types stand, those from there on wait and are ON, and the others are as they were
+-- what the walk knows at a place: before `start` all types stand, those from there on wait and are ON, and the others are as they were
 pub record AreTypesSoFar (sos : BidiClass) (old current : List BidiClass) (before strong : BidiClass) (row : Row) (start at : ℕ) : Type 0 where
   pub sizes : length current ≡ length old
   pub order : start ≤ at
   pub rest : drop at current ≡ drop at old
   pub waiting : take at current ≡ take start current ++ replicate (at - start) ON
-  pub whole : take start current ++ types_behind row (at - start) (w3_type strong) (read_types before strong (drop at old))
-      ≡ types_behind Nothing 0 (w3_type sos) (read_types sos sos old)
+  pub whole : take start current ++ types_after row (at - start) (w3_type strong) (read_types before strong (drop at old))
+      ≡ types_after Nothing 0 (w3_type sos) (read_types sos sos old)

@@ -25,25 +25,25 @@ abbrev pub is_left : BidiClass → Bool
 is_left L = true
 is_left type = false
 
--- W1: a mark takes the type in front of it, which is that of the nearest character that is no mark; behind an isolate's ends it is ON
-abbrev pub mark_behind : BidiClass → BidiClass
-mark_behind LRI = ON
-mark_behind RLI = ON
-mark_behind FSI = ON
-mark_behind PDI = ON
-mark_behind type = type
+-- W1: a mark takes the type before it, which is that of the nearest character that is no mark; after an isolate's ends it is ON
+abbrev pub mark_after : BidiClass → BidiClass
+mark_after LRI = ON
+mark_after RLI = ON
+mark_after FSI = ON
+mark_after PDI = ON
+mark_after type = type
 
 abbrev pub w1_at : BidiClass → List BidiClass → BidiClass → List BidiClass → BidiClass
-w1_at sos before NSM behind = mark_behind (nearest (λ type. not (is_mark type)) sos before)
-w1_at sos before type behind = type
+w1_at sos before NSM after = mark_after (nearest (λ type. not (is_mark type)) sos before)
+w1_at sos before type after = type
 
 abbrev pub w1 : BidiClass → List BidiClass → List BidiClass
 w1 sos types = each_by (w1_at sos) [] types
 
 -- W2: a European number whose nearest strong type before it is AL becomes an Arabic number
 abbrev pub w2_at : BidiClass → List BidiClass → BidiClass → List BidiClass → BidiClass
-w2_at sos before EN behind = if is_arabic (nearest is_strong sos before) then AN else EN
-w2_at sos before type behind = type
+w2_at sos before EN after = if is_arabic (nearest is_strong sos before) then AN else EN
+w2_at sos before type after = type
 
 abbrev pub w2 : BidiClass → List BidiClass → List BidiClass
 w2 sos types = each_by (w2_at sos) [] types
@@ -58,19 +58,19 @@ w3 types = map w3_type types
 
 -- W4: a single separator between two numbers of one kind becomes such a number
 abbrev pub w4_at : List BidiClass → BidiClass → List BidiClass → BidiClass
-w4_at (EN ∷ before) ES (EN ∷ behind) = EN
-w4_at (EN ∷ before) CS (EN ∷ behind) = EN
-w4_at (AN ∷ before) CS (AN ∷ behind) = AN
-w4_at before type behind = type
+w4_at (EN ∷ before) ES (EN ∷ after) = EN
+w4_at (EN ∷ before) CS (EN ∷ after) = EN
+w4_at (AN ∷ before) CS (AN ∷ after) = AN
+w4_at before type after = type
 
 abbrev pub w4 : List BidiClass → List BidiClass
 w4 types = each_by w4_at [] types
 
 -- W5: European terminators in a row, next to a European number on either side, become European numbers
 abbrev pub w5_at : List BidiClass → BidiClass → List BidiClass → BidiClass
-w5_at before ET behind =
-    if is_number (nearest (λ type. not (is_terminator type)) ON before) || is_number (nearest (λ type. not (is_terminator type)) ON behind) then EN else ET
-w5_at before type behind = type
+w5_at before ET after =
+    if is_number (nearest (λ type. not (is_terminator type)) ON before) || is_number (nearest (λ type. not (is_terminator type)) ON after) then EN else ET
+w5_at before type after = type
 
 abbrev pub w5 : List BidiClass → List BidiClass
 w5 types = each_by w5_at [] types
@@ -87,8 +87,8 @@ w6 types = map w6_type types
 
 -- W7: a European number whose nearest strong type before it is L becomes L
 abbrev pub w7_at : BidiClass → List BidiClass → BidiClass → List BidiClass → BidiClass
-w7_at sos before EN behind = if is_left (nearest is_strong sos before) then L else EN
-w7_at sos before type behind = type
+w7_at sos before EN after = if is_left (nearest is_strong sos before) then L else EN
+w7_at sos before type after = type
 
 abbrev pub w7 : BidiClass → List BidiClass → List BidiClass
 w7 sos types = each_by (w7_at sos) [] types

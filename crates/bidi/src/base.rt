@@ -97,7 +97,7 @@ pub(crate) fn strong_level(class: BidiClass) -> Option<u8>
     }
 }
 
-// How many isolates are open behind a character of this class, where `depth` are open before it.
+// How many isolates are open after a character of this class, where `depth` are open before it.
 // A PDI with none open closes none.
 fn depth_after(class: BidiClass, depth: usize) -> usize
     requires { depth < usize.MAX }

@@ -211,7 +211,7 @@ fn resolve_brackets(
 {
     let left = is_left(embedding);
     let mut strong = sos;
-    // The next strong types behind the place, as the types were before N0.
+    // The next strong types after the place, as the types were before N0.
     let mut same = 0;
     let mut other = 0;
     for place in 0..types.len() {
@@ -226,7 +226,7 @@ fn resolve_brackets(
     }
 }
 
-// Whether a strong type of a direction stands inside a pair. `next` moves to the next place behind
+// Whether a strong type of a direction stands inside a pair. `next` moves to the next place after
 // the opener that had such a type before N0, or to the length.
 fn stands_inside(
     types: &[BidiClass],
@@ -237,7 +237,7 @@ fn stands_inside(
     next: &mut usize,
 ) -> bool
     requires sizes { length before.now ≡ length types.now }
-    requires behind { place < closer }
+    requires after { place < closer }
     requires inside { closer < length types.now }
     requires clear { IsClear left before.now place next.old }
     requires kept { is_other (class_at types.now place) ≡ true
@@ -250,7 +250,7 @@ fn stands_inside(
     if is_other(types[place]) {
         *next < closer
     } else {
-        // Marks in a row behind an earlier bracket, of which this one is one, have changed.
+        // Marks in a row after an earlier bracket, of which this one is one, have changed.
         next_toward(types, left, place + 1) < closer
     }
 }
@@ -300,7 +300,7 @@ fn side(left: bool) -> BidiClass
     if left { BidiClass::L } else { BidiClass::R }
 }
 
-// The nearest strong type, behind a character of this type. Numbers are strong here.
+// The nearest strong type, after a character of this type. Numbers are strong here.
 fn strong_after(class: BidiClass, strong: BidiClass) -> BidiClass
     ensures { result ≡ (if is_direction class then class else strong) }
 {
@@ -329,7 +329,7 @@ fn set_pair(
     }
 }
 
-// Sets the type of a bracket, and of the marks directly behind it.
+// Sets the type of a bracket, and of the marks directly after it.
 fn set_with_marks(
     types: &mut [BidiClass],
     explicit: &[BidiClass],

@@ -6,7 +6,7 @@ ghost use Rattle.bidi.specs.Pieces.{ParagraphsArePieces};
 
 use ucd::{BidiClass, Tables};
 
-/// Whether a paragraph ends between two neighbours: behind each character of class B, but not
+/// Whether a paragraph ends between two neighbours: after each character of class B, but not
 /// between U+000D and U+000A where both have it.
 pub fn is_cut(tables: &Tables, before: char, after: char) -> bool
     ensures { result ≡ cut (class_of tables.now) before after }

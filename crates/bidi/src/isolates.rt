@@ -153,13 +153,13 @@ fn first_strong_level(classes: &[BidiClass], matches: &[usize], initiator: usize
         if level.is_some() {
             return level;
         }
-        at = behind(class, matches[at], at);
+        at = place_after(class, matches[at], at);
     }
     None
 }
 
 // The next place that lies in no isolate which begins here.
-fn behind(class: BidiClass, found: usize, at: usize) -> usize
+fn place_after(class: BidiClass, found: usize, at: usize) -> usize
     requires at { at + 1 < usize.MAX }
     requires found { found + 1 < usize.MAX }
     ensures { result ≡ (if is_initiator class then found + 1 else at + 1) }

@@ -12,6 +12,7 @@ mod isolates;
 mod levels;
 mod neutral;
 mod resolver;
+mod sequence_levels;
 mod sequences;
 mod weak;
 

@@ -9,7 +9,7 @@ use crate::sequences::direction;
 use ucd::BidiClass;
 
 /// N1, N2, I1 and I2 in one walk: neutrals in a row take the direction of both their sides, or else
-/// the embedding direction; they wait until the type behind them is read, and then their levels are
+/// the embedding direction; they wait until the type after them is read, and then their levels are
 /// written.
 pub(crate) fn resolve_neutral(
     types: &[BidiClass],
@@ -22,7 +22,7 @@ pub(crate) fn resolve_neutral(
     requires bounded { level ≤ 125 }
     ensures { levels.new ≡ map (implicit_level level) (neutral (direction level) sos eos types.now) }
 {
-    // The nearest type that is no neutral, and the place behind it, where a row may begin.
+    // The nearest type that is no neutral, and the place after it, where a row may begin.
     let mut before = sos;
     let mut start = 0;
     for at in 0..types.len() {
@@ -40,11 +40,11 @@ pub(crate) fn resolve_neutral(
 }
 
 // The level of neutrals in a row, by the types on both sides.
-fn row_level(level: u8, before: BidiClass, behind: BidiClass) -> u8
+fn row_level(level: u8, before: BidiClass, after: BidiClass) -> u8
     requires { level ≤ 125 }
-    ensures { result ≡ row_level level before behind }
+    ensures { result ≡ row_level level before after }
 {
-    implicit_level(level, between(direction(level), before, behind))
+    implicit_level(level, between(direction(level), before, after))
 }
 
 fn is_neutral(class: BidiClass) -> bool
@@ -64,10 +64,10 @@ fn is_neutral(class: BidiClass) -> bool
 }
 
 // The direction of what stands between two types that are no neutrals.
-fn between(embedding: BidiClass, before: BidiClass, behind: BidiClass) -> BidiClass
-    ensures { result ≡ between embedding before behind }
+fn between(embedding: BidiClass, before: BidiClass, after: BidiClass) -> BidiClass
+    ensures { result ≡ between embedding before after }
 {
-    match (before, behind) {
+    match (before, after) {
         (BidiClass::L, BidiClass::L) => BidiClass::L,
         (BidiClass::L, _) | (_, BidiClass::L) => embedding,
         _ => BidiClass::R,

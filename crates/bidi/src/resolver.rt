@@ -9,7 +9,8 @@ ghost use Rattle.bidi.specs.Levels.{levels_of, paragraph_levels};
 ghost use Rattle.bidi.specs.Plain.{has_bracket_in, is_flat, is_plain};
 
 use crate::base::{Base, base_level_by};
-use crate::levels::{Work, resolve_classes, resolve_plain};
+use crate::levels::{Classified, Work, resolve_classes, resolve_plain};
+use crate::sequence_levels::Text;
 use std::alloc::{AllocError, Global};
 use ucd::{BidiClass, Properties, Tables};
 
@@ -169,24 +170,21 @@ impl Resolver {
         ensures { OnOk result (levels.new.items
             ≡ paragraph_levels (bracket_of tables.now) text.now (map class_in properties.now) base) }
     {
-        let classes = &mut self.classes;
-        take_classes(properties, classes)?;
-        let has_brackets = has_brackets(properties);
-        let work = &mut self.work;
-        if are_plain(classes) {
-            resolve_plain(tables, text, classes, base, has_brackets, work, levels)
-        } else {
-            let acting = &mut self.acting;
-            resolve_classes(
+        take_classes(properties, &mut self.classes)?;
+        let paragraph = Classified {
+            text: Text {
                 tables,
-                text,
-                classes,
-                base,
-                has_brackets,
-                acting,
-                work,
-                levels,
-            )
+                characters: text,
+                has_brackets: has_brackets(properties),
+            },
+            classes: &self.classes,
+            base,
+        };
+        let work = &mut self.work;
+        if are_plain(paragraph.classes) {
+            resolve_plain(&paragraph, work, levels)
+        } else {
+            resolve_classes(&paragraph, &mut self.acting, work, levels)
         }
     }
 }

@@ -4,7 +4,7 @@ ghost use Rattle.std.specs.Prelude.{length, max, slice_index, OnOk};
 ghost use Rattle.std.specs.List.{range_with_len};
 ghost use Rattle.bidi.specs.Classes.{class_at, is_initiator};
 ghost use Rattle.bidi.specs.Isolates.{matches_of};
-ghost use Rattle.bidi.specs.Sequences.{direction, level_before, level_behind};
+ghost use Rattle.bidi.specs.Sequences.{direction, level_before, level_after};
 ghost use Rattle.bidi.specs.Runs.{IsRunEnd, AreWithin, next_start, sequence_at};
 
 use crate::classes::is_initiator;
@@ -22,7 +22,7 @@ pub(crate) fn direction(level: u8) -> BidiClass
     }
 }
 
-/// Where the run ends that begins at `start`: the least place behind it with another level.
+/// Where the run ends that begins at `start`: the least place after it with another level.
 pub(crate) fn run_end(levels: &[u8], start: usize) -> usize
     requires { start < length levels.now }
     ensures { IsRunEnd levels.now start result }
@@ -89,7 +89,7 @@ pub(crate) fn gather(
     }
 }
 
-/// The direction in front of a sequence's first character (X10).
+/// The direction before a sequence's first character (X10).
 pub(crate) fn sos(levels: &[u8], base: u8, first: usize) -> BidiClass
     requires { first < length levels.now }
     ensures { result ≡ direction (max (slice_index levels.now first) (level_before base levels.now first)) }
@@ -98,7 +98,7 @@ pub(crate) fn sos(levels: &[u8], base: u8, first: usize) -> BidiClass
     direction(levels[first].max(before))
 }
 
-/// The direction behind a sequence's last character (X10). Behind an initiator without a match
+/// The direction after a sequence's last character (X10). After an initiator without a match
 /// stands the paragraph level.
 pub(crate) fn eos(
     classes: &[BidiClass],
@@ -112,15 +112,15 @@ pub(crate) fn eos(
     requires matches { matches.now ≡ matches_of classes.now }
     requires found { length matches.now ≡ length levels.now }
     ensures { result ≡ direction (max (slice_index levels.now last)
-        (level_behind base classes.now levels.now last)) }
+        (level_after base classes.now levels.now last)) }
 {
-    let behind = level_behind(
+    let after = level_after(
         levels,
         base,
         is_open(classes[last], matches[last], levels.len()),
         last,
     );
-    direction(levels[last].max(behind))
+    direction(levels[last].max(after))
 }
 
 // Whether a character is an initiator without a match.
@@ -130,8 +130,8 @@ fn is_open(class: BidiClass, found: usize, len: usize) -> bool
     is_initiator(class) && found == len
 }
 
-// The level behind a character.
-fn level_behind(levels: &[u8], base: u8, is_open: bool, last: usize) -> u8
+// The level after a character.
+fn level_after(levels: &[u8], base: u8, is_open: bool, last: usize) -> u8
     requires { last < length levels.now }
     ensures { result ≡ (if is_open then base
         else (if last + 1 == length levels.now then base else slice_index levels.now (last + 1))) }

@@ -3,12 +3,12 @@ ghost use Rattle.std.specs.Prelude.{◌≡◌, ◌<◌, not, if◌then◌else◌
 ghost use Rattle.bidi.specs.Classes.{is_strong};
 ghost use Rattle.bidi.specs.Waiting.{mark_type, digit_type, number_type, written, completes, row_after};
 ghost use Rattle.bidi.specs.Waiting.{is_weak, start_after};
-ghost use Rattle.bidi.specs.Weak.{is_mark, is_left, mark_behind, w3_type, weak};
+ghost use Rattle.bidi.specs.Weak.{is_mark, is_left, mark_after, w3_type, weak};
 
 use crate::fill::fill;
 use ucd::BidiClass;
 
-// What stands in front of a place, and which types there wait for the type at it.
+// What stands before a place, and which types there wait for the type at it.
 #[derive(Clone, Copy, Debug, PartialEq, Eq)]
 enum Row {
     // None that matters.
@@ -17,11 +17,11 @@ enum Row {
     European,
     // An Arabic number.
     Arabic,
-    // European terminators behind a European number: numbers by now.
+    // European terminators after a European number: numbers by now.
     EuropeanTerminators,
-    // A separator behind a European number, which waits for another.
+    // A separator after a European number, which waits for another.
     EuropeanSeparator,
-    // A common separator behind an Arabic number, which waits for another.
+    // A common separator after an Arabic number, which waits for another.
     ArabicSeparator,
     // European terminators in a row, which wait for a European number.
     Terminators,
@@ -70,17 +70,17 @@ fn is_weak(class: BidiClass) -> bool
     )
 }
 
-// W1: a mark takes the type of what stands in front of it.
+// W1: a mark takes the type of what stands before it.
 fn mark_type(before: BidiClass, class: BidiClass) -> BidiClass
     ensures { result ≡ mark_type before class }
 {
     match class {
-        BidiClass::NSM => mark_behind(before),
+        BidiClass::NSM => mark_after(before),
         _ => class,
     }
 }
 
-// W2: a European number behind AL becomes an Arabic number.
+// W2: a European number after AL becomes an Arabic number.
 fn digit_type(strong: BidiClass, class: BidiClass) -> BidiClass
     ensures { result ≡ digit_type strong class }
 {
@@ -96,7 +96,7 @@ fn is_left(class: BidiClass) -> bool
     matches!(class, BidiClass::L)
 }
 
-// W7: a European number behind L becomes L.
+// W7: a European number after L becomes L.
 fn number_type(left: bool) -> BidiClass
     ensures { result ≡ number_type left }
 {
@@ -127,7 +127,7 @@ fn completes(row: Row, class: BidiClass) -> bool
     )
 }
 
-// What stands in front of the next type.
+// What stands before the next type.
 fn row_after(row: Row, class: BidiClass) -> Row
     ensures { result ≡ row_after row class }
 {
@@ -142,7 +142,7 @@ fn row_after(row: Row, class: BidiClass) -> Row
     }
 }
 
-// Where the types begin that wait, behind the type at a place.
+// Where the types begin that wait, after the type at a place.
 fn start_after(row: Row, class: BidiClass, start: usize, at: usize) -> usize
     requires { at < usize.MAX }
     ensures { result ≡ start_after row class start at }
@@ -154,8 +154,8 @@ fn start_after(row: Row, class: BidiClass, start: usize, at: usize) -> usize
     }
 }
 
-fn mark_behind(before: BidiClass) -> BidiClass
-    ensures { result ≡ mark_behind before }
+fn mark_after(before: BidiClass) -> BidiClass
+    ensures { result ≡ mark_after before }
 {
     match before {
         BidiClass::LRI | BidiClass::RLI | BidiClass::FSI | BidiClass::PDI => BidiClass::ON,
@@ -163,7 +163,7 @@ fn mark_behind(before: BidiClass) -> BidiClass
     }
 }
 
-// The nearest type that is no mark, behind a character of this type.
+// The nearest type that is no mark, after a character of this type.
 fn unmarked_after(class: BidiClass, before: BidiClass) -> BidiClass
     ensures { result ≡ (if not (is_mark class) then class else before) }
 {
@@ -173,7 +173,7 @@ fn unmarked_after(class: BidiClass, before: BidiClass) -> BidiClass
     }
 }
 
-// The nearest strong type, behind a character of this type.
+// The nearest strong type, after a character of this type.
 fn strong_after(class: BidiClass, strong: BidiClass) -> BidiClass
     ensures { result ≡ (if is_strong class then class else strong) }
 {

@@ -2,33 +2,34 @@
 use Rattle.std.proofs.Common.{◌≡◌, ℕ, ◌+◌, ◌*◌, ◌/◌, ◌%◌, ◌==◌, nat_lt, nat_le, Bool, true, false, not, ◌&&◌, ◌||◌, List, [], ◌∷◌, map, get_or, refl, if◌then◌else◌}
 use Rattle.std.proofs.Math.ListN.{set}
 use Rattle.ucd.specs.declared.line_class.LineClass.TheVariants.{CM, NU, OP, ZWJ}
-use Rattle.breaks.specs.Bases.{Base, alone}
+use Rattle.breaks.specs.Bases.{Base, Character, alone}
 use Rattle.breaks.specs.Classes.{is_same, is_one_of}
-use Rattle.breaks.specs.Rules.{rows_before_numbers, rows_of_numbers, rows_behind_numbers, is}
+use Rattle.breaks.specs.Rules.{rows_before_numbers, rows_of_numbers, rows_after_numbers, is}
 use Rattle.breaks.specs.Symbols.{shown}
 use Rattle.breaks.specs.Walk.{base, bases_at, unattached, answers, carried, decided_at, mark_of, rows}
-use Rattle.breaks.specs.declared.character.Character.{Character}
 use Rattle.breaks.specs.declared.mark.Mark.{Mark}
 use Rattle.breaks.specs.declared.mark.Mark.TheVariants.{Never, May, Must}
-use Rattle.breaks.specs.declared.symbol.TheConstants.{ATTACHED, DIGIT, JOINER, SYMBOLS}
-use Rattle.breaks.specs.declared.table.TheConstants.{PARTS, STAYS, TABLE, WAITS}
+use Rattle.breaks.specs.declared.symbol.TheConstants.{ATTACHED, DIGIT, JOINER, SYMBOLS, SYMBOL_COUNT}
+use Rattle.breaks.specs.declared.entries.TheConstants.{TABLE}
+use Rattle.breaks.specs.declared.table.TheConstants.{ENTRY_COUNT, LAST_ROW, PARTS, STATE_COUNT, STAYS, WAITS}
 use Rattle.breaks.proofs.BoolLemmas.{same, all_same, all_below}
+use Rattle.ucd.specs.declared.properties.TheConstants.{LINE_INDEX_COUNT}
 
 -- the mark of the first rule of which both answers are true, and LB31 where there is none
 abbrev pub decide : List Mark → List Bool → List Bool → Mark
-decide (mark ∷ marks) (before ∷ befores) (behind ∷ behinds) = if before && behind then mark else decide marks befores behinds
+decide (mark ∷ marks) (before ∷ befores) (after ∷ afters) = if before && after then mark else decide marks befores afters
 decide _ _ _ = May
 
 abbrev pub marks_by_row : Bool → List Mark
 marks_by_row whole_numbers = map (λ row. row.mark) (rows whole_numbers)
 
--- the answers of what stands behind: a character that begins a base, and whether the base behind that is NU
-abbrev pub bases_behind : Character → Bool → List Base
-bases_behind c true = alone c ∷ base NU ∷ []
-bases_behind c false = alone c ∷ []
+-- the answers of what stands after: a character that begins a base, and whether the base after that is NU
+abbrev pub bases_after : Character → Bool → List Base
+bases_after c true = alone c ∷ base NU ∷ []
+bases_after c false = alone c ∷ []
 
-abbrev pub behinds : Bool → Character → Bool → List Bool
-behinds whole_numbers c before_digit = map (λ row. row.behind (bases_behind c before_digit)) (rows whole_numbers)
+abbrev pub answers_after : Bool → Character → Bool → List Bool
+answers_after whole_numbers c before_digit = map (λ row. row.after (bases_after c before_digit)) (rows whole_numbers)
 
 -- the answers of all rows: LB8a is the eighth, LB30b of pictographs the last
 abbrev pub last_row : Bool → ℕ
@@ -54,15 +55,15 @@ abbrev pub is_as : Bool → List Base → List Base → Bool
 is_as whole_numbers bases others =
     all_same (answers whole_numbers bases) (answers whole_numbers others) && all_same (carried bases) (carried others)
 
--- An outcome is the mark that the rules give, by what a state answers and what stands behind, which are computed once.
-module _ (whole_numbers : Bool) (answered : List Bool) (behind digit_behind : List Bool) (outcome : ℕ) where
+-- An outcome is the mark that the rules give, by what a state answers and what stands after, which are computed once.
+module _ (whole_numbers : Bool) (answered : List Bool) (after digit_after : List Bool) (outcome : ℕ) where
   abbrev pub gives : List Bool → Bool → Bool → Bool → Bool
-  gives behind is_joined is_pictograph before_digit =
+  gives after is_joined is_pictograph before_digit =
       is_mark (mark_of whole_numbers (decided_at outcome is_joined is_pictograph) before_digit)
-      (decide (marks_by_row whole_numbers) (answered_with whole_numbers is_joined is_pictograph answered) behind)
+      (decide (marks_by_row whole_numbers) (answered_with whole_numbers is_joined is_pictograph answered) after)
 
   abbrev pub gives_both : Bool → Bool → Bool
-  gives_both is_joined is_pictograph = gives behind is_joined is_pictograph false && gives digit_behind is_joined is_pictograph true
+  gives_both is_joined is_pictograph = gives after is_joined is_pictograph false && gives digit_after is_joined is_pictograph true
 
   -- where a ZWJ is the last character, the last base is one to which a character may be attached
   abbrev pub gives_all : Bool → Bool
@@ -71,10 +72,10 @@ module _ (whole_numbers : Bool) (answered : List Bool) (behind digit_behind : Li
 
 abbrev pub gives_each : Bool → ℕ → ℕ → ℕ → Bool
 gives_each whole_numbers state symbol outcome =
-    gives_all whole_numbers (answers whole_numbers (bases_at state)) (behinds whole_numbers (shown symbol) false)
-    (behinds whole_numbers (shown symbol) true) outcome (is unattached (bases_at state))
+    gives_all whole_numbers (answers whole_numbers (bases_at state)) (answers_after whole_numbers (shown symbol) false)
+    (answers_after whole_numbers (shown symbol) true) outcome (is unattached (bases_at state))
 
--- what waits is in front of a character to which others may be attached
+-- what waits is before a character to which others may be attached
 abbrev pub waits_for_base : ℕ → ℕ → Bool
 waits_for_base symbol outcome = not (outcome == WAITS) || is_one_of (OP ∷ []) (shown symbol).class
 
@@ -91,15 +92,15 @@ leads whole_numbers false state symbol outcome next =
 
 abbrev pub entry_leads : Bool → ℕ → ℕ → ℕ → ℕ → Bool
 entry_leads whole_numbers state symbol entry next =
-    (entry / PARTS == next * 40)
-    && (nat_lt next 41 && leads whole_numbers (stays state symbol) state symbol (entry % PARTS) next)
+    (entry / PARTS == next * SYMBOL_COUNT)
+    && (nat_lt next STATE_COUNT && leads whole_numbers (stays state symbol) state symbol (entry % PARTS) next)
 
 abbrev pub is_right : Bool → ℕ → ℕ → ℕ → Bool
-is_right whole_numbers state symbol entry = entry_leads whole_numbers state symbol entry (entry / PARTS / 40)
+is_right whole_numbers state symbol entry = entry_leads whole_numbers state symbol entry (entry / PARTS / SYMBOL_COUNT)
 
 abbrev pub all_right : Bool → ℕ → Bool
 all_right whole_numbers state =
-    all_below 40 (λ symbol. is_right whole_numbers state symbol (get_or TABLE (state * 40 + symbol) 0))
+    all_below SYMBOL_COUNT (λ symbol. is_right whole_numbers state symbol (get_or TABLE (state * SYMBOL_COUNT + symbol) 0))
 
 -- A test that computes to true has a proof, so that one that computes to false is refused at once.
 abbrev Holds : Bool → Type 0
@@ -110,25 +111,25 @@ holds : (b : Bool) → Holds b → b ≡ true
 holds true h = refl
 holds false h = absurd h
 
-pub table_is_right : all_below 41 (all_right false) ≡ true
-unfolding rows rows_before_numbers rows_of_numbers rows_behind_numbers
-table_is_right = holds (all_below 41 (all_right false)) tt
+pub table_is_right : all_below STATE_COUNT (all_right false) ≡ true
+unfolding rows rows_before_numbers rows_of_numbers rows_after_numbers
+table_is_right = holds (all_below STATE_COUNT (all_right false)) tt
 
-pub table_is_right_whole : all_below 41 (all_right true) ≡ true
-unfolding rows rows_before_numbers rows_of_numbers rows_behind_numbers
-table_is_right_whole = holds (all_below 41 (all_right true)) tt
+pub table_is_right_whole : all_below STATE_COUNT (all_right true) ≡ true
+unfolding rows rows_before_numbers rows_of_numbers rows_after_numbers
+table_is_right_whole = holds (all_below STATE_COUNT (all_right true)) tt
 
-pub entries_are_within : all_below 1640 (λ place. nat_le (get_or TABLE place 0 / PARTS) 1600) ≡ true
+pub entries_are_within : all_below ENTRY_COUNT (λ place. nat_le (get_or TABLE place 0 / PARTS) LAST_ROW) ≡ true
 entries_are_within = refl
 
-pub symbols_are_within : all_below 512 (λ place. nat_lt (get_or SYMBOLS place 0) 40) ≡ true
+pub symbols_are_within : all_below LINE_INDEX_COUNT (λ place. nat_lt (get_or SYMBOLS place 0) SYMBOL_COUNT) ≡ true
 symbols_are_within = refl
 
-pub joiner_is_one : all_below 40 (λ symbol. same (symbol == JOINER) (is_same (shown symbol).class ZWJ)) ≡ true
+pub joiner_is_one : all_below SYMBOL_COUNT (λ symbol. same (symbol == JOINER) (is_same (shown symbol).class ZWJ)) ≡ true
 joiner_is_one = refl
 
-pub digit_is_one : all_below 40 (λ symbol. same (symbol == DIGIT) (is_same (shown symbol).class NU)) ≡ true
+pub digit_is_one : all_below SYMBOL_COUNT (λ symbol. same (symbol == DIGIT) (is_same (shown symbol).class NU)) ≡ true
 digit_is_one = refl
 
-pub attached_are_last : all_below 40 (λ symbol. same (nat_lt symbol ATTACHED) (not (is_one_of (CM ∷ ZWJ ∷ []) (shown symbol).class))) ≡ true
+pub attached_are_last : all_below SYMBOL_COUNT (λ symbol. same (nat_lt symbol ATTACHED) (not (is_one_of (CM ∷ ZWJ ∷ []) (shown symbol).class))) ≡ true
 attached_are_last = refl

@@ -1,4 +1,4 @@
--- A position is in a number where the bases before it and those behind it are at the same place of the expression.
+-- A position is in a number where the bases before it and those after it are at the same place of the expression.
 use Rattle.std.proofs.Common.{◌≡◌, Bool, true, false, ◌&&◌, ◌||◌, List, [], ◌∷◌, ◌++◌, map, reverse, refl, sym, ap, ◌∙◌}
 use Rattle.std.specs.List.{list_any}
 use Rattle.std.proofs.lemmas.List.{append_assoc}
@@ -9,12 +9,12 @@ use Rattle.breaks.specs.Bases.{Base, class_of}
 use Rattle.breaks.specs.Classes.{is_same, is_one_of}
 use Rattle.breaks.specs.Numbers.{affix, opening, middle, closing, is_end, goes_on, begins_with_digit, is_unaffixed, is_number, fronts, is_in_number}
 use Rattle.breaks.specs.Rules.{is}
-use Rattle.breaks.specs.Walk.{ends_in_digits, ends_in_closed_digits, begins_unaffixed, goes_on_behind_digits}
+use Rattle.breaks.specs.Walk.{ends_in_digits, ends_in_closed_digits, begins_unaffixed, goes_on_after_digits}
 
 abbrev classes_of : List Base → List LineClass
 classes_of bases = map class_of bases
 
--- four places of the expression: behind an affix, behind an opening, behind digits and behind what closes them
+-- four places of the expression: after an affix, after an opening, after digits and after what closes them
 abbrev at_place : Bool → Bool → Bool → Bool → List LineClass → Bool
 at_place affixed opened digits closed back =
     (affixed && is_unaffixed back) || ((opened && begins_with_digit back) || ((digits && goes_on back) || (closed && is_end back)))
@@ -69,7 +69,7 @@ ends r a b d e = rw (and_false a, and_false b, and_false e, or_false (d && r)) r
 begins : (r a b d e : Bool) → (r || ((a && false) || ((b && false) || ((d && false) || (e && false))))) ≡ (r || false)
 begins r a b d e = rw (and_false a, and_false b, and_false d, and_false e) refl
 
--- one base more behind the position is one less before it
+-- one base more after the position is one less before it
 step : (class next : LineClass) (back : List LineClass) (a b d e : Bool) →
     (is_number (class ∷ next ∷ back) || at_place a b d e (class ∷ next ∷ back))
     ≡ at_place (is_one_of affix class) (is_one_of opening class) (is_same class NU || (is_one_of middle class && d)) (is_one_of closing class && d) (next ∷ back)
@@ -84,7 +84,7 @@ step CL next back a b d e = ends (is_end (next ∷ back)) a b d e
 step CP next back a b d e = ends (is_end (next ∷ back)) a b d e
 step class next back a b d e = none_of a b d e
 
--- the numbers that end in some bases behind a position, by how many of those before it are in front of these
+-- the numbers that end in some bases after a position, by how many of those before it stand before these
 abbrev begun : List Base → Base → List Base → Bool
 begun before next back = list_any (λ front. is_number (classes_of (reverse front ++ next ∷ back))) (fronts before)
 
@@ -123,7 +123,7 @@ begun_is (b ∷ before) next back =
     ∙ ap (λ rest. is_number (classes_of (b ∷ next ∷ back)) || rest) (begun_is before b (next ∷ back))
     ∙ step (class_of b) (class_of next) (classes_of back) (is affix before) (is opening before) (ends_in_digits before) (ends_in_closed_digits before)
 
--- which places some of the bases behind a position are at
+-- which places some of the bases after a position are at
 any_or : {A : Type 0} (p q : A → Bool) (xs : List A) → list_any (λ x. p x || q x) xs ≡ (list_any p xs || list_any q xs)
 any_or p q [] = refl
 any_or p q (x ∷ xs) = ap (λ rest. (p x || q x) || rest) (any_or p q xs) ∙ shuffled (p x) (q x) (list_any p xs) (list_any q xs)
@@ -158,7 +158,7 @@ some_end PR back = refl
 some_end PO back = refl
 some_end class back = fronts_begin is_end class back ∙ any_none (fronts back)
 
-some_go_on : (class : LineClass) (back : List LineClass) → list_any goes_on (fronts (class ∷ back)) ≡ is_one_of goes_on_behind_digits class
+some_go_on : (class : LineClass) (back : List LineClass) → list_any goes_on (fronts (class ∷ back)) ≡ is_one_of goes_on_after_digits class
 some_go_on NU back = refl
 some_go_on SY back = refl
 some_go_on IS back = refl
@@ -195,30 +195,30 @@ first_is_class : (classes : List LineClass) (bases : List Base) → first_is cla
 first_is_class classes [] = refl
 first_is_class classes (b ∷ bases) = refl
 
--- the two orders in which some in front of a position and some behind it are looked for
+-- the two orders in which some before a position and some after it are looked for
 either_way : {A B : Type 0} (test : A → B → Bool) (xs : List A) (ys : List B) → list_any (λ x. list_any (test x) ys) xs ≡ list_any (λ y. list_any (λ x. test x y) xs) ys
 either_way test [] ys = sym (any_none ys)
 either_way test (x ∷ xs) ys = ap (λ rest. list_any (test x) ys || rest) (either_way test xs ys) ∙ sym (any_or (test x) (λ y. list_any (λ x. test x y) xs) ys)
 
--- some bases in front of the position, and some behind it, are a number
+-- some bases before the position, and some after it, are a number
 begun_fronts : (before : List Base) (b : Base) (fs : List (List Base)) → list_any (λ back. list_any (λ front. is_number (classes_of (reverse front ++ back))) (fronts before)) (map (λ front. b ∷ front) fs) ≡ list_any (λ back. is_at before (classes_of back)) (map (λ front. b ∷ front) fs)
 begun_fronts before b [] = refl
 begun_fronts before b (f ∷ fs) = rw (begun_is before b f, begun_fronts before b fs) refl
 
-begun_all : (before behind : List Base) → list_any (λ back. list_any (λ front. is_number (classes_of (reverse front ++ back))) (fronts before)) (fronts behind) ≡ list_any (λ back. is_at before (classes_of back)) (fronts behind)
+begun_all : (before after : List Base) → list_any (λ back. list_any (λ front. is_number (classes_of (reverse front ++ back))) (fronts before)) (fronts after) ≡ list_any (λ back. is_at before (classes_of back)) (fronts after)
 begun_all before [] = refl
-begun_all before (b ∷ behind) = begun_fronts before b ([] ∷ fronts behind)
+begun_all before (b ∷ after) = begun_fronts before b ([] ∷ fronts after)
 
--- the conditions on what stands before, and on what stands behind
-pub in_number_is : (before behind : List Base) → is_in_number before behind ≡ ((is affix before && begins_unaffixed behind) || ((is opening before && is (NU ∷ []) behind) || ((ends_in_digits before && is goes_on_behind_digits behind) || (ends_in_closed_digits before && is affix behind))))
+-- the conditions on what stands before, and on what stands after
+pub in_number_is : (before after : List Base) → is_in_number before after ≡ ((is affix before && begins_unaffixed after) || ((is opening before && is (NU ∷ []) after) || ((ends_in_digits before && is goes_on_after_digits after) || (ends_in_closed_digits before && is affix after))))
 in_number_is before [] =
     either_way (λ front back. is_number (classes_of (reverse front ++ back))) (fronts before) []
     ∙ sym (none_of (is affix before) (is opening before) (ends_in_digits before) (ends_in_closed_digits before))
-in_number_is before (b ∷ behind) =
-    let classes : List LineClass = classes_of behind in
-    either_way (λ front back. is_number (classes_of (reverse front ++ back))) (fronts before) (fronts (b ∷ behind))
-    ∙ begun_all before (b ∷ behind)
-    ∙ sym (any_map (λ back. classes_of back) (is_at before) (fronts (b ∷ behind)))
-    ∙ ap (list_any (is_at before)) (fronts_map (b ∷ behind))
+in_number_is before (b ∷ after) =
+    let classes : List LineClass = classes_of after in
+    either_way (λ front back. is_number (classes_of (reverse front ++ back))) (fronts before) (fronts (b ∷ after))
+    ∙ begun_all before (b ∷ after)
+    ∙ sym (any_map (λ back. classes_of back) (is_at before) (fronts (b ∷ after)))
+    ∙ ap (list_any (is_at before)) (fronts_map (b ∷ after))
     ∙ any_place (is affix before) (is opening before) (ends_in_digits before) (ends_in_closed_digits before) (fronts (class_of b ∷ classes))
-    ∙ rw (some_unaffixed (class_of b) classes, some_digit (class_of b) classes, some_go_on (class_of b) classes, some_end (class_of b) classes, first_is_class (NU ∷ []) behind) refl
+    ∙ rw (some_unaffixed (class_of b) classes, some_digit (class_of b) classes, some_go_on (class_of b) classes, some_end (class_of b) classes, first_is_class (NU ∷ []) after) refl

@@ -3,21 +3,21 @@ use Rattle.std.proofs.Common.{◌≡◌, ℕ, ◌+◌, ◌*◌, ◌/◌, ◌%◌
 use Rattle.std.proofs.lemmas.Bool.{cases_Bool}
 use Rattle.ucd.specs.declared.line_class.LineClass.{LineClass}
 use Rattle.ucd.specs.declared.line_class.LineClass.TheVariants.{CM, NU, OP, ZWJ}
-use Rattle.breaks.specs.Bases.{Base, alone, base_class, bases_of, end_of, joined, stays_with}
+use Rattle.breaks.specs.Bases.{Base, Character, alone, base_class, bases_of, end_of, joined, stays_with}
 use Rattle.breaks.specs.Classes.{is_same, is_one_of}
-use Rattle.breaks.specs.Rules.{rows_before_numbers, rows_of_numbers, rows_behind_numbers, rules, mark_by, is}
+use Rattle.breaks.specs.Rules.{rows_before_numbers, rows_of_numbers, rows_after_numbers, rules, mark_by, is}
 use Rattle.breaks.specs.Symbols.{shown, told}
 use Rattle.breaks.specs.Walk.{Stands, Passes, with_attached, bases_at, unattached, answers, carried, decided_at, is_before_digit, mark_of, rows}
-use Rattle.breaks.specs.declared.character.Character.{Character}
 use Rattle.breaks.specs.declared.mark.Mark.{Mark}
 use Rattle.breaks.specs.declared.mark.Mark.TheVariants.{Never, May, Must}
-use Rattle.breaks.specs.declared.symbol.TheConstants.{JOINER}
-use Rattle.breaks.specs.declared.table.TheConstants.{NEVER, PARTS, STAYS, TABLE, UNLESS, WAITS}
+use Rattle.breaks.specs.declared.symbol.TheConstants.{JOINER, SYMBOL_COUNT}
+use Rattle.breaks.specs.declared.entries.TheConstants.{TABLE}
+use Rattle.breaks.specs.declared.table.TheConstants.{ENTRY_COUNT, LAST_ROW, NEVER, PARTS, STATE_COUNT, STAYS, UNLESS, WAITS}
 use Rattle.breaks.specs.declared.walk.Walk.{Walk}
 use Rattle.breaks.proofs.BoolLemmas.{both, same, same_is, all_same, all_same_is, below, is_below, is_within, is_equal}
-use Rattle.breaks.proofs.Computed.{all_right, decide, marks_by_row, behinds, answered_with, is_mark, stays, is_as, gives_both, gives_each, leads, is_right, table_is_right, table_is_right_whole, entries_are_within, waits_for_base}
+use Rattle.breaks.proofs.Computed.{all_right, decide, marks_by_row, answers_after, answered_with, is_mark, stays, is_as, gives_both, gives_each, leads, is_right, table_is_right, table_is_right_whole, entries_are_within, waits_for_base}
 use Rattle.breaks.proofs.StepLemmas.{end_attached, marked, answers_attached, carried_attached, answers_same, carried_same, answers_told, carried_told}
-use Rattle.breaks.proofs.SymbolLemmas.{is_joiner, behinds_told}
+use Rattle.breaks.proofs.SymbolLemmas.{is_joiner, answers_after_told}
 
 is_mark_is : (a b : Mark) → is_mark a b ≡ true → a ≡ b
 is_mark_is Never Never h = refl
@@ -50,20 +50,20 @@ and_false false = refl
 -- the outcome of an entry, in each of the eight cases that a walk knows
 abbrev both_of : Bool → ℕ → ℕ → ℕ → Bool → Bool → Bool
 both_of whole_numbers state symbol outcome =
-    gives_both whole_numbers (answers whole_numbers (bases_at state)) (behinds whole_numbers (shown symbol) false)
-    (behinds whole_numbers (shown symbol) true) outcome
+    gives_both whole_numbers (answers whole_numbers (bases_at state)) (answers_after whole_numbers (shown symbol) false)
+    (answers_after whole_numbers (shown symbol) true) outcome
 
-given_both : (whole_numbers : Bool) (state symbol outcome : ℕ) (is_joined is_pictograph before_digit : Bool) → both_of whole_numbers state symbol outcome is_joined is_pictograph ≡ true → mark_of whole_numbers (decided_at outcome is_joined is_pictograph) before_digit ≡ decide (marks_by_row whole_numbers) (answered_with whole_numbers is_joined is_pictograph (answers whole_numbers (bases_at state))) (behinds whole_numbers (shown symbol) before_digit)
+given_both : (whole_numbers : Bool) (state symbol outcome : ℕ) (is_joined is_pictograph before_digit : Bool) → both_of whole_numbers state symbol outcome is_joined is_pictograph ≡ true → mark_of whole_numbers (decided_at outcome is_joined is_pictograph) before_digit ≡ decide (marks_by_row whole_numbers) (answered_with whole_numbers is_joined is_pictograph (answers whole_numbers (bases_at state))) (answers_after whole_numbers (shown symbol) before_digit)
 given_both whole_numbers state symbol outcome is_joined is_pictograph false gives = is_mark_is _ _ (both _ _ gives).0
 given_both whole_numbers state symbol outcome is_joined is_pictograph true gives = is_mark_is _ _ (both _ _ gives).1
 
-given : (whole_numbers : Bool) (state symbol outcome : ℕ) (is_joined is_pictograph before_digit : Bool) → (is_joined ≡ true → is unattached (bases_at state) ≡ false) → gives_each whole_numbers state symbol outcome ≡ true → mark_of whole_numbers (decided_at outcome is_joined is_pictograph) before_digit ≡ decide (marks_by_row whole_numbers) (answered_with whole_numbers is_joined is_pictograph (answers whole_numbers (bases_at state))) (behinds whole_numbers (shown symbol) before_digit)
+given : (whole_numbers : Bool) (state symbol outcome : ℕ) (is_joined is_pictograph before_digit : Bool) → (is_joined ≡ true → is unattached (bases_at state) ≡ false) → gives_each whole_numbers state symbol outcome ≡ true → mark_of whole_numbers (decided_at outcome is_joined is_pictograph) before_digit ≡ decide (marks_by_row whole_numbers) (answered_with whole_numbers is_joined is_pictograph (answers whole_numbers (bases_at state))) (answers_after whole_numbers (shown symbol) before_digit)
 given whole_numbers state symbol outcome false false before_digit free each = given_both whole_numbers state symbol outcome false false before_digit (both _ _ (both _ _ each).0).0
 given whole_numbers state symbol outcome false true before_digit free each = given_both whole_numbers state symbol outcome false true before_digit (both _ _ (both _ _ each).0).1
 given whole_numbers state symbol outcome true is_pictograph before_digit free each =
     let joined : (is unattached (bases_at state) || (both_of whole_numbers state symbol outcome true false && both_of whole_numbers state symbol outcome true true)) ≡ true = (both _ _ each).1 in
     let whole : (both_of whole_numbers state symbol outcome true false && both_of whole_numbers state symbol outcome true true) ≡ true = rw (free refl) at joined in
-    elim is_pictograph as (λ p. mark_of whole_numbers (decided_at outcome true p) before_digit ≡ decide (marks_by_row whole_numbers) (answered_with whole_numbers true p (answers whole_numbers (bases_at state))) (behinds whole_numbers (shown symbol) before_digit)) [
+    elim is_pictograph as (λ p. mark_of whole_numbers (decided_at outcome true p) before_digit ≡ decide (marks_by_row whole_numbers) (answered_with whole_numbers true p (answers whole_numbers (bases_at state))) (answers_after whole_numbers (shown symbol) before_digit)) [
       | false ↦ given_both whole_numbers state symbol outcome true false before_digit (both _ _ whole).0
       | true ↦ given_both whole_numbers state symbol outcome true true before_digit (both _ _ whole).1
     ]
@@ -71,26 +71,26 @@ given whole_numbers state symbol outcome true is_pictograph before_digit free ea
 -- what an entry says
 pub record Leads (whole_numbers : Bool) (state symbol entry : ℕ) : Type 0 where
   pub next : ℕ
-  pub below : next < 41
-  pub row : entry / PARTS ≡ next * 40
+  pub below : next < STATE_COUNT
+  pub row : entry / PARTS ≡ next * SYMBOL_COUNT
   pub leads : leads whole_numbers (stays state symbol) state symbol (entry % PARTS) next ≡ true
 
-state_is_right : (whole_numbers : Bool) (state : ℕ) → state < 41 → all_right whole_numbers state ≡ true
-state_is_right true state state_lt = below 41 (all_right true) table_is_right_whole state state_lt
-state_is_right false state state_lt = below 41 (all_right false) table_is_right state state_lt
+state_is_right : (whole_numbers : Bool) (state : ℕ) → state < STATE_COUNT → all_right whole_numbers state ≡ true
+state_is_right true state state_lt = below STATE_COUNT (all_right true) table_is_right_whole state state_lt
+state_is_right false state state_lt = below STATE_COUNT (all_right false) table_is_right state state_lt
 
-pub entry_is_right : (whole_numbers : Bool) (state symbol row entry : ℕ) → state < 41 → symbol < 40 → row ≡ state * 40 → entry ≡ get_or TABLE (row + symbol) 0 → Leads whole_numbers state symbol entry
+pub entry_is_right : (whole_numbers : Bool) (state symbol row entry : ℕ) → state < STATE_COUNT → symbol < SYMBOL_COUNT → row ≡ state * SYMBOL_COUNT → entry ≡ get_or TABLE (row + symbol) 0 → Leads whole_numbers state symbol entry
 entry_is_right whole_numbers state symbol row entry state_lt symbol_lt begins reads =
     let at_state = state_is_right whole_numbers state state_lt in
-    let at_symbol = below 40 (λ symbol. is_right whole_numbers state symbol (get_or TABLE (state * 40 + symbol) 0)) at_state symbol symbol_lt in
+    let at_symbol = below SYMBOL_COUNT (λ symbol. is_right whole_numbers state symbol (get_or TABLE (state * SYMBOL_COUNT + symbol) 0)) at_state symbol symbol_lt in
     let right : is_right whole_numbers state symbol entry ≡ true = rw (reads, begins) at_symbol in
-    let next : ℕ = entry / PARTS / 40 in
+    let next : ℕ = entry / PARTS / SYMBOL_COUNT in
     let leading : Bool = leads whole_numbers (stays state symbol) state symbol (entry % PARTS) next in
-    let row_and : ((entry / PARTS == next * 40) ≡ true) × ((nat_lt next 41 && leading) ≡ true) = both _ _ right in
-    let next_and : (nat_lt next 41 ≡ true) × (leading ≡ true) = both _ _ row_and.1 in
+    let row_and : ((entry / PARTS == next * SYMBOL_COUNT) ≡ true) × ((nat_lt next STATE_COUNT && leading) ≡ true) = both _ _ right in
+    let next_and : (nat_lt next STATE_COUNT ≡ true) × (leading ≡ true) = both _ _ row_and.1 in
     record { next = next; below = is_below _ _ next_and.0; row = is_equal _ _ row_and.0; leads = next_and.1 }
 
--- what it says in front of a character that begins a base
+-- what it says before a character that begins a base
 record Begins (whole_numbers : Bool) (state symbol outcome next : ℕ) : Type 0 where
   answered : answers whole_numbers (alone (shown symbol) ∷ bases_at state) ≡ answers whole_numbers (bases_at next)
   carries : carried (alone (shown symbol) ∷ bases_at state) ≡ carried (bases_at next)
@@ -118,8 +118,8 @@ beginning whole_numbers state symbol outcome next led =
       gives = waits.1;
     }
 
--- a character that begins a base, behind bases that carry what those of a state do
-pub begins : (whole_numbers : Bool) (state symbol entry : ℕ) (c : Character) (before : List Base) → symbol < 40 → shown symbol ≡ told c → Leads whole_numbers state symbol entry → stays state symbol ≡ false → carried before ≡ carried (bases_at state) → Stands whole_numbers (record { row = entry / PARTS; is_joined = symbol == JOINER; is_pictograph = c.is_future_pictograph }) (alone c) before
+-- a character that begins a base, after bases that carry what those of a state do
+pub begins : (whole_numbers : Bool) (state symbol entry : ℕ) (c : Character) (before : List Base) → symbol < SYMBOL_COUNT → shown symbol ≡ told c → Leads whole_numbers state symbol entry → stays state symbol ≡ false → carried before ≡ carried (bases_at state) → Stands whole_numbers (record { row = entry / PARTS; is_joined = symbol == JOINER; is_pictograph = c.is_future_pictograph }) (alone c) before
 begins whole_numbers state symbol entry c before symbol_lt shows entry_leads begun carry =
     let says : Begins whole_numbers state symbol (entry % PARTS) entry_leads.next = beginning _ _ _ _ _ (rw begun at entry_leads.leads) in
     record {
@@ -138,7 +138,7 @@ begins whole_numbers state symbol entry c before symbol_lt shows entry_leads beg
     }
 
 -- a character that stays with the last base
-attached : (whole_numbers : Bool) (walk : Walk) (last : Base) (others : List Base) (stands : Stands whole_numbers walk last others) (symbol entry : ℕ) (c : Character) → symbol < 40 → shown symbol ≡ told c → Leads whole_numbers stands.state symbol entry → stays stands.state symbol ≡ true → Stands whole_numbers (record { row = entry / PARTS; is_joined = symbol == JOINER; is_pictograph = walk.is_pictograph }) (with_attached last c) others
+attached : (whole_numbers : Bool) (walk : Walk) (last : Base) (others : List Base) (stands : Stands whole_numbers walk last others) (symbol entry : ℕ) (c : Character) → symbol < SYMBOL_COUNT → shown symbol ≡ told c → Leads whole_numbers stands.state symbol entry → stays stands.state symbol ≡ true → Stands whole_numbers (record { row = entry / PARTS; is_joined = symbol == JOINER; is_pictograph = walk.is_pictograph }) (with_attached last c) others
 attached whole_numbers walk last others stands symbol entry c symbol_lt shows entry_leads stay =
     let led : leads whole_numbers true stands.state symbol (entry % PARTS) entry_leads.next ≡ true = rw stay at entry_leads.leads in
     let here : List Base = bases_at stands.state in
@@ -162,15 +162,15 @@ attached whole_numbers walk last others stands symbol entry c symbol_lt shows en
       is_pictograph = stands.is_pictograph;
     }
 
--- of the bases behind a position the rules read what the first begins with, and whether the second is NU
-reads_behind : (whole_numbers : Bool) (c : Character) (attached : List Character) (bases : List Base) → map (λ row. row.behind (record { first = c; attached = attached } ∷ bases)) (rows whole_numbers) ≡ behinds whole_numbers c (is (NU ∷ []) bases)
-unfolding rows rows_before_numbers rows_of_numbers rows_behind_numbers
-reads_behind true c attached bases =
+-- of the bases after a position the rules read what the first begins with, and whether the second is NU
+reads_after : (whole_numbers : Bool) (c : Character) (attached : List Character) (bases : List Base) → map (λ row. row.after (record { first = c; attached = attached } ∷ bases)) (rows whole_numbers) ≡ answers_after whole_numbers c (is (NU ∷ []) bases)
+unfolding rows rows_before_numbers rows_of_numbers rows_after_numbers
+reads_after true c attached bases =
     elim (cases_Bool (is (NU ∷ []) bases)) [
       | inl digit ↦ rw digit refl
       | inr other ↦ rw other refl
     ]
-reads_behind false c attached bases =
+reads_after false c attached bases =
     elim (cases_Bool (is (NU ∷ []) bases)) [
       | inl digit ↦ rw digit refl
       | inr other ↦ rw other refl
@@ -186,7 +186,7 @@ first_base c (d ∷ text) =
       | inr begins ↦ ([], record { first = d; attached = next.0 } ∷ next.1, rw (begins, next.2) refl)
     ]
 
--- whether the base behind the one that begins with a character is NU
+-- whether the base after the one that begins with a character is NU
 abbrev second_is_digit : List Base → Bool
 second_is_digit [] = false
 second_is_digit (b ∷ bases) = is (NU ∷ []) bases
@@ -213,12 +213,12 @@ second_is c (d ∷ text) free =
     ]
 
 -- what is read of the bases of a text
-read_text : (whole_numbers : Bool) (c : Character) (text : List Character) → map (λ row. row.behind (bases_of (c ∷ text))) (rows whole_numbers) ≡ behinds whole_numbers c (second_is_digit (bases_of (c ∷ text)))
+read_text : (whole_numbers : Bool) (c : Character) (text : List Character) → map (λ row. row.after (bases_of (c ∷ text))) (rows whole_numbers) ≡ answers_after whole_numbers c (second_is_digit (bases_of (c ∷ text)))
 read_text whole_numbers c text =
     let next = first_base c text in
-    rw next.2 (reads_behind whole_numbers c next.0 next.1)
+    rw next.2 (reads_after whole_numbers c next.0 next.1)
 
--- whether what is behind the second base matters
+-- whether what is after the second base matters
 waits_or_not : (whole_numbers : Bool) (outcome : ℕ) (is_joined is_pictograph : Bool) (a b : Bool) → (outcome == WAITS) ≡ false → mark_of whole_numbers (decided_at outcome is_joined is_pictograph) a ≡ mark_of whole_numbers (decided_at outcome is_joined is_pictograph) b
 waits_or_not false outcome is_joined is_pictograph a b h = refl
 waits_or_not true outcome true is_pictograph a b h = refl
@@ -245,7 +245,7 @@ same_of_digit whole_numbers symbol outcome c text is_joined is_pictograph shows 
       | inr other ↦ waits_or_not whole_numbers outcome is_joined is_pictograph _ _ other
     ]
 
--- the mark in front of a character that begins a base
+-- the mark before a character that begins a base
 marks_begun : (whole_numbers : Bool) (walk : Walk) (last : Base) (others : List Base) (stands : Stands whole_numbers walk last others) (symbol entry : ℕ) (c : Character) (text : List Character) → shown symbol ≡ told c → Leads whole_numbers stands.state symbol entry → stays stands.state symbol ≡ false → mark_of whole_numbers (decided_at (entry % PARTS) walk.is_joined walk.is_pictograph) (is_before_digit text) ≡ mark_by (rules whole_numbers) (last ∷ others) (bases_of (c ∷ text))
 marks_begun whole_numbers walk last others stands symbol entry c text shows entry_leads begun =
     let says : Begins whole_numbers stands.state symbol (entry % PARTS) entry_leads.next = beginning _ _ _ _ _ (rw begun at entry_leads.leads) in
@@ -254,11 +254,11 @@ marks_begun whole_numbers walk last others stands symbol entry c text shows entr
     λ joined. sym stands.attaches ∙ joiner_attaches (end_of last).class (sym stands.is_joined ∙ joined) in
     same_of_digit whole_numbers symbol (entry % PARTS) c text walk.is_joined walk.is_pictograph shows says.waits
     ∙ given whole_numbers stands.state symbol (entry % PARTS) walk.is_joined walk.is_pictograph digit free says.gives
-    ∙ ap (λ row. decide (marks_by_row whole_numbers) (answered_with whole_numbers walk.is_joined walk.is_pictograph row) (behinds whole_numbers (shown symbol) digit)) (sym stands.answered)
-    ∙ ap (λ joined. decide (marks_by_row whole_numbers) (answered_with whole_numbers joined walk.is_pictograph (answers whole_numbers (last ∷ others))) (behinds whole_numbers (shown symbol) digit)) stands.is_joined
-    ∙ ap (λ pictograph. decide (marks_by_row whole_numbers) (answered_with whole_numbers (is_same (end_of last).class ZWJ) pictograph (answers whole_numbers (last ∷ others))) (behinds whole_numbers (shown symbol) digit)) stands.is_pictograph
+    ∙ ap (λ row. decide (marks_by_row whole_numbers) (answered_with whole_numbers walk.is_joined walk.is_pictograph row) (answers_after whole_numbers (shown symbol) digit)) (sym stands.answered)
+    ∙ ap (λ joined. decide (marks_by_row whole_numbers) (answered_with whole_numbers joined walk.is_pictograph (answers whole_numbers (last ∷ others))) (answers_after whole_numbers (shown symbol) digit)) stands.is_joined
+    ∙ ap (λ pictograph. decide (marks_by_row whole_numbers) (answered_with whole_numbers (is_same (end_of last).class ZWJ) pictograph (answers whole_numbers (last ∷ others))) (answers_after whole_numbers (shown symbol) digit)) stands.is_pictograph
     ∙ ap (λ row. decide (marks_by_row whole_numbers) (answered_with whole_numbers (is_same (end_of last).class ZWJ) last.first.is_future_pictograph (answers whole_numbers (last ∷ others))) row)
-    (ap (λ d. behinds whole_numbers d digit) shows ∙ sym (behinds_told whole_numbers c digit) ∙ sym (read_text whole_numbers c text))
+    (ap (λ d. answers_after whole_numbers d digit) shows ∙ sym (answers_after_told whole_numbers c digit) ∙ sym (read_text whole_numbers c text))
     ∙ sym (marked whole_numbers last others (bases_of (c ∷ text)))
 
 -- whether the next character stays with the last base
@@ -283,7 +283,7 @@ outcome_stays whole_numbers walk last others stands symbol entry entry_leads =
 abbrev pub kept : Walk → ℕ → Character → Bool
 kept walk outcome c = if outcome == STAYS then walk.is_pictograph else c.is_future_pictograph
 
--- LB9: no line ends in front of a character that stays
+-- LB9: no line ends before a character that stays
 never_outcome : (whole_numbers before_digit is_pictograph : Bool) → mark_of whole_numbers (decided_at STAYS false is_pictograph) before_digit ≡ Never
 never_outcome true before_digit is_pictograph = refl
 never_outcome false before_digit is_pictograph = refl
@@ -298,7 +298,7 @@ never_stays whole_numbers outcome false is_pictograph before_digit stay =
     ap (λ o. mark_of whole_numbers (decided_at o false is_pictograph) before_digit) (is_equal outcome STAYS stay)
     ∙ never_outcome whole_numbers before_digit is_pictograph
 
-pub passes : (whole_numbers : Bool) (walk : Walk) (symbol entry : ℕ) (c : Character) → symbol < 40 → shown symbol ≡ told c → entry ≡ get_or TABLE (walk.row + symbol) 0 → (last : Base) (others : List Base) → Stands whole_numbers walk last others → Passes whole_numbers (record { row = entry / PARTS; is_joined = symbol == JOINER; is_pictograph = kept walk (entry % PARTS) c }) last others c (decided_at (entry % PARTS) walk.is_joined walk.is_pictograph)
+pub passes : (whole_numbers : Bool) (walk : Walk) (symbol entry : ℕ) (c : Character) → symbol < SYMBOL_COUNT → shown symbol ≡ told c → entry ≡ get_or TABLE (walk.row + symbol) 0 → (last : Base) (others : List Base) → Stands whole_numbers walk last others → Passes whole_numbers (record { row = entry / PARTS; is_joined = symbol == JOINER; is_pictograph = kept walk (entry % PARTS) c }) last others c (decided_at (entry % PARTS) walk.is_joined walk.is_pictograph)
 passes whole_numbers walk symbol entry c symbol_lt shows reads last others stands =
     let entry_leads : Leads whole_numbers stands.state symbol entry = entry_is_right whole_numbers stands.state symbol walk.row entry stands.below symbol_lt stands.row reads in
     let whether = stays_is whole_numbers walk last others stands symbol c shows in
@@ -317,17 +317,17 @@ passes whole_numbers walk symbol entry c symbol_lt shows reads last others stand
     ]
 
 -- a text's start is to what follows as BK is
-pub starts : (symbol entry : ℕ) (c : Character) → symbol < 40 → shown symbol ≡ told c → entry ≡ get_or TABLE (0 + symbol) 0 → (whole_numbers : Bool) → Stands whole_numbers (record { row = entry / PARTS; is_joined = symbol == JOINER; is_pictograph = c.is_future_pictograph }) (alone c) []
+pub starts : (symbol entry : ℕ) (c : Character) → symbol < SYMBOL_COUNT → shown symbol ≡ told c → entry ≡ get_or TABLE (0 + symbol) 0 → (whole_numbers : Bool) → Stands whole_numbers (record { row = entry / PARTS; is_joined = symbol == JOINER; is_pictograph = c.is_future_pictograph }) (alone c) []
 starts symbol entry c symbol_lt shows reads whole_numbers =
     begins whole_numbers 0 symbol entry c [] symbol_lt shows (entry_is_right whole_numbers 0 symbol 0 entry (omega arith) symbol_lt refl reads) (and_false _) refl
 
 -- the same, of what a step makes of what is kept
-pub passes_as : (walk : Walk) (symbol entry : ℕ) (c : Character) (is_pictograph : Bool) (decided : ℕ) → symbol < 40 → shown symbol ≡ told c → entry ≡ get_or TABLE (walk.row + symbol) 0 → kept walk (entry % PARTS) c ≡ is_pictograph → decided ≡ decided_at (entry % PARTS) walk.is_joined walk.is_pictograph → (whole_numbers : Bool) (last : Base) (others : List Base) → Stands whole_numbers walk last others → Passes whole_numbers (record { row = entry / PARTS; is_joined = symbol == JOINER; is_pictograph = is_pictograph }) last others c decided
+pub passes_as : (walk : Walk) (symbol entry : ℕ) (c : Character) (is_pictograph : Bool) (decided : ℕ) → symbol < SYMBOL_COUNT → shown symbol ≡ told c → entry ≡ get_or TABLE (walk.row + symbol) 0 → kept walk (entry % PARTS) c ≡ is_pictograph → decided ≡ decided_at (entry % PARTS) walk.is_joined walk.is_pictograph → (whole_numbers : Bool) (last : Base) (others : List Base) → Stands whole_numbers walk last others → Passes whole_numbers (record { row = entry / PARTS; is_joined = symbol == JOINER; is_pictograph = is_pictograph }) last others c decided
 passes_as walk symbol entry c is_pictograph decided symbol_lt shows reads keeps is whole_numbers last others stands =
     rw (← keeps, is) (passes whole_numbers walk symbol entry c symbol_lt shows reads last others stands)
 
 -- each entry's next row is one of the table
-pub row_within : (place entry : ℕ) → place < 1640 → entry ≡ get_or TABLE place 0 → entry / PARTS ≤ 1600
+pub row_within : (place entry : ℕ) → place < ENTRY_COUNT → entry ≡ get_or TABLE place 0 → entry / PARTS ≤ LAST_ROW
 row_within place entry lt reads =
-    let test : nat_le (get_or TABLE place 0 / PARTS) 1600 ≡ true = below 1640 (λ place. nat_le (get_or TABLE place 0 / PARTS) 1600) entries_are_within place lt in
-    is_within (entry / PARTS) 1600 (ap (λ e. nat_le (e / PARTS) 1600) reads ∙ test)
+    let test : nat_le (get_or TABLE place 0 / PARTS) LAST_ROW ≡ true = below ENTRY_COUNT (λ place. nat_le (get_or TABLE place 0 / PARTS) LAST_ROW) entries_are_within place lt in
+    is_within (entry / PARTS) LAST_ROW (ap (λ e. nat_le (e / PARTS) LAST_ROW) reads ∙ test)

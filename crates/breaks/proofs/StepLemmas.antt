@@ -4,13 +4,12 @@ use Rattle.std.specs.List.{prefix_len}
 use Rattle.std.proofs.lemmas.Bool.Decides.{nat_tests}
 use Rattle.ucd.specs.declared.line_class.LineClass.{LineClass}
 use Rattle.ucd.specs.declared.line_class.LineClass.TheVariants.{B2, BA, CL, CM, CP, HL, HY, NU, OP, QU, RI, SP, ZW, ZWJ}
-use Rattle.breaks.specs.Bases.{Base, alone, class_of, end_of, last_of}
+use Rattle.breaks.specs.Bases.{Base, Character, alone, class_of, end_of, last_of}
 use Rattle.breaks.specs.Classes.{is_same, is_one_of}
 use Rattle.breaks.specs.Numbers.{affix, closing, middle, opening, is_in_number}
-use Rattle.breaks.specs.Rules.{Row, Rule, rule_of, rules, rows_before_numbers, rows_of_numbers, rows_behind_numbers, mark_by, is, is_pair, is_spaced, without_spaces, ends_in_odd_run}
+use Rattle.breaks.specs.Rules.{Row, Rule, rule_of, rules, rows_before_numbers, rows_of_numbers, rows_after_numbers, mark_by, is, is_pair, is_spaced, without_spaces, ends_in_odd_run}
 use Rattle.breaks.specs.Symbols.{narrow, told}
-use Rattle.breaks.specs.Walk.{answers, begins_unaffixed, carried, ends_in_closed_digits, ends_in_digits, goes_on_behind_digits, number_rows, rows}
-use Rattle.breaks.specs.declared.character.Character.{Character}
+use Rattle.breaks.specs.Walk.{answers, begins_unaffixed, carried, ends_in_closed_digits, ends_in_digits, goes_on_after_digits, number_rows, rows}
 use Rattle.breaks.specs.declared.mark.Mark.{Mark}
 use Rattle.breaks.specs.declared.mark.Mark.TheVariants.{Never, May}
 use Rattle.breaks.proofs.BoolLemmas.{cons}
@@ -25,25 +24,25 @@ end_attached first (a ∷ attached) c = end_attached a attached c
 
 -- rows as rules, where others follow
 abbrev row_mark : List Row → Mark → List Base → List Base → Mark
-row_mark [] else_mark before behind = else_mark
-row_mark (row ∷ rest) else_mark before behind = if row.before before && row.behind behind then row.mark else row_mark rest else_mark before behind
+row_mark [] else_mark before after = else_mark
+row_mark (row ∷ rest) else_mark before after = if row.before before && row.after after then row.mark else row_mark rest else_mark before after
 
-rules_of_rows : (some : List Row) (more : List Rule) (before behind : List Base) → mark_by (map rule_of some ++ more) before behind ≡ row_mark some (mark_by more before behind) before behind
-rules_of_rows [] more before behind = refl
-rules_of_rows (row ∷ some) more before behind = ap (λ mark. if row.before before && row.behind behind then row.mark else mark) (rules_of_rows some more before behind)
+rules_of_rows : (some : List Row) (more : List Rule) (before after : List Base) → mark_by (map rule_of some ++ more) before after ≡ row_mark some (mark_by more before after) before after
+rules_of_rows [] more before after = refl
+rules_of_rows (row ∷ some) more before after = ap (λ mark. if row.before before && row.after after then row.mark else mark) (rules_of_rows some more before after)
 
-last_rules_of_rows : (some : List Row) (before behind : List Base) → mark_by (map rule_of some) before behind ≡ row_mark some May before behind
-last_rules_of_rows [] before behind = refl
-last_rules_of_rows (row ∷ some) before behind = ap (λ mark. if row.before before && row.behind behind then row.mark else mark) (last_rules_of_rows some before behind)
+last_rules_of_rows : (some : List Row) (before after : List Base) → mark_by (map rule_of some) before after ≡ row_mark some May before after
+last_rules_of_rows [] before after = refl
+last_rules_of_rows (row ∷ some) before after = ap (λ mark. if row.before before && row.after after then row.mark else mark) (last_rules_of_rows some before after)
 
-more_rows : (some more : List Row) (mark : Mark) (before behind : List Base) → row_mark (some ++ more) mark before behind ≡ row_mark some (row_mark more mark before behind) before behind
-more_rows [] more mark before behind = refl
-more_rows (row ∷ some) more mark before behind = ap (λ rest. if row.before before && row.behind behind then row.mark else rest) (more_rows some more mark before behind)
+more_rows : (some more : List Row) (mark : Mark) (before after : List Base) → row_mark (some ++ more) mark before after ≡ row_mark some (row_mark more mark before after) before after
+more_rows [] more mark before after = refl
+more_rows (row ∷ some) more mark before after = ap (λ rest. if row.before before && row.after after then row.mark else rest) (more_rows some more mark before after)
 
 -- rows decide by their answers
-decides : (some : List Row) (before behind : List Base) → row_mark some May before behind ≡ decide (map (λ row. row.mark) some) (map (λ row. row.before before) some) (map (λ row. row.behind behind) some)
-decides [] before behind = refl
-decides (row ∷ some) before behind = ap (λ rest. if row.before before && row.behind behind then row.mark else rest) (decides some before behind)
+decides : (some : List Row) (before after : List Base) → row_mark some May before after ≡ decide (map (λ row. row.mark) some) (map (λ row. row.before before) some) (map (λ row. row.after after) some)
+decides [] before after = refl
+decides (row ∷ some) before after = ap (λ rest. if row.before before && row.after after then row.mark else rest) (decides some before after)
 
 four : (a b c d : Bool) (mark : Mark) → (if a || (b || (c || d)) then Never else mark) ≡ (if a then Never else if b then Never else if c then Never else if d then Never else mark)
 four true b c d mark = refl
@@ -53,54 +52,54 @@ four false false false true mark = refl
 four false false false false mark = refl
 
 -- the rule of whole numbers is its rows
-number_mark : (mark : Mark) (before behind : List Base) → (if is_in_number before behind then Never else mark) ≡ row_mark (number_rows true) mark before behind
-number_mark mark before behind =
-    ap (λ whole. if whole then Never else mark) (in_number_is before behind)
-    ∙ four (is affix before && begins_unaffixed behind) (is opening before && is (NU ∷ []) behind)
-    (ends_in_digits before && is goes_on_behind_digits behind) (ends_in_closed_digits before && is affix behind) mark
+number_mark : (mark : Mark) (before after : List Base) → (if is_in_number before after then Never else mark) ≡ row_mark (number_rows true) mark before after
+number_mark mark before after =
+    ap (λ whole. if whole then Never else mark) (in_number_is before after)
+    ∙ four (is affix before && begins_unaffixed after) (is opening before && is (NU ∷ []) after)
+    (ends_in_digits before && is goes_on_after_digits after) (ends_in_closed_digits before && is affix after) mark
 
 -- the rules are their rows
-rows_mark : (whole_numbers : Bool) (before behind : List Base) → mark_by (rules whole_numbers) before behind ≡ row_mark rows_before_numbers (row_mark (number_rows whole_numbers) (row_mark rows_behind_numbers May before behind) before behind) before behind
+rows_mark : (whole_numbers : Bool) (before after : List Base) → mark_by (rules whole_numbers) before after ≡ row_mark rows_before_numbers (row_mark (number_rows whole_numbers) (row_mark rows_after_numbers May before after) before after) before after
 unfolding rules
-rows_mark true before behind =
-    rules_of_rows rows_before_numbers _ before behind
-    ∙ ap (λ mark. row_mark rows_before_numbers mark before behind)
-    (ap (λ mark. if is_in_number before behind then Never else mark) (last_rules_of_rows rows_behind_numbers before behind)
-    ∙ number_mark (row_mark rows_behind_numbers May before behind) before behind)
-rows_mark false before behind =
-    rules_of_rows rows_before_numbers _ before behind
-    ∙ ap (λ mark. row_mark rows_before_numbers mark before behind)
-    (rules_of_rows rows_of_numbers _ before behind
-    ∙ ap (λ mark. row_mark rows_of_numbers mark before behind) (last_rules_of_rows rows_behind_numbers before behind))
+rows_mark true before after =
+    rules_of_rows rows_before_numbers _ before after
+    ∙ ap (λ mark. row_mark rows_before_numbers mark before after)
+    (ap (λ mark. if is_in_number before after then Never else mark) (last_rules_of_rows rows_after_numbers before after)
+    ∙ number_mark (row_mark rows_after_numbers May before after) before after)
+rows_mark false before after =
+    rules_of_rows rows_before_numbers _ before after
+    ∙ ap (λ mark. row_mark rows_before_numbers mark before after)
+    (rules_of_rows rows_of_numbers _ before after
+    ∙ ap (λ mark. row_mark rows_of_numbers mark before after) (last_rules_of_rows rows_after_numbers before after))
 
-rules_decide : (whole_numbers : Bool) (before behind : List Base) → mark_by (rules whole_numbers) before behind ≡ decide (marks_by_row whole_numbers) (map (λ row. row.before before) (rows whole_numbers)) (map (λ row. row.behind behind) (rows whole_numbers))
+rules_decide : (whole_numbers : Bool) (before after : List Base) → mark_by (rules whole_numbers) before after ≡ decide (marks_by_row whole_numbers) (map (λ row. row.before before) (rows whole_numbers)) (map (λ row. row.after after) (rows whole_numbers))
 unfolding rows
-rules_decide whole_numbers before behind =
-    rows_mark whole_numbers before behind
-    ∙ sym (more_rows rows_before_numbers (number_rows whole_numbers ++ rows_behind_numbers) May before behind
-    ∙ ap (λ mark. row_mark rows_before_numbers mark before behind) (more_rows (number_rows whole_numbers) rows_behind_numbers May before behind))
-    ∙ decides (rows_before_numbers ++ (number_rows whole_numbers ++ rows_behind_numbers)) before behind
+rules_decide whole_numbers before after =
+    rows_mark whole_numbers before after
+    ∙ sym (more_rows rows_before_numbers (number_rows whole_numbers ++ rows_after_numbers) May before after
+    ∙ ap (λ mark. row_mark rows_before_numbers mark before after) (more_rows (number_rows whole_numbers) rows_after_numbers May before after))
+    ∙ decides (rows_before_numbers ++ (number_rows whole_numbers ++ rows_after_numbers)) before after
 
 -- of one base more the rules ask what is carried
-pair_behind : (firsts classes : List LineClass) (b : Base) (bases : List Base) → is_pair firsts classes (b ∷ bases) ≡ (is firsts bases && is_one_of classes (class_of b))
-pair_behind firsts classes b [] = refl
-pair_behind firsts classes b (a ∷ bases) = refl
+pair_after : (firsts classes : List LineClass) (b : Base) (bases : List Base) → is_pair firsts classes (b ∷ bases) ≡ (is firsts bases && is_one_of classes (class_of b))
+pair_after firsts classes b [] = refl
+pair_after firsts classes b (a ∷ bases) = refl
 
-spaced_behind : (classes : List LineClass) (b : Base) (bases : List Base) → is_spaced classes (b ∷ bases) ≡ (if is_same (class_of b) SP then is_spaced classes bases else is_one_of classes (class_of b))
-spaced_behind classes b bases = elim (is_same (class_of b) SP) as (λ space. is classes (if space then without_spaces bases else b ∷ bases) ≡ (if space then is_spaced classes bases else is_one_of classes (class_of b))) [ true ↦ refl | false ↦ refl ]
+spaced_after : (classes : List LineClass) (b : Base) (bases : List Base) → is_spaced classes (b ∷ bases) ≡ (if is_same (class_of b) SP then is_spaced classes bases else is_one_of classes (class_of b))
+spaced_after classes b bases = elim (is_same (class_of b) SP) as (λ space. is classes (if space then without_spaces bases else b ∷ bases) ≡ (if space then is_spaced classes bases else is_one_of classes (class_of b))) [ true ↦ refl | false ↦ refl ]
 
--- of a base the class alone says what it is behind spaces
+-- of a base the class alone says what it is after spaces
 pub spaced_same_class : (classes : List LineClass) (b d : Base) (bases : List Base) → class_of b ≡ class_of d → is_spaced classes (b ∷ bases) ≡ is_spaced classes (d ∷ bases)
 spaced_same_class classes b d bases e =
-    spaced_behind classes b bases
+    spaced_after classes b bases
     ∙ ap (λ c. if is_same c SP then is_spaced classes bases else is_one_of classes c) e
-    ∙ sym (spaced_behind classes d bases)
+    ∙ sym (spaced_after classes d bases)
 
 odd_more : (n : ℕ) → ((1 + n) % 2 == 1) ≡ not (n % 2 == 1)
 odd_more n = grind (arith, nat_tests)
 
-odd_behind : (b : Base) (bases : List Base) → ends_in_odd_run (b ∷ bases) ≡ (is_same (class_of b) RI && not (ends_in_odd_run bases))
-odd_behind b bases =
+odd_after : (b : Base) (bases : List Base) → ends_in_odd_run (b ∷ bases) ≡ (is_same (class_of b) RI && not (ends_in_odd_run bases))
+odd_after b bases =
     elim (is_same (class_of b) RI) as (λ r. (cond r (1 + prefix_len (λ b. is_same (class_of b) RI) bases) 0 % 2 == 1) ≡ (r && not (ends_in_odd_run bases))) [
       | true ↦ odd_more (prefix_len (λ b. is_same (class_of b) RI) bases)
       | false ↦ refl
@@ -108,10 +107,10 @@ odd_behind b bases =
 
 module _ (b : Base) (p q : List Base) (carry : carried p ≡ carried q) where
   pair_same : (classes : List LineClass) → is_pair (HL ∷ []) classes (b ∷ p) ≡ is_pair (HL ∷ []) classes (b ∷ q)
-  pair_same classes = pair_behind (HL ∷ []) classes b p ∙ ap (λ h. h && is_one_of classes (class_of b)) (ap (λ l. get_or l 0 false) carry) ∙ sym (pair_behind (HL ∷ []) classes b q)
+  pair_same classes = pair_after (HL ∷ []) classes b p ∙ ap (λ h. h && is_one_of classes (class_of b)) (ap (λ l. get_or l 0 false) carry) ∙ sym (pair_after (HL ∷ []) classes b q)
 
   spaced_same : (classes : List LineClass) → is_spaced classes p ≡ is_spaced classes q → is_spaced classes (b ∷ p) ≡ is_spaced classes (b ∷ q)
-  spaced_same classes e = spaced_behind classes b p ∙ ap (λ s. if is_same (class_of b) SP then s else is_one_of classes (class_of b)) e ∙ sym (spaced_behind classes b q)
+  spaced_same classes e = spaced_after classes b p ∙ ap (λ s. if is_same (class_of b) SP then s else is_one_of classes (class_of b)) e ∙ sym (spaced_after classes b q)
 
   zw : is_spaced (ZW ∷ []) (b ∷ p) ≡ is_spaced (ZW ∷ []) (b ∷ q)
   zw = spaced_same (ZW ∷ []) (ap (λ l. get_or l 1 false) carry)
@@ -129,7 +128,7 @@ module _ (b : Base) (p q : List Base) (carry : carried p ≡ carried q) where
   dash = spaced_same (B2 ∷ []) (ap (λ l. get_or l 5 false) carry)
 
   odd : ends_in_odd_run (b ∷ p) ≡ ends_in_odd_run (b ∷ q)
-  odd = odd_behind b p ∙ ap (λ o. is_same (class_of b) RI && not o) (ap (λ l. get_or l 6 false) carry) ∙ sym (odd_behind b q)
+  odd = odd_after b p ∙ ap (λ o. is_same (class_of b) RI && not o) (ap (λ l. get_or l 6 false) carry) ∙ sym (odd_after b q)
 
   digits : ends_in_digits (b ∷ p) ≡ ends_in_digits (b ∷ q)
   digits = ap (λ digits. is_same (class_of b) NU || (is_one_of middle (class_of b) && digits)) (ap (λ l. get_or l 7 false) carry)
@@ -149,11 +148,11 @@ carried_same_class b d bases e =
     (cons _ _ _ _ (spaced_same_class (QU ∷ []) b d bases e)
     (cons _ _ _ _ (spaced_same_class (CL ∷ CP ∷ []) b d bases e)
     (cons _ _ _ _ (spaced_same_class (B2 ∷ []) b d bases e)
-    (cons _ _ _ _ (odd_behind b bases ∙ ap (λ c. is_same c RI && not (ends_in_odd_run bases)) e ∙ sym (odd_behind d bases))
+    (cons _ _ _ _ (odd_after b bases ∙ ap (λ c. is_same c RI && not (ends_in_odd_run bases)) e ∙ sym (odd_after d bases))
     (cons _ _ _ _ (ap (λ c. is_same c NU || (is_one_of middle c && ends_in_digits bases)) e) refl)))))))
 
 answers_same_plain : (whole_numbers : Bool) (b : Base) (p q : List Base) → carried p ≡ carried q → map (λ row. row.before (b ∷ p)) (rows whole_numbers) ≡ map (λ row. row.before (b ∷ q)) (rows whole_numbers)
-unfolding rows rows_before_numbers rows_of_numbers rows_behind_numbers
+unfolding rows rows_before_numbers rows_of_numbers rows_after_numbers
 answers_same_plain true b p q carry = rw (zw b p q carry, op b p q carry, qu b p q carry, after_closing b p q carry, dash b p q carry, odd b p q carry, pair_same b p q carry (BA ∷ HY ∷ []), digits b p q carry, closed_digits b p q carry) refl
 answers_same_plain false b p q carry = rw (zw b p q carry, op b p q carry, qu b p q carry, after_closing b p q carry, dash b p q carry, odd b p q carry, pair_same b p q carry (BA ∷ HY ∷ [])) refl
 
@@ -162,7 +161,7 @@ answers_same whole_numbers b p q carry = answers_same_plain whole_numbers (recor
 
 -- all answers of some bases, with what LB8a and LB30b ask of the last one
 all_answers : (whole_numbers : Bool) (last : Base) (others : List Base) → map (λ row. row.before (last ∷ others)) (rows whole_numbers) ≡ answered_with whole_numbers (is_same (end_of last).class ZWJ) last.first.is_future_pictograph (answers whole_numbers (last ∷ others))
-unfolding rows rows_before_numbers rows_of_numbers rows_behind_numbers
+unfolding rows rows_before_numbers rows_of_numbers rows_after_numbers
 all_answers true last others =
     let plain_last : Base = record { first = record last.first { is_future_pictograph = false }; attached = narrow CM ∷ [] } in
     rw (
@@ -182,14 +181,14 @@ all_answers false last others =
       spaced_same_class (B2 ∷ []) last plain_last others refl,
     ) refl
 
-pub marked : (whole_numbers : Bool) (last : Base) (others behind : List Base) → mark_by (rules whole_numbers) (last ∷ others) behind ≡ decide (marks_by_row whole_numbers) (answered_with whole_numbers (is_same (end_of last).class ZWJ) last.first.is_future_pictograph (answers whole_numbers (last ∷ others))) (map (λ row. row.behind behind) (rows whole_numbers))
-marked whole_numbers last others behind =
-    rules_decide whole_numbers (last ∷ others) behind
-    ∙ ap (λ befores. decide (marks_by_row whole_numbers) befores (map (λ row. row.behind behind) (rows whole_numbers))) (all_answers whole_numbers last others)
+pub marked : (whole_numbers : Bool) (last : Base) (others after : List Base) → mark_by (rules whole_numbers) (last ∷ others) after ≡ decide (marks_by_row whole_numbers) (answered_with whole_numbers (is_same (end_of last).class ZWJ) last.first.is_future_pictograph (answers whole_numbers (last ∷ others))) (map (λ row. row.after after) (rows whole_numbers))
+marked whole_numbers last others after =
+    rules_decide whole_numbers (last ∷ others) after
+    ∙ ap (λ befores. decide (marks_by_row whole_numbers) befores (map (λ row. row.after after) (rows whole_numbers))) (all_answers whole_numbers last others)
 
 -- a character attached changes no other answer
 pub answers_attached : (whole_numbers : Bool) (last : Base) (others : List Base) (attached : List Character) → answers whole_numbers (record { first = last.first; attached = attached } ∷ others) ≡ answers whole_numbers (last ∷ others)
-unfolding rows rows_before_numbers rows_of_numbers rows_behind_numbers
+unfolding rows rows_before_numbers rows_of_numbers rows_after_numbers
 answers_attached true last others attached = refl
 answers_attached false last others attached = refl
 
@@ -198,7 +197,7 @@ carried_attached last others attached = carried_same_class (record { first = las
 
 -- the rules read no more of a base than what the symbol of its first character shows
 pub answers_told : (whole_numbers : Bool) (c : Character) (bases : List Base) → answers whole_numbers (alone c ∷ bases) ≡ answers whole_numbers (alone (told c) ∷ bases)
-unfolding rows rows_before_numbers rows_of_numbers rows_behind_numbers
+unfolding rows rows_before_numbers rows_of_numbers rows_after_numbers
 answers_told true c bases =
     let read : Base = record { first = record c { is_future_pictograph = false }; attached = narrow CM ∷ [] } in
     let told_base : Base = record { first = told c; attached = narrow CM ∷ [] } in

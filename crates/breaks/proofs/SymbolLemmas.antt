@@ -4,17 +4,17 @@ use Rattle.ucd.specs.declared.line_class.LineClass.{LineClass}
 use Rattle.ucd.specs.declared.line_class.LineClass.TheVariants.{BK, CM, CR, GL, LF, NL, SP, WJ, ZW, ZWJ, B2, BA, BB, CB, HY, CL, CP, EX, IN, NS, OP, QU, IS, NU, PO, PR, SY, AI, AL, CJ, EB, EM, H2, H3, HL, ID, JL, JT, JV, RI, SA, SG, XX}
 use Rattle.ucd.specs.contracts.line_class.LineClass.{the_type}
 use denote.Enum.Declared.{tag_of}
-use Rattle.breaks.specs.Bases.{resolved, base_class}
+use Rattle.breaks.specs.Bases.{Character, resolved, base_class}
 use Rattle.breaks.specs.Classes.{is_same, is_one_of}
-use Rattle.breaks.specs.Rules.{rows_before_numbers, rows_of_numbers, rows_behind_numbers}
+use Rattle.breaks.specs.Rules.{rows_before_numbers, rows_of_numbers, rows_after_numbers}
 use Rattle.breaks.specs.Walk.{rows}
 use Rattle.ucd.specs.declared.properties.Properties.{Properties}
 use Rattle.ucd.specs.Answers.{line_index}
 use Rattle.breaks.specs.Symbols.{character_by, shown, told}
-use Rattle.breaks.specs.declared.character.Character.{Character}
-use Rattle.breaks.specs.declared.symbol.TheConstants.{ATTACHED, DIGIT, JOINER, SYMBOLS}
+use Rattle.breaks.specs.declared.symbol.TheConstants.{ATTACHED, DIGIT, JOINER, SYMBOLS, SYMBOL_COUNT}
 use Rattle.breaks.proofs.BoolLemmas.{same, same_is, below, is_below}
-use Rattle.breaks.proofs.Computed.{attached_are_last, behinds, digit_is_one, joiner_is_one, symbols_are_within}
+use Rattle.breaks.proofs.Computed.{attached_are_last, answers_after, digit_is_one, joiner_is_one, symbols_are_within}
+use Rattle.ucd.specs.declared.properties.TheConstants.{LINE_INDEX_COUNT}
 
 -- the table has the symbol of a class
 abbrev HasSymbol : LineClass → Bool → Bool → Bool → Type 0
@@ -78,31 +78,31 @@ has_symbol SG = eight (HasSymbol SG) refl refl refl refl refl refl refl refl
 has_symbol XX = eight (HasSymbol XX) refl refl refl refl refl refl refl refl
 
 -- which symbol is that of ZWJ
-pub is_joiner : (symbol : ℕ) → symbol < 40 → (symbol == JOINER) ≡ is_same (shown symbol).class ZWJ
-is_joiner symbol lt = same_is _ _ (below 40 (λ x. same (x == JOINER) (is_same (shown x).class ZWJ)) joiner_is_one symbol lt)
+pub is_joiner : (symbol : ℕ) → symbol < SYMBOL_COUNT → (symbol == JOINER) ≡ is_same (shown symbol).class ZWJ
+is_joiner symbol lt = same_is _ _ (below SYMBOL_COUNT (λ x. same (x == JOINER) (is_same (shown x).class ZWJ)) joiner_is_one symbol lt)
 
 -- which is that of a digit, and which those of what stays with the character before it
-pub is_digit : (symbol : ℕ) → symbol < 40 → (symbol == DIGIT) ≡ is_same (shown symbol).class NU
-is_digit symbol lt = same_is _ _ (below 40 (λ x. same (x == DIGIT) (is_same (shown x).class NU)) digit_is_one symbol lt)
+pub is_digit : (symbol : ℕ) → symbol < SYMBOL_COUNT → (symbol == DIGIT) ≡ is_same (shown symbol).class NU
+is_digit symbol lt = same_is _ _ (below SYMBOL_COUNT (λ x. same (x == DIGIT) (is_same (shown x).class NU)) digit_is_one symbol lt)
 
-pub is_not_attached : (symbol : ℕ) → symbol < 40 → nat_lt symbol ATTACHED ≡ not (is_one_of (CM ∷ ZWJ ∷ []) (shown symbol).class)
-is_not_attached symbol lt = same_is _ _ (below 40 (λ x. same (nat_lt x ATTACHED) (not (is_one_of (CM ∷ ZWJ ∷ []) (shown x).class))) attached_are_last symbol lt)
+pub is_not_attached : (symbol : ℕ) → symbol < SYMBOL_COUNT → nat_lt symbol ATTACHED ≡ not (is_one_of (CM ∷ ZWJ ∷ []) (shown symbol).class)
+is_not_attached symbol lt = same_is _ _ (below SYMBOL_COUNT (λ x. same (nat_lt x ATTACHED) (not (is_one_of (CM ∷ ZWJ ∷ []) (shown x).class))) attached_are_last symbol lt)
 
 -- the rules read no more of a character than its symbol shows
 pub narrow_before : (class : LineClass) (is_wide : Bool) → (is_one_of (CP ∷ []) (base_class class) && not is_wide) ≡ (is_one_of (CP ∷ []) (base_class class) && not (is_one_of (CP ∷ OP ∷ []) class && is_wide))
 narrow_before CP is_wide = refl
 narrow_before class is_wide = refl
 
-narrow_behind : (class : LineClass) (is_wide : Bool) → (is_one_of (OP ∷ []) (base_class class) && not is_wide) ≡ (is_one_of (OP ∷ []) (base_class class) && not (is_one_of (CP ∷ OP ∷ []) class && is_wide))
-narrow_behind OP is_wide = refl
-narrow_behind class is_wide = refl
+narrow_after : (class : LineClass) (is_wide : Bool) → (is_one_of (OP ∷ []) (base_class class) && not is_wide) ≡ (is_one_of (OP ∷ []) (base_class class) && not (is_one_of (CP ∷ OP ∷ []) class && is_wide))
+narrow_after OP is_wide = refl
+narrow_after class is_wide = refl
 
-pub behinds_told : (whole_numbers : Bool) (c : Character) (before_digit : Bool) → behinds whole_numbers c before_digit ≡ behinds whole_numbers (told c) before_digit
-unfolding rows rows_before_numbers rows_of_numbers rows_behind_numbers
-behinds_told true c true = rw (narrow_behind c.class c.is_wide) refl
-behinds_told true c false = rw (narrow_behind c.class c.is_wide) refl
-behinds_told false c true = rw (narrow_behind c.class c.is_wide) refl
-behinds_told false c false = rw (narrow_behind c.class c.is_wide) refl
+pub answers_after_told : (whole_numbers : Bool) (c : Character) (before_digit : Bool) → answers_after whole_numbers c before_digit ≡ answers_after whole_numbers (told c) before_digit
+unfolding rows rows_before_numbers rows_of_numbers rows_after_numbers
+answers_after_told true c true = rw (narrow_after c.class c.is_wide) refl
+answers_after_told true c false = rw (narrow_after c.class c.is_wide) refl
+answers_after_told false c true = rw (narrow_after c.class c.is_wide) refl
+answers_after_told false c false = rw (narrow_after c.class c.is_wide) refl
 
 -- the symbol that the table has for some properties
 pub symbol_shown : (p : Properties) (index symbol : ℕ) → index ≡ line_index p → symbol ≡ get_or SYMBOLS index 0 → shown symbol ≡ told (character_by p)
@@ -110,7 +110,7 @@ symbol_shown p index symbol is reads =
     ap shown reads ∙ ap (λ i. shown (get_or SYMBOLS i 0)) is
     ∙ has_symbol p.line_class p.is_wide p.is_mark p.is_future_pictograph
 
-pub symbol_below : (index symbol : ℕ) → index < 512 → symbol ≡ get_or SYMBOLS index 0 → symbol < 40
+pub symbol_below : (index symbol : ℕ) → index < LINE_INDEX_COUNT → symbol ≡ get_or SYMBOLS index 0 → symbol < SYMBOL_COUNT
 symbol_below index symbol lt reads =
-    let test : nat_lt (get_or SYMBOLS index 0) 40 ≡ true = below 512 (λ place. nat_lt (get_or SYMBOLS place 0) 40) symbols_are_within index lt in
-    is_below symbol 40 (ap (λ s. nat_lt s 40) reads ∙ test)
+    let test : nat_lt (get_or SYMBOLS index 0) SYMBOL_COUNT ≡ true = below LINE_INDEX_COUNT (λ place. nat_lt (get_or SYMBOLS place 0) SYMBOL_COUNT) symbols_are_within index lt in
+    is_below symbol SYMBOL_COUNT (ap (λ s. nat_lt s SYMBOL_COUNT) reads ∙ test)

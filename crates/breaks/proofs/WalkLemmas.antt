@@ -5,17 +5,16 @@ use Rattle.std.specs.List.{slice_get}
 use Rattle.std.proofs.lemmas.Bool.{cases_Bool}
 use Rattle.std.proofs.lemmas.Bool.Decides.{nat_tests}
 use Rattle.std.proofs.lemmas.List.{at_drop_more, drop_all, length-map, length-set, take_all, take_more_set}
-use Rattle.breaks.specs.Bases.{Base, alone, joined, stays_with, bases_of, end_of, character}
-use Rattle.breaks.specs.Marks.{marks_behind, marks_of}
+use Rattle.breaks.specs.Bases.{Base, Character, alone, joined, stays_with, bases_of, end_of, character}
+use Rattle.breaks.specs.Marks.{marks_after, marks_of}
 use Rattle.breaks.specs.Classes.{is_same, is_one_of}
 use Rattle.breaks.specs.Rules.{rules, rows_before_numbers, mark_by}
 use Rattle.breaks.specs.Symbols.{character_by, shown, told}
 use Rattle.breaks.specs.Walk.{Passes, Stands, is_before_digit, mark_of, with_attached}
 use Rattle.ucd.specs.declared.line_class.LineClass.TheVariants.{CM, NU, ZWJ}
-use Rattle.breaks.specs.declared.character.Character.{Character}
 use Rattle.breaks.specs.declared.mark.Mark.{Mark}
 use Rattle.breaks.specs.declared.mark.Mark.TheVariants.{Never, Must}
-use Rattle.breaks.specs.declared.symbol.TheConstants.{ATTACHED, DIGIT}
+use Rattle.breaks.specs.declared.symbol.TheConstants.{ATTACHED, DIGIT, SYMBOL_COUNT}
 use Rattle.breaks.specs.declared.walk.Walk.{Walk}
 use Rattle.ucd.specs.declared.properties.Properties.{Properties}
 use Rattle.ucd.specs.declared.tables.Tables.{Tables}
@@ -24,7 +23,7 @@ use Rattle.breaks.proofs.PassLemmas.{first_base}
 use Rattle.breaks.proofs.StepLemmas.{end_attached}
 use Rattle.breaks.proofs.SymbolLemmas.{is_digit, is_not_attached}
 
--- the marks from the position behind the last character so far on, where others are to come
+-- the marks from the position after the last character so far on, where others are to come
 abbrev pub walk : Bool → List Base → Base → List Character → List Mark
 walk whole_numbers others last [] = Must ∷ []
 walk whole_numbers others last (c ∷ text) =
@@ -40,7 +39,7 @@ grown last (b ∷ bases) = record { first = last.first; attached = last.attached
 abbrev nevers : List Character → List Mark
 nevers attached = map (λ _. Never) attached
 
--- behind the last base stands LB3
+-- after the last base stands LB3
 end_mark : (whole_numbers : Bool) (before : List Base) → mark_by (rules whole_numbers) before [] ≡ Must
 unfolding rules rows_before_numbers
 end_mark true before = refl
@@ -63,23 +62,23 @@ same_tail : (front : List Mark) (m n : Mark) (ms ns : List Mark) → m ≡ n →
 same_tail front m n ms ns mark marks = rw (mark, marks) refl
 
 -- the walk from a base on
-walk_is : (whole_numbers : Bool) (others : List Base) (last : Base) (text : List Character) (end : Character) → end_of last ≡ end → nevers last.attached ++ walk whole_numbers others last text ≡ marks_behind whole_numbers others (grown last (bases_of (end ∷ text)))
-walk_is whole_numbers others last [] end is = same_tail (nevers last.attached) _ _ [] [] (sym (end_mark whole_numbers (last ∷ others))) refl ∙ ap (marks_behind whole_numbers others) (sym (grown_end last end []))
+walk_is : (whole_numbers : Bool) (others : List Base) (last : Base) (text : List Character) (end : Character) → end_of last ≡ end → nevers last.attached ++ walk whole_numbers others last text ≡ marks_after whole_numbers others (grown last (bases_of (end ∷ text)))
+walk_is whole_numbers others last [] end is = same_tail (nevers last.attached) _ _ [] [] (sym (end_mark whole_numbers (last ∷ others))) refl ∙ ap (marks_after whole_numbers others) (sym (grown_end last end []))
 walk_is whole_numbers others last (c ∷ text) end is =
     elim (cases_Bool (stays_with end c)) [
       | inl stays ↦ rw (is, stays)
           (nevers_attached last.attached c (walk whole_numbers others (with_attached last c) text)
           ∙ walk_is whole_numbers others (with_attached last c) text c (end_attached last.first last.attached c)
-          ∙ ap (marks_behind whole_numbers others) (grown_attached last c text end))
+          ∙ ap (marks_after whole_numbers others) (grown_attached last c text end))
       | inr begins ↦ rw (is, begins)
           (same_tail (nevers last.attached) _ _ _ _ refl
-          (walk_is whole_numbers (last ∷ others) (alone c) text c refl ∙ ap (marks_behind whole_numbers (last ∷ others)) (grown_alone c text))
-          ∙ ap (marks_behind whole_numbers others) (sym (grown_end last end (bases_of (c ∷ text)))))
+          (walk_is whole_numbers (last ∷ others) (alone c) text c refl ∙ ap (marks_after whole_numbers (last ∷ others)) (grown_alone c text))
+          ∙ ap (marks_after whole_numbers others) (sym (grown_end last end (bases_of (c ∷ text)))))
     ]
 
 -- the walk over a text
-pub walk_from_start : (whole_numbers : Bool) (c : Character) (text : List Character) → walk whole_numbers [] (alone c) text ≡ marks_behind whole_numbers [] (bases_of (c ∷ text))
-walk_from_start whole_numbers c text = walk_is whole_numbers [] (alone c) text c refl ∙ ap (marks_behind whole_numbers []) (grown_alone c text)
+pub walk_from_start : (whole_numbers : Bool) (c : Character) (text : List Character) → walk whole_numbers [] (alone c) text ≡ marks_after whole_numbers [] (bases_of (c ∷ text))
+walk_from_start whole_numbers c text = walk_is whole_numbers [] (alone c) text c refl ∙ ap (marks_after whole_numbers []) (grown_alone c text)
 
 -- a text with no character has no mark
 pub none_marked : (t : Tables) (whole_numbers : Bool) (text : List ℕ) → length text ≡ 0 → marks_of t whole_numbers text ≡ []
@@ -87,7 +86,7 @@ unfolding marks_of
 none_marked t whole_numbers [] none = refl
 none_marked t whole_numbers (c ∷ text) none = absurd (omega arith)
 
--- the walk begins behind the first character
+-- the walk begins after the first character
 pub begins_walk : (t : Tables) (whole_numbers : Bool) (text rest : List ℕ) (c : ℕ) (first : Character) (marks : List Mark) → text ≡ c ∷ rest → first ≡ character t c → marks ≡ [] → marks ++ walk whole_numbers [] (alone first) (map (character t) rest) ≡ marks_of t whole_numbers text
 unfolding marks_of
 begins_walk t whole_numbers text rest c first marks is reads none = rw (none, is, reads) (walk_from_start whole_numbers (character t c) (map (character t) rest))
@@ -122,23 +121,23 @@ not_other : (b : Bool) → not b ≡ false → b ≡ true
 not_other true h = refl
 not_other false h = cc
 
-attached_class : (symbol : ℕ) (c : Character) → symbol < 40 → shown symbol ≡ told c → nat_lt symbol ATTACHED ≡ false → is_one_of (CM ∷ ZWJ ∷ []) c.class ≡ true
+attached_class : (symbol : ℕ) (c : Character) → symbol < SYMBOL_COUNT → shown symbol ≡ told c → nat_lt symbol ATTACHED ≡ false → is_one_of (CM ∷ ZWJ ∷ []) c.class ≡ true
 attached_class symbol c below shows stays =
     ap (λ d. is_one_of (CM ∷ ZWJ ∷ []) d.class) (sym shows) ∙ not_other _ (sym (is_not_attached symbol below) ∙ stays)
 
-other_class : (symbol : ℕ) (c : Character) → symbol < 40 → shown symbol ≡ told c → nat_lt symbol ATTACHED ≡ true → is_one_of (CM ∷ ZWJ ∷ []) c.class ≡ false
+other_class : (symbol : ℕ) (c : Character) → symbol < SYMBOL_COUNT → shown symbol ≡ told c → nat_lt symbol ATTACHED ≡ true → is_one_of (CM ∷ ZWJ ∷ []) c.class ≡ false
 other_class symbol c below shows begins =
     ap (λ d. is_one_of (CM ∷ ZWJ ∷ []) d.class) (sym shows) ∙ not_is _ (sym (is_not_attached symbol below) ∙ begins)
 
 module _ {X : Type 0} (read : X → Character) (rest : List X) where
   -- looking for NU over what is attached: one more, or the answer
-  pub looks_on : (i : ℕ) (x : X) (symbol : ℕ) → i < length rest → x ≡ get_or rest i x → symbol < 40 → shown symbol ≡ told (read x) → ATTACHED ≤ symbol → is_before_digit (map read (drop i rest)) ≡ is_before_digit (map read (drop (i + 1) rest))
+  pub looks_on : (i : ℕ) (x : X) (symbol : ℕ) → i < length rest → x ≡ get_or rest i x → symbol < SYMBOL_COUNT → shown symbol ≡ told (read x) → ATTACHED ≤ symbol → is_before_digit (map read (drop i rest)) ≡ is_before_digit (map read (drop (i + 1) rest))
   looks_on i x symbol lt is below shows stays =
       let here : drop i rest ≡ x ∷ drop (i + 1) rest = at_drop_more (λ xs. xs) rest i x lt ∙ ap (λ y. y ∷ drop (i + 1) rest) (sym is) in
       let attached : is_one_of (CM ∷ ZWJ ∷ []) (read x).class ≡ true = attached_class symbol (read x) below shows (is_no_less symbol ATTACHED stays) in
       rw (here, attached) refl
 
-  pub finds : (i : ℕ) (x : X) (symbol : ℕ) → i < length rest → x ≡ get_or rest i x → symbol < 40 → shown symbol ≡ told (read x) → symbol < ATTACHED → (symbol == DIGIT) ≡ is_before_digit (map read (drop i rest))
+  pub finds : (i : ℕ) (x : X) (symbol : ℕ) → i < length rest → x ≡ get_or rest i x → symbol < SYMBOL_COUNT → shown symbol ≡ told (read x) → symbol < ATTACHED → (symbol == DIGIT) ≡ is_before_digit (map read (drop i rest))
   finds i x symbol lt is below shows stays =
       let here : drop i rest ≡ x ∷ drop (i + 1) rest = at_drop_more (λ xs. xs) rest i x lt ∙ ap (λ y. y ∷ drop (i + 1) rest) (sym is) in
       let other : is_one_of (CM ∷ ZWJ ∷ []) (read x).class ≡ false = other_class symbol (read x) below shows (is_less symbol ATTACHED stays) in
@@ -151,7 +150,7 @@ module _ {X : Type 0} (read : X → Character) (rest : List X) (whole : List Mar
       let here : drop i rest ≡ x ∷ drop (i + 1) rest = at_drop_more (λ xs. xs) rest i x lt ∙ ap (λ y. y ∷ drop (i + 1) rest) (sym is) in
       rw written (passes_on whole_numbers before after (take i marks) mark decided c (map read (drop (i + 1) rest)) whole last others (rw (here, ← reads) at so_far) (passes whole_numbers last others stands) seen)
 
-  -- the last mark, behind the whole text
+  -- the last mark, after the whole text
   pub ends : (whole_numbers : Bool) (i : ℕ) (before : Walk) (marks : List Mark) → i ≡ length rest → length marks ≡ length rest + 1 → Walks whole_numbers before (take i marks) (map read (drop i rest)) whole → set marks (length rest) Must ≡ whole
   ends whole_numbers i before marks last_place len (last, others, stands, so_far) =
       let none : drop i rest ≡ [] = drop_all i rest (omega arith) in
@@ -205,7 +204,7 @@ none_at_all t whole_numbers (c ∷ text) marks none len = absurd (omega arith)
 pub one_longer : {X : Type 0} (text : List X) (x : X) (rest : List X) (marks : List Mark) → length marks ≡ length text → text ≡ x ∷ rest → length marks ≡ length rest + 1
 one_longer text x rest marks len is = omega (arith, ap length is)
 
--- the walk begins behind the first character, of which the properties are read
+-- the walk begins after the first character, of which the properties are read
 pub begins_read : (t : Tables) (whole_numbers : Bool) (text : List ℕ) (properties rest : List Properties) (p : Properties) → properties ≡ map (properties_of t) text → properties ≡ p ∷ rest → walk whole_numbers [] (alone (character_by p)) (map character_by rest) ≡ marks_of t whole_numbers text
 begins_read t whole_numbers [] properties rest p is reads =
     let none : [] ≡ p ∷ rest = sym is ∙ reads in

@@ -2,10 +2,9 @@
 use Rattle.std.proofs.Common.{◌≡◌, true, false, List, [], ◌∷◌, map, refl}
 use Rattle.ucd.specs.declared.line_class.LineClass.{LineClass}
 use Rattle.ucd.specs.declared.line_class.LineClass.TheVariants.{AI, AL, B2, BA, BK, CB, CJ, CL, CM, CP, CR, EB, EM, GL, H2, HL, HY, ID, IS, JT, LF, NL, NS, NU, OP, PO, PR, QU, RI, SA, SP, SY, WJ, XX, ZW, ZWJ}
-use Rattle.breaks.specs.Bases.{resolved, bases_of}
-use Rattle.breaks.specs.Marks.{marks_behind}
-use Rattle.breaks.specs.Rules.{rules, rows_before_numbers, rows_of_numbers, rows_behind_numbers}
-use Rattle.breaks.specs.declared.character.Character.{Character}
+use Rattle.breaks.specs.Bases.{Character, resolved, bases_of}
+use Rattle.breaks.specs.Marks.{marks_after}
+use Rattle.breaks.specs.Rules.{rules, rows_before_numbers, rows_of_numbers, rows_after_numbers}
 use Rattle.breaks.specs.declared.mark.Mark.{Mark}
 use Rattle.breaks.specs.declared.mark.Mark.TheVariants.{Never, May, Must}
 
@@ -19,10 +18,10 @@ abbrev pictograph : LineClass → Character
 pictograph class = record { class = class; is_wide = true; is_future_pictograph = true }
 
 abbrev marks : List Character → List Mark
-marks text = marks_behind false [] (bases_of text)
+marks text = marks_after false [] (bases_of text)
 
 abbrev whole_marks : List Character → List Mark
-whole_marks text = marks_behind true [] (bases_of text)
+whole_marks text = marks_after true [] (bases_of text)
 
 abbrev marks_by : List LineClass → List Mark
 marks_by classes = marks (map narrow classes)
@@ -48,170 +47,170 @@ unknown = refl
 
 -- LB3 to LB6: a line ends where it must, but not between CR and LF, nor before either
 ends : marks_by (AL ∷ CR ∷ LF ∷ []) ≡ Never ∷ Never ∷ Must ∷ []
-unfolding rules rows_before_numbers rows_of_numbers rows_behind_numbers
+unfolding rules rows_before_numbers rows_of_numbers rows_after_numbers
 ends = refl
 
 between : marks_by (AL ∷ BK ∷ AL ∷ []) ≡ Never ∷ Must ∷ Must ∷ []
-unfolding rules rows_before_numbers rows_of_numbers rows_behind_numbers
+unfolding rules rows_before_numbers rows_of_numbers rows_after_numbers
 between = refl
 
 twice : marks_by (LF ∷ CR ∷ NL ∷ []) ≡ Must ∷ Must ∷ Must ∷ []
-unfolding rules rows_before_numbers rows_of_numbers rows_behind_numbers
+unfolding rules rows_before_numbers rows_of_numbers rows_after_numbers
 twice = refl
 
--- LB7, LB8 and LB18: behind spaces and not before them
+-- LB7, LB8 and LB18: after spaces and not before them
 spaces : marks_by (AL ∷ SP ∷ SP ∷ AL ∷ []) ≡ Never ∷ Never ∷ May ∷ Must ∷ []
-unfolding rules rows_before_numbers rows_of_numbers rows_behind_numbers
+unfolding rules rows_before_numbers rows_of_numbers rows_after_numbers
 spaces = refl
 
 zero_width : marks_by (AL ∷ ZW ∷ SP ∷ CL ∷ []) ≡ Never ∷ Never ∷ May ∷ Must ∷ []
-unfolding rules rows_before_numbers rows_of_numbers rows_behind_numbers
+unfolding rules rows_before_numbers rows_of_numbers rows_after_numbers
 zero_width = refl
 
--- LB8a and LB9: a joiner binds what stands behind it, also at the end of a base
+-- LB8a and LB9: a joiner binds what stands after it, also at the end of a base
 joiner : marks_by (AL ∷ ZWJ ∷ ID ∷ []) ≡ Never ∷ Never ∷ Must ∷ []
-unfolding rules rows_before_numbers rows_of_numbers rows_behind_numbers
+unfolding rules rows_before_numbers rows_of_numbers rows_after_numbers
 joiner = refl
 
 joiner_within : marks_by (AL ∷ ZWJ ∷ CM ∷ ID ∷ []) ≡ Never ∷ Never ∷ May ∷ Must ∷ []
-unfolding rules rows_before_numbers rows_of_numbers rows_behind_numbers
+unfolding rules rows_before_numbers rows_of_numbers rows_after_numbers
 joiner_within = refl
 
--- LB10: a mark behind a space is a letter, with those behind it
+-- LB10: a mark after a space is a letter, with those after it
 lone_mark : marks_by (AL ∷ SP ∷ CM ∷ CM ∷ AL ∷ []) ≡ Never ∷ May ∷ Never ∷ Never ∷ Must ∷ []
-unfolding rules rows_before_numbers rows_of_numbers rows_behind_numbers
+unfolding rules rows_before_numbers rows_of_numbers rows_after_numbers
 lone_mark = refl
 
 -- LB11 to LB12a
 word_joiner : marks_by (ID ∷ WJ ∷ ID ∷ []) ≡ Never ∷ Never ∷ Must ∷ []
-unfolding rules rows_before_numbers rows_of_numbers rows_behind_numbers
+unfolding rules rows_before_numbers rows_of_numbers rows_after_numbers
 word_joiner = refl
 
 glue : marks_by (BA ∷ GL ∷ ID ∷ GL ∷ []) ≡ May ∷ Never ∷ Never ∷ Must ∷ []
-unfolding rules rows_before_numbers rows_of_numbers rows_behind_numbers
+unfolding rules rows_before_numbers rows_of_numbers rows_after_numbers
 glue = refl
 
 -- LB13 to LB17: over spaces
 opening : marks_by (OP ∷ SP ∷ AL ∷ []) ≡ Never ∷ Never ∷ Must ∷ []
-unfolding rules rows_before_numbers rows_of_numbers rows_behind_numbers
+unfolding rules rows_before_numbers rows_of_numbers rows_after_numbers
 opening = refl
 
 quotation : marks_by (QU ∷ SP ∷ OP ∷ []) ≡ Never ∷ Never ∷ Must ∷ []
-unfolding rules rows_before_numbers rows_of_numbers rows_behind_numbers
+unfolding rules rows_before_numbers rows_of_numbers rows_after_numbers
 quotation = refl
 
 closing : marks_by (CP ∷ SP ∷ NS ∷ []) ≡ Never ∷ Never ∷ Must ∷ []
-unfolding rules rows_before_numbers rows_of_numbers rows_behind_numbers
+unfolding rules rows_before_numbers rows_of_numbers rows_after_numbers
 closing = refl
 
 dashes : marks_by (B2 ∷ SP ∷ B2 ∷ []) ≡ Never ∷ Never ∷ Must ∷ []
-unfolding rules rows_before_numbers rows_of_numbers rows_behind_numbers
+unfolding rules rows_before_numbers rows_of_numbers rows_after_numbers
 dashes = refl
 
 -- LB20 and LB21
 contingent : marks_by (AL ∷ CB ∷ AL ∷ []) ≡ May ∷ May ∷ Must ∷ []
-unfolding rules rows_before_numbers rows_of_numbers rows_behind_numbers
+unfolding rules rows_before_numbers rows_of_numbers rows_after_numbers
 contingent = refl
 
 hyphen : marks_by (AL ∷ HY ∷ AL ∷ []) ≡ Never ∷ May ∷ Must ∷ []
-unfolding rules rows_before_numbers rows_of_numbers rows_behind_numbers
+unfolding rules rows_before_numbers rows_of_numbers rows_after_numbers
 hyphen = refl
 
 hebrew_hyphen : marks_by (HL ∷ HY ∷ HL ∷ []) ≡ Never ∷ Never ∷ Must ∷ []
-unfolding rules rows_before_numbers rows_of_numbers rows_behind_numbers
+unfolding rules rows_before_numbers rows_of_numbers rows_after_numbers
 hebrew_hyphen = refl
 
 hebrew_solidus : marks_by (SY ∷ HL ∷ SY ∷ AL ∷ []) ≡ Never ∷ Never ∷ May ∷ Must ∷ []
-unfolding rules rows_before_numbers rows_of_numbers rows_behind_numbers
+unfolding rules rows_before_numbers rows_of_numbers rows_after_numbers
 hebrew_solidus = refl
 
 -- LB23 to LB29
 price : marks_by (PR ∷ NU ∷ IS ∷ NU ∷ PO ∷ []) ≡ Never ∷ Never ∷ Never ∷ Never ∷ Must ∷ []
-unfolding rules rows_before_numbers rows_of_numbers rows_behind_numbers
+unfolding rules rows_before_numbers rows_of_numbers rows_after_numbers
 price = refl
 
 in_parentheses : marks_by (PR ∷ OP ∷ NU ∷ CP ∷ PO ∷ []) ≡ Never ∷ Never ∷ Never ∷ Never ∷ Must ∷ []
-unfolding rules rows_before_numbers rows_of_numbers rows_behind_numbers
+unfolding rules rows_before_numbers rows_of_numbers rows_after_numbers
 in_parentheses = refl
 
 -- LB25: of two bases, and of whole numbers
 opened_price : (marks_by (PR ∷ OP ∷ NU ∷ []) ≡ Never ∷ Never ∷ Must ∷ []) × (whole_marks_by (PR ∷ OP ∷ NU ∷ []) ≡ Never ∷ Never ∷ Must ∷ [])
-unfolding rules rows_before_numbers rows_of_numbers rows_behind_numbers
+unfolding rules rows_before_numbers rows_of_numbers rows_after_numbers
 opened_price = (refl, refl)
 
 opened_letter : (marks_by (PR ∷ OP ∷ AL ∷ []) ≡ Never ∷ Never ∷ Must ∷ []) × (whole_marks_by (PR ∷ OP ∷ AL ∷ []) ≡ May ∷ Never ∷ Must ∷ [])
-unfolding rules rows_before_numbers rows_of_numbers rows_behind_numbers
+unfolding rules rows_before_numbers rows_of_numbers rows_after_numbers
 opened_letter = (refl, refl)
 
 opened_mark : (marks_by (PR ∷ OP ∷ CM ∷ NU ∷ []) ≡ Never ∷ Never ∷ Never ∷ Must ∷ []) × (whole_marks_by (PR ∷ OP ∷ CM ∷ NU ∷ []) ≡ Never ∷ Never ∷ Never ∷ Must ∷ [])
-unfolding rules rows_before_numbers rows_of_numbers rows_behind_numbers
+unfolding rules rows_before_numbers rows_of_numbers rows_after_numbers
 opened_mark = (refl, refl)
 
 closed_letter : (marks_by (AL ∷ CL ∷ PO ∷ []) ≡ Never ∷ Never ∷ Must ∷ []) × (whole_marks_by (AL ∷ CL ∷ PO ∷ []) ≡ Never ∷ May ∷ Must ∷ [])
-unfolding rules rows_before_numbers rows_of_numbers rows_behind_numbers
+unfolding rules rows_before_numbers rows_of_numbers rows_after_numbers
 closed_letter = (refl, refl)
 
 closed_digit : (marks_by (NU ∷ CL ∷ PO ∷ []) ≡ Never ∷ Never ∷ Must ∷ []) × (whole_marks_by (NU ∷ CL ∷ PO ∷ []) ≡ Never ∷ Never ∷ Must ∷ [])
-unfolding rules rows_before_numbers rows_of_numbers rows_behind_numbers
+unfolding rules rows_before_numbers rows_of_numbers rows_after_numbers
 closed_digit = (refl, refl)
 
 solidus : (marks_by (NU ∷ SY ∷ PO ∷ []) ≡ Never ∷ May ∷ Must ∷ []) × (whole_marks_by (NU ∷ SY ∷ PO ∷ []) ≡ Never ∷ Never ∷ Must ∷ [])
-unfolding rules rows_before_numbers rows_of_numbers rows_behind_numbers
+unfolding rules rows_before_numbers rows_of_numbers rows_after_numbers
 solidus = (refl, refl)
 
 listed_letter : (marks_by (AL ∷ IS ∷ NU ∷ []) ≡ Never ∷ Never ∷ Must ∷ []) × (whole_marks_by (AL ∷ IS ∷ NU ∷ []) ≡ Never ∷ May ∷ Must ∷ [])
-unfolding rules rows_before_numbers rows_of_numbers rows_behind_numbers
+unfolding rules rows_before_numbers rows_of_numbers rows_after_numbers
 listed_letter = (refl, refl)
 
 listed_digit : (marks_by (NU ∷ IS ∷ NU ∷ []) ≡ Never ∷ Never ∷ Must ∷ []) × (whole_marks_by (NU ∷ IS ∷ NU ∷ []) ≡ Never ∷ Never ∷ Must ∷ [])
-unfolding rules rows_before_numbers rows_of_numbers rows_behind_numbers
+unfolding rules rows_before_numbers rows_of_numbers rows_after_numbers
 listed_digit = (refl, refl)
 
 -- a whole price, a negative one in parentheses, and one that a space takes apart
 amount : (marks_by (PR ∷ NU ∷ IS ∷ NU ∷ NU ∷ NU ∷ IS ∷ NU ∷ []) ≡ Never ∷ Never ∷ Never ∷ Never ∷ Never ∷ Never ∷ Never ∷ Must ∷ []) × (whole_marks_by (PR ∷ NU ∷ IS ∷ NU ∷ NU ∷ NU ∷ IS ∷ NU ∷ []) ≡ Never ∷ Never ∷ Never ∷ Never ∷ Never ∷ Never ∷ Never ∷ Must ∷ [])
-unfolding rules rows_before_numbers rows_of_numbers rows_behind_numbers
+unfolding rules rows_before_numbers rows_of_numbers rows_after_numbers
 amount = (refl, refl)
 
 debt : (marks_by (PO ∷ HY ∷ NU ∷ NU ∷ CP ∷ PR ∷ SY ∷ PR ∷ []) ≡ Never ∷ Never ∷ Never ∷ Never ∷ Never ∷ Never ∷ May ∷ Must ∷ []) × (whole_marks_by (PO ∷ HY ∷ NU ∷ NU ∷ CP ∷ PR ∷ SY ∷ PR ∷ []) ≡ Never ∷ Never ∷ Never ∷ Never ∷ Never ∷ Never ∷ May ∷ Must ∷ [])
-unfolding rules rows_before_numbers rows_of_numbers rows_behind_numbers
+unfolding rules rows_before_numbers rows_of_numbers rows_after_numbers
 debt = (refl, refl)
 
 spaced : (marks_by (PR ∷ SP ∷ NU ∷ PO ∷ []) ≡ Never ∷ May ∷ Never ∷ Must ∷ []) × (whole_marks_by (PR ∷ SP ∷ NU ∷ PO ∷ []) ≡ Never ∷ May ∷ Never ∷ Must ∷ [])
-unfolding rules rows_before_numbers rows_of_numbers rows_behind_numbers
+unfolding rules rows_before_numbers rows_of_numbers rows_after_numbers
 spaced = (refl, refl)
 
 syllables : marks_by (H2 ∷ JT ∷ PO ∷ ID ∷ []) ≡ Never ∷ Never ∷ May ∷ Must ∷ []
-unfolding rules rows_before_numbers rows_of_numbers rows_behind_numbers
+unfolding rules rows_before_numbers rows_of_numbers rows_after_numbers
 syllables = refl
 
 -- LB30: a parenthesis that is not wide
 narrow_parenthesis : marks (narrow AL ∷ narrow OP ∷ narrow AL ∷ narrow CP ∷ narrow AL ∷ []) ≡ Never ∷ Never ∷ Never ∷ Never ∷ Must ∷ []
-unfolding rules rows_before_numbers rows_of_numbers rows_behind_numbers
+unfolding rules rows_before_numbers rows_of_numbers rows_after_numbers
 narrow_parenthesis = refl
 
 wide_parenthesis : marks (narrow AL ∷ wide OP ∷ narrow AL ∷ wide CP ∷ narrow AL ∷ []) ≡ May ∷ Never ∷ Never ∷ May ∷ Must ∷ []
-unfolding rules rows_before_numbers rows_of_numbers rows_behind_numbers
+unfolding rules rows_before_numbers rows_of_numbers rows_after_numbers
 wide_parenthesis = refl
 
 -- LB30a: pairs, from the start of their run
 flags : marks_by (RI ∷ RI ∷ CM ∷ RI ∷ RI ∷ RI ∷ []) ≡ Never ∷ Never ∷ May ∷ Never ∷ May ∷ Must ∷ []
-unfolding rules rows_before_numbers rows_of_numbers rows_behind_numbers
+unfolding rules rows_before_numbers rows_of_numbers rows_after_numbers
 flags = refl
 
 flags_again : marks_by (RI ∷ AL ∷ RI ∷ RI ∷ []) ≡ May ∷ May ∷ Never ∷ Must ∷ []
-unfolding rules rows_before_numbers rows_of_numbers rows_behind_numbers
+unfolding rules rows_before_numbers rows_of_numbers rows_after_numbers
 flags_again = refl
 
--- LB30b: a modifier behind its base, or behind a pictograph to come
+-- LB30b: a modifier after its base, or after a pictograph to come
 modifier : marks_by (EB ∷ EM ∷ ID ∷ EM ∷ []) ≡ Never ∷ May ∷ May ∷ Must ∷ []
-unfolding rules rows_before_numbers rows_of_numbers rows_behind_numbers
+unfolding rules rows_before_numbers rows_of_numbers rows_after_numbers
 modifier = refl
 
 future_modifier : marks (pictograph ID ∷ narrow EM ∷ []) ≡ Never ∷ Must ∷ []
-unfolding rules rows_before_numbers rows_of_numbers rows_behind_numbers
+unfolding rules rows_before_numbers rows_of_numbers rows_after_numbers
 future_modifier = refl
 
 -- no text
 nothing : marks [] ≡ []
-unfolding rules rows_before_numbers rows_of_numbers rows_behind_numbers
+unfolding rules rows_before_numbers rows_of_numbers rows_after_numbers
 nothing = refl

@@ -5,7 +5,6 @@ use Rattle.ucd.specs.declared.line_class.LineClass.{LineClass}
 use Rattle.ucd.specs.declared.line_class.LineClass.TheVariants.{AI, AL, BK, CJ, CM, CR, LF, NL, NS, SA, SG, SP, XX, ZW, ZWJ}
 use Rattle.ucd.specs.declared.tables.Tables.{Tables}
 use Rattle.breaks.specs.Classes.{is_one_of}
-use Rattle.breaks.specs.declared.character.Character.{Character}
 
 -- LB1: AI, SG and XX become AL, SA becomes CM where it is a mark of category Mn or Mc and else AL, and CJ becomes NS
 abbrev pub resolved : LineClass → Bool → LineClass
@@ -17,7 +16,13 @@ resolved SA false = AL
 resolved CJ is_mark = NS
 resolved class is_mark = class
 
--- what line breaking reads of a character
+-- what the rules read of a character, of the class that LB1 gives it
+pub record Character : Type 0 where
+  pub class : LineClass
+  pub is_wide : Bool
+  pub is_future_pictograph : Bool
+
+-- what tables say of one
 abbrev pub character : Tables → ℕ → Character
 character t c = record {
   class = resolved (line_class_of t c) (is_mark_in t c);
@@ -35,7 +40,7 @@ abbrev pub stays_with : Character → Character → Bool
 stays_with before c =
     is_one_of (CM ∷ ZWJ ∷ []) c.class && not (is_one_of (BK ∷ CR ∷ LF ∷ NL ∷ SP ∷ ZW ∷ []) before.class)
 
--- a character in front of bases: it begins one, or the first of them stays with it
+-- a character before bases: it begins one, or the first of them stays with it
 abbrev pub alone : Character → Base
 alone c = record { first = c; attached = [] }
 

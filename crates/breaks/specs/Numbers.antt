@@ -20,14 +20,14 @@ middle = NU ∷ SY ∷ IS ∷ []
 abbrev pub closing : List LineClass
 closing = CL ∷ CP ∷ []
 
--- what is left of a list behind one of these classes, if it begins with one, and behind all of them that it begins with
-abbrev pub behind_one : List LineClass → List LineClass → List LineClass
-behind_one classes [] = []
-behind_one classes (class ∷ rest) = if is_one_of classes class then rest else class ∷ rest
+-- what is left of a list after one of these classes, if it begins with one, and after all of them that it begins with
+abbrev pub after_one : List LineClass → List LineClass → List LineClass
+after_one classes [] = []
+after_one classes (class ∷ rest) = if is_one_of classes class then rest else class ∷ rest
 
-abbrev pub behind_all : List LineClass → List LineClass → List LineClass
-behind_all classes [] = []
-behind_all classes (class ∷ rest) = if is_one_of classes class then behind_all classes rest else class ∷ rest
+abbrev pub after_all : List LineClass → List LineClass → List LineClass
+after_all classes [] = []
+after_all classes (class ∷ rest) = if is_one_of classes class then after_all classes rest else class ∷ rest
 
 abbrev pub is_nothing : List LineClass → Bool
 is_nothing [] = true
@@ -36,28 +36,28 @@ is_nothing (class ∷ rest) = false
 -- `(PR | PO)?`, and from the other parts on to the end. No class is in two parts that stand next to one another, so that what may be taken
 -- from the front of a list is no part of what follows.
 abbrev pub is_end : List LineClass → Bool
-is_end classes = is_nothing (behind_one affix classes)
+is_end classes = is_nothing (after_one affix classes)
 
 abbrev pub goes_on : List LineClass → Bool
-goes_on classes = is_end (behind_one closing (behind_all middle classes))
+goes_on classes = is_end (after_one closing (after_all middle classes))
 
 abbrev pub begins_with_digit : List LineClass → Bool
 begins_with_digit [] = false
 begins_with_digit (class ∷ rest) = is_same class NU && goes_on rest
 
 abbrev pub is_unaffixed : List LineClass → Bool
-is_unaffixed classes = begins_with_digit (behind_one opening classes)
+is_unaffixed classes = begins_with_digit (after_one opening classes)
 
 -- whether a list is a number
 abbrev pub is_number : List LineClass → Bool
-is_number classes = is_unaffixed (behind_one affix classes)
+is_number classes = is_unaffixed (after_one affix classes)
 
 -- the first one, the first two and so on of a list
 abbrev pub fronts : {A : Type 0} → List A → List (List A)
 fronts [] = []
 fronts (a ∷ rest) = (a ∷ []) ∷ map (λ front. a ∷ front) (fronts rest)
 
--- some of the bases before a position, the nearest first, and some of those behind it are together a number
+-- some of the bases before a position, the nearest first, and some of those after it are together a number
 abbrev pub is_in_number : List Base → List Base → Bool
-is_in_number before behind =
-    list_any (λ front. list_any (λ back. is_number (map class_of (reverse front ++ back))) (fronts behind)) (fronts before)
+is_in_number before after =
+    list_any (λ front. list_any (λ back. is_number (map class_of (reverse front ++ back))) (fronts after)) (fronts before)

@@ -11,31 +11,31 @@ use Rattle.breaks.specs.Numbers.{is_in_number}
 use Rattle.breaks.specs.declared.mark.Mark.{Mark}
 use Rattle.breaks.specs.declared.mark.Mark.TheVariants.{Never, May, Must}
 
--- A rule: the positions that it holds of, by the bases before one, the nearest first, and those behind it, and the mark that it gives.
+-- A rule: the positions that it holds of, by the bases before one, the nearest first, and those after it, and the mark that it gives.
 pub record Rule : Type 0 where
   pub holds : List Base → List Base → Bool
   pub mark : Mark
 
--- what most rules are: a condition on the bases before a position, and one on those behind it
+-- what most rules are: a condition on the bases before a position, and one on those after it
 pub record Row : Type 0 where
   pub before : List Base → Bool
-  pub behind : List Base → Bool
+  pub after : List Base → Bool
   pub mark : Mark
 
 abbrev pub rule_of : Row → Rule
-rule_of row = record { holds = λ before behind. row.before before && row.behind behind; mark = row.mark }
+rule_of row = record { holds = λ before after. row.before before && row.after after; mark = row.mark }
 
 -- `×`, `÷` and `!`
 abbrev pub never : (List Base → Bool) → (List Base → Bool) → Row
-never before behind = record { before = before; behind = behind; mark = Never }
+never before after = record { before = before; after = after; mark = Never }
 
 abbrev may : (List Base → Bool) → (List Base → Bool) → Row
-may before behind = record { before = before; behind = behind; mark = May }
+may before after = record { before = before; after = after; mark = May }
 
 abbrev must : (List Base → Bool) → (List Base → Bool) → Row
-must before behind = record { before = before; behind = behind; mark = Must }
+must before after = record { before = before; after = after; mark = Must }
 
--- conditions on the bases before a position, and on those behind it
+-- conditions on the bases before a position, and on those after it
 abbrev pub any : List Base → Bool
 any bases = true
 
@@ -58,12 +58,12 @@ abbrev pub is_not : List LineClass → List Base → Bool
 is_not classes [] = false
 is_not classes (b ∷ bases) = not (is_one_of classes (class_of b))
 
--- the nearest base has one of the classes, and the one in front of it one of some others
+-- the nearest base has one of the classes, and the one before it one of some others
 abbrev pub is_pair : List LineClass → List LineClass → List Base → Bool
 is_pair firsts classes (b ∷ a ∷ bases) = is_one_of firsts (class_of a) && is_one_of classes (class_of b)
 is_pair firsts classes bases = false
 
--- the classes with `SP*` behind them: the nearest base that is no space has one of them
+-- the classes with `SP*` after them: the nearest base that is no space has one of them
 abbrev pub without_spaces : List Base → List Base
 without_spaces [] = []
 without_spaces (b ∷ bases) = if is_same (class_of b) SP then without_spaces bases else b ∷ bases
@@ -162,8 +162,8 @@ rows_of_numbers =
     never (is (HY ∷ IS ∷ NU ∷ SY ∷ [])) (is (NU ∷ [])) ∷
     []
 
-unfoldable pub rows_behind_numbers : List Row
-rows_behind_numbers =
+unfoldable pub rows_after_numbers : List Row
+rows_after_numbers =
     -- LB26
     never (is (JL ∷ [])) (is (H2 ∷ H3 ∷ JL ∷ JV ∷ [])) ∷
     never (is (H2 ∷ JV ∷ [])) (is (JT ∷ JV ∷ [])) ∷
@@ -191,9 +191,9 @@ numbers true = record { holds = is_in_number; mark = Never } ∷ []
 numbers false = map rule_of rows_of_numbers
 
 unfoldable pub rules : Bool → List Rule
-rules whole_numbers = map rule_of rows_before_numbers ++ (numbers whole_numbers ++ map rule_of rows_behind_numbers)
+rules whole_numbers = map rule_of rows_before_numbers ++ (numbers whole_numbers ++ map rule_of rows_after_numbers)
 
 -- the mark of a position: that of the first rule that holds of it, and LB31 where there is none
 abbrev pub mark_by : List Rule → List Base → List Base → Mark
-mark_by [] before behind = May
-mark_by (rule ∷ rules) before behind = if rule.holds before behind then rule.mark else mark_by rules before behind
+mark_by [] before after = May
+mark_by (rule ∷ rules) before after = if rule.holds before after then rule.mark else mark_by rules before after

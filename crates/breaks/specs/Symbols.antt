@@ -3,9 +3,8 @@ use Rattle.std.specs.Prelude.{ℕ, true, false, ◌&&◌, List, [], ◌∷◌, g
 use Rattle.ucd.specs.declared.line_class.LineClass.{LineClass}
 use Rattle.ucd.specs.declared.line_class.LineClass.TheVariants as class
 use Rattle.ucd.specs.declared.properties.Properties.{Properties}
-use Rattle.breaks.specs.Bases.{resolved}
+use Rattle.breaks.specs.Bases.{Character, resolved}
 use Rattle.breaks.specs.Classes.{is_one_of}
-use Rattle.breaks.specs.declared.character.Character.{Character}
 
 -- what line breaking reads of a character of these properties
 abbrev pub character_by : Properties → Character

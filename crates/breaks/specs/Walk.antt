@@ -3,17 +3,17 @@
 use Rattle.std.specs.Prelude.{◌≡◌, ℕ, ◌*◌, ◌<◌, Bool, true, false, ◌||◌, ◌&&◌, ◌==◌, ◌++◌, List, [], ◌∷◌, map, MatchBool, get_or, if◌then◌else◌}
 use Rattle.ucd.specs.declared.line_class.LineClass.{LineClass}
 use Rattle.ucd.specs.declared.line_class.LineClass.TheVariants as class
-use Rattle.breaks.specs.Bases.{Base, alone, bases_of, class_of, end_of, stays_with}
+use Rattle.breaks.specs.Bases.{Base, Character, alone, bases_of, class_of, end_of, stays_with}
 use Rattle.breaks.specs.Classes.{is_same, is_one_of}
 use Rattle.breaks.specs.Numbers.{affix, closing, middle, opening}
-use Rattle.breaks.specs.Rules.{Row, rules, rows_before_numbers, rows_of_numbers, rows_behind_numbers, mark_by, never, is, is_spaced, ends_in_odd_run}
+use Rattle.breaks.specs.Rules.{Row, rules, rows_before_numbers, rows_of_numbers, rows_after_numbers, mark_by, never, is, is_spaced, ends_in_odd_run}
 use Rattle.breaks.specs.Symbols.{narrow}
-use Rattle.breaks.specs.declared.character.Character.{Character}
 use Rattle.breaks.specs.declared.mark.Mark.{Mark}
 use Rattle.breaks.specs.declared.mark.Mark.TheVariants.{Never}
-use Rattle.breaks.specs.declared.table.TheConstants.{NEVER, UNLESS, WAITS}
+use Rattle.breaks.specs.declared.table.TheConstants.{NEVER, STATE_COUNT, UNLESS, WAITS}
 use Rattle.breaks.specs.declared.walk.TheConstants.{MARKS, WHOLE_MARKS}
 use Rattle.breaks.specs.declared.walk.Walk.{Walk}
+use Rattle.breaks.specs.declared.symbol.TheConstants.{SYMBOL_COUNT}
 
 abbrev pub base : LineClass → Base
 base class = alone (narrow class)
@@ -71,7 +71,7 @@ bases_at number = get_or states number []
 abbrev pub decided_at : ℕ → Bool → Bool → ℕ
 decided_at outcome is_joined is_pictograph = if is_joined || ((outcome == UNLESS) && is_pictograph) then NEVER else outcome
 
--- the mark of it, where the base behind the next one may be NU
+-- the mark of it, where the base after the next one may be NU
 abbrev pub marks_alone : Bool → List Mark
 marks_alone true = WHOLE_MARKS
 marks_alone false = MARKS
@@ -89,7 +89,7 @@ is_before_digit (c ∷ text) = if is_one_of (class.CM ∷ class.ZWJ ∷ []) c.cl
 abbrev pub unattached : List LineClass
 unattached = class.BK ∷ class.CR ∷ class.LF ∷ class.NL ∷ class.SP ∷ class.ZW ∷ []
 
--- LB25 of whole numbers as conditions on the bases before and on those behind: a place in the expression of a number
+-- LB25 of whole numbers as conditions on the bases before and on those after: a place in the expression of a number
 abbrev pub ends_in_digits : List Base → Bool
 ends_in_digits [] = false
 ends_in_digits (b ∷ bases) = is_same (class_of b) class.NU || (is_one_of middle (class_of b) && ends_in_digits bases)
@@ -102,21 +102,21 @@ abbrev pub begins_unaffixed : List Base → Bool
 begins_unaffixed [] = false
 begins_unaffixed (b ∷ bases) = is_same (class_of b) class.NU || (is_one_of opening (class_of b) && is (class.NU ∷ []) bases)
 
-abbrev pub goes_on_behind_digits : List LineClass
-goes_on_behind_digits = class.NU ∷ class.SY ∷ class.IS ∷ class.CL ∷ class.CP ∷ class.PR ∷ class.PO ∷ []
+abbrev pub goes_on_after_digits : List LineClass
+goes_on_after_digits = class.NU ∷ class.SY ∷ class.IS ∷ class.CL ∷ class.CP ∷ class.PR ∷ class.PO ∷ []
 
 abbrev pub number_rows : Bool → List Row
 number_rows true =
     never (is affix) begins_unaffixed ∷
     never (is opening) (is (class.NU ∷ [])) ∷
-    never ends_in_digits (is goes_on_behind_digits) ∷
+    never ends_in_digits (is goes_on_after_digits) ∷
     never ends_in_closed_digits (is affix) ∷
     []
 number_rows false = rows_of_numbers
 
 -- all rules as such conditions
 unfoldable pub rows : Bool → List Row
-rows whole_numbers = rows_before_numbers ++ (number_rows whole_numbers ++ rows_behind_numbers)
+rows whole_numbers = rows_before_numbers ++ (number_rows whole_numbers ++ rows_after_numbers)
 
 -- bases of which the nearest ends in no ZWJ and is no pictograph to come
 abbrev pub plain : List Base → List Base
@@ -127,7 +127,7 @@ plain (b ∷ bases) = record { first = record b.first { is_future_pictograph = f
 abbrev pub answers : Bool → List Base → List Bool
 answers whole_numbers bases = map (λ row. row.before (plain bases)) (rows whole_numbers)
 
--- what they may answer of the next one, if it is a hyphen behind HL, a space, an RI or what goes on with a number
+-- what they may answer of the next one, if it is a hyphen after HL, a space, an RI or what goes on with a number
 abbrev pub carried : List Base → List Bool
 carried bases =
     is (class.HL ∷ []) bases
@@ -139,8 +139,8 @@ carried bases =
 -- bases have the same answers, carry the same and take a CM or ZWJ where these do; and of the last base the two bits that aren't in it.
 pub record Stands (whole_numbers : Bool) (walk : Walk) (last : Base) (others : List Base) : Type 0 where
   pub state : ℕ
-  pub below : state < 41
-  pub row : walk.row ≡ state * 40
+  pub below : state < STATE_COUNT
+  pub row : walk.row ≡ state * SYMBOL_COUNT
   pub answered : answers whole_numbers (last ∷ others) ≡ answers whole_numbers (bases_at state)
   pub carries : carried (last ∷ others) ≡ carried (bases_at state)
   pub attaches : is_one_of unattached (end_of last).class ≡ is unattached (bases_at state)
@@ -151,7 +151,7 @@ pub record Stands (whole_numbers : Bool) (walk : Walk) (last : Base) (others : L
 abbrev pub with_attached : Base → Character → Base
 with_attached last c = record { first = last.first; attached = last.attached ++ c ∷ [] }
 
--- what is decided in front of it gives the mark, once it is known whether the base behind it is NU
+-- what is decided before it gives the mark, once it is known whether the base after it is NU
 abbrev pub Passes : Bool → Walk → Base → List Base → Character → ℕ → Type 0
 Passes whole_numbers after last others c decided =
     MatchBool (stays_with (end_of last) c)

@@ -2,7 +2,6 @@
 ghost use Rattle.std.specs.Prelude.{◌≡◌, ◌+◌, ◌-◌, ◌<◌, ◌≤◌, ℕ, Bool, List, Some, drop, length, map};
 ghost use Rattle.std.specs.Prelude.{slice_get, slice_index_or, IfOk, OnOk};
 ghost use Rattle.ucd.specs.Properties.{properties_of};
-ghost use Rattle.breaks.specs.Bases.{character};
 ghost use Rattle.breaks.specs.Marks.{marks_of};
 ghost use Rattle.breaks.specs.Symbols.{character_by};
 ghost use Rattle.breaks.specs.Walk.{is_before_digit, mark_of};
@@ -10,11 +9,12 @@ ghost use Rattle.breaks.specs.declared.mark.Mark.TheVariants.{Must};
 
 use crate::symbol::{ATTACHED, DIGIT, symbol_of};
 use crate::table::WAITS;
+use crate::tailoring::Tailoring;
 use crate::walk::{Walk, mark_alone};
 use std::alloc::{AllocError, Global};
 use ucd::{Properties, Tables};
 
-/// What a line does at a position of a paragraph, which lies behind one of its characters.
+/// What a line does at a position of a paragraph, which lies after one of its characters.
 #[derive(Clone, Copy, Debug, PartialEq, Eq)]
 pub enum Mark {
     /// No line ends there.
@@ -25,22 +25,33 @@ pub enum Mark {
     Must,
 }
 
-/// The mark of the position behind each character of a paragraph (UAX #14, LB1 to LB31, as
-/// docs/PROFILE.md has them). Behind the last one it is `Must`. Where numbers stay whole, no line ends
-/// inside one, and LB25 keeps nothing else together.
+/// The mark of the position after each character of a paragraph (UAX #14, LB1 to LB31, as
+/// docs/PROFILE.md has them). After the last one it is `Must`.
 pub fn marks(
     alloc: Global,
     tables: &Tables,
     text: &[char],
-    whole_numbers: bool,
+    tailoring: Tailoring,
 ) -> Result<Vec<Mark>, AllocError>
-    ensures marks { IfOk result (λ marks. marks.items ≡ marks_of tables.now whole_numbers text.now) }
+    ensures marks { IfOk result (λ marks. marks.items
+        ≡ marks_of tables.now tailoring.whole_numbers text.now) }
     ensures len { IfOk result (λ marks. length marks.items ≡ length text.now) }
 {
+    let properties = properties_of(alloc, tables, text)?;
     let mut marks = Vec::new(alloc);
-    marks.resize(text.len(), Mark::Must)?;
-    mark_text(tables, text, whole_numbers, &mut marks);
+    marks_into(tables, text, &properties, tailoring, &mut marks)?;
     Ok(marks)
+}
+
+// What the tables say of the characters of a text.
+fn properties_of(
+    alloc: Global,
+    tables: &Tables,
+    text: &[char],
+) -> Result<Vec<Properties>, AllocError>
+    ensures { IfOk result (λ properties. properties.items ≡ map (properties_of tables.now) text.now) }
+{
+    text.iter().map(|c| tables.properties(*c)).collect(alloc)
 }
 
 /// The same marks in place of those that a list holds, from what the tables say of each character.
@@ -48,31 +59,17 @@ pub fn marks_into(
     tables: &Tables,
     text: &[char],
     properties: &[Properties],
-    whole_numbers: bool,
+    tailoring: Tailoring,
     marks: &mut Vec<Mark>,
 ) -> Result<(), AllocError>
     requires { properties.now ≡ map (properties_of tables.now) text.now }
-    ensures marks { OnOk result (marks.new.items ≡ marks_of tables.now whole_numbers text.now) }
+    ensures marks { OnOk result (marks.new.items
+        ≡ marks_of tables.now tailoring.whole_numbers text.now) }
     ensures len { OnOk result (length marks.new.items ≡ length text.now) }
 {
     marks.resize(properties.len(), Mark::Must)?;
-    mark_properties(tables, text, properties, whole_numbers, marks);
+    mark_properties(tables, text, properties, tailoring.whole_numbers, marks);
     Ok(())
-}
-
-fn mark_text(tables: &Tables, text: &[char], whole_numbers: bool, marks: &mut [Mark])
-    requires { length marks.old ≡ length text.now }
-    ensures { marks.new ≡ marks_of tables.now whole_numbers text.now }
-{
-    let Some((first, rest)) = text.split_first() else {
-        return;
-    };
-    let mut walk = Walk::start(tables.properties(*first));
-    for (i, c) in rest.iter().enumerate() {
-        let decided = walk.pass(tables.properties(*c));
-        marks[i] = mark_in_text(tables, rest, i, decided, whole_numbers);
-    }
-    marks[rest.len()] = Mark::Must;
 }
 
 fn mark_properties(
@@ -93,7 +90,7 @@ fn mark_properties(
     let last = rest.len();
     for i in 0..last {
         let decided = walk.pass(read(rest, i));
-        marks[i] = mark_in_properties(rest, i, decided, whole_numbers);
+        marks[i] = mark_before(rest, i, decided, whole_numbers);
     }
     marks[last] = Mark::Must;
 }
@@ -105,55 +102,23 @@ fn read(properties: &[Properties], i: usize) -> Properties
     properties[i]
 }
 
-// The mark in front of a character, by what is decided there and, where that waits, by what stands
-// behind it.
-fn mark_in_text(tables: &Tables, text: &[char], i: usize, decided: u16, whole_numbers: bool) -> Mark
-    requires place { i < length text.now }
-    requires below { decided < 8 }
-    ensures { result ≡ mark_of whole_numbers decided
-        (is_before_digit (map (character tables.now) (drop (i + 1) text.now))) }
-{
-    if whole_numbers && decided == WAITS && is_text_before_digit(tables, text, i + 1) {
-        Mark::Never
-    } else {
-        mark_alone(decided, whole_numbers)
-    }
-}
-
-fn mark_in_properties(
-    properties: &[Properties],
-    i: usize,
-    decided: u16,
-    whole_numbers: bool,
-) -> Mark
+// The mark before a character, by what is decided there and, where that waits, by what stands after it.
+fn mark_before(properties: &[Properties], i: usize, decided: u16, whole_numbers: bool) -> Mark
     requires place { i < length properties.now }
     requires below { decided < 8 }
     ensures { result ≡ mark_of whole_numbers decided
         (is_before_digit (map character_by (drop (i + 1) properties.now))) }
 {
-    if whole_numbers && decided == WAITS && are_before_digit(properties, i + 1) {
+    if whole_numbers && decided == WAITS && is_before_digit(properties, i + 1) {
         Mark::Never
     } else {
         mark_alone(decided, whole_numbers)
     }
 }
 
-// Whether the base behind one is NU, by the characters from a place on: those attached to the one in
-// front of them are read once more, and no others.
-fn is_text_before_digit(tables: &Tables, text: &[char], from: usize) -> bool
-    requires { from ≤ length text.now }
-    ensures { result ≡ is_before_digit (map (character tables.now) (drop from text.now)) }
-{
-    for i in from..text.len() {
-        let symbol = symbol_of(tables.properties(text[i]));
-        if symbol < ATTACHED {
-            return symbol == DIGIT;
-        }
-    }
-    false
-}
-
-fn are_before_digit(properties: &[Properties], from: usize) -> bool
+// Whether the base after one is NU, by the characters from a place on: those attached to the one before
+// them are read once more, and no others.
+fn is_before_digit(properties: &[Properties], from: usize) -> bool
     requires { from ≤ length properties.now }
     ensures { result ≡ is_before_digit (map character_by (drop from properties.now)) }
 {
@@ -167,8 +132,8 @@ fn are_before_digit(properties: &[Properties], from: usize) -> bool
 }
 
 /// A paragraph has as many marks as characters: a law, which takes no time.
-pub fn marks_are_as_many(tables: &Tables, text: &[char], whole_numbers: bool)
-    ensures { length (marks_of tables.now whole_numbers text.now) ≡ length text.now }
+pub fn marks_are_as_many(tables: &Tables, text: &[char], tailoring: Tailoring)
+    ensures { length (marks_of tables.now tailoring.whole_numbers text.now) ≡ length text.now }
 {}
 
 /// LB3: a paragraph ends at a position of the mark `Must`, by whatever tables, and whether numbers stay

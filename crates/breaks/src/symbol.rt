@@ -1,8 +1,10 @@
-//! What a character is to the rules, as one of 40 symbols (UAX #14, LB1, and LB30 of parentheses).
+//! What a character is to the rules, as one of some symbols (UAX #14, LB1, and LB30 of parentheses).
 ghost use Rattle.std.specs.Prelude.{◌≡◌, ◌<◌, slice_index};
+ghost use Rattle.ucd.specs.declared.properties.TheConstants.{LINE_INDEX_COUNT};
 ghost use Rattle.breaks.specs.Symbols.{character_by, shown, told};
+ghost use Rattle.breaks.specs.declared.symbol.TheConstants.{SYMBOL_COUNT};
 
-use ucd::Properties;
+use ucd::{LINE_INDEX_COUNT, Properties};
 
 // The symbols, which number the columns of the walk's table: the classes that LB1 gives.
 #[derive(Clone, Copy)]
@@ -51,6 +53,9 @@ enum Symbol {
     ZWJ,
 }
 
+/// How many symbols there are.
+pub const SYMBOL_COUNT: usize = Symbol::ZWJ as usize + 1;
+
 /// The number of ZWJ.
 pub const JOINER: u8 = Symbol::ZWJ as u8;
 
@@ -63,13 +68,13 @@ pub const ATTACHED: u8 = Symbol::CM as u8;
 /// The number of the symbol of a character of these properties.
 pub fn symbol_of(properties: Properties) -> u8
     ensures shown { shown result ≡ told (character_by properties) }
-    ensures below { result < 40 }
+    ensures below { result < SYMBOL_COUNT }
 {
     symbol_at(properties.line_index())
 }
 
 fn symbol_at(index: usize) -> u8
-    requires { index < 512 }
+    requires { index < LINE_INDEX_COUNT }
     ensures { result ≡ slice_index SYMBOLS index }
 {
     SYMBOLS[index]
@@ -94,7 +99,7 @@ macro_rules! symbols {
 
 // The symbol by `Properties::line_index`: a row for each class, in the order of `LineClass`, and 21 rows
 // for the numbers that no class has.
-static SYMBOLS: [u8; 512] = symbols! {
+static SYMBOLS: [u8; LINE_INDEX_COUNT] = symbols! {
     BK BK BK BK; CM CM CM CM; CR CR CR CR; GL GL GL GL; LF LF LF LF; NL NL NL NL; SP SP SP SP;
     WJ WJ WJ WJ; ZW ZW ZW ZW; ZWJ ZWJ ZWJ ZWJ; B2 B2 B2 B2; BA BA BA BA; BB BB BB BB; CB CB CB CB;
     HY HY HY HY; CL CL CL CL;

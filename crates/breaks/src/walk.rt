@@ -3,6 +3,7 @@ ghost use Rattle.std.specs.Prelude.{◌≡◌, ◌<◌, ◌≤◌, ◌==◌, Boo
 ghost use Rattle.breaks.specs.Bases.{Base, alone};
 ghost use Rattle.breaks.specs.Symbols.{character_by};
 ghost use Rattle.breaks.specs.declared.mark.Mark.TheVariants.{Never};
+ghost use Rattle.breaks.specs.declared.table.TheConstants.{LAST_ROW};
 ghost use Rattle.breaks.specs.Walk.{Stands, Passes, decided_at, marks_alone};
 
 use crate::mark::Mark;
@@ -26,7 +27,7 @@ impl Walk {
     pub fn start(first: Properties) -> Walk
         ensures stands { (whole_numbers : Bool)
             → Stands whole_numbers result (alone (character_by first)) [] }
-        ensures within { result.row ≤ 1600 }
+        ensures within { result.row ≤ LAST_ROW }
     {
         let symbol = symbol_of(first);
         Walk {
@@ -36,13 +37,13 @@ impl Walk {
         }
     }
 
-    /// What a line does in front of the next character, which is one of those before it from then on.
+    /// What a line does before the next character, which is passed from then on.
     pub fn pass(&mut self, next: Properties) -> u16
-        requires { self.old.row ≤ 1600 }
+        requires { self.old.row ≤ LAST_ROW }
         ensures passes { (whole_numbers : Bool) (last : Base) (others : List Base)
             → Stands whole_numbers self.old last others
             → Passes whole_numbers self.new last others (character_by next) result }
-        ensures within { self.new.row ≤ 1600 }
+        ensures within { self.new.row ≤ LAST_ROW }
         ensures below { result < 8 }
     {
         let symbol = symbol_of(next);
@@ -77,7 +78,7 @@ fn decide(outcome: u16, is_joined: bool, is_pictograph: bool) -> u16
     }
 }
 
-/// The mark in front of the next character, where what stands behind it doesn't matter.
+/// The mark before the next character, where what stands after it doesn't matter.
 pub fn mark_alone(decided: u16, whole_numbers: bool) -> Mark
     requires { decided < 8 }
     ensures { result ≡ get_or (marks_alone whole_numbers) decided Never }

@@ -49,7 +49,7 @@ abbrev pub Writes : {E : Type 0} → Device → Device → Result ℕ E → List
 Writes old new result given =
     MatchResult result (λ n. MatchBool (n == 0) (Fails old new) (Takes old new n given)) (λ _. Fails old new)
 
--- Between two states one call failed, and no bytes passed behind it. So the count of failures rose, or stands at the greatest number.
+-- Between two states one call failed, and no bytes passed after it. So the count of failures rose, or stands at the greatest number.
 pub record FailedLast (old new : Device) : Type 0 where
   pub failures : new.failures ≡ min (old.failures + 1) greatest
   pub last : new.failed_at ≡ new.passed
@@ -59,7 +59,7 @@ pub record Took (old new : Device) (given : List ℕ) : Type 0 where
   pub bytes : Appends old.bytes new.bytes given
   pub passed : new.passed ≡ old.passed + length given
 
--- all of the bytes were taken, or the sink failed behind n of them
+-- all of the bytes were taken, or the sink failed after n of them
 abbrev pub Wrote : List ℕ → Device → Device → Type 0
 Wrote given old new = Took old new given × (new.failures ≡ old.failures)
 

@@ -6,7 +6,7 @@ use std::io;
 use std::io::ErrorKind;
 
 /// A source over a reader of std. It tells the bytes that the reader tells, passes at most
-/// 2^64 - 1 bytes and fails behind them.
+/// 2^64 - 1 bytes and fails after them.
 #[derive(Drop)]
 pub struct FromRead<R> {
     inner: R,

@@ -6,7 +6,7 @@ use std::io;
 use std::io::ErrorKind;
 
 /// A sink over a writer of std. It tells the bytes that the writer tells, passes at most 2^64 - 1
-/// bytes and fails behind them.
+/// bytes and fails after them.
 #[derive(Drop)]
 pub struct ToWrite<W> {
     inner: W,

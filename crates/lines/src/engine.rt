@@ -20,7 +20,7 @@ use crate::print::{Print, PrintFault};
 use crate::visual::{Fill, Lists};
 use crate::work::{Kept, Parts, Work};
 use bidi::{base_level, first_cut, is_cut};
-use breaks::{Mark, marks_are_as_many};
+use breaks::{Mark, Tailoring, marks_are_as_many};
 use device::Sink;
 use std::alloc::{AllocError, Global};
 use std::marker::Model;
@@ -205,7 +205,8 @@ impl Engine {
         ensures rules { SameRules self.old self.new }
     {
         if print.skips_lines() {
-            marks_are_as_many(&self.tables, text, self.options.whole_numbers);
+            let whole_numbers = self.options.whole_numbers;
+            marks_are_as_many(&self.tables, text, Tailoring { whole_numbers });
             return self.write_base(text, print, writer);
         }
         self.write_lines(alloc, text, width, print, writer)

@@ -23,7 +23,7 @@ use crate::places::{Place, take_places};
 use crate::room::make_room;
 use crate::visual::{Fill, Lists, show_lines, take_shown};
 use bidi::Resolver;
-use breaks::{Mark, marks_into};
+use breaks::{Mark, Tailoring, marks_into};
 use std::alloc::{AllocError, Global};
 use ucd::{Properties, Tables};
 
@@ -130,11 +130,12 @@ impl Work {
         )?;
         let properties = self.properties.as_slice();
         make_room(&mut kept.marks, text.len())?;
+        let whole_numbers = options.whole_numbers;
         marks_into(
             tables,
             text,
             properties,
-            options.whole_numbers,
+            Tailoring { whole_numbers },
             &mut kept.marks,
         )?;
         let places = &mut self.places;

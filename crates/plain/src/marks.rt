@@ -9,16 +9,16 @@ use crate::marks::before::Before;
 use crate::marks::character::Character;
 use crate::marks::numbers::is_in_number;
 use crate::marks::rules::Numbers;
-use breaks::Mark;
+use breaks::{Mark, Tailoring};
 use std::alloc::AllocError;
 use ucd::{LineClass, Tables};
 
-/// The mark of the position behind each character of a text, in place of what a list holds. Another list
+/// The mark of the position after each character of a text, in place of what a list holds. Another list
 /// is used for the classes of the bases.
 pub fn plain_marks(
     tables: &Tables,
     text: &[char],
-    whole_numbers: bool,
+    tailoring: Tailoring,
     classes: &mut Vec<LineClass>,
     marks: &mut Vec<Mark>,
 ) -> Result<(), AllocError> {
@@ -34,7 +34,7 @@ pub fn plain_marks(
     for c in rest {
         let next = Character::of(tables, *c);
         let begins = !before.keeps(&next);
-        let numbers = if !whole_numbers {
+        let numbers = if !tailoring.whole_numbers {
             Numbers::Pairs
         } else if begins && is_in_number(classes, base) {
             Numbers::Inside

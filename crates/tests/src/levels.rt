@@ -55,7 +55,7 @@ fn put_levels(
 // Whether these are the levels from a place on.
 fn are_from(levels: &[u8], place: usize, wanted: &[u8]) -> bool {
     match levels.get(place..) {
-        Some(behind) => behind == wanted,
+        Some(after) => after == wanted,
         None => false,
     }
 }
@@ -75,16 +75,16 @@ fn is_found(
     Ok(is_base && are_from(&levels, place, wanted))
 }
 
-// The list behind a PDF that matches nothing. That is taken out by X9 and opens nothing, so the levels behind
+// The list after a PDF that matches nothing. That is taken out by X9 and opens nothing, so the levels after
 // it are those of the list alone, but they are found by all rules, as of a paragraph that is no sequence.
-fn behind_pdf(alloc: Global, text: &[char]) -> Result<Vec<char>, AllocError> {
+fn after_pdf(alloc: Global, text: &[char]) -> Result<Vec<char>, AllocError> {
     let mut longer = Vec::new(alloc);
     longer.push('\u{202C}')?;
     longer.extend_from_slice(text)?;
     Ok(longer)
 }
 
-fn is_found_behind_pdf(
+fn is_found_after_pdf(
     alloc: Global,
     resolver: &mut Resolver,
     tables: &Tables,
@@ -92,11 +92,11 @@ fn is_found_behind_pdf(
     base: Base,
     wanted: &[u8],
 ) -> Result<bool, AllocError> {
-    let longer = behind_pdf(alloc, text)?;
+    let longer = after_pdf(alloc, text)?;
     is_found(alloc, resolver, tables, &longer, base, 1, wanted)
 }
 
-// Whether a resolver finds the levels of a list that the plain passes find, and finds them also behind a PDF.
+// Whether a resolver finds the levels of a list that the plain passes find, and finds them also after a PDF.
 fn is_same(
     alloc: Global,
     resolver: &mut Resolver,
@@ -108,7 +108,7 @@ fn is_same(
     if !is_found(alloc, resolver, tables, text, base, 0, &wanted)? {
         return Ok(false);
     }
-    is_found_behind_pdf(alloc, resolver, tables, text, base, &wanted)
+    is_found_after_pdf(alloc, resolver, tables, text, base, &wanted)
 }
 
 // Whether that is so of all lists of so many characters, of which there are `lists`.

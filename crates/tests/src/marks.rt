@@ -4,23 +4,27 @@ ghost use Rattle.std.specs.Prelude.{◌≡◌, map, OnOk};
 ghost use Rattle.ucd.specs.Properties.{properties_of};
 
 use crate::files::{FILES, read};
-use breaks::{Mark, marks, marks_into};
+use breaks::{Mark, Tailoring, marks, marks_into};
 use plain::marks::plain_marks;
 use std::alloc::{AllocError, Global};
 use std::process::Abort;
 use std::test::Fail;
 use ucd::{LineClass, Properties, Tables, UcdFiles};
 
+const WHOLE: Tailoring = Tailoring {
+    whole_numbers: true,
+};
+
 // The marks of a text, asked for twice.
 fn marks_of(
     alloc: Global,
     tables: &Tables,
     text: &[char],
-    whole_numbers: bool,
+    tailoring: Tailoring,
 ) -> Result<Vec<Mark>, AllocError> {
-    match marks(alloc, tables, text, whole_numbers) {
+    match marks(alloc, tables, text, tailoring) {
         Ok(marks) => Ok(marks),
-        Err(_) => marks(alloc, tables, text, whole_numbers),
+        Err(_) => marks(alloc, tables, text, tailoring),
     }
 }
 
@@ -42,10 +46,10 @@ fn has_marks(
     alloc: Global,
     tables: &Tables,
     text: &[char],
-    whole_numbers: bool,
+    tailoring: Tailoring,
     signs: &str,
 ) -> Result<bool, AllocError> {
-    let marks = marks_of(alloc, tables, text, whole_numbers)?;
+    let marks = marks_of(alloc, tables, text, tailoring)?;
     Ok(are_signs(&marks, signs))
 }
 
@@ -98,8 +102,8 @@ static NUMBERS: [(&str, &str, &str); 23] = [
     ("%(1.)$1", "××××××!", "××××××!"),
 ];
 
-// The same of a degree sign and a euro sign. A line may end behind a space, inside what would else be a
-// number, but not behind one that is no break.
+// The same of a degree sign and a euro sign. A line may end after a space, inside what would else be a
+// number, but not after one that is no break.
 static SIGNS: [(&str, &str, &str); 3] = [
     ("-5\u{B0}", "××!", "××!"),
     ("\u{20AC}\u{A0}30", "×××!", "×××!"),
@@ -118,8 +122,8 @@ fn check(
     [want, want_whole]: [&str; 2],
 ) -> Result<(), AllocError> {
     let chars: Vec<char> = text.chars().collect(alloc)?;
-    let has = has_marks(alloc, tables, &chars, false, want);
-    let has_whole = has_marks(alloc, tables, &chars, true, want_whole);
+    let has = has_marks(alloc, tables, &chars, Tailoring::default(), want);
+    let has_whole = has_marks(alloc, tables, &chars, WHOLE, want_whole);
     drop(chars);
     let are_right = has? & has_whole?;
     assert!(rt; are_right, "{text:?}");
@@ -201,9 +205,9 @@ fn check_pictograph(
     Ok(result?)
 }
 
-// A modifier stands behind a pictograph that is unassigned, and behind no other.
+// A modifier stands after a pictograph that is unassigned, and after no other.
 #[test]
-fn marks_behind_pictographs(rt: HostRuntime) -> Result<(), Fail> {
+fn marks_after_pictographs(rt: HostRuntime) -> Result<(), Fail> {
     for (categories, want) in &PICTOGRAPHS {
         check_pictograph(&rt, rt.alloc(), categories, want)?;
     }
@@ -250,17 +254,17 @@ fn read_all(
 // them.
 fn agrees(tables: &Tables, kept: &mut Kept) -> Result<bool, AllocError> {
     read_all(tables, &kept.text, &mut kept.properties)?;
-    Ok(agrees_where(tables, false, kept)? && agrees_where(tables, true, kept)?)
+    Ok(agrees_where(tables, Tailoring::default(), kept)? && agrees_where(tables, WHOLE, kept)?)
 }
 
-fn agrees_where(tables: &Tables, whole_numbers: bool, kept: &mut Kept) -> Result<bool, AllocError>
+fn agrees_where(tables: &Tables, tailoring: Tailoring, kept: &mut Kept) -> Result<bool, AllocError>
     requires { kept.old.properties.items ≡ map (properties_of tables.now) kept.old.text.items }
     ensures { OnOk result (kept.new.properties.items ≡ map (properties_of tables.now) kept.new.text.items) }
 {
     plain_marks(
         tables,
         &kept.text,
-        whole_numbers,
+        tailoring,
         &mut kept.classes,
         &mut kept.plain,
     )?;
@@ -268,7 +272,7 @@ fn agrees_where(tables: &Tables, whole_numbers: bool, kept: &mut Kept) -> Result
         tables,
         &kept.text,
         &kept.properties,
-        whole_numbers,
+        tailoring,
         &mut kept.marks,
     )?;
     Ok(kept.marks.as_slice() == kept.plain.as_slice())

@@ -177,7 +177,7 @@ fn finds_same<S: ParagraphStore<Item>, T: ParagraphStore<Item>>(left: &S, right:
     all_right
 }
 
-// Whether both have the same items, and none behind them.
+// Whether both have the same items, and none after them.
 fn has_same<S: ParagraphStore<Item>, T: ParagraphStore<Item>>(left: &S, right: &T) -> bool {
     let mut all_right = left.count() == right.count() && left.get(left.count()).is_none();
     for index in 0..left.count() {

@@ -264,7 +264,7 @@ fn ends_of_all_characters(rt: HostRuntime) -> Result<(), Fail> {
     Ok(())
 }
 
-// A range that ends behind the surrogates, a surrogate, and a last line with a return and no line feed.
+// A range that ends after the surrogates, a surrogate, and a last line with a return and no line feed.
 const FILES_OF_CLASSES: UcdFiles<'_> = UcdFiles {
     bidi_class: b"D800..E000;R\nD800;L\n0041;AL\r",
     ..FILES

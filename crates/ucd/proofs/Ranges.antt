@@ -1,4 +1,4 @@
--- Entries, one behind another: what they say of a code point, and what one more changes.
+-- Entries, one after another: what they say of a code point, and what one more changes.
 use Rattle.std.proofs.Common.{◌≡◌, ℕ, zero, suc, ◌+◌, ◌<◌, ◌≤◌, nat_le, nat_lt, ◌&&◌, Bool, true, false, List, [], ◌∷◌, ◌++◌, length, take, get_or, slice_get, Option, Some, None, is_some, IsTrue, if◌then◌else◌, refl, sym, ◌∙◌, ap, ◌⊎◌, inl, inr, arith}
 use Rattle.std.proofs.lemmas.Bool.{cases_Bool, cond-true, cond-false}
 use Rattle.std.proofs.lemmas.Bool.Decides.{nat_tests}
@@ -38,9 +38,9 @@ module _ {V : Type 0} where
       let to : c ≤ e.last = grind (arith, nat_tests) in
       not_some (value_at es c) (sym (are.each c (omega arith)) ∙ none c from (omega arith))
 
-  -- what an entry leaves free that stands behind another one
-  pub free_behind : (old mid : List (Entry V)) (one other : Entry V) → AddsEntry old mid one → one.last < other.first → IsFree old other → IsFree mid other
-  free_behind old mid one other adds lt free c covered =
+  -- what an entry leaves free that stands after another one
+  pub free_after : (old mid : List (Entry V)) (one other : Entry V) → AddsEntry old mid one → one.last < other.first → IsFree old other → IsFree mid other
+  free_after old mid one other adds lt free c covered =
       let outside : covers one c ≡ false = grind (arith, nat_tests) in
       adds.values c ∙ cond-false (covers one c) (Some one.value) (value_at old c) outside ∙ free c covered
 

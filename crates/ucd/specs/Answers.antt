@@ -1,7 +1,9 @@
 -- What the tables say of one character, and the 16 bits that hold it.
 use Rattle.std.specs.Prelude.{ℕ, ◌+◌, ◌*◌, ◌/◌, ◌%◌, ◌<◌, ◌==◌, Bool, false, slice_index_or, if◌then◌else◌}
+use Rattle.ucd.specs.declared.bidi_class.TheConstants.{BIDI_CLASS_COUNT}
 use Rattle.ucd.specs.declared.bidi_class.BidiClass.{BidiClass}
 use Rattle.ucd.specs.declared.bidi_class.BidiClass.TheVariants.{L}
+use Rattle.ucd.specs.declared.line_class.TheConstants.{LINE_CLASS_COUNT}
 use Rattle.ucd.specs.declared.line_class.LineClass.{LineClass}
 use Rattle.ucd.specs.declared.line_class.LineClass.TheVariants.{BK, XX}
 use Rattle.ucd.specs.BidiClasses as bidi
@@ -45,7 +47,7 @@ abbrev pub line_class_at : ℕ → LineClass
 line_class_at place = slice_index_or line.all_classes place BK
 
 -- The bits, from the lowest: five for the bidirectional class, one each for a bracket, a mirror, a future pictograph, a mark and a wide
--- character, and six for the line breaking class.
+-- character, and six for the line breaking class. All 16 are taken.
 abbrev pub bit : Bool → ℕ
 bit b = if b then 1 else 0
 
@@ -66,8 +68,8 @@ answers_in bits = record {
 
 -- bits that are those of some answers
 pub record AreBits (bits : ℕ) : Type 0 where
-  pub bidi : bits % 32 < 23
-  pub line : bits / 1024 < 43
+  pub bidi : bits % 32 < BIDI_CLASS_COUNT
+  pub line : bits / 1024 < LINE_CLASS_COUNT
 
 -- what line breaking reads, as one number
 abbrev pub line_index : Answers → ℕ

@@ -2,30 +2,32 @@
 use Rattle.std.proofs.Common.{◌*◌, ◌==◌, if◌then◌else◌, ◌≡◌, ℕ, ◌/◌, ◌%◌, ◌<◌, ◌==◌, map, get_or, refl, sym, ◌∙◌, ap, arith, zero-add, lit<, ◌⊎◌, inl, inr, zero, suc}
 use Rattle.std.specs.List.{range_with_len}
 use Rattle.std.proofs.lemmas.List.FromFn.{get_or-range_with_len, get_or-map-range_with_len}
+use Rattle.ucd.specs.declared.bidi_class.TheConstants.{BIDI_CLASS_COUNT}
 use Rattle.ucd.specs.declared.bidi_class.BidiClass.{BidiClass}
 use Rattle.ucd.specs.declared.bidi_class.BidiClass.TheVariants.{L}
+use Rattle.ucd.specs.declared.line_class.TheConstants.{LINE_CLASS_COUNT}
 use Rattle.ucd.specs.declared.line_class.LineClass.{LineClass}
 use Rattle.ucd.specs.declared.line_class.LineClass.TheVariants.{BK}
 use Rattle.ucd.specs.Answers.{bidi_tag, line_tag, bidi_class_at, line_class_at, bit, bits_of, answers_in, AreBits, line_index}
 
 -- each place of the classes' order is that of the class which stands there
-pub bidi_tag_at : (k : ℕ) → k < 23 → bidi_tag (bidi_class_at k) ≡ k
+pub bidi_tag_at : (k : ℕ) → k < BIDI_CLASS_COUNT → bidi_tag (bidi_class_at k) ≡ k
 bidi_tag_at k lt =
     let f : ℕ → ℕ = λ n. bidi_tag (bidi_class_at n) in
-    let all : map f (range_with_len 0 23) ≡ range_with_len 0 23 = refl in
-    sym (get_or-map-range_with_len f 0 23 k k 0 lt (zero-add k)) ∙ ap (λ places. get_or places k 0) all ∙ get_or-range_with_len 0 23 k 0 lt ∙ zero-add k
+    let all : map f (range_with_len 0 BIDI_CLASS_COUNT) ≡ range_with_len 0 BIDI_CLASS_COUNT = refl in
+    sym (get_or-map-range_with_len f 0 BIDI_CLASS_COUNT k k 0 lt (zero-add k)) ∙ ap (λ places. get_or places k 0) all ∙ get_or-range_with_len 0 BIDI_CLASS_COUNT k 0 lt ∙ zero-add k
 
-pub line_tag_at : (k : ℕ) → k < 43 → line_tag (line_class_at k) ≡ k
+pub line_tag_at : (k : ℕ) → k < LINE_CLASS_COUNT → line_tag (line_class_at k) ≡ k
 line_tag_at k lt =
     let f : ℕ → ℕ = λ n. line_tag (line_class_at n) in
-    let all : map f (range_with_len 0 43) ≡ range_with_len 0 43 = refl in
-    sym (get_or-map-range_with_len f 0 43 k k 0 lt (zero-add k)) ∙ ap (λ places. get_or places k 0) all ∙ get_or-range_with_len 0 43 k 0 lt ∙ zero-add k
+    let all : map f (range_with_len 0 LINE_CLASS_COUNT) ≡ range_with_len 0 LINE_CLASS_COUNT = refl in
+    sym (get_or-map-range_with_len f 0 LINE_CLASS_COUNT k k 0 lt (zero-add k)) ∙ ap (λ places. get_or places k 0) all ∙ get_or-range_with_len 0 LINE_CLASS_COUNT k 0 lt ∙ zero-add k
 
 pub bidi_at_tag : (class : BidiClass) → bidi_class_at (bidi_tag class) ≡ class
 bidi_at_tag L = refl
 bidi_at_tag class = refl
 
-pub bidi_tag_below : (class : BidiClass) → bidi_tag class < 23
+pub bidi_tag_below : (class : BidiClass) → bidi_tag class < BIDI_CLASS_COUNT
 bidi_tag_below L = lit< tt
 bidi_tag_below class = lit< tt
 
@@ -33,7 +35,7 @@ pub line_at_tag : (class : LineClass) → line_class_at (line_tag class) ≡ cla
 line_at_tag BK = refl
 line_at_tag class = refl
 
-pub line_tag_below : (class : LineClass) → line_tag class < 43
+pub line_tag_below : (class : LineClass) → line_tag class < LINE_CLASS_COUNT
 line_tag_below BK = lit< tt
 line_tag_below class = lit< tt
 

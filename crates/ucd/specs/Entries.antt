@@ -13,7 +13,7 @@ module _ {V : Type 0} where
   value_at [] c = None
   value_at (e ∷ es) c = if covers e c then Some e.value else value_at es c
 
-  -- each entry names characters, and none that an entry in front of it names
+  -- each entry names characters, and none that an entry before it names
   pub record AreApart (es : List (Entry V)) : Type 0 where
     pub whole : (i : ℕ) (e : Entry V) → slice_get es i ≡ Some e → (e.first ≤ e.last) × (e.last < 1114112)
     pub apart : (i : ℕ) (e : Entry V) → slice_get es i ≡ Some e → (c : ℕ) → IsTrue (covers e c) → value_at (take i es) c ≡ None

@@ -74,7 +74,7 @@ module _ {V : Type 0} (form : Form V) where
     pub good : IsGood lines
     pub values : (c : ℕ) → IsScalar c → value_at es c ≡ value_in lines c
 
-  -- a line, counted from 1, is the first that is refused; where memory ran out, neither it nor one in front of it is
+  -- a line, counted from 1, is the first that is refused; where memory ran out, neither it nor one before it is
   abbrev pub IsFaultFor : List (List ℕ) → ℕ → Cause → Type 0
   IsFaultFor lines line cause.Memory = (j : ℕ) (why : Cause) → j < line → ¬ (HasFault lines j why)
   IsFaultFor lines line why = (0 < line) × IsFirstFault lines (line - 1) why

@@ -10,7 +10,7 @@ use Rattle.ucd.specs.declared.grammar.Entry.{Entry}
 abbrev pub is_mark : ℕ → ℕ → Bool
 is_mark mark b = b == mark
 
--- A line ends at U+000A, and the last line may lack it: behind a last U+000A stands a line with nothing in it.
+-- A line ends at U+000A, and the last line may lack it: after a last U+000A stands a line with nothing in it.
 abbrev pub lines_of : List ℕ → List (List ℕ)
 lines_of file = slice_split (is_mark 10) file
 
@@ -28,7 +28,7 @@ spaces = 32 ∷ 9 ∷ []
 abbrev pub blanks : List ℕ
 blanks = 32 ∷ 9 ∷ 13 ∷ []
 
--- of a line, what stands in front of the first `#`, and that without the white space at its ends
+-- of a line, what stands before the first `#`, and that without the white space at its ends
 abbrev pub before_comment : List ℕ → List ℕ
 before_comment line = before_first (is_mark 35) line
 
@@ -94,7 +94,7 @@ module _ {V : Type 0} (form : Form V) where
       if not (list_all is_ascii (before_comment line)) then Err cause.NotAscii
       else (if length (content_of line) == 0 then Ok None else by_fields (fields_of (content_of line)))
 
--- what stands behind the first mark, if there is one, and the parts that a first part and the rest have
+-- what stands after the first mark, if there is one, and the parts that a first part and the rest have
 abbrev pub rest_after : ℕ → List ℕ → Option (List ℕ)
 rest_after mark bytes = if list_any (is_mark mark) bytes then Some (after_first (is_mark mark) bytes) else None
 

@@ -1,5 +1,5 @@
 -- What a value of a file changes in the answers for the characters that it is given to. A pictograph is one to come until its category
--- says that it is assigned, so categories are put behind pictographs.
+-- says that it is assigned, so categories are put after pictographs.
 use Rattle.std.specs.Prelude.{true, false, Option, Some, None}
 use Rattle.ucd.specs.Answers.{Answers}
 use Rattle.ucd.specs.declared.bidi_class.BidiClass.{BidiClass}

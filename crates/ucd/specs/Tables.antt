@@ -108,11 +108,11 @@ module _ {V : Type 0} (number : ℕ) (form : Form V) (lines : List (List ℕ)) w
   abbrev pub IsFaultIn : TableFault → Type 0
   IsFaultIn fault = IsFaultBy fault.file fault.line fault.cause
 
-  -- the fault is in this file, or this file is good and the fault is in those behind it
+  -- the fault is in this file, or this file is good and the fault is in those after it
   abbrev pub IsInOr : (TableFault → Type 0) → TableFault → Type 0
-  IsInOr behind fault = IsFaultIn fault ⊎ (IsGood form lines × behind fault)
+  IsInOr after fault = IsFaultIn fault ⊎ (IsGood form lines × after fault)
 
--- the files in their order, in which the first fault is looked for: those on bidirectional text, and behind them those on line breaking
+-- the files in their order, in which the first fault is looked for: those on bidirectional text, and after them those on line breaking
 abbrev pub IsBidiFaultOf : UcdFiles → TableFault → Type 0
 IsBidiFaultOf files =
     IsInOr 1 bidi_class_form (lines_of files.bidi_class.now) (

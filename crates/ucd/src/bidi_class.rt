@@ -1,6 +1,8 @@
 //! The bidirectional classes (UAX #9, section 3.2, table 4).
-ghost use Rattle.std.specs.Prelude.{◌≡◌, codes};
+ghost use Rattle.std.specs.Prelude.{◌≡◌, ◌<◌, codes, slice_index_or};
 ghost use Rattle.ucd.specs.BidiClasses.{name_of, class_named, all_classes, bidi_class_form};
+ghost use Rattle.ucd.specs.declared.bidi_class.BidiClass.TheVariants.{L};
+ghost use Rattle.ucd.specs.declared.bidi_class.TheConstants.{BIDI_CLASS_COUNT};
 ghost use Rattle.ucd.specs.Puts.{put_bidi_class};
 
 use crate::grammar::Property;
@@ -35,38 +37,30 @@ pub enum BidiClass {
     PDI,
 }
 
-// Every class, in the order in which they are looked for.
-static ALL: [BidiClass; 23] = [
-    BidiClass::L,
-    BidiClass::R,
-    BidiClass::AL,
-    BidiClass::EN,
-    BidiClass::ES,
-    BidiClass::ET,
-    BidiClass::AN,
-    BidiClass::CS,
-    BidiClass::NSM,
-    BidiClass::BN,
-    BidiClass::B,
-    BidiClass::S,
-    BidiClass::WS,
-    BidiClass::ON,
-    BidiClass::LRE,
-    BidiClass::LRO,
-    BidiClass::RLE,
-    BidiClass::RLO,
-    BidiClass::PDF,
-    BidiClass::LRI,
-    BidiClass::RLI,
-    BidiClass::FSI,
-    BidiClass::PDI,
-];
+/// How many classes there are.
+pub(crate) const BIDI_CLASS_COUNT: usize = 23;
 
-// The short name of each, in the order of the classes.
-static NAMES: [&str; 23] = [
-    "L", "R", "AL", "EN", "ES", "ET", "AN", "CS", "NSM", "BN", "B", "S", "WS", "ON", "LRE", "LRO",
-    "RLE", "RLO", "PDF", "LRI", "RLI", "FSI", "PDI",
-];
+// The classes in the order of the enum, in which they are looked for, for the two lists of them.
+macro_rules! classes {
+    ($list:ident) => {
+        $list! {
+            L R AL EN ES ET AN CS NSM BN B S WS ON LRE LRO RLE RLO PDF LRI RLI FSI PDI
+        }
+    };
+}
+
+macro_rules! values {
+    ($($class:ident)*) => { [$(BidiClass::$class,)*] };
+}
+
+macro_rules! names {
+    ($($class:ident)*) => { [$(stringify!($class),)*] };
+}
+
+static ALL: [BidiClass; BIDI_CLASS_COUNT] = classes!(values);
+
+// The short name of each.
+static NAMES: [&str; BIDI_CLASS_COUNT] = classes!(names);
 
 impl BidiClass {
     /// The class with this short name.
@@ -74,6 +68,14 @@ impl BidiClass {
         ensures { result ≡ class_named name.now }
     {
         ALL.iter().copied().find(|class| class.name() == name)
+    }
+
+    /// The class at a place in the order of the enum.
+    pub(crate) fn at(place: usize) -> BidiClass
+        requires { place < BIDI_CLASS_COUNT }
+        ensures { result ≡ slice_index_or all_classes place L }
+    {
+        ALL[place]
     }
 
     // Its short name.

@@ -40,12 +40,12 @@ pub fn read_file<V: Property>(alloc: Global, file: &[u8]) -> Result<RangeTable<V
     let mut line = 0;
     let mut rest = Some(file);
     while let Some(text) = rest {
-        let (front, behind) = cut(text, b'\n');
+        let (front, after) = cut(text, b'\n');
         line += 1;
         if let Err(cause) = add_line(&mut table, front) {
             return Err(LineFault { line, cause });
         }
-        rest = behind;
+        rest = after;
     }
     Ok(table)
 }

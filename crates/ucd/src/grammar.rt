@@ -51,7 +51,7 @@ pub trait Property: Copy + Drop {
         ensures { result ≡ put self properties };
 }
 
-/// The bytes in front of the first `mark`, and those behind it if there is one.
+/// The bytes before the first `mark`, and those after it if there is one.
 pub(crate) fn cut(bytes: &[u8], mark: u8) -> (&[u8], Option<&[u8]>)
     ensures front { result.0.now ≡ before_first (is_mark mark) bytes.now }
     ensures rest { option_map (λ rest. rest.now) result.1 ≡ rest_after mark bytes.now }

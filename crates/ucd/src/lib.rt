@@ -19,11 +19,13 @@ mod points;
 mod properties;
 mod range_table;
 mod tables;
+mod version;
 mod width;
 
 pub use bidi_class::BidiClass;
 pub use bracket::Bracket;
 pub use fault::{Cause, FILE_NAMES, TableFault};
 pub use line_class::LineClass;
-pub use properties::Properties;
+pub use properties::{LINE_INDEX_COUNT, Properties};
 pub use tables::{Tables, UcdFiles};
+pub use version::UNICODE_VERSION;

@@ -1,6 +1,8 @@
 //! The line breaking classes (UAX #14, section 5.1, table 1), and how LineBreak.txt names them.
-ghost use Rattle.std.specs.Prelude.{◌≡◌, codes};
+ghost use Rattle.std.specs.Prelude.{◌≡◌, ◌<◌, codes, slice_index_or};
 ghost use Rattle.ucd.specs.LineClasses.{name_of, class_named, all_classes, line_class_form};
+ghost use Rattle.ucd.specs.declared.line_class.LineClass.TheVariants.{BK};
+ghost use Rattle.ucd.specs.declared.line_class.TheConstants.{LINE_CLASS_COUNT};
 ghost use Rattle.ucd.specs.Puts.{put_line_class};
 
 use crate::grammar::Property;
@@ -55,59 +57,31 @@ pub enum LineClass {
     XX,
 }
 
-// Every class, in the order in which they are looked for.
-static ALL: [LineClass; 43] = [
-    LineClass::BK,
-    LineClass::CM,
-    LineClass::CR,
-    LineClass::GL,
-    LineClass::LF,
-    LineClass::NL,
-    LineClass::SP,
-    LineClass::WJ,
-    LineClass::ZW,
-    LineClass::ZWJ,
-    LineClass::B2,
-    LineClass::BA,
-    LineClass::BB,
-    LineClass::CB,
-    LineClass::HY,
-    LineClass::CL,
-    LineClass::CP,
-    LineClass::EX,
-    LineClass::IN,
-    LineClass::NS,
-    LineClass::OP,
-    LineClass::QU,
-    LineClass::IS,
-    LineClass::NU,
-    LineClass::PO,
-    LineClass::PR,
-    LineClass::SY,
-    LineClass::AI,
-    LineClass::AL,
-    LineClass::CJ,
-    LineClass::EB,
-    LineClass::EM,
-    LineClass::H2,
-    LineClass::H3,
-    LineClass::HL,
-    LineClass::ID,
-    LineClass::JL,
-    LineClass::JT,
-    LineClass::JV,
-    LineClass::RI,
-    LineClass::SA,
-    LineClass::SG,
-    LineClass::XX,
-];
+/// How many classes there are.
+pub(crate) const LINE_CLASS_COUNT: usize = 43;
 
-// The short name of each, in the order of the classes.
-static NAMES: [&str; 43] = [
-    "BK", "CM", "CR", "GL", "LF", "NL", "SP", "WJ", "ZW", "ZWJ", "B2", "BA", "BB", "CB", "HY",
-    "CL", "CP", "EX", "IN", "NS", "OP", "QU", "IS", "NU", "PO", "PR", "SY", "AI", "AL", "CJ", "EB",
-    "EM", "H2", "H3", "HL", "ID", "JL", "JT", "JV", "RI", "SA", "SG", "XX",
-];
+// The classes in the order of the enum, in which they are looked for, for the two lists of them.
+macro_rules! classes {
+    ($list:ident) => {
+        $list! {
+            BK CM CR GL LF NL SP WJ ZW ZWJ B2 BA BB CB HY CL CP EX IN NS OP QU IS NU PO PR SY AI AL CJ EB
+            EM H2 H3 HL ID JL JT JV RI SA SG XX
+        }
+    };
+}
+
+macro_rules! values {
+    ($($class:ident)*) => { [$(LineClass::$class,)*] };
+}
+
+macro_rules! names {
+    ($($class:ident)*) => { [$(stringify!($class),)*] };
+}
+
+static ALL: [LineClass; LINE_CLASS_COUNT] = classes!(values);
+
+// The short name of each.
+static NAMES: [&str; LINE_CLASS_COUNT] = classes!(names);
 
 impl LineClass {
     /// The class with this short name.
@@ -115,6 +89,14 @@ impl LineClass {
         ensures { result ≡ class_named name.now }
     {
         ALL.iter().copied().find(|class| class.name() == name)
+    }
+
+    /// The class at a place in the order of the enum.
+    pub(crate) fn at(place: usize) -> LineClass
+        requires { place < LINE_CLASS_COUNT }
+        ensures { result ≡ slice_index_or all_classes place BK }
+    {
+        ALL[place]
     }
 
     // Its short name.

@@ -17,7 +17,7 @@ const PAGE: usize = 256;
 /// How many pages all code points fill.
 const PLACES: usize = 4_352;
 
-/// The pages, one behind another, and for each 256 code points the number of theirs.
+/// The pages, one after another, and for each 256 code points the number of theirs.
 #[derive(Debug, Drop)]
 pub struct Pages {
     pub(crate) index: Vec<u16>,

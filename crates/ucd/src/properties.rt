@@ -1,14 +1,20 @@
 //! What the tables say of one character, looked up once, in 16 bits.
 ghost use Rattle.std.specs.Prelude.{◌≡◌, ◌<◌, true, false, IsTrue};
+ghost use Rattle.ucd.specs.declared.properties.TheConstants.{LINE_INDEX_COUNT};
 
 use crate::bidi_class::BidiClass;
 use crate::line_class::LineClass;
 use std::marker::Model;
 
+/// How many numbers `Properties::line_index` may be: 8 for each line breaking class that six bits name.
+pub const LINE_INDEX_COUNT: usize = 512;
+
 /// What the tables say of one character, but for which bracket it pairs with and which mirror it has.
 ///
 /// From the lowest bit: five for the bidirectional class, one each for a bracket, a mirror, a future
-/// pictograph, a mark and a wide character, and six for the line breaking class.
+/// pictograph, a mark and a wide character, and six for the line breaking class. So all 16 are taken: there
+/// is room for 32 bidirectional classes and for 64 line breaking classes, and for no answer more. One more
+/// makes this a `u32`, and the pages of a table twice as large.
 #[derive(Clone, Copy, Debug)]
 pub struct Properties {
     bits: u16,
@@ -126,14 +132,14 @@ impl Properties {
     pub fn bidi_class(self) -> BidiClass
         ensures { result ≡ self.bidi_class }
     {
-        BIDI_CLASSES[(self.bits % 32) as usize]
+        BidiClass::at((self.bits % 32) as usize)
     }
 
     /// The line breaking class.
     pub fn line_class(self) -> LineClass
         ensures { result ≡ self.line_class }
     {
-        LINE_CLASSES[(self.bits / 1024) as usize]
+        LineClass::at((self.bits / 1024) as usize)
     }
 
     /// Whether the East Asian width is F, W or H.
@@ -175,80 +181,8 @@ impl Properties {
     /// `LineClass`, and 4 for a wide character, 2 for a mark and 1 for a future pictograph.
     pub fn line_index(self) -> usize
         ensures index { result ≡ line_index self }
-        ensures within { result < 512 }
+        ensures within { result < LINE_INDEX_COUNT }
     {
         (self.bits / 128) as usize
     }
 }
-
-static BIDI_CLASSES: [BidiClass; 23] = [
-    BidiClass::L,
-    BidiClass::R,
-    BidiClass::AL,
-    BidiClass::EN,
-    BidiClass::ES,
-    BidiClass::ET,
-    BidiClass::AN,
-    BidiClass::CS,
-    BidiClass::NSM,
-    BidiClass::BN,
-    BidiClass::B,
-    BidiClass::S,
-    BidiClass::WS,
-    BidiClass::ON,
-    BidiClass::LRE,
-    BidiClass::LRO,
-    BidiClass::RLE,
-    BidiClass::RLO,
-    BidiClass::PDF,
-    BidiClass::LRI,
-    BidiClass::RLI,
-    BidiClass::FSI,
-    BidiClass::PDI,
-];
-
-static LINE_CLASSES: [LineClass; 43] = [
-    LineClass::BK,
-    LineClass::CM,
-    LineClass::CR,
-    LineClass::GL,
-    LineClass::LF,
-    LineClass::NL,
-    LineClass::SP,
-    LineClass::WJ,
-    LineClass::ZW,
-    LineClass::ZWJ,
-    LineClass::B2,
-    LineClass::BA,
-    LineClass::BB,
-    LineClass::CB,
-    LineClass::HY,
-    LineClass::CL,
-    LineClass::CP,
-    LineClass::EX,
-    LineClass::IN,
-    LineClass::NS,
-    LineClass::OP,
-    LineClass::QU,
-    LineClass::IS,
-    LineClass::NU,
-    LineClass::PO,
-    LineClass::PR,
-    LineClass::SY,
-    LineClass::AI,
-    LineClass::AL,
-    LineClass::CJ,
-    LineClass::EB,
-    LineClass::EM,
-    LineClass::H2,
-    LineClass::H3,
-    LineClass::HL,
-    LineClass::ID,
-    LineClass::JL,
-    LineClass::JT,
-    LineClass::JV,
-    LineClass::RI,
-    LineClass::SA,
-    LineClass::SG,
-    LineClass::XX,
-];

@@ -86,7 +86,7 @@ fn close(
     Ok(())
 }
 
-// The newest opener that a closer matches: how many are held in front of it, and its place.
+// The newest opener that a closer matches: how many are held below it, and its place.
 fn newest(openers: &[Opener], c: char) -> Option<(usize, usize)> {
     let mut newest = None;
     for (held, opener) in openers.iter().enumerate() {
@@ -130,7 +130,7 @@ fn set_pair(
 }
 
 // The direction of a pair: that of the embedding where a strong type of it stands inside; else, where one of
-// the other stands inside, that of the nearest strong type in front.
+// the other stands inside, that of the nearest strong type before it.
 fn pair_direction(
     types: &[BidiClass],
     opener: usize,
@@ -155,7 +155,7 @@ fn stands_between(types: &[BidiClass], opener: usize, closer: usize, wanted: Bid
     false
 }
 
-// The direction of the nearest strong type in front of a place, or another where there is none.
+// The direction of the nearest strong type before a place, or another where there is none.
 fn direction_before(types: &[BidiClass], place: usize, other: BidiClass) -> BidiClass {
     let mut before = other;
     for class in types.iter().take(place) {
@@ -180,7 +180,7 @@ fn opposite(side: BidiClass) -> BidiClass {
     }
 }
 
-// Sets the type at a place, and those of the marks directly behind it.
+// Sets the type at a place, and those of the marks directly after it.
 fn set_with_marks(
     types: &mut [BidiClass],
     classes: &[BidiClass],

@@ -6,13 +6,13 @@ use ucd::BidiClass;
 /// the type on both sides of the sequence.
 pub fn resolve_neutral(types: &mut [BidiClass], side: BidiClass) {
     let mut before = side;
-    // The nearest place behind that has no neutral, where it isn't passed yet.
+    // The nearest place after this one that has no neutral, where it isn't passed yet.
     let mut end = 0;
     for at in 0..types.len() {
         let class = types[at];
         if is_neutral(class) {
             if end <= at {
-                end = behind_neutrals(types, at + 1);
+                end = after_neutrals(types, at + 1);
             }
             types[at] = between(side, before, type_or(types, end, side));
         } else {
@@ -36,7 +36,7 @@ fn is_neutral(class: BidiClass) -> bool {
 }
 
 // The least place from `from` on that has no neutral, or the length.
-fn behind_neutrals(types: &[BidiClass], from: usize) -> usize {
+fn after_neutrals(types: &[BidiClass], from: usize) -> usize {
     for at in from..types.len() {
         if !is_neutral(types[at]) {
             return at;
@@ -46,8 +46,8 @@ fn behind_neutrals(types: &[BidiClass], from: usize) -> usize {
 }
 
 // The direction of what stands between two types that are no neutrals.
-fn between(side: BidiClass, before: BidiClass, behind: BidiClass) -> BidiClass {
-    match (before, behind) {
+fn between(side: BidiClass, before: BidiClass, after: BidiClass) -> BidiClass {
+    match (before, after) {
         (BidiClass::L, BidiClass::L) => BidiClass::L,
         (BidiClass::L, _) | (_, BidiClass::L) => side,
         _ => BidiClass::R,

@@ -12,7 +12,7 @@ pub fn resolve_weak(types: &mut [BidiClass], sos: BidiClass) {
     w7(types, sos);
 }
 
-// W1: a mark takes the type of what stands in front of it.
+// W1: a mark takes the type of what stands before it.
 fn w1(types: &mut [BidiClass], sos: BidiClass) {
     let mut before = sos;
     for slot in types.iter_mut() {
@@ -24,19 +24,19 @@ fn w1(types: &mut [BidiClass], sos: BidiClass) {
 
 fn w1_type(class: BidiClass, before: BidiClass) -> BidiClass {
     match class {
-        BidiClass::NSM => mark_behind(before),
+        BidiClass::NSM => mark_after(before),
         _ => class,
     }
 }
 
-fn mark_behind(before: BidiClass) -> BidiClass {
+fn mark_after(before: BidiClass) -> BidiClass {
     match before {
         BidiClass::LRI | BidiClass::RLI | BidiClass::FSI | BidiClass::PDI => BidiClass::ON,
         _ => before,
     }
 }
 
-// The nearest type that is no mark, behind a character of this type.
+// The nearest type that is no mark, after a character of this type.
 fn unmarked_after(class: BidiClass, before: BidiClass) -> BidiClass {
     match class {
         BidiClass::NSM => before,
@@ -44,7 +44,7 @@ fn unmarked_after(class: BidiClass, before: BidiClass) -> BidiClass {
     }
 }
 
-// W2: a European number behind AL becomes an Arabic number.
+// W2: a European number after AL becomes an Arabic number.
 fn w2(types: &mut [BidiClass], sos: BidiClass) {
     let mut strong = sos;
     for slot in types.iter_mut() {
@@ -61,7 +61,7 @@ fn w2_type(class: BidiClass, strong: BidiClass) -> BidiClass {
     }
 }
 
-// The nearest strong type, behind a character of this type.
+// The nearest strong type, after a character of this type.
 fn strong_after(class: BidiClass, strong: BidiClass) -> BidiClass {
     match class {
         BidiClass::L | BidiClass::R | BidiClass::AL => class,
@@ -88,21 +88,21 @@ fn w4(types: &mut [BidiClass]) {
     let mut before = BidiClass::ON;
     for at in 0..types.len() {
         let class = types[at];
-        let behind = type_or(types, at + 1, BidiClass::ON);
-        types[at] = w4_type(before, class, behind);
+        let after = type_or(types, at + 1, BidiClass::ON);
+        types[at] = w4_type(before, class, after);
         before = class;
     }
 }
 
-fn w4_type(before: BidiClass, class: BidiClass, behind: BidiClass) -> BidiClass {
-    match (before, class, behind) {
+fn w4_type(before: BidiClass, class: BidiClass, after: BidiClass) -> BidiClass {
+    match (before, class, after) {
         (BidiClass::EN, BidiClass::ES | BidiClass::CS, BidiClass::EN) => BidiClass::EN,
         (BidiClass::AN, BidiClass::CS, BidiClass::AN) => BidiClass::AN,
         _ => class,
     }
 }
 
-/// The type at an index, or another behind the end.
+/// The type at an index, or another past the end.
 pub fn type_or(types: &[BidiClass], at: usize, other: BidiClass) -> BidiClass {
     if at < types.len() { types[at] } else { other }
 }
@@ -110,13 +110,13 @@ pub fn type_or(types: &[BidiClass], at: usize, other: BidiClass) -> BidiClass {
 // W5: European terminators in a row, next to a European number, become European numbers.
 fn w5(types: &mut [BidiClass]) {
     let mut before = BidiClass::ON;
-    // The nearest place behind that has no terminator, where it isn't passed yet.
+    // The nearest place after this one that has no terminator, where it isn't passed yet.
     let mut end = 0;
     for at in 0..types.len() {
         let class = types[at];
         if is_terminator(class) {
             if end <= at {
-                end = behind_terminators(types, at + 1);
+                end = after_terminators(types, at + 1);
             }
             types[at] = w5_type(before, type_or(types, end, BidiClass::ON));
         } else {
@@ -130,7 +130,7 @@ fn is_terminator(class: BidiClass) -> bool {
 }
 
 // The least place from `from` on that has no terminator, or the length.
-fn behind_terminators(types: &[BidiClass], from: usize) -> usize {
+fn after_terminators(types: &[BidiClass], from: usize) -> usize {
     for at in from..types.len() {
         if !is_terminator(types[at]) {
             return at;
@@ -140,8 +140,8 @@ fn behind_terminators(types: &[BidiClass], from: usize) -> usize {
 }
 
 // What a terminator becomes between two types.
-fn w5_type(before: BidiClass, behind: BidiClass) -> BidiClass {
-    match (before, behind) {
+fn w5_type(before: BidiClass, after: BidiClass) -> BidiClass {
+    match (before, after) {
         (BidiClass::EN, _) | (_, BidiClass::EN) => BidiClass::EN,
         _ => BidiClass::ET,
     }
@@ -161,7 +161,7 @@ fn w6_type(class: BidiClass) -> BidiClass {
     }
 }
 
-// W7: a European number behind L becomes L.
+// W7: a European number after L becomes L.
 fn w7(types: &mut [BidiClass], sos: BidiClass) {
     let mut strong = sos;
     for slot in types.iter_mut() {

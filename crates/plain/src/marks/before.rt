@@ -18,7 +18,7 @@ pub struct Before {
     pub is_future_pictograph: bool,
     /// The class of its last character, which is the one directly before the position.
     pub end: LineClass,
-    /// The class of the base in front of it.
+    /// The class of the base before it.
     pub second: Option<LineClass>,
     /// The class of the last base that is no space.
     pub unspaced: Option<LineClass>,
@@ -32,8 +32,7 @@ impl Before {
         Before::begun(first, None, None, false)
     }
 
-    /// The mark of the position in front of the next character, which is one of those before it
-    /// from then on.
+    /// The mark of the position before the next character, which is passed from then on.
     pub fn pass(&mut self, next: &Character, numbers: Numbers) -> Mark {
         if self.keeps(next) {
             self.end = next.class;
@@ -49,7 +48,7 @@ impl Before {
         has(CM | ZWJ, next.class) && !has(BK | CR | LF | NL | SP | ZW, self.end)
     }
 
-    // A base that begins with this character, and what is kept of those in front of it.
+    // A base that begins with this character, and what is kept of those before it.
     fn begun(
         first: &Character,
         second: Option<LineClass>,

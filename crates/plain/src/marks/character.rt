@@ -20,7 +20,7 @@ impl Character {
     }
 
     /// The class of the base that begins with the character: LB10 makes an AL of a CM or ZWJ that
-    /// stands behind no base.
+    /// stands after no base.
     pub fn base_class(&self) -> LineClass {
         match self.class {
             LineClass::CM | LineClass::ZWJ => LineClass::AL,

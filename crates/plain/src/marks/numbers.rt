@@ -28,7 +28,7 @@ pub fn is_in_number(classes: &[LineClass], place: usize) -> bool {
 fn begins_number(classes: &[LineClass], start: usize, place: usize) -> bool {
     let mut at = Place::Start;
     for i in start..classes.len() {
-        let Some(next) = behind(at, classes[i]) else {
+        let Some(next) = place_after(at, classes[i]) else {
             return false;
         };
         if i >= place && is_number(next) {
@@ -39,7 +39,7 @@ fn begins_number(classes: &[LineClass], start: usize, place: usize) -> bool {
     false
 }
 
-fn behind(at: Place, class: LineClass) -> Option<Place> {
+fn place_after(at: Place, class: LineClass) -> Option<Place> {
     match at {
         Place::Start if has(PR | PO, class) => Some(Place::Affix),
         Place::Start | Place::Affix if has(OP | HY, class) => Some(Place::Opening),

@@ -16,7 +16,7 @@ pub enum Left {
     IsNarrow(Classes),
     /// It has none of the classes.
     IsNot(Classes),
-    /// The base in front of it has one of the first classes, and it one of the second.
+    /// The base before it has one of the first classes, and it one of the second.
     IsPair(Classes, Classes),
     /// The last base that is no space has one of the classes.
     IsSpaced(Classes),
@@ -28,7 +28,7 @@ pub enum Left {
     IsFuturePictograph,
 }
 
-/// What a rule asks of the base behind a position.
+/// What a rule asks of the base after a position.
 #[derive(Clone, Copy)]
 pub enum Right {
     Any,
@@ -65,19 +65,19 @@ impl Left {
 }
 
 impl Right {
-    fn holds(&self, behind: &Character) -> bool {
+    fn holds(&self, after: &Character) -> bool {
         match *self {
             Right::Any => true,
-            Right::Is(classes) => has(classes, behind.base_class()),
-            Right::IsNarrow(classes) => { has(classes, behind.base_class()) && !behind.is_wide }
+            Right::Is(classes) => has(classes, after.base_class()),
+            Right::IsNarrow(classes) => { has(classes, after.base_class()) && !after.is_wide }
         }
     }
 }
 
 // The mark of the first rule of which both conditions hold.
-fn first_mark(rules: &[Rule], before: &Before, behind: &Character) -> Option<Mark> {
+fn first_mark(rules: &[Rule], before: &Before, after: &Character) -> Option<Mark> {
     for Rule(left, right, mark) in rules {
-        if left.holds(before) && right.holds(behind) {
+        if left.holds(before) && right.holds(after) {
             return Some(*mark);
         }
     }
@@ -92,21 +92,21 @@ pub enum Numbers {
     Outside,
 }
 
-/// The mark of the position between the bases before it and the one that begins with `behind`, and LB31
+/// The mark of the position between the bases before it and the one that begins with `after`, and LB31
 /// where no rule holds.
-pub fn mark_between(before: &Before, behind: &Character, numbers: Numbers) -> Mark {
-    if let Some(mark) = first_mark(&RULES_BEFORE_NUMBERS, before, behind) {
+pub fn mark_between(before: &Before, after: &Character, numbers: Numbers) -> Mark {
+    if let Some(mark) = first_mark(&RULES_BEFORE_NUMBERS, before, after) {
         return mark;
     }
     let in_number = match numbers {
-        Numbers::Pairs => first_mark(&RULES_OF_NUMBERS, before, behind),
+        Numbers::Pairs => first_mark(&RULES_OF_NUMBERS, before, after),
         Numbers::Inside => Some(Mark::Never),
         Numbers::Outside => None,
     };
     if let Some(mark) = in_number {
         return mark;
     }
-    first_mark(&RULES_BEHIND_NUMBERS, before, behind).unwrap_or(Mark::May)
+    first_mark(&RULES_AFTER_NUMBERS, before, after).unwrap_or(Mark::May)
 }
 
 const LETTERS: Classes = AL | HL;
@@ -179,7 +179,7 @@ const RULES_OF_NUMBERS: [Rule; 3] = [
     Rule(Left::Is(HY | IS | NU | SY), Right::Is(NU), Mark::Never),
 ];
 
-const RULES_BEHIND_NUMBERS: [Rule; 12] = [
+const RULES_AFTER_NUMBERS: [Rule; 12] = [
     // LB26
     Rule(Left::Is(JL), Right::Is(JL | JV | H2 | H3), Mark::Never),
     Rule(Left::Is(JV | H2), Right::Is(JV | JT), Mark::Never),

@@ -45,32 +45,32 @@ all_levels bracket text classes base characters left done kept there e =
     )
 
 pub resolve_stayed-requires-clause-stayed : goal.resolve_stayed-requires-clause-stayed
-resolve_stayed-requires-clause-stayed c = whole c.args.acting.now c.args.base c.explicit.new.stayed c.requires.low c.in_ok-explicit.ensures
+resolve_stayed-requires-clause-stayed c = whole c.args.paragraph.now.classes.now c.args.paragraph.now.base c.explicit.new.stayed c.requires.low c.in_ok-explicit.ensures
 
 pub resolve_stayed-requires-clause-characters : goal.resolve_stayed-requires-clause-characters
 resolve_stayed-requires-clause-characters c =
-    let kept : IsStayed c.args.acting.now c.args.base c.explicit.new.stayed = c.in_ok-explicit.ensures in
-    ap length (c.deref-2.ensures.value ∙ c.in_ok-stayed_characters.ensures) ∙ length-map (stayed c.args.acting.now) (slice_index c.args.text.now)
-    ∙ sym (ap length kept.levels_are ∙ length-map (stayed c.args.acting.now) (level_at c.args.base c.args.acting.now))
+    let kept : IsStayed c.args.paragraph.now.classes.now c.args.paragraph.now.base c.explicit.new.stayed = c.in_ok-explicit.ensures in
+    ap length (c.deref-2.ensures.value ∙ c.in_ok-stayed_characters.ensures) ∙ length-map (stayed c.args.paragraph.now.classes.now) (slice_index c.args.paragraph.now.text.characters.now)
+    ∙ sym (ap length kept.levels_are ∙ length-map (stayed c.args.paragraph.now.classes.now) (level_at c.args.paragraph.now.base c.args.paragraph.now.classes.now))
 
 pub resolve_stayed-requires-clause-brackets : goal.resolve_stayed-requires-clause-brackets
 resolve_stayed-requires-clause-brackets c = λ none.
-    let P : ℕ → Type 0 = λ b. bracket_of c.args.tables.now b ≡ None in
+    let P : ℕ → Type 0 = λ b. bracket_of c.args.paragraph.now.text.tables.now b ≡ None in
     subst (All P) (sym (c.deref-2.ensures.value ∙ c.in_ok-stayed_characters.ensures))
-    (All-kept P c.args.text.now (length c.args.acting.now) (λ k. not (is_removed (class_at c.args.acting.now k))) c.requires.sizes (c.requires.brackets none))
+    (All-kept P c.args.paragraph.now.text.characters.now (length c.args.paragraph.now.classes.now) (λ k. not (is_removed (class_at c.args.paragraph.now.classes.now k))) c.requires.sizes (c.requires.brackets none))
 
 pub resolve_stayed-requires-clause-found : goal.resolve_stayed-requires-clause-found
 resolve_stayed-requires-clause-found c = λ found.
-    let kept : IsStayed c.args.acting.now c.args.base c.explicit.new.stayed = c.in_ok-explicit.ensures in
+    let kept : IsStayed c.args.paragraph.now.classes.now c.args.paragraph.now.base c.explicit.new.stayed = c.in_ok-explicit.ensures in
     let both = c.are_still_found-is_found.ensures found in
-    let all : c.explicit.new.stayed.classes.items ≡ c.args.acting.now =
-    all_stay c.args.acting.now c.explicit.new.stayed.classes.items kept.classes_are (sym (ap length c.deref.ensures.value) ∙ both.1) in
+    let all : c.explicit.new.stayed.classes.items ≡ c.args.paragraph.now.classes.now =
+    all_stay c.args.paragraph.now.classes.now c.explicit.new.stayed.classes.items kept.classes_are (sym (ap length c.deref.ensures.value) ∙ both.1) in
     c.requires.found both.0 ∙ ap matches_of (sym all)
 
 pub returns : goal.returns
 returns c =
-    let kept : IsStayed c.args.acting.now c.args.base c.explicit.new.stayed = c.in_ok-explicit.ensures in
+    let kept : IsStayed c.args.paragraph.now.classes.now c.args.paragraph.now.base c.explicit.new.stayed = c.in_ok-explicit.ensures in
     c.in_ok-put_back.ensures
-    ∙ ap (put_back c.args.base c.args.acting.now) c.deref-3.ensures.value
-    ∙ all_levels (bracket_of c.args.tables.now) c.args.text.now c.args.acting.now c.args.base c.deref-2.result.now c.explicit.new.stayed _ kept
+    ∙ ap (put_back c.args.paragraph.now.base c.args.paragraph.now.classes.now) c.deref-3.ensures.value
+    ∙ all_levels (bracket_of c.args.paragraph.now.text.tables.now) c.args.paragraph.now.text.characters.now c.args.paragraph.now.classes.now c.args.paragraph.now.base c.deref-2.result.now c.explicit.new.stayed _ kept
     (c.deref-2.ensures.value ∙ c.in_ok-stayed_characters.ensures) c.in_ok-resolve_stayed.ensures

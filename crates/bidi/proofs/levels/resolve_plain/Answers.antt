@@ -8,10 +8,10 @@ use Rattle.bidi.proofs.levels.resolve_plain.Goals as goal
 
 pub returns : goal.returns
 returns c =
-    let bracket = bracket_of c.args.tables.now in
-    let text = c.args.text.now in
-    let classes = c.args.classes.now in
-    let base = c.args.base in
+    let bracket = bracket_of c.args.paragraph.now.text.tables.now in
+    let text = c.args.paragraph.now.text.characters.now in
+    let classes = c.args.paragraph.now.classes.now in
+    let base = c.args.paragraph.now.base in
     let written = c.resolve_types.new.levels in
     let types : c.deref_mut.result.now ≡ classes = c.deref_mut.ensures.value ∙ c.in_ok-copy_types.ensures in
     let made : written ≡ sequence_levels bracket base c.direction-side.result c.direction-side.result text c.deref_mut.result.now = c.in_ok-resolve_types.ensures in

@@ -30,7 +30,7 @@ loop-at-preserved c =
             | else-completes w' ↦ ap (take at) w'.types-is ∙ c.loop-at.invariant.waiting
                 ∙ ap (λ t. take start current ++ replicate (at - start) t) (sym (cond-false (completes row number) value ON (sym whether ∙ w'.if-completes.false)))
           ] in
-          let behind : drop at filled ≡ drop at current =
+          let after : drop at filled ≡ drop at current =
           elim w.if-completes.branch [
             | then-completes w' ↦ ap (drop at) w'.types-is ∙ w'.fill.ensures.rest
             | else-completes w' ↦ ap (drop at) w'.types-is
@@ -39,7 +39,7 @@ loop-at-preserved c =
           types-next c.args.sos c.args.types.now current c.loop-at.before c.loop-at.strong row start at c.loop-at.invariant L (omega arith)
           c.mark_type-marked.result number value filled c.mark_type-marked.ensures is_number
           (w.written-value.ensures ∙ ap (λ left. written row left number) w.is_left.ensures)
-          w.if-completes.auto.types behind front w.start_after-start.result w.start_after-start.ensures)
+          w.if-completes.auto.types after front w.start_after-start.result w.start_after-start.ensures)
       | else-is_weak w ↦
           rw (w.types-is, w.start-is, w.row-is, c.unmarked_after-before.ensures, c.strong_after-strong.ensures) (
           types-other c.args.sos c.args.types.now current c.loop-at.before c.loop-at.strong row start at c.loop-at.invariant L (omega arith)

@@ -9,7 +9,7 @@ use Rattle.breaks.proofs.mark.mark_properties.Goals as goal
 pub returns-in_default : goal.returns-in_default
 returns-in_default c = none_at_all _ _ _ _ (no_text _ _ _ c.requires.properties c.in_default.ensures.cases) c.requires.len
 
--- behind the first
+-- after the first
 pub loop-i-init : goal.loop-i-init
 loop-i-init c = record {
   walks = (alone (character_by c.in-Some.first.now), [], c.start-walk.ensures.stands c.args.whole_numbers, begins_read _ _ _ _ _ _ c.requires.properties c.in-Some.ensures.cases.0);
@@ -22,11 +22,11 @@ pub loop-i-preserved : goal.loop-i-preserved
 loop-i-preserved c =
     let lt : c.loop-i.i < length c.loop-i.marks = omega arith in
     record {
-      walks = steps character_by c.in-Some.rest.now _ c.args.whole_numbers c.loop-i.i _ _ _ _ c.loop-i.marks _ c.mark_in_properties.result c.pass-decided.result (omega arith) c.read.ensures refl c.loop-i.invariant.walks c.pass-decided.ensures.passes c.mark_in_properties.ensures (take_more_set c.loop-i.marks c.loop-i.i c.mark_in_properties.result lt);
-      len = length-set c.loop-i.marks c.loop-i.i c.mark_in_properties.result ∙ c.loop-i.invariant.len;
+      walks = steps character_by c.in-Some.rest.now _ c.args.whole_numbers c.loop-i.i _ _ _ _ c.loop-i.marks _ c.mark_before.result c.pass-decided.result (omega arith) c.read.ensures refl c.loop-i.invariant.walks c.pass-decided.ensures.passes c.mark_before.ensures (take_more_set c.loop-i.marks c.loop-i.i c.mark_before.result lt);
+      len = length-set c.loop-i.marks c.loop-i.i c.mark_before.result ∙ c.loop-i.invariant.len;
       within = c.pass-decided.ensures.within;
     }
 
--- behind the last one
+-- after the last one
 pub returns : goal.returns
 returns c = ends character_by c.in-Some.rest.now _ c.args.whole_numbers c.loop-i.i _ c.loop-i.marks (omega arith) c.loop-i.invariant.len c.loop-i.invariant.walks

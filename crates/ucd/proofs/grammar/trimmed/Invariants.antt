@@ -2,7 +2,7 @@ use Rattle.std.proofs.Common.{◌≡◌, ℕ, ◌-◌, ◌<◌, ◌≤◌, lengt
 use Rattle.ucd.specs.Grammar.{is_one_of}
 use Rattle.ucd.proofs.grammar.trimmed.Given as goal
 
--- the bytes in front of `start` pass the test
+-- the bytes before `start` pass the test
 abbrev pub invariant-loop-start : goal.invariant-loop-start
 invariant-loop-start l = record {
   within : l.start ≤ length l.bytes;

@@ -2,6 +2,7 @@ use Rattle.std.proofs.Common.{◌+◌, ◌<◌, arith, sym}
 use Rattle.breaks.specs.Symbols.{character_by}
 use Rattle.breaks.proofs.PassLemmas.{passes_as, row_within}
 use Rattle.breaks.proofs.walk.Walk.pass.Goals as goal
+use Rattle.breaks.specs.declared.table.TheConstants.{ENTRY_COUNT}
 
 pub returns-clause-passes : goal.returns-clause-passes
 returns-clause-passes c =
@@ -10,5 +11,5 @@ returns-clause-passes c =
 
 pub returns-clause-within : goal.returns-clause-within
 returns-clause-within c =
-    let below : c.args.self.now.row + c.symbol_of-symbol.result < 1640 = omega arith in
+    let below : c.args.self.now.row + c.symbol_of-symbol.result < ENTRY_COUNT = omega arith in
     row_within _ _ below c.entry-entry.ensures

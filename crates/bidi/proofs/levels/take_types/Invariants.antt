@@ -1,6 +1,0 @@
-use Rattle.std.proofs.Common.{◌≡◌, map, take}
-use Rattle.bidi.specs.Classes.{class_at}
-use Rattle.bidi.proofs.levels.take_types.Given as goal
-
-abbrev pub invariant-loop-place : goal.invariant-loop-place
-invariant-loop-place l = l.types.items ≡ map (class_at l.all) (take l.place-index l.places)

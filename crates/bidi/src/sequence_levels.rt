@@ -1,0 +1,319 @@
+//! The levels of isolating run sequences (UAX #9, W1 to I2), one sequence after another.
+ghost use Rattle.std.specs.Prelude.{◌≡◌, ◌-◌, ◌<◌, ◌≤◌, false, map, replicate, length, slice_index};
+ghost use Rattle.std.specs.Prelude.{IfSome, OnOk};
+ghost use Rattle.std.specs.List.{range_with_len};
+ghost use Rattle.ucd.specs.Tables.{bracket_of};
+ghost use Rattle.bidi.specs.Classes.{class_at};
+ghost use Rattle.bidi.specs.Levels.{put, sequence_levels};
+ghost use Rattle.bidi.specs.Paragraphs.{AreSides, AreSidesBetween, IsReady, Takes, TellsBrackets};
+ghost use Rattle.bidi.specs.Paragraphs.{resolved_by, sequence_in, write_by};
+ghost use Rattle.bidi.specs.Runs.{AreWithin, IsRunEnd, marked};
+
+use crate::brackets::{Pairs, copy_types};
+use crate::explicit::Stayed;
+use crate::neutral::resolve_neutral;
+use crate::sequences::{direction, eos, gather, next_run, run_end, sos};
+use crate::weak::resolve_weak;
+use std::alloc::{AllocError, Global};
+use ucd::{BidiClass, Tables};
+
+/// The characters of a paragraph or of a part of it, and the tables that say which of them are brackets.
+#[derive(Clone, Copy)]
+pub(crate) struct Text<'a> {
+    pub tables: &'a Tables,
+    pub characters: &'a [char],
+    /// Where it is false, none of the characters is a bracket.
+    pub has_brackets: bool,
+}
+
+/// The characters that X9 leaves, with what is found of them before their sequences are resolved.
+#[derive(Clone, Copy)]
+pub(crate) struct Paragraph<'a> {
+    pub text: Text<'a>,
+    pub base: u8,
+    pub stayed: &'a Stayed,
+    pub matches: &'a [usize],
+}
+
+/// What a sequence is resolved by: its level, and the directions at both of its ends.
+#[derive(Clone, Copy, Debug, PartialEq, Eq)]
+pub(crate) struct Sides {
+    pub level: u8,
+    pub sos: BidiClass,
+    pub eos: BidiClass,
+}
+
+fn sides_of(paragraph: &Paragraph<'_>, places: &[usize]) -> Sides
+    requires paragraph { IsReady paragraph.now }
+    requires some { 0 < length places.now }
+    requires within { AreWithin (length paragraph.now.stayed.now.levels.items) places.now }
+    ensures sides { AreSides paragraph.now places.now result }
+    ensures bounded { result.level ≤ 125 }
+{
+    let first = places[0];
+    let last = places[places.len() - 1];
+    sides_between(paragraph, first, last)
+}
+
+// What a sequence is resolved by that begins and ends at these places.
+fn sides_between(paragraph: &Paragraph<'_>, first: usize, last: usize) -> Sides
+    requires paragraph { IsReady paragraph.now }
+    requires first { first < length paragraph.now.stayed.now.levels.items }
+    requires last { last < length paragraph.now.stayed.now.levels.items }
+    ensures sides { AreSidesBetween paragraph.now first last result }
+    ensures bounded { result.level ≤ 125 }
+{
+    let levels = paragraph.stayed.levels.as_slice();
+    let classes = paragraph.stayed.classes.as_slice();
+    Sides {
+        level: levels[first],
+        sos: sos(levels, paragraph.base, first),
+        eos: eos(classes, levels, paragraph.matches, paragraph.base, last),
+    }
+}
+
+/// The levels of a sequence, by all rules over its types, from the weak to the implicit ones.
+pub(crate) fn resolve_types(
+    text: &Text<'_>,
+    explicit: &[BidiClass],
+    sides: Sides,
+    types: &mut [BidiClass],
+    pairs: &mut Pairs,
+    levels: &mut [u8],
+) -> Result<(), AllocError>
+    requires characters { length text.now.characters.now ≡ length types.old }
+    requires brackets { TellsBrackets text.now }
+    requires explicit { explicit.now ≡ types.old }
+    requires levels { length levels.old ≡ length types.old }
+    requires bounded { sides.level ≤ 125 }
+    ensures { OnOk result (levels.new
+        ≡ sequence_levels (bracket_of text.now.tables.now) sides.level sides.sos sides.eos
+        text.now.characters.now types.old) }
+{
+    resolve_weak(types, sides.sos);
+    if text.has_brackets {
+        let embedding = direction(sides.level);
+        let characters = text.characters;
+        pairs.resolve(
+            text.tables,
+            characters,
+            explicit,
+            types,
+            embedding,
+            sides.sos,
+        )?;
+    }
+    resolve_neutral(types, sides.level, sides.sos, sides.eos, levels);
+    Ok(())
+}
+
+// The types of a sequence, at its places.
+fn take_types(
+    all: &[BidiClass],
+    places: &[usize],
+    types: &mut Vec<BidiClass>,
+) -> Result<(), AllocError>
+    requires { AreWithin (length all.now) places.now }
+    ensures { OnOk result (types.new.items ≡ map (class_at all.now) places.now) }
+{
+    types.clear();
+    for place in places {
+        types.push(all[*place])?;
+    }
+    Ok(())
+}
+
+// The characters of a sequence, at its places.
+fn take_characters(
+    all: &[char],
+    places: &[usize],
+    characters: &mut Vec<char>,
+) -> Result<(), AllocError>
+    requires { AreWithin (length all.now) places.now }
+    ensures { OnOk result (characters.new.items ≡ map (slice_index all.now) places.now) }
+{
+    characters.clear();
+    for place in places {
+        characters.push(all[*place])?;
+    }
+    Ok(())
+}
+
+// Writes the level of each character of a sequence to its place.
+fn put_levels(levels: &mut [u8], places: &[usize], values: &[u8])
+    requires within { AreWithin (length levels.old) places.now }
+    requires length { length values.now ≡ length places.now }
+    ensures { levels.new ≡ put levels.old places.now values.now }
+{
+    for (at, place) in places.iter().enumerate() {
+        levels[*place] = values[at];
+    }
+}
+
+/// What the levels of a sequence are found in, used again for each sequence: the places of its
+/// characters, these, their explicit types, their types and their levels.
+#[derive(Debug, Drop)]
+pub(crate) struct Sequence {
+    places: Vec<usize>,
+    characters: Vec<char>,
+    explicit: Vec<BidiClass>,
+    pub types: Vec<BidiClass>,
+    pub pairs: Pairs,
+    levels: Vec<u8>,
+}
+
+impl Sequence {
+    pub fn new(alloc: Global) -> Sequence {
+        Sequence {
+            places: Vec::new(alloc),
+            characters: Vec::new(alloc),
+            explicit: Vec::new(alloc),
+            types: Vec::new(alloc),
+            pairs: Pairs::new(alloc),
+            levels: Vec::new(alloc),
+        }
+    }
+
+    // Takes the sequence that begins at `start`.
+    fn take(&mut self, paragraph: &Paragraph<'_>, start: usize) -> Result<(), AllocError>
+        requires paragraph { IsReady paragraph.now }
+        requires within { start < length paragraph.now.stayed.now.levels.items }
+        ensures { OnOk result (Takes paragraph.now start self.new) }
+    {
+        let stayed = paragraph.stayed;
+        gather(
+            &stayed.classes,
+            &stayed.levels,
+            paragraph.matches,
+            start,
+            &mut self.places,
+        )?;
+        take_characters(
+            paragraph.text.characters,
+            &self.places,
+            &mut self.characters,
+        )?;
+        take_types(&stayed.types, &self.places, &mut self.explicit)?;
+        copy_types(&self.explicit, &mut self.types)
+    }
+
+    // Finds the levels of a run that is a sequence of its own, and writes them to their places. It is
+    // resolved where it stands.
+    fn resolve_run(
+        &mut self,
+        paragraph: &Paragraph<'_>,
+        start: usize,
+        end: usize,
+        resolved: &mut [u8],
+    ) -> Result<(), AllocError>
+        requires paragraph { IsReady paragraph.now }
+        requires run { (start < end) × (end ≤ length paragraph.now.stayed.now.levels.items) }
+        requires alone { sequence_in paragraph.now start ≡ range_with_len start (end - start) }
+        requires resolved { length resolved.old ≡ length paragraph.now.stayed.now.levels.items }
+        ensures { OnOk result (resolved.new ≡ write_by paragraph.now resolved.old start) }
+    {
+        let explicit = &paragraph.stayed.types[start..end];
+        copy_types(explicit, &mut self.types)?;
+        let text = Text {
+            characters: &paragraph.text.characters[start..end],
+            ..paragraph.text
+        };
+        resolve_types(
+            &text,
+            explicit,
+            sides_between(paragraph, start, end - 1),
+            &mut self.types,
+            &mut self.pairs,
+            &mut resolved[start..end],
+        )?;
+        Ok(())
+    }
+
+    // Finds the levels of the sequence that begins with the run from `start` to `end`, and writes them to
+    // their places.
+    fn resolve(
+        &mut self,
+        paragraph: &Paragraph<'_>,
+        start: usize,
+        end: usize,
+        resolved: &mut [u8],
+    ) -> Result<(), AllocError>
+        requires paragraph { IsReady paragraph.now }
+        requires run { IsRunEnd paragraph.now.stayed.now.levels.items start end }
+        requires resolved { length resolved.old ≡ length paragraph.now.stayed.now.levels.items }
+        ensures { OnOk result (resolved.new ≡ write_by paragraph.now resolved.old start) }
+    {
+        match next_run(&paragraph.stayed.levels, paragraph.matches, end) {
+            Some(_) => self.resolve_gathered(paragraph, start, resolved),
+            None => self.resolve_run(paragraph, start, end, resolved),
+        }
+    }
+
+    // Finds the levels of the sequence that begins at `start` in lists of its own, and writes them to their
+    // places.
+    fn resolve_gathered(
+        &mut self,
+        paragraph: &Paragraph<'_>,
+        start: usize,
+        resolved: &mut [u8],
+    ) -> Result<(), AllocError>
+        requires paragraph { IsReady paragraph.now }
+        requires within { start < length paragraph.now.stayed.now.levels.items }
+        requires resolved { length resolved.old ≡ length paragraph.now.stayed.now.levels.items }
+        ensures { OnOk result (resolved.new ≡ write_by paragraph.now resolved.old start) }
+    {
+        self.take(paragraph, start)?;
+        let sides = sides_of(paragraph, &self.places);
+        self.levels.resize(self.types.len(), 0)?;
+        let text = Text {
+            characters: &self.characters,
+            ..paragraph.text
+        };
+        resolve_types(
+            &text,
+            &self.explicit,
+            sides,
+            &mut self.types,
+            &mut self.pairs,
+            &mut self.levels,
+        )?;
+        put_levels(resolved, &self.places, &self.levels);
+        Ok(())
+    }
+}
+
+// Marks the place where a run begins in which another continues.
+fn mark(continued: &mut [bool], next: Option<usize>)
+    requires { IfSome next (λ place. place < length continued.old) }
+    ensures { continued.new ≡ marked continued.old next }
+{
+    if let Some(next) = next {
+        continued[next] = true;
+    }
+}
+
+/// Finds the levels of all sequences, run by run, and writes them to their places.
+pub(crate) fn resolve_runs(
+    paragraph: &Paragraph<'_>,
+    sequence: &mut Sequence,
+    continued: &mut [bool],
+    done: &mut [u8],
+) -> Result<(), AllocError>
+    requires paragraph { IsReady paragraph.now }
+    requires continued { continued.old ≡ replicate (length paragraph.now.stayed.now.levels.items) false }
+    requires done { done.old ≡ paragraph.now.stayed.now.levels.items }
+    ensures { OnOk result (done.new ≡ resolved_by paragraph.now) }
+{
+    let levels = paragraph.stayed.levels.as_slice();
+    let mut start = 0;
+    while start < levels.len() {
+        let end = run_end(levels, start);
+        // A run in which an earlier one continues belongs to the sequence of that one.
+        if !continued[start] {
+            sequence.resolve(paragraph, start, end, done)?;
+        }
+        mark(continued, next_run(levels, paragraph.matches, end));
+        start = end;
+    }
+    Ok(())
+}

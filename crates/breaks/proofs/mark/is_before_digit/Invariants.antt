@@ -1,0 +1,8 @@
+use Rattle.std.proofs.Common.{◌≡◌, map, drop}
+use Rattle.breaks.specs.Symbols.{character_by}
+use Rattle.breaks.specs.Walk.{is_before_digit}
+use Rattle.breaks.proofs.mark.is_before_digit.Given as goal
+
+-- what is read so far is attached to what stands before
+abbrev pub invariant-loop-i : goal.invariant-loop-i
+invariant-loop-i l = is_before_digit (map character_by (drop l.i l.properties)) ≡ is_before_digit (map character_by (drop l.fn.from l.properties))
