@@ -209,7 +209,8 @@ def entry(state, symbol):
         return STATE_NAMES[state], "S"
     next_known = known([Base(SYMBOLS[symbol]), *STATES[state]])
     if next_known not in KNOWN:
-        sys.exit(f"table.py: no state is to the rules as {SYMBOL_NAMES[symbol]} after {STATE_NAMES[state]}")
+        shown = f"{SYMBOL_NAMES[symbol]} after {STATE_NAMES[state]}"
+        sys.exit(f"table.py: no state is to the rules as {shown}: specs/Walk.antt and src/table.rt want one more")
     return STATE_NAMES[KNOWN.index(next_known)], outcome(state, symbol)
 
 
