@@ -4,5 +4,5 @@
 mod options;
 mod words;
 
-pub use options::{LineFault, Settings};
+pub use options::{SettingsFault, Settings};
 pub use words::settings;

@@ -23,7 +23,7 @@ pub struct Settings<'a> {
 
 /// Why a command line is refused.
 #[derive(Debug, Drop, Error)]
-pub enum LineFault {
+pub enum SettingsFault {
     /// The words are no use of the program, or ask for help, which is the error's text.
     #[error("{0}")]
     Words(clap::Error),
@@ -35,7 +35,7 @@ pub enum LineFault {
     NoMemory,
 }
 
-impl LineFault {
+impl SettingsFault {
     ghost use Rattle.command_line.specs.Status.{status_of_line};
 
     /// The exit status: 0 for help, 1 where memory ran out, and else 2.
@@ -43,10 +43,10 @@ impl LineFault {
         ensures { result ≡ status_of_line self.now }
     {
         match self {
-            LineFault::Words(error) => { if error.use_stderr() { 2 } else { 0 } }
-            LineFault::NoMemory => 1,
-            LineFault::Directions => 2,
-            LineFault::ScriptFiles => 2,
+            SettingsFault::Words(error) => { if error.use_stderr() { 2 } else { 0 } }
+            SettingsFault::NoMemory => 1,
+            SettingsFault::Directions => 2,
+            SettingsFault::ScriptFiles => 2,
         }
     }
 }

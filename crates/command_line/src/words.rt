@@ -1,15 +1,15 @@
 //! The words, as `clap` is told of them, and what their matches are.
-ghost use Rattle.std.specs.Prelude.{◌≡◌, List, codes, fold, map, option_map, true, false, is_some};
+ghost use Rattle.std.specs.Prelude.{◌≡◌, List, codes, fold, map, not, option_map, true, false, is_some};
 ghost use Rattle.std.specs.Prelude.{IfOk, IfErr, IfSome};
 ghost use Rattle.clap.specs.Words.{Text, app_of, found_of, rows_of, rule_of, with_rule};
 ghost use Rattle.clap.specs.Takes.{is_given};
 ghost use Rattle.command_line.specs.CommandLine.{program, ucd_rule, width_rule, script_rule};
 ghost use Rattle.command_line.specs.CommandLine.{files_rule, flag_rule};
-ghost use Rattle.command_line.specs.CommandLine.{AreMatches, AreSettings, IsLineFault};
+ghost use Rattle.command_line.specs.CommandLine.{AreMatches, AreSettings, IsSettingsFault};
 ghost use Rattle.command_line.specs.CommandLine.{base_by, base_of, fits_script};
 ghost use Rattle.command_line.specs.CommandLine.{layout_rules, print_rules};
 
-use crate::options::{LineFault, Settings};
+use crate::options::{SettingsFault, Settings};
 use bidi::Base;
 use clap::error::ErrorKind;
 use clap::parser::ValueSource;
@@ -191,37 +191,37 @@ fn fits_script(script: Option<&str>, texts: usize) -> bool
 }
 
 // The matches of the words.
-fn parse<'a>(alloc: Global, words: &'a [&'a str]) -> Result<ArgMatches<'a>, LineFault>
+fn parse<'a>(alloc: Global, words: &'a [&'a str]) -> Result<ArgMatches<'a>, SettingsFault>
     ensures ok { IfOk result (AreMatches (map (λ word. word.now) words.entry.now)) }
-    ensures err { IfErr result (IsLineFault (map (λ word. word.now) words.entry.now)) }
+    ensures err { IfErr result (IsSettingsFault (map (λ word. word.now) words.entry.now)) }
 {
     let Ok(command) = command(alloc) else {
-        return Err(LineFault::NoMemory);
+        return Err(SettingsFault::NoMemory);
     };
     match command.try_get_matches_from(words) {
         Ok(matches) => Ok(matches),
-        Err(error) if error.kind() == ErrorKind::OutOfMemory => Err(LineFault::NoMemory),
-        Err(error) => Err(LineFault::Words(error)),
+        Err(error) if error.kind() == ErrorKind::OutOfMemory => Err(SettingsFault::NoMemory),
+        Err(error) => Err(SettingsFault::Words(error)),
     }
 }
 
 /// Reads the words behind the program's name.
-pub fn settings<'a>(alloc: Global, words: &'a [&'a str]) -> Result<Settings<'a>, LineFault>
+pub fn settings<'a>(alloc: Global, words: &'a [&'a str]) -> Result<Settings<'a>, SettingsFault>
     ensures ok { IfOk result (AreSettings (map (λ word. word.now) words.entry.now)) }
-    ensures err { IfErr result (IsLineFault (map (λ word. word.now) words.entry.now)) }
+    ensures err { IfErr result (IsSettingsFault (map (λ word. word.now) words.entry.now)) }
 {
     let matches = parse(alloc, words)?;
     settings_of(alloc, &matches)
 }
 
 // What words ask for that have these matches.
-fn settings_of<'a>(alloc: Global, matches: &ArgMatches<'a>) -> Result<Settings<'a>, LineFault>
+fn settings_of<'a>(alloc: Global, matches: &ArgMatches<'a>) -> Result<Settings<'a>, SettingsFault>
     requires { (words : List Text) × AreMatches words matches.now }
     ensures ok { (words : List Text) → AreMatches words matches.now → IfOk result (AreSettings words) }
-    ensures err { (words : List Text) → AreMatches words matches.now → IfErr result (IsLineFault words) }
+    ensures err { (words : List Text) → AreMatches words matches.now → IfErr result (IsSettingsFault words) }
 {
     let Some(options) = options_of(matches) else {
-        return Err(LineFault::Directions);
+        return Err(SettingsFault::Directions);
     };
     let Some(ucd) = matches.get_str("ucd") else {
         unreachable!()
@@ -230,11 +230,11 @@ fn settings_of<'a>(alloc: Global, matches: &ArgMatches<'a>) -> Result<Settings<'
         unreachable!()
     };
     let Ok(files) = Vec::from_slice(alloc, matches.get_strs("files").unwrap_or(&[])) else {
-        return Err(LineFault::NoMemory);
+        return Err(SettingsFault::NoMemory);
     };
     let script = matches.get_str("script");
     if !fits_script(script, files.len()) {
-        return Err(LineFault::ScriptFiles);
+        return Err(SettingsFault::ScriptFiles);
     }
     Ok(Settings {
         ucd,
@@ -270,23 +270,23 @@ fn options_of(matches: &ArgMatches<'_>) -> Option<Options>
     })
 }
 
-// The options by which lines are printed.
+// What is printed of lines: all that the options without a value take away or add.
 fn print_of(matches: &ArgMatches<'_>) -> Print
-    ensures novisual { result.novisual ≡ is_given (codes "novisual") (rows_of (found_of matches.now)) }
+    ensures visual { result.visual ≡ not (is_given (codes "novisual") (rows_of (found_of matches.now))) }
     ensures basedir { result.basedir ≡ is_given (codes "basedir") (rows_of (found_of matches.now)) }
     ensures ltov { result.ltov ≡ is_given (codes "ltov") (rows_of (found_of matches.now)) }
     ensures vtol { result.vtol ≡ is_given (codes "vtol") (rows_of (found_of matches.now)) }
     ensures levels { result.levels ≡ is_given (codes "levels") (rows_of (found_of matches.now)) }
-    ensures nopad { result.nopad ≡ is_given (codes "nopad") (rows_of (found_of matches.now)) }
-    ensures nomirror { result.nomirror ≡ is_given (codes "nomirror") (rows_of (found_of matches.now)) }
+    ensures padded { result.padded ≡ not (is_given (codes "nopad") (rows_of (found_of matches.now))) }
+    ensures mirrored { result.mirrored ≡ not (is_given (codes "nomirror") (rows_of (found_of matches.now))) }
 {
     Print {
-        novisual: is_set(matches, "novisual"),
+        visual: !is_set(matches, "novisual"),
         basedir: is_set(matches, "basedir"),
         ltov: is_set(matches, "ltov"),
         vtol: is_set(matches, "vtol"),
         levels: is_set(matches, "levels"),
-        nopad: is_set(matches, "nopad"),
-        nomirror: is_set(matches, "nomirror"),
+        padded: !is_set(matches, "nopad"),
+        mirrored: !is_set(matches, "nomirror"),
     }
 }

@@ -3,7 +3,7 @@
 
 ghost use Rattle.std.specs.Prelude.{◌<◌};
 
-use command_line::{LineFault, Settings, settings};
+use command_line::{SettingsFault, Settings, settings};
 use device::{FromRead, ToWrite};
 use lines::{Engine, Print};
 use session::{Kept, Session};
@@ -33,7 +33,7 @@ fn main(rt: HostRuntime) -> ExitCode {
 // Help goes to standard output, and each other message to standard error.
 fn report(rt: &HostRuntime, fault: &ProgramFault) -> io::Result<()> {
     match fault {
-        ProgramFault::Line(LineFault::Words(error)) => error.print(rt),
+        ProgramFault::Line(SettingsFault::Words(error)) => error.print(rt),
         _ => eprintln!(rt; "{fault}"),
     }
 }
@@ -41,7 +41,7 @@ fn report(rt: &HostRuntime, fault: &ProgramFault) -> io::Result<()> {
 fn run(rt: &HostRuntime) -> Result<(), ProgramFault> {
     let words = words(rt).map_err(word_fault)?;
     let Ok(words) = texts(rt.alloc(), &words) else {
-        return Err(ProgramFault::Line(LineFault::NoMemory));
+        return Err(ProgramFault::Line(SettingsFault::NoMemory));
     };
     run_words(rt, &words)
 }
@@ -75,7 +75,7 @@ fn words(rt: &HostRuntime) -> io::Result<Vec<String>> {
 // Words that are no text can't be read.
 fn word_fault(error: io::Error) -> ProgramFault {
     if error.kind() == ErrorKind::OutOfMemory {
-        ProgramFault::Line(LineFault::NoMemory)
+        ProgramFault::Line(SettingsFault::NoMemory)
     } else {
         ProgramFault::Run(RunFault::Read)
     }
@@ -226,7 +226,7 @@ fn obey_file(
 // The bytes of the text that a script begins with.
 fn script_text(rt: &HostRuntime, path: Option<&str>) -> Result<Vec<u8>, ProgramFault> {
     let Some(path) = path else {
-        return Err(ProgramFault::Line(LineFault::ScriptFiles));
+        return Err(ProgramFault::Line(SettingsFault::ScriptFiles));
     };
     match fs::read(rt, path) {
         Ok(bytes) => Ok(bytes),

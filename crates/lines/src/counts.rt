@@ -1,10 +1,9 @@
-//! How much work was done. Each count is raised by what does the work, so that work that is done twice counts
-//! twice.
+//! How much work was done. Each count is raised by what does the work, so that work done twice counts twice.
 ghost use Rattle.std.specs.Prelude.{◌≡◌, ◌≤◌};
 ghost use Rattle.lines.specs.Engine.{counted};
 
-/// How many characters were analysed, how many filled into lines, and of how many the lines were written, each
-/// up to the greatest `u64`, at which a count stays.
+/// How many characters were analysed, how many filled into lines, and of how many the lines were written,
+/// each up to the greatest `u64`, at which a count stays.
 #[derive(Debug, Drop)]
 pub(crate) struct Counts {
     pub(crate) analysed: u64,

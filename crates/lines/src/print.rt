@@ -1,5 +1,5 @@
 //! Which lines are printed of each line of a paragraph, and how printing fails.
-ghost use Rattle.std.specs.Prelude.{◌≡◌};
+ghost use Rattle.std.specs.Prelude.{◌≡◌, false, true};
 
 use crate::bytes::WriteFault;
 use thiserror::Error;
@@ -7,8 +7,8 @@ use thiserror::Error;
 /// What is printed of a line.
 #[derive(Clone, Copy, Debug, PartialEq, Eq)]
 pub struct Print {
-    /// Not the line itself, in visual order.
-    pub novisual: bool,
+    /// The line itself, in visual order.
+    pub visual: bool,
     /// `LTR` or `RTL`, by the base level, behind the first line of each paragraph.
     pub basedir: bool,
     /// Of each logical position the visual one.
@@ -17,10 +17,28 @@ pub struct Print {
     pub vtol: bool,
     /// The level of each character.
     pub levels: bool,
-    /// No spaces in front of lines of paragraphs from right to left.
-    pub nopad: bool,
-    /// Characters as they are and not their mirrors.
-    pub nomirror: bool,
+    /// Lines of paragraphs from right to left with spaces to the left of them, up to the width.
+    pub padded: bool,
+    /// Characters at odd levels as their mirrors, and not as they are.
+    pub mirrored: bool,
+}
+
+impl Default for Print {
+    // What a command line prints that has none of these options: lines alone, padded and mirrored.
+    ghost is_default = { λ print. print
+        ≡ record { visual = true; basedir = false; ltov = false; vtol = false; levels = false; padded = true; mirrored = true } };
+
+    fn default() -> Print {
+        Print {
+            visual: true,
+            basedir: false,
+            ltov: false,
+            vtol: false,
+            levels: false,
+            padded: true,
+            mirrored: true,
+        }
+    }
 }
 
 impl Print {
@@ -30,7 +48,7 @@ impl Print {
     pub(crate) fn skips_lines(&self) -> bool
         ensures { result ≡ skips_lines self.now }
     {
-        self.novisual && !self.ltov && !self.vtol && !self.levels
+        !self.visual && !self.ltov && !self.vtol && !self.levels
     }
 }
 

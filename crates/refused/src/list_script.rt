@@ -14,13 +14,13 @@ use ucd::Tables;
 
 // The lines alone, as the command prints them where no option asks for more.
 const LINES: Print = Print {
-    novisual: false,
+    visual: true,
     basedir: false,
     ltov: false,
     vtol: false,
     levels: false,
-    nopad: false,
-    nomirror: false,
+    padded: true,
+    mirrored: true,
 };
 
 const UNREAD: ProgramFault = ProgramFault::Run(RunFault::Read);

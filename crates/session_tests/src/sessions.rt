@@ -159,13 +159,13 @@ fn same_lines<S: ParagraphStore<Kept>, T: ParagraphStore<Kept>>(
 
 // All lines of a line's output.
 const ALL: Print = Print {
-    novisual: false,
+    visual: true,
     basedir: true,
     ltov: true,
     vtol: true,
     levels: true,
-    nopad: false,
-    nomirror: false,
+    padded: true,
+    mirrored: true,
 };
 
 // A writer into a slice, which tells how much it took.

@@ -1,6 +1,6 @@
 pub mod EscapeLemmas
 pub mod NumberLemmas
-pub mod OrderLemmas
+pub mod RequestLemmas
 pub mod ScriptLemmas
 pub mod ScriptStepLemmas
 pub mod StartLemmas

@@ -12,7 +12,7 @@ use Rattle.lines.specs.declared.print.Print.{Print}
 use Rattle.session.specs.Changes.{Held}
 use Rattle.session.specs.Sessions.{State, held_at}
 use Rattle.tool.specs.Reading.{FailsAt, NoEnd}
-use Rattle.tool.specs.Scripts.{is_line_end, lines_among, order_of_line, script_lines}
+use Rattle.tool.specs.Scripts.{is_line_end, lines_among, request_of_line, script_lines}
 use Rattle.tool.specs.ScriptRun.{after_line, after_lines, answer_line, answers, good_lines, input_fault, is_good, line_read_ahead, script_fault, with_ends}
 use Rattle.tool.specs.ScriptEnds.{Answered, EndsBehind, IsScriptRun, obeyed_lines}
 use Rattle.tool.specs.Work.{LineWorks, LinesWork}
@@ -86,13 +86,13 @@ all_but (l ∷ ls) line others bad = go (is_good l) (all_but ls line others bad)
 module _ (rules : Rules) (print : Print) where
   pub after_more : (held : Held) (ls ms : List (List ℕ)) → after_lines rules held (ls ++ ms) ≡ after_lines rules (after_lines rules held ls) ms
   after_more held [] ms = refl
-  after_more held (l ∷ ls) ms = after_more (after_line rules held (order_of_line l)) ls ms
+  after_more held (l ∷ ls) ms = after_more (after_line rules held (request_of_line l)) ls ms
 
   pub answers_more : (held : Held) (ls ms : List (List ℕ)) → answers rules print held (ls ++ ms) ≡ answers rules print held ls ++ answers rules print (after_lines rules held ls) ms
   answers_more held [] ms = refl
   answers_more held (l ∷ ls) ms =
-      let here = answer_line rules print held (order_of_line l) in
-      let next = after_line rules held (order_of_line l) in
+      let here = answer_line rules print held (request_of_line l) in
+      let next = after_line rules held (request_of_line l) in
       ap (λ t. here ++ t) (answers_more next ls ms) ∙ sym (append_assoc here (answers rules print next ls) (answers rules print (after_lines rules next ls) ms))
 
 -- ---- how the run ends
@@ -213,17 +213,17 @@ module _ (rules : Rules) (print : Print) (start now : State) (reader_old writer_
   -- the answer to a line was written in part
   ends_write : (ending : Ending) (bytes : List ℕ) (done : List (List ℕ)) (line : List ℕ) (others : List (List ℕ)) (held : Held) (written n : ℕ) (writer_mid : Device) → Gave reader_old reader_new ending bytes
       → script_lines ending bytes ≡ done ++ line ∷ others → list_all is_good done ≡ true → is_good line ≡ true → held ≡ after_lines rules before done → written ≡ length (answers rules print before done)
-      → Wrote (answers rules print before done) writer_old writer_mid → StoppedIn (answer_line rules print held (order_of_line line)) written writer_mid writer_new n → IsDone done
-      → held_at now ≡ after_line rules held (order_of_line line) → LinesWork rules before (done ++ line ∷ []) start.engine now.engine
+      → Wrote (answers rules print before done) writer_old writer_mid → StoppedIn (answer_line rules print held (request_of_line line)) written writer_mid writer_new n → IsDone done
+      → held_at now ≡ after_line rules held (request_of_line line) → LinesWork rules before (done ++ line ∷ []) start.engine now.engine
       → IsScriptRun rules print start now reader_old reader_new writer_old writer_new (Err (f.Write n))
   ends_write ending bytes done line others held written n writer_mid gave lines good here held_is count wrote stopped ahead now_is works =
       let are : good_lines (script_lines ending bytes) ≡ done ++ line ∷ good_lines others = ap good_lines lines ∙ take_while_more done (line ∷ others) good ∙ ap (λ t. done ++ t) (good_one line others here) in
       let first : take (length done) (done ++ line ∷ good_lines others) ≡ done = take-append_seam done (line ∷ good_lines others) in
       let both : take (length done + 1) (done ++ line ∷ good_lines others) ≡ done ++ line ∷ [] = take-append-add done (line ∷ good_lines others) 1 in
       let front = answers rules print before done in
-      let next = answer_line rules print (after_lines rules before done) (order_of_line line) in
+      let next = answer_line rules print (after_lines rules before done) (request_of_line line) in
       let m = n - written in
-      let stopped_next : StoppedAt m next writer_mid writer_new = subst (λ (h : Held). StoppedAt m (answer_line rules print h (order_of_line line)) writer_mid writer_new) held_is stopped.stopped in
+      let stopped_next : StoppedAt m next writer_mid writer_new = subst (λ (h : Held). StoppedAt m (answer_line rules print h (request_of_line line)) writer_mid writer_new) held_is stopped.stopped in
       let m_is : n ≡ length front + m = omega (arith, stopped.behind, count) in
       let took : Took writer_old writer_new (front ++ take m next) = Took-append writer_old writer_mid writer_new front (take m next) wrote.0 stopped_next.1 in
       let text : answers rules print before (done ++ line ∷ []) ≡ front ++ next = answers_more rules print before done (line ∷ []) ∙ ap (λ t. front ++ t) (append-nil next) in
@@ -238,7 +238,7 @@ module _ (rules : Rules) (print : Print) (start now : State) (reader_old writer_
       subst (λ (t : List ℕ). StoppedAt n t writer_old writer_new) (sym (ap (answers rules print before) both ∙ text)) stopped_all in
       let least : length (answers rules print before (take (length done) (done ++ line ∷ good_lines others))) ≤ n = omega (arith, ap (λ (ls : List (List ℕ)). length (answers rules print before ls)) first, m_is) in
       let held_now : held_at now ≡ after_lines rules before (take (length done + 1) (done ++ line ∷ good_lines others)) =
-      now_is ∙ ap (λ (h : Held). after_line rules h (order_of_line line)) held_is ∙ sym (after_more rules print before done (line ∷ [])) ∙ ap (after_lines rules before) (sym both) in (
+      now_is ∙ ap (λ (h : Held). after_line rules h (request_of_line line)) held_is ∙ sym (after_more rules print before done (line ∷ [])) ∙ ap (after_lines rules before) (sym both) in (
         ending,
         bytes,
         gave,

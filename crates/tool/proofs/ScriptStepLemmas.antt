@@ -14,7 +14,7 @@ use Rattle.lines.specs.declared.print.Print.{Print}
 use Rattle.session.specs.Changes.{Held}
 use Rattle.session.specs.Sessions.{State, held_at}
 use Rattle.tool.specs.Reading.{EndsIn, EndsLine, FailsAt, FailsIn, FailsLine, GoesOn, GrowsNot, IsAt, NoEnd, ObeysLine, Steps, Takes}
-use Rattle.tool.specs.Scripts.{is_last_line, is_line_end, lines_among, order_of_line, script_lines}
+use Rattle.tool.specs.Scripts.{is_last_line, is_line_end, lines_among, request_of_line, script_lines}
 use Rattle.tool.specs.ScriptEnds.{IsScriptRun}
 use Rattle.tool.specs.ScriptRun.{after_line, after_lines, answer_line, answers, good_lines, is_good, with_ends}
 use Rattle.tool.specs.Work.{LineWorks, LinesWork}
@@ -110,26 +110,26 @@ module _ (rules : Rules) (print : Print) (start : State) (reader_old reader writ
       }
 
       module _ (line : List ℕ) (state : State) (new : Reading) (writer_new : Device) (obeys : ObeysLine rules print line (held_at now) (held_at state) reading new writer writer_new) where
-        next_answer : answer_line rules print (held_at now) (order_of_line line) ≡ answers rules print (after_lines rules before at.done) (line ∷ [])
-        next_answer = ap (λ h. answer_line rules print h (order_of_line line)) at.held_is ∙ sym (append-nil (answer_line rules print (after_lines rules before at.done) (order_of_line line)))
+        next_answer : answer_line rules print (held_at now) (request_of_line line) ≡ answers rules print (after_lines rules before at.done) (line ∷ [])
+        next_answer = ap (λ h. answer_line rules print h (request_of_line line)) at.held_is ∙ sym (append-nil (answer_line rules print (after_lines rules before at.done) (request_of_line line)))
 
-        answers_are : answers rules print before (at.done ++ line ∷ []) ≡ answers rules print before at.done ++ answer_line rules print (held_at now) (order_of_line line)
+        answers_are : answers rules print before (at.done ++ line ∷ []) ≡ answers rules print before at.done ++ answer_line rules print (held_at now) (request_of_line line)
         answers_are = answers_more rules print before at.done (line ∷ []) ∙ ap (λ t. answers rules print before at.done ++ t) (sym next_answer)
 
         pub obeyed_good : list_all is_good (at.done ++ line ∷ []) ≡ true
         obeyed_good = list_all-append is_good at.done (line ∷ []) ∙ ap (λ (b : Bool). b && (is_good line && true)) at.good ∙ ap (λ (b : Bool). b && true) obeys.good
 
         pub obeyed_wrote : Wrote (answers rules print before (at.done ++ line ∷ [])) writer_old writer_new
-        obeyed_wrote = subst (λ t. Wrote t writer_old writer_new) (sym answers_are) (Wrote-append writer_old writer writer_new (answers rules print before at.done) (answer_line rules print (held_at now) (order_of_line line)) at.wrote obeys.wrote.wrote)
+        obeyed_wrote = subst (λ t. Wrote t writer_old writer_new) (sym answers_are) (Wrote-append writer_old writer writer_new (answers rules print before at.done) (answer_line rules print (held_at now) (request_of_line line)) at.wrote obeys.wrote.wrote)
 
         pub obeyed_held : held_at state ≡ after_lines rules before (at.done ++ line ∷ [])
-        obeyed_held = obeys.held ∙ ap (λ h. after_line rules h (order_of_line line)) at.held_is ∙ sym (after_more rules print before at.done (line ∷ []))
+        obeyed_held = obeys.held ∙ ap (λ h. after_line rules h (request_of_line line)) at.held_is ∙ sym (after_more rules print before at.done (line ∷ []))
 
         pub obeyed_works : LineWorks rules (held_at now) line now.engine state.engine → LinesWork rules before (at.done ++ line ∷ []) start.engine state.engine
         obeyed_works works = lines_work_more rules before (held_at now) at.done line start.engine now.engine state.engine at.held_is at.works works
 
         pub obeyed_written : new.written ≡ length (answers rules print before (at.done ++ line ∷ []))
-        obeyed_written = omega (arith, obeys.wrote.count, at.written, ap length answers_are, length-append (answers rules print before at.done) (answer_line rules print (held_at now) (order_of_line line)))
+        obeyed_written = omega (arith, obeys.wrote.count, at.written, ap length answers_are, length-append (answers rules print before at.done) (answer_line rules print (held_at now) (request_of_line line)))
 
       pub at_line : (n : ℕ) (state : State) (new : Reading) (writer_new : Device) (taken : EndsLine rules print waiting n now state reading new writer writer_new)
           → IsAt rules print start reader_old reader writer_old writer_new state new taken.behind

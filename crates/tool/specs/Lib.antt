@@ -1,6 +1,6 @@
-pub mod Commands
 pub mod Program
 pub mod Reading
+pub mod Requests
 pub mod ScriptEnds
 pub mod ScriptRun
 pub mod Scripts

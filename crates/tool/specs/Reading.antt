@@ -12,9 +12,9 @@ use Rattle.session.specs.Sessions.{State, held_at}
 use Rattle.session.specs.declared.edits.Damage.{Damage}
 use Rattle.session.specs.declared.edits.EditFault.{EditFault}
 use Rattle.session.specs.declared.edits.EditFault.TheVariants.{NoMemory}
-use Rattle.tool.specs.Scripts.{Order, is_line_end, order_of_line}
+use Rattle.tool.specs.Scripts.{Request, is_line_end, request_of_line}
 use Rattle.tool.specs.ScriptEnds.{IsScriptRun}
-use Rattle.tool.specs.ScriptRun.{after_line, after_lines, answer_line, answer_to, after_order, answers, damage_text, is_good, obeyed, obeyed_text, order_refusal, refusal_text, with_ends}
+use Rattle.tool.specs.ScriptRun.{after_line, after_lines, answer_line, answer_to, after_request, answers, damage_text, is_good, obeyed, obeyed_text, request_refusal, refusal_text, with_ends}
 use Rattle.tool.specs.Work.{LineWorks, LinesWork}
 use Rattle.text_run.specs.declared.faults.RunFault.{RunFault}
 use Rattle.text_run.specs.declared.text.TheConstants.{PIECE}
@@ -24,12 +24,12 @@ use Rattle.tool.specs.declared.script.Reading.{Reading}
 
 -- a change was made, and this is its damage; or it was refused, and all stays; which it does for want of memory too, but then
 -- there was no reason to refuse it
-abbrev pub Changed : Rules → Order → Held → Held → Result Damage EditFault → Type 0
-Changed rules order old new (Ok damage) =
-    (order_refusal rules old order ≡ None) × (new ≡ obeyed old order)
-    × ((print : Print) → obeyed_text rules print old order ≡ damage_text damage.first_line damage.old_lines damage.new_lines)
-Changed rules order old new (Err NoMemory) = (order_refusal rules old order ≡ None) × (new ≡ old)
-Changed rules order old new (Err reason) = (order_refusal rules old order ≡ Some reason) × (new ≡ old)
+abbrev pub Changed : Rules → Request → Held → Held → Result Damage EditFault → Type 0
+Changed rules request old new (Ok damage) =
+    (request_refusal rules old request ≡ None) × (new ≡ obeyed old request)
+    × ((print : Print) → obeyed_text rules print old request ≡ damage_text damage.first_line damage.old_lines damage.new_lines)
+Changed rules request old new (Err NoMemory) = (request_refusal rules old request ≡ None) × (new ≡ old)
+Changed rules request old new (Err reason) = (request_refusal rules old request ≡ Some reason) × (new ≡ old)
 
 abbrev pub lacks_memory : Result Damage EditFault → Bool
 lacks_memory (Err NoMemory) = true
@@ -45,24 +45,24 @@ abbrev pub Stops : List ℕ → ℕ → Device → Device → RunFault → Type 
 Stops answer written old new (f.Write n) = StoppedIn answer written old new n
 Stops answer written old new fault = ⊥
 
--- the order was obeyed and its answer written
-pub record Obeys (rules : Rules) (print : Print) (order : Order) (written : ℕ) (held_old held_new : Held) (old new : Device) (n : ℕ) : Type 0 where
-  pub held : held_new ≡ after_order rules held_old order
-  pub wrote : PassedOn (answer_to rules print held_old order) written old new n
+-- the request was obeyed and its answer written
+pub record Obeys (rules : Rules) (print : Print) (request : Request) (written : ℕ) (held_old held_new : Held) (old new : Device) (n : ℕ) : Type 0 where
+  pub held : held_new ≡ after_request rules held_old request
+  pub wrote : PassedOn (answer_to rules print held_old request) written old new n
 
 -- or it was obeyed, and a write failed; or there was no memory for it, where nothing refuses it, and all stays
-abbrev pub ObeysNot : Rules → Print → Order → ℕ → Held → Held → Device → Device → RunFault → Type 0
-ObeysNot rules print order written held_old held_new old new (f.Write n) =
-    (held_new ≡ after_order rules held_old order) × StoppedIn (answer_to rules print held_old order) written old new n
-ObeysNot rules print order written held_old held_new old new f.Memory =
-    (order_refusal rules held_old order ≡ None) × (held_new ≡ held_old) × (new ≡ old)
-ObeysNot rules print order written held_old held_new old new fault = ⊥
+abbrev pub ObeysNot : Rules → Print → Request → ℕ → Held → Held → Device → Device → RunFault → Type 0
+ObeysNot rules print request written held_old held_new old new (f.Write n) =
+    (held_new ≡ after_request rules held_old request) × StoppedIn (answer_to rules print held_old request) written old new n
+ObeysNot rules print request written held_old held_new old new f.Memory =
+    (request_refusal rules held_old request ≡ None) × (held_new ≡ held_old) × (new ≡ old)
+ObeysNot rules print request written held_old held_new old new fault = ⊥
 
 -- a line was obeyed
 pub record ObeysLine (rules : Rules) (print : Print) (line : List ℕ) (held_old held_new : Held) (old new : Reading) (writer_old writer_new : Device) : Type 0 where
   pub good : is_good line ≡ true
-  pub held : held_new ≡ after_line rules held_old (order_of_line line)
-  pub wrote : PassedOn (answer_line rules print held_old (order_of_line line)) old.written writer_old writer_new new.written
+  pub held : held_new ≡ after_line rules held_old (request_of_line line)
+  pub wrote : PassedOn (answer_line rules print held_old (request_of_line line)) old.written writer_old writer_new new.written
   pub lines : new.lines ≡ old.lines + 1
   pub empty : new.line.items ≡ []
 
@@ -71,8 +71,8 @@ abbrev pub FailsAt : Rules → Print → List ℕ → ℕ → ℕ → Held → H
 FailsAt rules print line lines written held_old held_new old new (f.BadLine n) =
     (is_good line ≡ false) × (n ≡ lines + 1) × (held_new ≡ held_old) × (new ≡ old)
 FailsAt rules print line lines written held_old held_new old new (f.Write n) =
-    (is_good line ≡ true) × (held_new ≡ after_line rules held_old (order_of_line line))
-    × StoppedIn (answer_line rules print held_old (order_of_line line)) written old new n
+    (is_good line ≡ true) × (held_new ≡ after_line rules held_old (request_of_line line))
+    × StoppedIn (answer_line rules print held_old (request_of_line line)) written old new n
 FailsAt rules print line lines written held_old held_new old new f.Memory =
     (utf8_valid_len line ≡ length line) × (held_new ≡ held_old) × (new ≡ old)
 FailsAt rules print line lines written held_old held_new old new fault = ⊥

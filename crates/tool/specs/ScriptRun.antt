@@ -11,7 +11,7 @@ use Rattle.session.specs.Kept.{layouts_of, lines_in, pars_of}
 use Rattle.session.specs.Touched.{first_touched, touched_count}
 use Rattle.session.specs.declared.edits.EditFault.{EditFault}
 use Rattle.session.specs.declared.edits.EditFault.TheVariants as refused
-use Rattle.tool.specs.Scripts.{Order, Insertion, Deletion, Filling, Showing, order_of_line}
+use Rattle.tool.specs.Scripts.{Request, Insert, Delete, SetWidth, Show, request_of_line}
 use Rattle.text_run.specs.declared.faults.RunFault.{RunFault}
 use Rattle.text_run.specs.declared.faults.RunFault.TheVariants as fault
 use Rattle.text_run.specs.declared.text.Ending.{Ending}
@@ -19,24 +19,24 @@ use Rattle.text_run.specs.declared.text.Ending.TheVariants.{AtEnd, AtFailure}
 use Rattle.text_run.specs.declared.text.TheConstants.{PIECE}
 use Rattle.tool.specs.declared.script.TheConstants.{LINE_LIMIT}
 
--- ---- one order
+-- ---- one request
 
--- why an order is refused
-abbrev pub order_refusal : Rules → Held → Order → Option EditFault
-order_refusal rules held (Insertion pos piece) = refusal (cut_by rules) held.text (insertion pos piece)
-order_refusal rules held (Deletion pos count) = refusal (cut_by rules) held.text (deletion pos count)
-order_refusal rules held (Filling width) = if nat_lt 65535 width then Some refused.WidthOutOfRange else width_refusal width
-order_refusal rules held Showing = None
+-- why a request is refused
+abbrev pub request_refusal : Rules → Held → Request → Option EditFault
+request_refusal rules held (Insert pos piece) = refusal (cut_by rules) held.text (insertion pos piece)
+request_refusal rules held (Delete pos count) = refusal (cut_by rules) held.text (deletion pos count)
+request_refusal rules held (SetWidth width) = if nat_lt 65535 width then Some refused.WidthOutOfRange else width_refusal width
+request_refusal rules held Show = None
 
 -- what it makes of a text and a width
-abbrev pub obeyed : Held → Order → Held
-obeyed held (Insertion pos piece) = record { text = changed held.text (insertion pos piece); width = held.width }
-obeyed held (Deletion pos count) = record { text = changed held.text (deletion pos count); width = held.width }
-obeyed held (Filling width) = record { text = held.text; width = width }
-obeyed held Showing = held
+abbrev pub obeyed : Held → Request → Held
+obeyed held (Insert pos piece) = record { text = changed held.text (insertion pos piece); width = held.width }
+obeyed held (Delete pos count) = record { text = changed held.text (deletion pos count); width = held.width }
+obeyed held (SetWidth width) = record { text = held.text; width = width }
+obeyed held Show = held
 
-abbrev pub after_order : Rules → Held → Order → Held
-after_order rules held order = if is_none (order_refusal rules held order) then obeyed held order else held
+abbrev pub after_request : Rules → Held → Request → Held
+after_request rules held request = if is_none (request_refusal rules held request) then obeyed held request else held
 
 -- the layout of a text at a width from scratch
 abbrev pub layouts_at : Rules → Held → List Layout
@@ -54,13 +54,13 @@ edit_text old new change =
     damage_text (length (lines_in (take first old))) (length (lines_in touched)) (length (lines_in touched) + length (lines_in new) - length (lines_in old))
 
 -- what is answered where it isn't refused
-abbrev pub obeyed_text : Rules → Print → Held → Order → List ℕ
-obeyed_text rules print held (Insertion pos piece) = edit_text (layouts_at rules held) (layouts_at rules (obeyed held (Insertion pos piece))) (insertion pos piece)
-obeyed_text rules print held (Deletion pos count) = edit_text (layouts_at rules held) (layouts_at rules (obeyed held (Deletion pos count))) (deletion pos count)
-obeyed_text rules print held (Filling width) = damage_text 0 (length (lines_in (layouts_at rules held))) (length (lines_in (layouts_at rules (obeyed held (Filling width)))))
-obeyed_text rules print held Showing = page rules held.width print (paragraphs (cut_by rules) held.text)
+abbrev pub obeyed_text : Rules → Print → Held → Request → List ℕ
+obeyed_text rules print held (Insert pos piece) = edit_text (layouts_at rules held) (layouts_at rules (obeyed held (Insert pos piece))) (insertion pos piece)
+obeyed_text rules print held (Delete pos count) = edit_text (layouts_at rules held) (layouts_at rules (obeyed held (Delete pos count))) (deletion pos count)
+obeyed_text rules print held (SetWidth width) = damage_text 0 (length (lines_in (layouts_at rules held))) (length (lines_in (layouts_at rules (obeyed held (SetWidth width)))))
+obeyed_text rules print held Show = page rules held.width print (paragraphs (cut_by rules) held.text)
 
--- and where it is; want of memory is no reason to refuse an order
+-- and where it is; want of memory is no reason to refuse a request
 abbrev pub refusal_text : EditFault → List ℕ
 refusal_text refused.OutOfRange = codes "! range\n"
 refusal_text refused.WidthOutOfRange = codes "! width\n"
@@ -72,34 +72,34 @@ abbrev pub answer_by : Option EditFault → List ℕ → List ℕ
 answer_by (Some reason) text = refusal_text reason
 answer_by None text = text
 
-abbrev pub answer_to : Rules → Print → Held → Order → List ℕ
-answer_to rules print held order = answer_by (order_refusal rules held order) (obeyed_text rules print held order)
+abbrev pub answer_to : Rules → Print → Held → Request → List ℕ
+answer_to rules print held request = answer_by (request_refusal rules held request) (obeyed_text rules print held request)
 
 -- ---- lines
 
 -- what the lines make of a text and a width, one after another, and what is answered. A line that asks for nothing changes nothing.
-abbrev pub after_line : Rules → Held → Option Order → Held
+abbrev pub after_line : Rules → Held → Option Request → Held
 after_line rules held None = held
-after_line rules held (Some order) = after_order rules held order
+after_line rules held (Some request) = after_request rules held request
 
-abbrev pub answer_line : Rules → Print → Held → Option Order → List ℕ
+abbrev pub answer_line : Rules → Print → Held → Option Request → List ℕ
 answer_line rules print held None = []
-answer_line rules print held (Some order) = answer_to rules print held order
+answer_line rules print held (Some request) = answer_to rules print held request
 
 abbrev pub after_lines : Rules → Held → List (List ℕ) → Held
 after_lines rules held [] = held
-after_lines rules held (line ∷ lines) = after_lines rules (after_line rules held (order_of_line line)) lines
+after_lines rules held (line ∷ lines) = after_lines rules (after_line rules held (request_of_line line)) lines
 
 abbrev pub answers : Rules → Print → Held → List (List ℕ) → List ℕ
 answers rules print held [] = []
 answers rules print held (line ∷ lines) =
-    answer_line rules print held (order_of_line line) ++ answers rules print (after_line rules held (order_of_line line)) lines
+    answer_line rules print held (request_of_line line) ++ answers rules print (after_line rules held (request_of_line line)) lines
 
 -- ---- the run
 
 -- the lines in front of the first that is no line of a script
 abbrev pub is_good : List ℕ → Bool
-is_good line = is_some (order_of_line line)
+is_good line = is_some (request_of_line line)
 
 abbrev pub good_lines : List (List ℕ) → List (List ℕ)
 good_lines lines = take_while is_good lines

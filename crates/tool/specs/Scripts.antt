@@ -33,11 +33,11 @@ script_lines ending bytes = lines_among ending (slice_split is_line_end bytes)
 -- ---- what a line asks for
 
 -- to put a piece in front of the character at a place, to take characters out from a place on, to set the width, or to show all lines
-pub data Order : Type 0 where
-  Insertion : (pos : ℕ) (piece : List ℕ) → Order
-  Deletion : (pos count : ℕ) → Order
-  Filling : (width : ℕ) → Order
-  Showing : Order
+pub data Request : Type 0 where
+  Insert : (pos : ℕ) (piece : List ℕ) → Request
+  Delete : (pos count : ℕ) → Request
+  SetWidth : (width : ℕ) → Request
+  Show : Request
 
 -- a number is 1 to 9 decimal digits
 abbrev pub number_by : ℕ → List ℕ → ℕ
@@ -98,35 +98,35 @@ abbrev pub stripped : List ℕ → List ℕ → Option (List ℕ)
 stripped word text = if pointwise (◌==◌) (take (length word) text) word then Some (drop (length word) text) else None
 
 -- `insert POS TEXT`, `delete POS COUNT`, `width N` and `show`
-abbrev pub insertion_of : Option ℕ → Option (List ℕ) → Option Order
-insertion_of (Some pos) (Some piece) = Some (Insertion pos piece)
+abbrev pub insertion_of : Option ℕ → Option (List ℕ) → Option Request
+insertion_of (Some pos) (Some piece) = Some (Insert pos piece)
 insertion_of (Some pos) None = None
 insertion_of None piece = None
 
-abbrev pub insertion_in : Option (List ℕ × List ℕ) → Option Order
+abbrev pub insertion_in : Option (List ℕ × List ℕ) → Option Request
 insertion_in None = None
 insertion_in (Some (pos, text)) = insertion_of (number_in pos) (unescaped text)
 
-abbrev pub deletion_of : Option ℕ → Option ℕ → Option Order
-deletion_of (Some pos) (Some count) = Some (Deletion pos count)
+abbrev pub deletion_of : Option ℕ → Option ℕ → Option Request
+deletion_of (Some pos) (Some count) = Some (Delete pos count)
 deletion_of (Some pos) None = None
 deletion_of None count = None
 
-abbrev pub deletion_in : Option (List ℕ × List ℕ) → Option Order
+abbrev pub deletion_in : Option (List ℕ × List ℕ) → Option Request
 deletion_in None = None
 deletion_in (Some (pos, count)) = deletion_of (number_in pos) (number_in count)
 
-abbrev pub order_by : Option (List ℕ) → Option (List ℕ) → Option (List ℕ) → Option (List ℕ) → Option Order
-order_by (Some rest) insert delete width = if length rest == 0 then Some Showing else None
-order_by None (Some rest) delete width = insertion_in (parted rest)
-order_by None None (Some rest) width = deletion_in (parted rest)
-order_by None None None (Some rest) = option_map Filling (number_in rest)
-order_by None None None None = None
+abbrev pub request_by : Option (List ℕ) → Option (List ℕ) → Option (List ℕ) → Option (List ℕ) → Option Request
+request_by (Some rest) insert delete width = if length rest == 0 then Some Show else None
+request_by None (Some rest) delete width = insertion_in (parted rest)
+request_by None None (Some rest) width = deletion_in (parted rest)
+request_by None None None (Some rest) = option_map SetWidth (number_in rest)
+request_by None None None None = None
 
-abbrev pub order_in : List ℕ → Option Order
-order_in line =
-    order_by (stripped (codes "show") line) (stripped (codes "insert ") line) (stripped (codes "delete ") line) (stripped (codes "width ") line)
+abbrev pub request_in : List ℕ → Option Request
+request_in line =
+    request_by (stripped (codes "show") line) (stripped (codes "insert ") line) (stripped (codes "delete ") line) (stripped (codes "width ") line)
 
 -- what the bytes of a line ask for, if they are UTF-8 and no more than may be
-abbrev pub order_of_line : List ℕ → Option Order
-order_of_line line = if nat_le (length line) LINE_LIMIT && utf8_valid_len line == length line then order_in (chars line) else None
+abbrev pub request_of_line : List ℕ → Option Request
+request_of_line line = if nat_le (length line) LINE_LIMIT && utf8_valid_len line == length line then request_in (chars line) else None

@@ -1,4 +1,4 @@
--- How much work the lines of a script ask for at most: each order what its change asks of a session, one that is refused nothing.
+-- How much work the lines of a script ask for at most: each request what its change asks of a session, one that is refused nothing.
 use Rattle.std.specs.Prelude.{ℕ, ◌+◌, List, [], ◌∷◌, length, Option, Some, None, is_none, if◌then◌else◌}
 use Rattle.bidi.specs.Cuts.{paragraphs}
 use Rattle.lines.specs.Engine.{analysed_of, filled_of, written_of, RisesBy}
@@ -6,47 +6,47 @@ use Rattle.lines.specs.Layouts.{Rules, cut_by}
 use Rattle.lines.specs.declared.engine.Engine.{Engine}
 use Rattle.session.specs.Changes.{Held, deletion, insertion}
 use Rattle.session.specs.Touched.{fresh}
-use Rattle.tool.specs.ScriptRun.{after_line, order_refusal}
-use Rattle.tool.specs.Scripts.{Order, Insertion, Deletion, Filling, Showing, order_of_line}
+use Rattle.tool.specs.ScriptRun.{after_line, request_refusal}
+use Rattle.tool.specs.Scripts.{Request, Insert, Delete, SetWidth, Show, request_of_line}
 
 module _ (rules : Rules) where
-  -- how many characters an order that isn't refused has analysed at most, and how many filled into lines and written
-  abbrev pub analysed_by : Held → Order → ℕ
-  analysed_by held (Insertion pos piece) = fresh (paragraphs (cut_by rules) held.text) (insertion pos piece)
-  analysed_by held (Deletion pos count) = fresh (paragraphs (cut_by rules) held.text) (deletion pos count)
-  analysed_by held (Filling width) = 0
-  analysed_by held Showing = 0
+  -- how many characters a request that isn't refused has analysed at most, and how many filled into lines and written
+  abbrev pub analysed_by : Held → Request → ℕ
+  analysed_by held (Insert pos piece) = fresh (paragraphs (cut_by rules) held.text) (insertion pos piece)
+  analysed_by held (Delete pos count) = fresh (paragraphs (cut_by rules) held.text) (deletion pos count)
+  analysed_by held (SetWidth width) = 0
+  analysed_by held Show = 0
 
-  abbrev pub filled_by : Held → Order → ℕ
-  filled_by held (Insertion pos piece) = fresh (paragraphs (cut_by rules) held.text) (insertion pos piece)
-  filled_by held (Deletion pos count) = fresh (paragraphs (cut_by rules) held.text) (deletion pos count)
-  filled_by held (Filling width) = length held.text
-  filled_by held Showing = 0
+  abbrev pub filled_by : Held → Request → ℕ
+  filled_by held (Insert pos piece) = fresh (paragraphs (cut_by rules) held.text) (insertion pos piece)
+  filled_by held (Delete pos count) = fresh (paragraphs (cut_by rules) held.text) (deletion pos count)
+  filled_by held (SetWidth width) = length held.text
+  filled_by held Show = 0
 
-  -- of any order, of a line, and of lines one after another
-  abbrev pub work_of : (Held → Order → ℕ) → Held → Order → ℕ
-  work_of work held order = if is_none (order_refusal rules held order) then work held order else 0
+  -- of any request, of a line, and of lines one after another
+  abbrev pub work_of : (Held → Request → ℕ) → Held → Request → ℕ
+  work_of work held request = if is_none (request_refusal rules held request) then work held request else 0
 
-  abbrev pub work_of_line : (Held → Order → ℕ) → Held → Option Order → ℕ
+  abbrev pub work_of_line : (Held → Request → ℕ) → Held → Option Request → ℕ
   work_of_line work held None = 0
-  work_of_line work held (Some order) = work_of work held order
+  work_of_line work held (Some request) = work_of work held request
 
-  abbrev pub work_of_lines : (Held → Order → ℕ) → Held → List (List ℕ) → ℕ
+  abbrev pub work_of_lines : (Held → Request → ℕ) → Held → List (List ℕ) → ℕ
   work_of_lines work held [] = 0
   work_of_lines work held (line ∷ lines) =
-      work_of_line work held (order_of_line line) + work_of_lines work (after_line rules held (order_of_line line)) lines
+      work_of_line work held (request_of_line line) + work_of_lines work (after_line rules held (request_of_line line)) lines
 
   -- an engine has worked no more than this, of each kind
-  pub record Works (most : (Held → Order → ℕ) → ℕ) (old new : Engine) : Type 0 where
+  pub record Works (most : (Held → Request → ℕ) → ℕ) (old new : Engine) : Type 0 where
     pub analysed : RisesBy (most analysed_by) (analysed_of old) (analysed_of new)
     pub filled : RisesBy (most filled_by) (filled_of old) (filled_of new)
     pub written : RisesBy (most filled_by) (written_of old) (written_of new)
 
-  abbrev pub OrderWorks : Held → Order → Engine → Engine → Type 0
-  OrderWorks held order = Works (λ work. work_of work held order)
+  abbrev pub RequestWorks : Held → Request → Engine → Engine → Type 0
+  RequestWorks held request = Works (λ work. work_of work held request)
 
   abbrev pub LineWorks : Held → List ℕ → Engine → Engine → Type 0
-  LineWorks held line = Works (λ work. work_of_line work held (order_of_line line))
+  LineWorks held line = Works (λ work. work_of_line work held (request_of_line line))
 
   abbrev pub LinesWork : Held → List (List ℕ) → Engine → Engine → Type 0
   LinesWork held lines = Works (λ work. work_of_lines work held lines)

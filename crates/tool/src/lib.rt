@@ -2,7 +2,7 @@
 #![tactic(auto)]
 
 mod answers;
-mod commands;
+mod requests;
 mod program;
 mod script;
 mod start;

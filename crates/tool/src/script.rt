@@ -12,16 +12,16 @@ ghost use Rattle.session.specs.Sessions.{State, held_at, page_at, IsWholeLayout}
 ghost use Rattle.std.specs.Io.KnownBytes.{IsAtEnd};
 ghost use Rattle.text_run.specs.TextRun.{TellsReads};
 ghost use Rattle.text_run.specs.declared.text.TheConstants.{PIECE};
-ghost use Rattle.tool.specs.Commands.{order_of};
+ghost use Rattle.tool.specs.Requests.{request_of};
 ghost use Rattle.tool.specs.Reading.{CanFeed, Changed, EndsIn, FailsAt, FailsIn, Feeds, Grows};
 ghost use Rattle.tool.specs.Reading.{GrowsNot, IsAt, NoEnd, Obeys, ObeysLine, ObeysNot, Steps, Stops};
 ghost use Rattle.tool.specs.Reading.{Takes, change_text, lacks_memory};
 ghost use Rattle.tool.specs.ScriptEnds.{IsScriptRun};
-ghost use Rattle.tool.specs.Scripts.{Deletion, Filling, Insertion, order_of_line};
-ghost use Rattle.tool.specs.Work.{LineWorks, OrderWorks};
+ghost use Rattle.tool.specs.Scripts.{Delete, SetWidth, Insert, request_of_line};
+ghost use Rattle.tool.specs.Work.{LineWorks, RequestWorks};
 
 use crate::answers::answer_of;
-use crate::commands::{Command, read_command};
+use crate::requests::{Request, read_request};
 use device::{Sink, Source, write_all};
 use lines::Print;
 use session::{Damage, EditFault, Kept, Session};
@@ -60,9 +60,9 @@ fn set_width<S: ParagraphStore<Kept>>(
     session: &mut Session<S>,
     width: usize,
 ) -> Result<Damage, EditFault>
-    ensures changed { Changed (rules_of session.old.engine) (Filling width)
+    ensures changed { Changed (rules_of session.old.engine) (SetWidth width)
         (held_at session.old) (held_at session.new) result }
-    ensures works { OrderWorks (rules_of session.old.engine) (held_at session.old) (Filling width)
+    ensures works { RequestWorks (rules_of session.old.engine) (held_at session.old) (SetWidth width)
         session.old.engine session.new.engine }
     ensures rules { SameRules session.old.engine session.new.engine }
 {
@@ -79,10 +79,10 @@ fn insert<S: ParagraphStore<Kept>>(
     pos: usize,
     piece: &str,
 ) -> Result<Damage, EditFault>
-    ensures changed { Changed (rules_of session.old.engine) (Insertion pos (chars piece.now))
+    ensures changed { Changed (rules_of session.old.engine) (Insert pos (chars piece.now))
         (held_at session.old) (held_at session.new) result }
-    ensures works { OrderWorks (rules_of session.old.engine) (held_at session.old)
-        (Insertion pos (chars piece.now)) session.old.engine session.new.engine }
+    ensures works { RequestWorks (rules_of session.old.engine) (held_at session.old)
+        (Insert pos (chars piece.now)) session.old.engine session.new.engine }
     ensures rules { SameRules session.old.engine session.new.engine }
 {
     // Shows that what is kept is laid out.
@@ -95,9 +95,9 @@ fn delete<S: ParagraphStore<Kept>>(
     pos: usize,
     count: usize,
 ) -> Result<Damage, EditFault>
-    ensures changed { Changed (rules_of session.old.engine) (Deletion pos count)
+    ensures changed { Changed (rules_of session.old.engine) (Delete pos count)
         (held_at session.old) (held_at session.new) result }
-    ensures works { OrderWorks (rules_of session.old.engine) (held_at session.old) (Deletion pos count)
+    ensures works { RequestWorks (rules_of session.old.engine) (held_at session.old) (Delete pos count)
         session.old.engine session.new.engine }
     ensures rules { SameRules session.old.engine session.new.engine }
 {
@@ -161,23 +161,23 @@ fn obey<W: Sink, S: ParagraphStore<Kept>>(
     writer: &mut W,
     written: u64,
     print: &Print,
-    command: &Command,
+    request: &Request,
 ) -> Result<u64, RunFault>
     requires { written ≤ (W.state writer.old).passed }
-    ensures ok { IfOk result (Obeys (rules_of session.old.engine) print.now (order_of command.now)
+    ensures ok { IfOk result (Obeys (rules_of session.old.engine) print.now (request_of request.now)
         written (held_at session.old) (held_at session.new) (W.state writer.old) (W.state writer.new)) }
-    ensures err { IfErr result (ObeysNot (rules_of session.old.engine) print.now (order_of command.now)
+    ensures err { IfErr result (ObeysNot (rules_of session.old.engine) print.now (request_of request.now)
         written (held_at session.old) (held_at session.new) (W.state writer.old) (W.state writer.new)) }
-    ensures works { OrderWorks (rules_of session.old.engine) (held_at session.old) (order_of command.now)
+    ensures works { RequestWorks (rules_of session.old.engine) (held_at session.old) (request_of request.now)
         session.old.engine session.new.engine }
     ensures counted { IfOk result (λ n. n ≤ (W.state writer.new).passed) }
     ensures rules { SameRules session.old.engine session.new.engine }
 {
-    let change = match command {
-        Command::Insert(pos, piece) => insert(session, *pos, piece),
-        Command::Delete(pos, count) => delete(session, *pos, *count),
-        Command::SetWidth(width) => set_width(session, *width),
-        Command::Show => return show(session, writer, written, print),
+    let change = match request {
+        Request::Insert(pos, piece) => insert(session, *pos, piece),
+        Request::Delete(pos, count) => delete(session, *pos, *count),
+        Request::SetWidth(width) => set_width(session, *width),
+        Request::Show => return show(session, writer, written, print),
     };
     if lacks_memory(&change) {
         return Err(RunFault::Memory);
@@ -191,9 +191,9 @@ fn read_line(
     alloc: Global,
     line: &[u8],
     text: &mut Vec<char>,
-) -> Result<Option<Command>, AllocError>
+) -> Result<Option<Request>, AllocError>
     requires { length line.now ≤ LINE_LIMIT }
-    ensures ok { IfOk result (λ command. option_map order_of command ≡ order_of_line line.now) }
+    ensures ok { IfOk result (λ request. option_map request_of request ≡ request_of_line line.now) }
     ensures err { OnErr result (utf8_valid_len line.now ≡ length line.now) }
 {
     let (characters, _) = front(line);
@@ -202,7 +202,7 @@ fn read_line(
     }
     text.clear();
     push_characters(characters, text)?;
-    read_command(alloc, text)
+    read_request(alloc, text)
 }
 
 fn push_characters(text: &str, characters: &mut Vec<char>) -> Result<(), AllocError>
@@ -235,13 +235,13 @@ fn obey_line<W: Sink, S: ParagraphStore<Kept>>(
         session.old.engine session.new.engine }
     ensures rules { SameRules session.old.engine session.new.engine }
 {
-    let command = match read_line(alloc, &reading.line, &mut reading.text) {
-        Ok(Some(command)) => command,
+    let request = match read_line(alloc, &reading.line, &mut reading.text) {
+        Ok(Some(request)) => request,
         Ok(None) => return Err(RunFault::BadLine(reading.lines + 1)),
         Err(_) => return Err(RunFault::Memory),
     };
     let written = reading.written;
-    match obey(session, writer, written, print, &command) {
+    match obey(session, writer, written, print, &request) {
         Ok(written) => {
             reading.written = written;
             reading.lines += 1;

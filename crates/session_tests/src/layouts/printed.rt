@@ -6,13 +6,13 @@ use std::alloc::Global;
 use std::test::Fail;
 
 pub(super) const PLAIN: Print = Print {
-    novisual: false,
+    visual: true,
     basedir: false,
     ltov: false,
     vtol: false,
     levels: false,
-    nopad: false,
-    nomirror: false,
+    padded: true,
+    mirrored: true,
 };
 
 pub(super) const ALL: Print = Print {
@@ -24,19 +24,19 @@ pub(super) const ALL: Print = Print {
 };
 
 pub(super) const UNMIRRORED: Print = Print {
-    nomirror: true,
-    nopad: true,
+    mirrored: false,
+    padded: false,
     ..PLAIN
 };
 
 pub(super) const LEVELS: Print = Print {
-    novisual: true,
+    visual: false,
     levels: true,
     ..PLAIN
 };
 
 const NOTHING: Print = Print {
-    novisual: true,
+    visual: false,
     ..PLAIN
 };
 

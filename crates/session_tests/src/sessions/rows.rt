@@ -214,13 +214,13 @@ type Step<'a> = (Edit<'a>, Result<[usize; 3], EditFault>, &'a str);
 
 // Lines as they are shown, with their levels or without.
 const LEVELS: Print = Print {
-    novisual: false,
+    visual: true,
     basedir: false,
     ltov: false,
     vtol: false,
     levels: true,
-    nopad: false,
-    nomirror: false,
+    padded: true,
+    mirrored: true,
 };
 
 const SHOWN: Print = Print {

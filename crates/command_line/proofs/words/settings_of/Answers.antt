@@ -1,4 +1,5 @@
 use Rattle.std.proofs.Common.{◌≡◌, ◌∙◌, ℕ, Bor, List, Result, arith, [], Option, Some, None, ap, codes, is_some, length, map, option_map, refl, ap₂, true, false, rules, sym, true≢false, unwrap_or}
+use Rattle.std.specs.Prelude.{not}
 use Rattle.clap.specs.Words.{ReadsOne, Row, Text, all_of, matches_of, first_of, found_of, one_text, rows_of}
 use Rattle.clap.specs.declared.parser.matches.Found.{Found}
 use Rattle.clap.specs.Takes.{is_given}
@@ -61,13 +62,13 @@ returns-clause-ok c = λ words m.
       base = sym (c.in-Some.ensures.base ∙ ap base_of m.rows);
       width = ap (λ rows. option_map number_of (first_of (codes "width") rows)) (sym m.rows) ∙ width;
       wide = (omega (arith, is_width, m.width.allowed.1), omega (arith, is_width, m.width.allowed.2));
-      novisual = print.novisual ∙ given (codes "novisual");
+      visual = print.visual ∙ ap not (given (codes "novisual"));
       basedir = print.basedir ∙ given (codes "basedir");
       ltov = print.ltov ∙ given (codes "ltov");
       vtol = print.vtol ∙ given (codes "vtol");
       levels = print.levels ∙ given (codes "levels");
-      nopad = print.nopad ∙ given (codes "nopad");
-      nomirror = print.nomirror ∙ given (codes "nomirror");
+      padded = print.padded ∙ ap not (given (codes "nopad"));
+      mirrored = print.mirrored ∙ ap not (given (codes "nomirror"));
       nobreak = c.in-Some.ensures.nobreak ∙ given (codes "nobreak");
       reordernsm = c.in-Some.ensures.reordernsm ∙ given (codes "reordernsm");
       whole_numbers = c.in-Some.ensures.whole_numbers ∙ given (codes "whole-numbers");

@@ -4,8 +4,8 @@ use Rattle.std.specs.Str.Lossy.{utf8_valid_len}
 use Rattle.std.proofs.lemmas.Bool.Decides.{nat_tests}
 use Rattle.std.proofs.lemmas.List.{length-take-le, take_all}
 use Rattle.std.proofs.lemmas.Str.{utf8_valid_len_le}
-use Rattle.tool.specs.Commands.{order_of}
-use Rattle.tool.specs.Scripts.{Order, order_in, order_of_line}
+use Rattle.tool.specs.Requests.{request_of}
+use Rattle.tool.specs.Scripts.{Request, request_in, request_of_line}
 use Rattle.tool.proofs.script.read_line.Goals as goal
 use Rattle.tool.specs.declared.script.TheConstants.{LINE_LIMIT}
 
@@ -24,7 +24,7 @@ pub returns-clause-err : goal.returns-clause-err
 returns-clause-err c =
     let line = c.args.line.now in
     let within : utf8_valid_len line ≤ length line = utf8_valid_len_le line in
-    on_err _ c.read_command.result (omega (arith, within, ap length c.front.ensures.text, length-take-le (utf8_valid_len line) line within, c.if-characters-line.false))
+    on_err _ c.read_request.result (omega (arith, within, ap length c.front.ensures.text, length-take-le (utf8_valid_len line) line within, c.if-characters-line.false))
 
 pub returns-clause-ok : goal.returns-clause-ok
 returns-clause-ok c =
@@ -36,6 +36,6 @@ returns-clause-ok c =
     let text : c.deref.result.now ≡ chars line =
     c.deref.ensures.value ∙ c.in_ok-push_characters.ensures ∙ ap (λ t. t ++ chars c.front.result.0.now) c.clear.ensures.items
     ∙ ap chars (c.front.ensures.text ∙ take_all (utf8_valid_len line) line (omega (arith, is_text))) in
-    let is : order_in c.deref.result.now ≡ order_of_line line =
-    ap order_in text ∙ sym (ap (λ (b : Bool). if b && (utf8_valid_len line == length line) then order_in (chars line) else None) short ∙ ap (λ (b : Bool). if b then order_in (chars line) else None) valid) in
-    subst (λ (o : Option Order). IfOk c.read_command.result (λ command. option_map order_of command ≡ o)) is c.read_command.ensures
+    let is : request_in c.deref.result.now ≡ request_of_line line =
+    ap request_in text ∙ sym (ap (λ (b : Bool). if b && (utf8_valid_len line == length line) then request_in (chars line) else None) short ∙ ap (λ (b : Bool). if b then request_in (chars line) else None) valid) in
+    subst (λ (o : Option Request). IfOk c.read_request.result (λ command. option_map request_of command ≡ o)) is c.read_request.ensures

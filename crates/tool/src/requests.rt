@@ -4,16 +4,16 @@ ghost use Rattle.std.specs.Prelude.{IfOk, IfSome, option_map, string_bytes};
 ghost use Rattle.std.specs.List.{prefix_len};
 ghost use Rattle.std.specs.Char.{is_digit};
 ghost use Rattle.std.specs.Str.{chars};
-ghost use Rattle.tool.specs.Commands.{order_of};
-ghost use Rattle.tool.specs.Scripts.{Filling, are_digits, braced, deletion_in, escaped};
+ghost use Rattle.tool.specs.Requests.{request_of};
+ghost use Rattle.tool.specs.Scripts.{SetWidth, are_digits, braced, deletion_in, escaped};
 ghost use Rattle.tool.specs.Scripts.{insertion_in, number_by};
-ghost use Rattle.tool.specs.Scripts.{number_in, order_in, parted, stripped, unescaped, written};
+ghost use Rattle.tool.specs.Scripts.{number_in, request_in, parted, stripped, unescaped, written};
 
 use std::alloc::{AllocError, Global};
 
 /// What a line of a script asks for.
 #[derive(Debug, Drop)]
-pub enum Command {
+pub enum Request {
     /// To put a text in front of the character at a place.
     Insert(usize, String),
     /// To take so many characters out, from a place on.
@@ -33,12 +33,12 @@ const DELETE: [char; 7] = ['d', 'e', 'l', 'e', 't', 'e', ' '];
 const WIDTH: [char; 6] = ['w', 'i', 'd', 't', 'h', ' '];
 
 /// What the characters of a line ask for, if it is a line of a script.
-pub fn read_command(alloc: Global, line: &[char]) -> Result<Option<Command>, AllocError>
-    ensures { IfOk result (λ command. option_map order_of command ≡ order_in line.now) }
+pub fn read_request(alloc: Global, line: &[char]) -> Result<Option<Request>, AllocError>
+    ensures { IfOk result (λ request. option_map request_of request ≡ request_in line.now) }
 {
     if let Some(rest) = behind(&SHOW, line) {
         return Ok(if rest.is_empty() {
-            Some(Command::Show)
+            Some(Request::Show)
         } else {
             None
         });
@@ -50,13 +50,13 @@ pub fn read_command(alloc: Global, line: &[char]) -> Result<Option<Command>, All
         return Ok(deletion(rest));
     }
     match behind(&WIDTH, line) {
-        Some(rest) => Ok(filling(rest)),
+        Some(rest) => Ok(width(rest)),
         None => Ok(None),
     }
 }
 
-fn insertion(alloc: Global, text: &[char]) -> Result<Option<Command>, AllocError>
-    ensures { IfOk result (λ command. option_map order_of command ≡ insertion_in (parted text.now)) }
+fn insertion(alloc: Global, text: &[char]) -> Result<Option<Request>, AllocError>
+    ensures { IfOk result (λ request. option_map request_of request ≡ insertion_in (parted text.now)) }
 {
     let Some((pos, text)) = words(text) else {
         return Ok(None);
@@ -65,23 +65,23 @@ fn insertion(alloc: Global, text: &[char]) -> Result<Option<Command>, AllocError
         return Ok(None);
     };
     match unescape(alloc, text) {
-        Ok(Some(piece)) => Ok(Some(Command::Insert(pos, piece))),
+        Ok(Some(piece)) => Ok(Some(Request::Insert(pos, piece))),
         Ok(None) => Ok(None),
         Err(error) => Err(error),
     }
 }
 
-fn deletion(text: &[char]) -> Option<Command>
-    ensures { option_map order_of result ≡ deletion_in (parted text.now) }
+fn deletion(text: &[char]) -> Option<Request>
+    ensures { option_map request_of result ≡ deletion_in (parted text.now) }
 {
     let (pos, count) = words(text)?;
-    Some(Command::Delete(number(pos)?, number(count)?))
+    Some(Request::Delete(number(pos)?, number(count)?))
 }
 
-fn filling(text: &[char]) -> Option<Command>
-    ensures { option_map order_of result ≡ option_map Filling (number_in text.now) }
+fn width(text: &[char]) -> Option<Request>
+    ensures { option_map request_of result ≡ option_map SetWidth (number_in text.now) }
 {
-    Some(Command::SetWidth(number(text)?))
+    Some(Request::SetWidth(number(text)?))
 }
 
 // What stands behind a beginning of a text, if it begins so.

@@ -11,27 +11,27 @@ use Rattle.session.specs.declared.edits.Damage.{Damage}
 use Rattle.session.specs.declared.edits.EditFault.{EditFault}
 use Rattle.session.specs.declared.edits.EditFault.TheVariants as e
 use Rattle.tool.specs.Reading.{Changed, Obeys, ObeysNot, Stops, change_text, lacks_memory}
-use Rattle.tool.specs.ScriptRun.{after_order, answer_by, answer_to, obeyed, obeyed_text, order_refusal}
-use Rattle.tool.specs.Scripts.{Order}
+use Rattle.tool.specs.ScriptRun.{after_request, answer_by, answer_to, obeyed, obeyed_text, request_refusal}
+use Rattle.tool.specs.Scripts.{Request}
 use Rattle.text_run.specs.declared.faults.RunFault.{RunFault}
 use Rattle.text_run.specs.declared.faults.RunFault.TheVariants as f
 
-module _ (rules : Rules) (print : Print) (order : Order) (old new : Held) where
+module _ (rules : Rules) (print : Print) (request : Request) (old new : Held) where
   -- what became of the text and the width, and what is answered
   record Told (change : Result Damage EditFault) : Type 0 where
-    pub held : new ≡ after_order rules old order
-    pub text : answer_to rules print old order ≡ change_text change
+    pub held : new ≡ after_request rules old request
+    pub text : answer_to rules print old request ≡ change_text change
 
-  refused : (reason : EditFault) → order_refusal rules old order ≡ Some reason → new ≡ old → Told (Err reason)
+  refused : (reason : EditFault) → request_refusal rules old request ≡ Some reason → new ≡ old → Told (Err reason)
   refused reason is stays = record {
-    held = stays ∙ sym (ap (λ (o : Option EditFault). if is_none o then obeyed old order else old) is);
-    text = ap (λ (o : Option EditFault). answer_by o (obeyed_text rules print old order)) is;
+    held = stays ∙ sym (ap (λ (o : Option EditFault). if is_none o then obeyed old request else old) is);
+    text = ap (λ (o : Option EditFault). answer_by o (obeyed_text rules print old request)) is;
   }
 
-  told : (change : Result Damage EditFault) → Changed rules order old new change → lacks_memory change ≡ false → Told change
+  told : (change : Result Damage EditFault) → Changed rules request old new change → lacks_memory change ≡ false → Told change
   told (Ok damage) (accepted, made, text) room = record {
-    held = made ∙ sym (ap (λ (o : Option EditFault). if is_none o then obeyed old order else old) accepted);
-    text = ap (λ (o : Option EditFault). answer_by o (obeyed_text rules print old order)) accepted ∙ text print;
+    held = made ∙ sym (ap (λ (o : Option EditFault). if is_none o then obeyed old request else old) accepted);
+    text = ap (λ (o : Option EditFault). answer_by o (obeyed_text rules print old request)) accepted ∙ text print;
   }
   told (Err e.NoMemory) changed room = absurd (true≢false room)
   told (Err e.OutOfRange) (is, stays) room = refused e.OutOfRange is stays
@@ -39,14 +39,14 @@ module _ (rules : Rules) (print : Print) (order : Order) (old new : Held) where
   told (Err e.TextTooLong) (is, stays) room = refused e.TextTooLong is stays
   told (Err e.ParagraphTooLong) (is, stays) room = refused e.ParagraphTooLong is stays
 
-  module _ (change : Result Damage EditFault) (changed : Changed rules order old new change) (room : lacks_memory change ≡ false) (written : ℕ) (writer_old writer_new : Device) where
-    pub obeys : (r : Result ℕ RunFault) → IfOk r (PassedOn (change_text change) written writer_old writer_new) → IfOk r (Obeys rules print order written old new writer_old writer_new)
+  module _ (change : Result Damage EditFault) (changed : Changed rules request old new change) (room : lacks_memory change ≡ false) (written : ℕ) (writer_old writer_new : Device) where
+    pub obeys : (r : Result ℕ RunFault) → IfOk r (PassedOn (change_text change) written writer_old writer_new) → IfOk r (Obeys rules print request written old new writer_old writer_new)
     obeys (Ok n) passed =
         let t = told change changed room in
         record { held = t.held; wrote = subst (λ text. PassedOn text written writer_old writer_new n) (sym t.text) passed }
     obeys (Err fault) passed = tt
 
-    stops_at : (fault : RunFault) → Stops (change_text change) written writer_old writer_new fault → ObeysNot rules print order written old new writer_old writer_new fault
+    stops_at : (fault : RunFault) → Stops (change_text change) written writer_old writer_new fault → ObeysNot rules print request written old new writer_old writer_new fault
     stops_at (f.Write n) stopped =
         let t = told change changed room in (t.held, subst (λ text. StoppedIn text written writer_old writer_new n) (sym t.text) stopped)
     stops_at f.Read stopped = absurd stopped
@@ -56,12 +56,12 @@ module _ (rules : Rules) (print : Print) (order : Order) (old new : Held) where
     stops_at f.Memory stopped = absurd stopped
     stops_at f.TextTooLong stopped = absurd stopped
 
-    pub stops : (r : Result ℕ RunFault) → IfErr r (Stops (change_text change) written writer_old writer_new) → IfErr r (ObeysNot rules print order written old new writer_old writer_new)
+    pub stops : (r : Result ℕ RunFault) → IfErr r (Stops (change_text change) written writer_old writer_new) → IfErr r (ObeysNot rules print request written old new writer_old writer_new)
     stops (Ok n) stopped = tt
     stops (Err fault) stopped = stops_at fault stopped
 
-  -- where memory ran out nothing refuses the order, and all stays
-  pub wants : (change : Result Damage EditFault) → Changed rules order old new change → lacks_memory change ≡ true → (order_refusal rules old order ≡ None) × (new ≡ old)
+  -- where memory ran out nothing refuses the request, and all stays
+  pub wants : (change : Result Damage EditFault) → Changed rules request old new change → lacks_memory change ≡ true → (request_refusal rules old request ≡ None) × (new ≡ old)
   wants (Ok damage) changed short = absurd (true≢false (sym short))
   wants (Err e.NoMemory) changed short = changed
   wants (Err e.OutOfRange) changed short = absurd (true≢false (sym short))
