@@ -4,5 +4,5 @@
 mod options;
 mod words;
 
-pub use options::{SettingsFault, Settings};
+pub use options::{Settings, SettingsFault};
 pub use words::settings;

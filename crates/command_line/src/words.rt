@@ -9,7 +9,7 @@ ghost use Rattle.command_line.specs.CommandLine.{AreMatches, AreSettings, IsSett
 ghost use Rattle.command_line.specs.CommandLine.{base_by, base_of, fits_script};
 ghost use Rattle.command_line.specs.CommandLine.{layout_rules, print_rules};
 
-use crate::options::{SettingsFault, Settings};
+use crate::options::{Settings, SettingsFault};
 use bidi::Base;
 use clap::error::ErrorKind;
 use clap::parser::ValueSource;

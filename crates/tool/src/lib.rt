@@ -2,8 +2,8 @@
 #![tactic(auto)]
 
 mod answers;
-mod requests;
 mod program;
+mod requests;
 mod script;
 mod start;
 
