@@ -1,5 +1,6 @@
 mod AloneLemmas
 mod BareLemmas
+mod BeginningLemmas
 pub mod ClusterLemmas
 mod ExtentLemmas
 mod FewLines

@@ -1,5 +1,6 @@
 pub mod Bare
 pub mod BarePlaces
+pub mod Beginnings
 pub mod Bytes
 pub mod Clusters
 pub mod Counts

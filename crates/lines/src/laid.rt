@@ -211,3 +211,19 @@ impl Laid {
         std::mem::swap(&mut self.lines, fill);
     }
 }
+
+impl Laid {
+    ghost use Rattle.std.specs.Prelude.{List};
+    ghost use Rattle.lines.specs.Beginnings.{BeginInOrder};
+    ghost use Rattle.lines.specs.Layouts.{Rules, lines_of};
+
+    /// The lines of a paragraph begin one after another, the first at 0, by whatever rules and at whatever
+    /// width: a law, which takes no time. (`Laid::line_starts` tells where.)
+    pub fn lines_begin_in_order()
+        ensures { (rules : Rules) (width : ℕ) (text : List ℕ)
+            → BeginInOrder text (lines_of rules width text) }
+    {
+        // Each paragraph has marks.
+        paragraphs_end_at_must();
+    }
+}

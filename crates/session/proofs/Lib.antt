@@ -5,6 +5,7 @@ mod JoinedLemmas
 mod LineLemmas
 mod OpenLemmas
 mod PartLemmas
+mod PlaceLemmas
 mod PrintLemmas
 mod RefusalLemmas
 mod RegionParts

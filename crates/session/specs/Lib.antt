@@ -2,6 +2,7 @@ pub mod Changes
 pub mod Damage
 pub mod Edges
 pub mod Kept
+pub mod Places
 pub mod Runs
 pub mod Scans
 pub mod Sessions

@@ -1,16 +1,17 @@
 //! A session that keeps the layout of a text under inserts, deletes and width changes, over any store of
 //! paragraphs.
-ghost use Rattle.std.specs.Prelude.{◌≡◌, ◌≤◌, length, option_map, slice_get};
+ghost use Rattle.std.specs.Prelude.{◌≡◌, ◌≤◌, nat_le, nat_lt, length, is_none, option_map, slice_get};
 ghost use Rattle.std.specs.Prelude.{IfOk, IfErr, OnOk, OnErr};
 ghost use Rattle.std.specs.List.{flat_map};
 ghost use Rattle.std.specs.Str.{chars};
 ghost use Rattle.device.specs.Device.{StoppedAt, Wrote};
 ghost use Rattle.lines.specs.Bytes.{line_bytes};
-ghost use Rattle.lines.specs.Engine.{analysed_of, filled_of, written_of, SameRules};
+ghost use Rattle.lines.specs.Engine.{analysed_of, filled_of, rules_of, written_of, SameRules};
 ghost use Rattle.lines.specs.Writing.{PassedOn, StoppedIn};
 ghost use Rattle.lines.specs.declared.print.Print.{Print};
 ghost use Rattle.session.specs.Changes.{after_all, changing, deletion, insertion};
 ghost use Rattle.session.specs.Kept.{lines_in};
+ghost use Rattle.session.specs.Places.{line_starts, place_at};
 ghost use Rattle.session.specs.Runs.{StopsAt, WorksAtMost};
 ghost use Rattle.session.specs.Sessions.{cuts_at, held_at, page_at, text_at, IsWholeLayout};
 ghost use Rattle.session.specs.Sessions.{Edits, EditsNot, Opens, OpensNot, Refills, RefillsNot};
@@ -19,6 +20,7 @@ use crate::edit::edit;
 use crate::edits::{Damage, Edit, EditFault, TEXT_LIMIT};
 use crate::joined::lay_out_joined;
 use crate::kept::Kept;
+use crate::places::{Place, line_start, place_of};
 use crate::printing::write_store;
 use crate::width::change_width;
 use bidi::paragraphs_are_pieces;
@@ -135,6 +137,27 @@ impl<S: ParagraphStore<Kept>> Session<S> {
             Some(kept) => kept.laid().line(found.rest),
             None => None,
         }
+    }
+
+    /// The position at which a line begins, counted from 0.
+    pub fn line_start(&self, n: usize) -> Option<usize>
+        ensures start { result ≡ slice_get (line_starts self.now.kept) n }
+        ensures none { is_none result ≡ nat_le (length (lines_in self.now.kept)) n }
+    {
+        line_start(&self.store, n)
+    }
+
+    /// Where the character at a position stands. The end of the text is behind its last character, or where
+    /// the next paragraph would begin: in a text that is empty or ends with a separator, so that `line` is
+    /// `line_count` there. Past the end there is nothing.
+    pub fn place(&self, pos: usize) -> Option<Place>
+        ensures place { result ≡ place_at (rules_of self.now.engine) self.now.kept pos }
+        ensures none { is_none result ≡ nat_lt (length (text_at self.now)) pos }
+    {
+        // The laws by which each paragraph has lines, which begin one after another.
+        paragraphs_are_pieces();
+        Laid::lines_begin_in_order();
+        place_of(&self.store, &self.engine, pos)
     }
 
     /// How many characters the text has.

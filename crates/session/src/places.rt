@@ -1,0 +1,156 @@
+//! Where the lines of a text begin, and on which of them a character stands: found by the store's sums,
+//! and within a paragraph by where its lines begin.
+ghost use Rattle.std.specs.Prelude.{◌≡◌, ◌^◌, ◌<◌, ◌≤◌, ℕ, All, nat_le, count_by, length};
+ghost use Rattle.std.specs.Prelude.{slice_get, slice_index};
+ghost use Rattle.std.specs.List.Sorted.{IsNonDecreasing};
+ghost use Rattle.lines.specs.Engine.{rules_of};
+ghost use Rattle.session.specs.Kept.{pars_of, text_of};
+ghost use Rattle.session.specs.Places.{is_closed, line_starts, place_at, place_in, IsLined};
+ghost use Rattle.session.specs.Touched.{start_of};
+ghost use Rattle.session.specs.declared.edits.TheConstants.{TEXT_LIMIT};
+
+use crate::kept::Kept;
+use lines::Engine;
+use store::ParagraphStore;
+
+/// Where a character of a text stands, or the end of the text. All count from 0.
+#[derive(Clone, Copy, Debug, PartialEq, Eq)]
+pub struct Place {
+    /// The paragraph that has it.
+    pub paragraph: usize,
+    /// The line that has it, counted through the whole text.
+    pub line: usize,
+    /// How many characters of this line are before it.
+    pub offset: usize,
+}
+
+// How many characters the paragraphs before one have: the least position that is not in these. The store
+// tells of a position in which paragraph it is.
+fn chars_before<S: ParagraphStore<Kept>>(store: &S, index: usize) -> usize
+    requires { index ≤ length (S.items store.now) }
+    ensures { result ≡ start_of (pars_of (S.items store.now)) index }
+{
+    let mut low = 0;
+    let mut high = store.total_chars();
+    while low < high {
+        let middle = low + (high - low) / 2;
+        if store.find_char(middle).index < index {
+            low = middle + 1;
+        } else {
+            high = middle;
+        }
+    }
+    low
+}
+
+// One of the starts of lines.
+fn start_of_nth(starts: &[u32], n: usize) -> usize
+    requires { n < length starts.now }
+    ensures start { result ≡ slice_index starts.now n }
+    ensures fits { result < 2 ^ 32 }
+{
+    starts[n] as usize
+}
+
+/// Where a line begins, counted from 0.
+pub fn line_start<S: ParagraphStore<Kept>>(store: &S, n: usize) -> Option<usize>
+    requires { length (text_of (S.items store.now)) ≤ TEXT_LIMIT }
+    ensures { result ≡ slice_get (line_starts (S.items store.now)) n }
+{
+    if n >= store.total_lines() {
+        return None;
+    }
+    let found = store.find_line(n);
+    match store.get(found.index) {
+        Some(kept) => {
+            let start = start_of_nth(kept.laid().line_starts(), found.rest);
+            Some(chars_before(store, found.index) + start)
+        }
+        None => unreachable!(),
+    }
+}
+
+// How many of the starts of lines are at a position or before it.
+fn lines_to(starts: &[u32], pos: usize) -> usize
+    requires { IsNonDecreasing starts.now }
+    ensures count { result ≡ count_by (λ start. nat_le start pos) starts.now }
+    ensures before { (k : ℕ) → k < result → slice_index starts.now k ≤ pos }
+{
+    starts.partition_point(|start| *start as usize <= pos)
+}
+
+// The place of a character.
+fn place_in<S: ParagraphStore<Kept>>(store: &S, pos: usize) -> Place
+    requires within { pos < length (text_of (S.items store.now)) }
+    requires lined { All IsLined (S.items store.now) }
+    ensures { result ≡ place_in (S.items store.now) pos }
+{
+    // Shows that the lines fit.
+    let _lines = store.total_lines();
+    let found = store.find_char(pos);
+    match store.get(found.index) {
+        Some(kept) => {
+            let starts = kept.laid().line_starts();
+            let line = lines_to(starts, found.rest) - 1;
+            Place {
+                paragraph: found.index,
+                line: found.lines_before + line,
+                offset: found.rest - starts[line] as usize,
+            }
+        }
+        None => unreachable!(),
+    }
+}
+
+// A character of the text.
+fn char_at<S: ParagraphStore<Kept>>(store: &S, pos: usize) -> char
+    requires { pos < length (text_of (S.items store.now)) }
+    ensures { result ≡ slice_index (text_of (S.items store.now)) pos }
+{
+    let found = store.find_char(pos);
+    match store.get(found.index) {
+        Some(kept) => {
+            let (text, rest) = (kept.laid().text(), found.rest);
+            text[rest]
+        }
+        None => unreachable!(),
+    }
+}
+
+// Whether another paragraph would begin behind the text. A separator is cut from one of its kind.
+fn is_closed<S: ParagraphStore<Kept>>(store: &S, engine: &Engine) -> bool
+    ensures { result ≡ is_closed (rules_of engine.now) (text_of (S.items store.now)) }
+{
+    let len = store.total_chars();
+    if len == 0 {
+        return true;
+    }
+    let last = char_at(store, len - 1);
+    engine.is_cut(last, last)
+}
+
+/// The place of a position, where it is not past the end.
+pub fn place_of<S: ParagraphStore<Kept>>(store: &S, engine: &Engine, pos: usize) -> Option<Place>
+    requires { All IsLined (S.items store.now) }
+    ensures { result ≡ place_at (rules_of engine.now) (S.items store.now) pos }
+{
+    let len = store.total_chars();
+    if pos > len {
+        return None;
+    }
+    if pos < len {
+        return Some(place_in(store, pos));
+    }
+    if is_closed(store, engine) {
+        return Some(Place {
+            paragraph: store.count(),
+            line: store.total_lines(),
+            offset: 0,
+        });
+    }
+    let last = place_in(store, len - 1);
+    Some(Place {
+        offset: last.offset + 1,
+        ..last
+    })
+}
