@@ -9,7 +9,7 @@ use std::io;
 use std::io::{BufRead, BufReader, BufWriter, Write};
 use ucd::Tables;
 
-/// Prints the marks of the positions of each paragraph, one behind each of its characters: `x` where no line
+/// Prints the marks of the positions of each paragraph, one after each of its characters: `x` where no line
 /// ends, `/` where one may and `!` where one must.
 pub fn marks_of(rt: &HostRuntime, folder: &str) -> Result<()> {
     let tables = tables(rt, folder)?;

@@ -9,7 +9,7 @@ pub fn since(rt: &HostRuntime, start: Instant) -> Result<u64> {
     Ok(u64::try_from(time).unwrap_or(u64::MAX))
 }
 
-/// Prints numbers, and behind them a name, in one line.
+/// Prints numbers, and after them a name, in one line.
 pub fn show(rt: &HostRuntime, numbers: &[u64], name: &str) -> Result<()> {
     print_numbers(rt, numbers)?;
     println!(rt; " {name}")?;

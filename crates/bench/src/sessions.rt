@@ -216,9 +216,9 @@ fn lay_out_all(rt: &HostRuntime, engine: &mut Engine, text: &[char]) -> Result<V
             return Ok(all);
         }
         let len = engine.first_cut(rest).unwrap_or(rest.len());
-        let (piece, behind) = rest.split_at(len.min(rest.len()));
+        let (piece, after) = rest.split_at(len.min(rest.len()));
         all.push(lay_out_piece(rt, engine, piece)?)?;
-        rest = behind;
+        rest = after;
     }
     Ok(all)
 }

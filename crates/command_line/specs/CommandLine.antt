@@ -52,7 +52,7 @@ print_rules =
     codes "nopad" ∷ codes "nomirror" ∷ codes "novisual" ∷ codes "basedir" ∷ codes "ltov" ∷ codes "vtol" ∷ codes "levels" ∷ []
     )
 
--- the command line: the words behind the program's name, with these options, and texts
+-- the command line: the words after the program's name, with these options, and texts
 abbrev pub start : App
 start = on_top (λ s. record s { no_binary_name = true }) (new_app (codes "fribidi"))
 

@@ -48,7 +48,7 @@ fn with_layout<'a>(alloc: Global, command: Command<'a>) -> Result<Command<'a>, A
             ("nobreak", "end lines at mandatory breaks only"),
             (
                 "reordernsm",
-                "marks behind their letters from right to left too",
+                "marks after their letters from right to left too",
             ),
             ("whole-numbers", "end no line inside a number"),
         ],
@@ -63,7 +63,7 @@ fn with_print<'a>(alloc: Global, command: Command<'a>) -> Result<Command<'a>, Al
         alloc,
         command,
         &[
-            ("nopad", "no spaces in front of lines from right to left"),
+            ("nopad", "no spaces before lines from right to left"),
             ("nomirror", "characters as they are, not their mirrors"),
             ("novisual", "no visual lines"),
             ("basedir", "print the direction of each paragraph"),
@@ -205,7 +205,7 @@ fn parse<'a>(alloc: Global, words: &'a [&'a str]) -> Result<ArgMatches<'a>, Sett
     }
 }
 
-/// Reads the words behind the program's name.
+/// Reads the words after the program's name.
 pub fn settings<'a>(alloc: Global, words: &'a [&'a str]) -> Result<Settings<'a>, SettingsFault>
     ensures ok { IfOk result (AreSettings (map (λ word. word.now) words.entry.now)) }
     ensures err { IfErr result (IsSettingsFault (map (λ word. word.now) words.entry.now)) }

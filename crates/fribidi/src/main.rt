@@ -65,7 +65,7 @@ fn run_settings(rt: &HostRuntime, settings: &Settings<'_>) -> Result<(), Program
     }
 }
 
-// The words behind the program's name.
+// The words after the program's name.
 fn words(rt: &HostRuntime) -> io::Result<Vec<String>> {
     let mut words = env::args(rt)?;
     let _ = words.next();

@@ -43,14 +43,14 @@ module _ (is_cut : ℕ → ℕ → Bool) where
   onto x y text p ps uncut is =
       ap (λ (t : Bool). if t then (x ∷ []) ∷ paragraphs is_cut (y ∷ text) else onto_first x (paragraphs is_cut (y ∷ text))) uncut ∙ ap (onto_first x) is
 
-  -- a front without a cut comes in front of the first paragraph of what it goes on with
-  pub join : (xs : List ℕ) (a : ℕ) (behind p : List ℕ) (ps : List (List ℕ)) → paragraphs is_cut (xs ++ a ∷ []) ≡ (xs ++ a ∷ []) ∷ []
-      → paragraphs is_cut (a ∷ behind) ≡ p ∷ ps → paragraphs is_cut (xs ++ a ∷ behind) ≡ (xs ++ p) ∷ ps
-  join [] a behind p ps whole splits = splits
-  join (x ∷ []) a behind p ps whole splits = onto x a behind p ps (later_is x a [] [] [] whole).0 splits
-  join (x ∷ y ∷ xs) a behind p ps whole splits =
+  -- a front without a cut comes before the first paragraph of what it goes on with
+  pub join : (xs : List ℕ) (a : ℕ) (after p : List ℕ) (ps : List (List ℕ)) → paragraphs is_cut (xs ++ a ∷ []) ≡ (xs ++ a ∷ []) ∷ []
+      → paragraphs is_cut (a ∷ after) ≡ p ∷ ps → paragraphs is_cut (xs ++ a ∷ after) ≡ (xs ++ p) ∷ ps
+  join [] a after p ps whole splits = splits
+  join (x ∷ []) a after p ps whole splits = onto x a after p ps (later_is x a [] [] [] whole).0 splits
+  join (x ∷ y ∷ xs) a after p ps whole splits =
       let later = later_is x y (xs ++ a ∷ []) (xs ++ a ∷ []) [] whole in
-      onto x y (xs ++ a ∷ behind) (y ∷ xs ++ p) ps later.0 (join (y ∷ xs) a behind p ps later.1 splits)
+      onto x y (xs ++ a ∷ after) (y ∷ xs ++ p) ps later.0 (join (y ∷ xs) a after p ps later.1 splits)
 
   -- a first paragraph that a cut ends stays, whatever follows the text
   pub grow : (p : List ℕ) (r : ℕ) (rest more : List ℕ) → 0 < length p → paragraphs is_cut (p ++ r ∷ rest) ≡ p ∷ paragraphs is_cut (r ∷ rest)
@@ -66,17 +66,17 @@ module _ (is_cut : ℕ → ℕ → Bool) where
 
   -- a text at a place in it
   place : (text : List ℕ) (n : ℕ) → n < length text
-      → (a : ℕ) × (behind : List ℕ) × (drop n text ≡ a ∷ behind) × (text ≡ take n text ++ a ∷ behind) × (take (n + 1) text ≡ take n text ++ a ∷ [])
+      → (a : ℕ) × (after : List ℕ) × (drop n text ≡ a ∷ after) × (text ≡ take n text ++ a ∷ after) × (take (n + 1) text ≡ take n text ++ a ∷ [])
   place text n within = go (drop n text) refl
     where
-      go : (rest : List ℕ) → drop n text ≡ rest → (a : ℕ) × (behind : List ℕ) × (drop n text ≡ a ∷ behind) × (text ≡ take n text ++ a ∷ behind) × (take (n + 1) text ≡ take n text ++ a ∷ [])
+      go : (rest : List ℕ) → drop n text ≡ rest → (a : ℕ) × (after : List ℕ) × (drop n text ≡ a ∷ after) × (text ≡ take n text ++ a ∷ after) × (take (n + 1) text ≡ take n text ++ a ∷ [])
       go [] is = absurd (omega (arith, length-drop n text, ap length is))
-      go (a ∷ behind) is =
-          let parts : text ≡ take n text ++ a ∷ behind = sym (take-append-drop n text) ∙ ap (λ xs. take n text ++ xs) is in
+      go (a ∷ after) is =
+          let parts : text ≡ take n text ++ a ∷ after = sym (take-append-drop n text) ∙ ap (λ xs. take n text ++ xs) is in
           let len : length (take n text) + 1 ≡ n + 1 = omega (arith, length-take-le n text (omega arith)) in
-          (a, behind, is, parts, ap (λ k. take k text) (sym len) ∙ ap (take (length (take n text) + 1)) parts ∙ take-append-add (take n text) (a ∷ behind) 1)
+          (a, after, is, parts, ap (λ k. take k text) (sym len) ∙ ap (take (length (take n text) + 1)) parts ∙ take-append-add (take n text) (a ∷ after) 1)
 
-  -- the first cut behind a front that has none
+  -- the first cut after a front that has none
   pub skip_some : (text : List ℕ) (n k : ℕ) → n < length text → paragraphs is_cut (take (n + 1) text) ≡ take (n + 1) text ∷ [] → SplitsAt is_cut (drop n text) (Some k) → SplitsAt is_cut text (Some (n + k))
   skip_some text n k within whole splits =
       let at = place text n within in
@@ -88,11 +88,11 @@ module _ (is_cut : ℕ → ℕ → Bool) where
       (subst (λ (t : List ℕ). paragraphs is_cut t ≡ take k t ∷ paragraphs is_cut (drop k t)) at.2 splits.2) in
       let front : xs ++ take k rest ≡ take (n + k) text =
       sym (take-append-add xs rest k) ∙ ap (take (length xs + k)) (sym at.3) ∙ ap (λ i. take (i + k) text) len in
-      let behind : drop k rest ≡ drop (n + k) text =
+      let after : drop k rest ≡ drop (n + k) text =
       sym (drop-append-add xs rest k) ∙ ap (drop (length xs + k)) (sym at.3) ∙ ap (λ i. drop (i + k) text) len in (
         omega (arith, splits.0),
         omega (arith, splits.1, length-drop n text),
-        ap (paragraphs is_cut) at.3 ∙ joined ∙ ap₂ (λ p ps. p ∷ ps) front (ap (paragraphs is_cut) behind),
+        ap (paragraphs is_cut) at.3 ∙ joined ∙ ap₂ (λ p ps. p ∷ ps) front (ap (paragraphs is_cut) after),
       )
 
   pub skip_none : (text : List ℕ) (n : ℕ) → n < length text → paragraphs is_cut (take (n + 1) text) ≡ take (n + 1) text ∷ [] → SplitsAt is_cut (drop n text) None → SplitsAt is_cut text None
@@ -127,31 +127,31 @@ module _ (is_cut : ℕ → ℕ → Bool) where
   -- one that is too long stays so, whatever follows
   pub long_more : (text more : List ℕ) → StartsLong is_cut text → StartsLong is_cut (text ++ more)
   long_more text more starts = record {
-    first = λ behind. starts.first (more ++ behind);
-    others = λ behind. starts.others (more ++ behind);
-    splits = λ behind. ap (paragraphs is_cut) (append_assoc text more behind) ∙ starts.splits (more ++ behind);
-    long = λ behind. starts.long (more ++ behind);
+    first = λ after. starts.first (more ++ after);
+    others = λ after. starts.others (more ++ after);
+    splits = λ after. ap (paragraphs is_cut) (append_assoc text more after) ∙ starts.splits (more ++ after);
+    long = λ after. starts.long (more ++ after);
   }
 
-  -- nothing is in front of a text
+  -- nothing is before a text
   pub front_none : (text : List ℕ) → IsFront is_cut [] text text
   front_none text = record { whole = refl; cuts = λ more. refl; within = refl; filled = λ some. some }
 
   -- one paragraph is, where a cut ends it
-  pub front_one : (text paragraph behind : List ℕ) (k : ℕ) → SplitsAt is_cut text (Some k) → k ≤ 1048576 → paragraph ≡ take k text → behind ≡ drop k text → IsFront is_cut (paragraph ∷ []) text behind
-  front_one text paragraph behind k splits short paragraph_is behind_is =
+  pub front_one : (text paragraph after : List ℕ) (k : ℕ) → SplitsAt is_cut text (Some k) → k ≤ 1048576 → paragraph ≡ take k text → after ≡ drop k text → IsFront is_cut (paragraph ∷ []) text after
+  front_one text paragraph after k splits short paragraph_is after_is =
       let at = place text k splits.1 in
       let len : length (take k text) ≡ k = length-take-le k text (omega (arith, splits.1)) in
       let cut : paragraphs is_cut (take k text ++ at.0 ∷ at.1) ≡ take k text ∷ paragraphs is_cut (at.0 ∷ at.1) =
       ap (paragraphs is_cut) (sym at.3) ∙ splits.2 ∙ ap (λ t. take k text ∷ paragraphs is_cut t) at.2 in
       let short_2 : length paragraph ≤ 1048576 = omega (arith, ap length paragraph_is, len) in
       record {
-        whole = sym (take-append-drop k text) ∙ ap₂ (λ p r. p ++ r) (sym paragraph_is) (sym behind_is) ∙ ap (λ p. p ++ behind) (sym (append-nil paragraph));
+        whole = sym (take-append-drop k text) ∙ ap₂ (λ p r. p ++ r) (sym paragraph_is) (sym after_is) ∙ ap (λ p. p ++ after) (sym (append-nil paragraph));
         cuts = λ more. ap (λ t. paragraphs is_cut (t ++ more)) at.3 ∙ ap (paragraphs is_cut) (append_assoc (take k text) (at.0 ∷ at.1) more)
             ∙ grow (take k text) at.0 at.1 more (omega (arith, splits.0)) cut
-            ∙ ap₂ (λ p r. p ∷ paragraphs is_cut (r ++ more)) (sym paragraph_is) (sym at.2 ∙ sym behind_is);
+            ∙ ap₂ (λ p r. p ∷ paragraphs is_cut (r ++ more)) (sym paragraph_is) (sym at.2 ∙ sym after_is);
         within = grind (arith, nat_tests);
-        filled = λ some. omega (arith, ap length behind_is, length-drop k text, splits.1);
+        filled = λ some. omega (arith, ap length after_is, length-drop k text, splits.1);
       }
 
   -- the first paragraphs, and those of the rest

@@ -104,7 +104,7 @@ module _ (is_cut : ℕ → ℕ → Bool) where
       ∙ join is_cut xs a (c ∷ []) (a ∷ c ∷ []) [] whole (onto is_cut a c [] (c ∷ []) [] no_cut refl)
       ∙ ap (λ t. t ∷ []) (sym text_is)
 
-  -- one more character, behind which the text isn't too long
+  -- one more character, after which the text isn't too long
   pub take_one : (text : List ℕ) (last : Option ℕ) (len c : ℕ) → HasTaken text last len → MatchOption last ⊤ (λ a. is_cut a c ≡ false) → len < 1048576 → HasTaken (text ++ c ∷ []) (Some c) (len + 1)
   take_one text last len c taken no_cut less = record {
     uncut = uncut_more text last c (sym taken.last_is) taken.uncut no_cut;
@@ -121,8 +121,8 @@ module _ (is_cut : ℕ → ℕ → Bool) where
       (long_uncut is_cut (text ++ c ∷ []) (uncut_more text last c (sym taken.last_is) taken.uncut no_cut) (omega (arith, full, taken.len_is, length-append text (c ∷ [])))))
 
   -- which begins a paragraph
-  pub cut_in_front : ParagraphsArePieces → (text more : List ℕ) (last : Option ℕ) (len c a : ℕ) → HasTaken text last len → last ≡ Some a → is_cut a c ≡ true → length (c ∷ more) ≤ 1048576 → IsEnded is_cut (text ++ c ∷ more)
-  cut_in_front law text more last len c a taken last_is cut few =
+  pub cut_before : ParagraphsArePieces → (text more : List ℕ) (last : Option ℕ) (len c a : ℕ) → HasTaken text last len → last ≡ Some a → is_cut a c ≡ true → length (c ∷ more) ≤ 1048576 → IsEnded is_cut (text ++ c ∷ more)
+  cut_before law text more last len c a taken last_is cut few =
       let parts = last_some text a (sym taken.last_is ∙ last_is) in
       let xs = parts.0 in
       let some : 0 < length text = omega (arith, ap length parts.1, length-append xs (a ∷ [])) in

@@ -44,23 +44,23 @@ module _ (rules : Rules) (width : ℕ) (print : Print) (text : List ℕ) (before
   pushed_none seen uncut within counts at_most =
       record { pars = []; front = front_none (cut_by rules) text; lines = sym (append-nil before); uncut = uncut; within = within; counts = counts; at_most = at_most }
 
-  pub pushed_more : (rest paragraph behind : List ℕ) (seen k : ℕ) (after more : List ℕ) (engine engine_new : Engine) → SplitsAt (cut_by rules) rest (Some k) → paragraph ≡ take k rest → behind ≡ drop k rest
-      → more ≡ after ++ paragraph_bytes rules width print paragraph → Prints (length paragraph) print engine engine_new → PrintsAtMost (length paragraph) print engine engine_new
-      → PushedSoFar rest seen after engine → PushedSoFar behind 0 more engine_new
-  pushed_more rest paragraph behind seen k after more engine engine_new splits paragraph_is behind_is more_is counts at_most so_far =
+  pub pushed_more : (rest paragraph after : List ℕ) (seen k : ℕ) (lines_old more : List ℕ) (engine engine_new : Engine) → SplitsAt (cut_by rules) rest (Some k) → paragraph ≡ take k rest → after ≡ drop k rest
+      → more ≡ lines_old ++ paragraph_bytes rules width print paragraph → Prints (length paragraph) print engine engine_new → PrintsAtMost (length paragraph) print engine engine_new
+      → PushedSoFar rest seen lines_old engine → PushedSoFar after 0 more engine_new
+  pushed_more rest paragraph after seen k lines_old more engine engine_new splits paragraph_is after_is more_is counts at_most so_far =
       let both = first_within (cut_by rules) rest k so_far.within splits in
-      let one = front_one (cut_by rules) rest paragraph behind k splits both.0 paragraph_is behind_is in
+      let one = front_one (cut_by rules) rest paragraph after k splits both.0 paragraph_is after_is in
       let len : length (concat so_far.pars) + length paragraph ≡ length (concat (so_far.pars ++ paragraph ∷ [])) =
       omega (arith, ap length (concat-append so_far.pars (paragraph ∷ [])), length-append (concat so_far.pars) (concat (paragraph ∷ [])), ap length (append-nil paragraph)) in
       record {
         pars = so_far.pars ++ paragraph ∷ [];
-        front = front_join (cut_by rules) so_far.pars (paragraph ∷ []) text rest behind so_far.front one;
+        front = front_join (cut_by rules) so_far.pars (paragraph ∷ []) text rest after so_far.front one;
         lines = more_is ∙ ap (λ t. t ++ paragraph_bytes rules width print paragraph) so_far.lines
             ∙ append_assoc before (page rules width print so_far.pars) (paragraph_bytes rules width print paragraph)
             ∙ ap (λ t. before ++ (page rules width print so_far.pars ++ t)) (sym (append-nil (paragraph_bytes rules width print paragraph)))
             ∙ ap (λ t. before ++ t) (sym (flat_map-append (paragraph_bytes rules width print) so_far.pars (paragraph ∷ [])));
         uncut = λ some. absurd (omega arith);
-        within = ap (λ t. are_within (paragraphs (cut_by rules) t)) behind_is ∙ both.1;
+        within = ap (λ t. are_within (paragraphs (cut_by rules) t)) after_is ∙ both.1;
         counts = subst (λ n. Prints n print engine_old engine_new) len (prints_more print engine_old engine engine_new (length (concat so_far.pars)) (length paragraph) so_far.counts counts);
         at_most = at_most_more print engine_old engine engine_new (length (concat so_far.pars)) (length paragraph) _ so_far.at_most at_most (omega (arith, len));
       }

@@ -29,7 +29,7 @@ use Rattle.text_run.proofs.CountLemmas.{at_most_more, at_most_none, at_most_prin
 use Rattle.text_run.proofs.Devices.{Took-nothing}
 use Rattle.text_run.proofs.Fronts.{front_join, front_more, front_none}
 use Rattle.text_run.proofs.StreamLemmas.{Consumes-append, Consumes-kept, IsSent, Stops, at_fault, at_long, at_memory, at_write, at_written, ends_write, front_is, gave_all, had_all, pars_sent, sent_ahead, sent_within, short_is, within_more, written_whole, Wrote-append}
-use Rattle.text_run.proofs.Utf8Lemmas.{bad_stays, is_bad-behind, nothing_valid, utf8_error_len-nil, utf8_front, utf8_valid_len-behind}
+use Rattle.text_run.proofs.Utf8Lemmas.{bad_stays, is_bad-after, nothing_valid, utf8_error_len-nil, utf8_front, utf8_valid_len-after}
 use lib.Utf8.{encode}
 
 -- how many bytes characters take at most
@@ -108,7 +108,7 @@ module _ (rules : Rules) (width : ℕ) (print : Print) (reader_old writer_old : 
   no_more : (reader_new : Device) (engine_new : Engine) (bytes : List ℕ) (n : ℕ) → HasRead reader_old reader_new bytes → PrintsAtMost n print engine_old engine_new → n ≤ length (front_of bytes) → PrintsNoMore print reader_old reader_new engine_old engine_new
   no_more reader_new engine_new bytes n has_read at_most few = (bytes, has_read, at_most_more print engine_old engine_old engine_new 0 n (length (front_of bytes)) (at_most_none print engine_old) at_most (omega (arith, few)))
 
-  -- what was counted until now, and how many characters in front of some bytes these are, with those that are held
+  -- what was counted until now, and how many characters before some bytes these are, with those that are held
   module _ (held : Held) (s : Stands rules width print reader_old writer_old engine_old reader writer engine held) where
     counted_now : PrintsAtMost (length (concat s.is_at.sent)) print engine_old engine
     counted_now = at_most_printed print engine_old engine (length (concat s.is_at.sent)) s.fits s.counts
@@ -120,16 +120,16 @@ module _ (rules : Rules) (width : ℕ) (print : Print) (reader_old writer_old : 
         at.front.whole ∙ ap (λ ps. concat (at.sent ++ ps) ++ held.text.items) s.all_sent ∙ ap (λ ps. concat ps ++ held.text.items) (append-nil at.sent) in
         omega (arith, ap length text_is, length-append (concat at.sent) held.text.items)
 
-    front_len : (behind : List ℕ) → length (front_of (s.is_at.decoded ++ behind)) ≡ length (concat s.is_at.sent) + length held.text.items + length (front_of behind)
-    front_len behind =
-        let is = front_is rules width print reader_old reader writer_old writer (take held.waiting held.piece.items) held.text.items [] s.is_at behind in
-        omega (arith, held_len, ap length is, length-append (chars s.is_at.decoded) (front_of behind))
+    front_len : (after : List ℕ) → length (front_of (s.is_at.decoded ++ after)) ≡ length (concat s.is_at.sent) + length held.text.items + length (front_of after)
+    front_len after =
+        let is = front_is rules width print reader_old reader writer_old writer (take held.waiting held.piece.items) held.text.items [] s.is_at after in
+        omega (arith, held_len, ap length is, length-append (chars s.is_at.decoded) (front_of after))
 
     -- what waits is the beginning of a character, or nothing
     no_bad : is_bad (s.is_at.decoded ++ take held.waiting held.piece.items) ≡ false
     no_bad =
         let waiting = take held.waiting held.piece.items in
-        is_bad-behind s.is_at.decoded waiting s.is_at.utf8 ∙ ap (λ n. is_some (utf8_error_len (drop n waiting))) s.beginning.none ∙ ap is_some s.beginning.fault
+        is_bad-after s.is_at.decoded waiting s.is_at.utf8 ∙ ap (λ n. is_some (utf8_error_len (drop n waiting))) s.beginning.none ∙ ap is_some s.beginning.fault
 
   -- some bytes more were read
   pub at_read : (reader_new : Device) (waiting text more : List ℕ) (at : IsAt rules width print reader_old reader writer_old writer waiting text []) → at.gathered ≡ [] → length text ≤ 1048576 → length waiting < 4
@@ -157,7 +157,7 @@ module _ (rules : Rules) (width : ℕ) (print : Print) (reader_old writer_old : 
     refl,
   )
 
-  -- a failed read, behind the beginning of a character or none
+  -- a failed read, after the beginning of a character or none
   pub ends_read : (reader_new : Device) (held : Held) → Stands rules width print reader_old writer_old engine_old reader writer engine held → Fails reader reader_new → Ends rules width print reader_old writer_old engine_old reader_new writer engine (Err f.Read)
   ends_read reader_new held s fails =
       let at = s.is_at in
@@ -199,7 +199,7 @@ module _ (rules : Rules) (width : ℕ) (print : Print) (reader_old writer_old : 
         let waiting = take held.waiting held.piece.items in
         let decoded = s.is_at.decoded in
         let bytes = decoded ++ waiting in
-        let valid : utf8_valid_len bytes ≡ length decoded + utf8_valid_len waiting = utf8_valid_len-behind decoded waiting s.is_at.utf8 in
+        let valid : utf8_valid_len bytes ≡ length decoded + utf8_valid_len waiting = utf8_valid_len-after decoded waiting s.is_at.utf8 in
         let at : utf8_valid_len bytes ≡ n = omega (arith, valid, s.beginning.none, n_is, s.decoded) in
         let less : utf8_valid_len bytes < length bytes = omega (arith, valid, s.beginning.none, some, length-append decoded waiting) in
         at_fault rules width print reader_old reader writer_old writer waiting held.text.items [] s.is_at s.all_sent reader_new AtEnd waiting (f.NotUtf8 n)
@@ -207,7 +207,7 @@ module _ (rules : Rules) (width : ℕ) (print : Print) (reader_old writer_old : 
         (ap (λ (b : Bool). if b then None else Some (f.NotUtf8 (utf8_valid_len bytes))) (not_all (utf8_valid_len bytes) (length bytes) less) ∙ ap (λ k. Some (f.NotUtf8 k)) at)
         (λ written wrong is wrote. (is, wrote))
 
-    -- behind a character
+    -- after a character
     module _ (none : held.waiting ≡ 0) where
       last : List (List ℕ)
       last = if length held.text.items == 0 then [] else held.text.items ∷ []
@@ -220,7 +220,7 @@ module _ (rules : Rules) (width : ℕ) (print : Print) (reader_old writer_old : 
           let waiting = take held.waiting held.piece.items in
           let bytes = s.is_at.decoded ++ waiting in
           let all : utf8_valid_len bytes ≡ length bytes =
-          omega (arith, utf8_valid_len-behind s.is_at.decoded waiting s.is_at.utf8, s.beginning.none, length-append s.is_at.decoded waiting, ap length nothing_waits) in
+          omega (arith, utf8_valid_len-after s.is_at.decoded waiting s.is_at.utf8, s.beginning.none, length-append s.is_at.decoded waiting, ap length nothing_waits) in
           ap (λ (b : Bool). if b then None else Some (f.NotUtf8 (utf8_valid_len bytes))) (is_all (utf8_valid_len bytes) (length bytes) all)
 
       last_is : paragraphs (cut_by rules) held.text.items ≡ last
@@ -381,7 +381,7 @@ module _ (rules : Rules) (width : ℕ) (print : Print) (reader_old writer_old : 
               ap are_within pars ∙ within_more sent (paragraphs (cut_by rules) text) sent_is ∙ ap (λ t. are_within (paragraphs (cut_by rules) (t ++ front_of bytes_read))) (sym text_same) ∙ within,
               λ bad. (
                 length sent,
-                omega (arith, ended_is (sym (is_bad-behind s.is_at.decoded bytes_read s.is_at.utf8) ∙ bad), ap length pars, length-append sent (paragraphs (cut_by rules) text), ap (λ t. length (paragraphs (cut_by rules) (t ++ front_of bytes_read))) text_same),
+                omega (arith, ended_is (sym (is_bad-after s.is_at.decoded bytes_read s.is_at.utf8) ∙ bad), ap length pars, length-append sent (paragraphs (cut_by rules) text), ap (λ t. length (paragraphs (cut_by rules) (t ++ front_of bytes_read))) text_same),
                 subst (λ (ps : List (List ℕ)). Wrote (page rules width print ps) writer_old writer) (sym (ap (take (length sent)) pars ∙ take-append_seam sent (paragraphs (cut_by rules) text))) s.is_at.wrote,
               ),
             ),
@@ -390,11 +390,11 @@ module _ (rules : Rules) (width : ℕ) (print : Print) (reader_old writer_old : 
     abbrev left : List ℕ
     left = drop (utf8_valid_len bytes_read) bytes_read
 
-    -- what stands behind the front isn't text
+    -- what stands after the front isn't text
     left_none : utf8_valid_len left ≡ 0
     left_none =
         let v = utf8_valid_len bytes_read in
-        let parts = utf8_valid_len-behind (take v bytes_read) left (utf8_front bytes_read) in
+        let parts = utf8_valid_len-after (take v bytes_read) left (utf8_front bytes_read) in
         let whole = ap utf8_valid_len (take-append-drop v bytes_read) in
         omega (arith, parts, whole, length-take-le v bytes_read (utf8_valid_len_le bytes_read))
 
@@ -434,24 +434,24 @@ module _ (rules : Rules) (width : ℕ) (print : Print) (reader_old writer_old : 
     no_lines : held_read.page.bytes.items ≡ []
     no_lines = ap (λ (h : Held). h.page.bytes.items) same ∙ s.lines
 
-    -- the bytes behind the front are bad
+    -- the bytes after the front are bad
     ends_bad : (writer_new : Device) (text_new : List ℕ) (at : IsAt rules width print reader_old reader_new writer_old writer_new left text_new []) → at.gathered ≡ [] → (place : ℕ) → length at.decoded ≡ place
         → IsOpen (cut_by rules) text_new → is_bad bytes_read ≡ true → Stops rules width print reader_old writer_old reader_new writer_new (f.NotUtf8 place)
     ends_bad writer_new text_new at sent place place_is is_open bad =
         let rest = unwrap_or reader_new.bytes [] in
-        let behind = left ++ rest in
-        let none : utf8_valid_len behind ≡ 0 = bad_stays left rest left_none bad in
+        let after = left ++ rest in
+        let none : utf8_valid_len after ≡ 0 = bad_stays left rest left_none bad in
         let some : 0 < length left = some_bad left bad in
-        let valid : utf8_valid_len (at.decoded ++ behind) ≡ length at.decoded + utf8_valid_len behind = utf8_valid_len-behind at.decoded behind at.utf8 in
-        let here : utf8_valid_len (at.decoded ++ behind) ≡ place = omega (arith, valid, none, place_is) in
-        let less : utf8_valid_len (at.decoded ++ behind) < length (at.decoded ++ behind) = omega (arith, valid, none, some, length-append at.decoded behind, length-append left rest) in
-        at_fault rules width print reader_old reader_new writer_old writer_new left text_new [] at sent reader_new AtEnd behind (f.NotUtf8 place)
+        let valid : utf8_valid_len (at.decoded ++ after) ≡ length at.decoded + utf8_valid_len after = utf8_valid_len-after at.decoded after at.utf8 in
+        let here : utf8_valid_len (at.decoded ++ after) ≡ place = omega (arith, valid, none, place_is) in
+        let less : utf8_valid_len (at.decoded ++ after) < length (at.decoded ++ after) = omega (arith, valid, none, some, length-append at.decoded after, length-append left rest) in
+        at_fault rules width print reader_old reader_new writer_old writer_new left text_new [] at sent reader_new AtEnd after (f.NotUtf8 place)
         (gave_all rules width print reader_old reader_new writer_old writer_new left text_new [] at)
         (sent_ahead rules width print reader_old reader_new writer_old writer_new left text_new [] at) is_open none
-        (ap (λ (b : Bool). if b then None else Some (f.NotUtf8 (utf8_valid_len (at.decoded ++ behind)))) (not_all (utf8_valid_len (at.decoded ++ behind)) (length (at.decoded ++ behind)) less) ∙ ap (λ k. Some (f.NotUtf8 k)) here)
+        (ap (λ (b : Bool). if b then None else Some (f.NotUtf8 (utf8_valid_len (at.decoded ++ after)))) (not_all (utf8_valid_len (at.decoded ++ after)) (length (at.decoded ++ after)) less) ∙ ap (λ k. Some (f.NotUtf8 k)) here)
         (λ written wrong is wrote. (is, wrote))
 
-    -- a fault is found before the first paragraph ends: its lines and those behind it are not written, nor is anything more
+    -- a fault is found before the first paragraph ends: its lines and those after it are not written, nor is anything more
     module _ (held_new : Held) (fault : Option RunFault) (l : FindsFault rules bytes_read held_read held_new fault) where
       abbrev text_ahead : List ℕ
       text_ahead = held.text.items ++ front_of bytes_read

@@ -25,7 +25,7 @@ use Rattle.text_run.specs.declared.text.Ending.TheVariants.{AtEnd}
 use Rattle.text_run.specs.TextRun.{are_within, is_within, written_of, ending_of, input_fault, front_of, front_paragraphs, read_ahead, Gave, EndsWith, IsTextRun, ReadsAhead}
 use Rattle.text_run.specs.Streaming.{IsAt, IsFront, IsOpen, StartsLong}
 use Rattle.text_run.proofs.Fronts.{first_paragraph}
-use Rattle.text_run.proofs.Utf8Lemmas.{take-valid-behind}
+use Rattle.text_run.proofs.Utf8Lemmas.{take-valid-after}
 
 -- ---- which paragraphs are written
 
@@ -121,7 +121,7 @@ pub record Stops (rules : Rules) (width : ℕ) (print : Print) (reader_old write
   pub ahead : ReadsAhead rules width print reader_old reader_new writer_old writer_new
 
 module _ (rules : Rules) (width : ℕ) (print : Print) (reader_old writer_old : Device) where
-  -- the lines of these paragraphs are written, and no more was read behind them than may be
+  -- the lines of these paragraphs are written, and no more was read after them than may be
   pub record IsSent (reader_new : Device) (sent : List (List ℕ)) : Type 0 where
     pub ahead : reader_new.passed ≤ reader_old.passed + length (encode_utf8_all (concat sent)) + read_ahead
 
@@ -170,9 +170,9 @@ module _ (rules : Rules) (width : ℕ) (print : Print) (reader_old writer_old : 
   record IsWithin (gathered : List (List ℕ)) (m : ℕ) : Type 0 where
     pub before : List (List ℕ)
     pub next : List ℕ
-    pub behind : List (List ℕ)
+    pub after : List (List ℕ)
     pub n : ℕ
-    pub parts : gathered ≡ before ++ next ∷ behind
+    pub parts : gathered ≡ before ++ next ∷ after
     pub lines : take m (page rules width print gathered) ≡ page rules width print before ++ take n (page rules width print (next ∷ []))
 
   within_step : (p : List ℕ) (ps : List (List ℕ)) (m : ℕ) → m < length (page rules width print (p ∷ ps)) → ((k : ℕ) → k < length (page rules width print ps) → IsWithin ps k) → IsWithin (p ∷ ps) m
@@ -185,7 +185,7 @@ module _ (rules : Rules) (width : ℕ) (print : Print) (reader_old writer_old : 
       rest = page rules width print ps
 
       go : (length lines < m) ⊎ (m ≤ length lines) → IsWithin (p ∷ ps) m
-      go (inr here) = record { before = []; next = p; behind = ps; n = m; parts = refl; lines = take-append-le m lines rest here ∙ ap (take m) (sym (append-nil lines)) }
+      go (inr here) = record { before = []; next = p; after = ps; n = m; parts = refl; lines = take-append-le m lines rest here ∙ ap (take m) (sym (append-nil lines)) }
       go (inl past) =
           let k = m - length lines in
           let there = later k (omega (arith, less, length-append lines rest)) in
@@ -193,7 +193,7 @@ module _ (rules : Rules) (width : ℕ) (print : Print) (reader_old writer_old : 
           record {
             before = p ∷ there.before;
             next = there.next;
-            behind = there.behind;
+            after = there.after;
             n = there.n;
             parts = ap (λ t. p ∷ t) there.parts;
             lines = ap (λ i. take i (lines ++ rest)) same ∙ take-append-add lines rest k ∙ ap (λ t. lines ++ t) there.lines
@@ -204,8 +204,8 @@ module _ (rules : Rules) (width : ℕ) (print : Print) (reader_old writer_old : 
   within [] m less = absurd (omega arith)
   within (p ∷ ps) m less = within_step p ps m less (λ k less_2. within ps k less_2)
 
-  FailedLast-behind : (a b c : Device) → b.failures ≡ a.failures → FailedLast b c → FailedLast a c
-  FailedLast-behind a b c same failed = record { failures = failed.failures ∙ ap (λ n. min (n + 1) greatest) same; last = failed.last }
+  FailedLast-after : (a b c : Device) → b.failures ≡ a.failures → FailedLast b c → FailedLast a c
+  FailedLast-after a b c same failed = record { failures = failed.failures ∙ ap (λ n. min (n + 1) greatest) same; last = failed.last }
 
   -- the sink failed within the lines of some paragraphs more
   pub ends_write : (reader_new writer_mid writer_new : Device) (ending : Ending) (bytes : List ℕ) (sent gathered others more : List (List ℕ)) (m n : ℕ) → Gave reader_old reader_new ending bytes
@@ -226,17 +226,17 @@ module _ (rules : Rules) (width : ℕ) (print : Print) (reader_old writer_old : 
       let less : n < length (front ++ (lines ++ page rules width print more)) =
       omega (arith, n_is, stopped.0, length-append front (lines ++ page rules width print more), length-append lines (page rules width print more)) in
       let stopped_all : StoppedAt n (front ++ (lines ++ page rules width print more)) writer_old writer_new =
-      (less, subst (Took writer_old writer_new) (sym taken) took, FailedLast-behind writer_old writer_mid writer_new wrote.1 stopped.2) in
+      (less, subst (Took writer_old writer_new) (sym taken) took, FailedLast-after writer_old writer_mid writer_new wrote.1 stopped.2) in
       let at = within gathered m stopped.0 in
       let before = sent ++ at.before in
-      let pars_2 : front_paragraphs rules bytes ≡ before ++ (at.next ∷ (at.behind ++ others)) =
-      pars ∙ ap (λ t. (sent ++ t) ++ others) at.parts ∙ append_assoc sent (at.before ++ at.next ∷ at.behind) others ∙ ap (λ t. sent ++ t) (append_assoc at.before (at.next ∷ at.behind) others) ∙ sym (append_assoc sent at.before (at.next ∷ (at.behind ++ others))) in
+      let pars_2 : front_paragraphs rules bytes ≡ before ++ (at.next ∷ (at.after ++ others)) =
+      pars ∙ ap (λ t. (sent ++ t) ++ others) at.parts ∙ append_assoc sent (at.before ++ at.next ∷ at.after) others ∙ ap (λ t. sent ++ t) (append_assoc at.before (at.next ∷ at.after) others) ∙ sym (append_assoc sent at.before (at.next ∷ (at.after ++ others))) in
       let took_2 : front ++ take m lines ≡ page rules width print before ++ take at.n (page rules width print (at.next ∷ [])) =
       ap (λ t. front ++ t) at.lines ∙ sym (append_assoc front (page rules width print at.before) (take at.n (page rules width print (at.next ∷ []))))
       ∙ ap (λ t. t ++ take at.n (page rules width print (at.next ∷ []))) (sym (flat_map-append (paragraph_bytes rules width print) sent at.before)) in
       record {
         run = λ engine_old engine_new. (ending, bytes, gave, tt, tt, subst (λ (t : List ℕ). StoppedAt n t writer_old writer_new) (sym pages) stopped_all);
-        ahead = ahead_at reader_new writer_new ending bytes before (at.next ∷ (at.behind ++ others)) at.n gave pars_2 (subst (Took writer_old writer_new) took_2 took) (ahead_more reader_new sent at.before ahead);
+        ahead = ahead_at reader_new writer_new ending bytes before (at.next ∷ (at.after ++ others)) at.n gave pars_2 (subst (Took writer_old writer_new) took_2 took) (ahead_more reader_new sent at.before ahead);
       }
 
 -- what is left of a text whose first paragraphs are known
@@ -260,17 +260,17 @@ begins_in is_cut ps (a ∷ rest) whole all (inr some) more =
 
 module _ (rules : Rules) (width : ℕ) (print : Print) (reader_old reader_new writer_old writer_new : Device) (waiting text lines : List ℕ)
     (at : IsAt rules width print reader_old reader_new writer_old writer_new waiting text lines) where
-  -- whatever stands behind the bytes that were decoded
-  pub front_is : (behind : List ℕ) → front_of (at.decoded ++ behind) ≡ chars at.decoded ++ front_of behind
-  front_is behind = ap chars (take-valid-behind at.decoded behind at.utf8) ∙ chars-append at.decoded (take (utf8_valid_len behind) behind) at.utf8
+  -- whatever stands after the bytes that were decoded
+  pub front_is : (after : List ℕ) → front_of (at.decoded ++ after) ≡ chars at.decoded ++ front_of after
+  front_is after = ap chars (take-valid-after at.decoded after at.utf8) ∙ chars-append at.decoded (take (utf8_valid_len after) after) at.utf8
 
-  pars_are : (behind : List ℕ) → front_paragraphs rules (at.decoded ++ behind) ≡ (at.sent ++ at.gathered) ++ paragraphs (cut_by rules) (text ++ front_of behind)
-  pars_are behind = ap (paragraphs (cut_by rules)) (front_is behind) ∙ at.front.cuts (front_of behind)
+  pars_are : (after : List ℕ) → front_paragraphs rules (at.decoded ++ after) ≡ (at.sent ++ at.gathered) ++ paragraphs (cut_by rules) (text ++ front_of after)
+  pars_are after = ap (paragraphs (cut_by rules)) (front_is after) ∙ at.front.cuts (front_of after)
 
-  begins : (behind : List ℕ) (whole : Bool) → (others : List (List ℕ)) × (written_of (front_paragraphs rules (at.decoded ++ behind)) whole ≡ (at.sent ++ at.gathered) ++ others)
-  begins behind whole =
-      let some = begins_in (cut_by rules) (at.sent ++ at.gathered) text whole at.front.within (gone_on (cut_by rules) (at.sent ++ at.gathered) (chars at.decoded) text at.front) (front_of behind) in
-      (some.0, ap (λ qs. written_of qs whole) (pars_are behind) ∙ some.1)
+  begins : (after : List ℕ) (whole : Bool) → (others : List (List ℕ)) × (written_of (front_paragraphs rules (at.decoded ++ after)) whole ≡ (at.sent ++ at.gathered) ++ others)
+  begins after whole =
+      let some = begins_in (cut_by rules) (at.sent ++ at.gathered) text whole at.front.within (gone_on (cut_by rules) (at.sent ++ at.gathered) (chars at.decoded) text at.front) (front_of after) in
+      (some.0, ap (λ qs. written_of qs whole) (pars_are after) ∙ some.1)
 
   -- all that the reader has, where it told it
   abbrev pub rest_of : List ℕ
@@ -329,8 +329,8 @@ module _ (rules : Rules) (width : ℕ) (print : Print) (reader_old reader_new wr
     sent_is : at.sent ++ at.gathered ≡ at.sent
     sent_is = ap (λ t. at.sent ++ t) nothing ∙ append-nil at.sent
 
-    pub pars_sent : (behind : List ℕ) → front_paragraphs rules (at.decoded ++ behind) ≡ at.sent ++ paragraphs (cut_by rules) (text ++ front_of behind)
-    pars_sent behind = pars_are behind ∙ ap (λ t. t ++ paragraphs (cut_by rules) (text ++ front_of behind)) sent_is
+    pub pars_sent : (after : List ℕ) → front_paragraphs rules (at.decoded ++ after) ≡ at.sent ++ paragraphs (cut_by rules) (text ++ front_of after)
+    pars_sent after = pars_are after ∙ ap (λ t. t ++ paragraphs (cut_by rules) (text ++ front_of after)) sent_is
 
     pub sent_within : are_within at.sent ≡ true
     sent_within = ap are_within (sym sent_is) ∙ at.front.within
@@ -376,14 +376,14 @@ module _ (rules : Rules) (width : ℕ) (print : Print) (reader_old reader_new wr
     text_or_none = ⊎_elim (λ none. inr (sym sent_is ∙ none)) (λ some. inl some) (gone_on (cut_by rules) (at.sent ++ at.gathered) (chars at.decoded) text at.front)
 
     -- the fault of an input of which no more is text
-    pub at_fault : (reader_last : Device) (ending : Ending) (behind : List ℕ) (fault : RunFault) → Gave reader_old reader_last ending (at.decoded ++ behind) → IsSent rules width print reader_old writer_old reader_last at.sent → IsOpen (cut_by rules) text → utf8_valid_len behind ≡ 0
-        → input_fault ending (at.decoded ++ behind) ≡ Some fault
+    pub at_fault : (reader_last : Device) (ending : Ending) (after : List ℕ) (fault : RunFault) → Gave reader_old reader_last ending (at.decoded ++ after) → IsSent rules width print reader_old writer_old reader_last at.sent → IsOpen (cut_by rules) text → utf8_valid_len after ≡ 0
+        → input_fault ending (at.decoded ++ after) ≡ Some fault
         → ((written : List (List ℕ)) (wrong : Option RunFault) → Some fault ≡ wrong → Wrote (page rules width print written) writer_old writer_new → EndsWith (page rules width print) written wrong writer_old writer_new (Some fault))
         → Stops rules width print reader_old writer_old reader_last writer_new fault
-    at_fault reader_last ending behind fault gave ahead is_open none wrong_is ends =
-        let bytes = at.decoded ++ behind in
-        let nothing_more : text ++ front_of behind ≡ text = ap (λ n. text ++ chars (take n behind)) none ∙ ap (λ t. text ++ t) chars-nil ∙ append-nil text in
-        let pars : front_paragraphs rules bytes ≡ at.sent ++ paragraphs (cut_by rules) text = pars_sent behind ∙ ap (λ t. at.sent ++ paragraphs (cut_by rules) t) nothing_more in
+    at_fault reader_last ending after fault gave ahead is_open none wrong_is ends =
+        let bytes = at.decoded ++ after in
+        let nothing_more : text ++ front_of after ≡ text = ap (λ n. text ++ chars (take n after)) none ∙ ap (λ t. text ++ t) chars-nil ∙ append-nil text in
+        let pars : front_paragraphs rules bytes ≡ at.sent ++ paragraphs (cut_by rules) text = pars_sent after ∙ ap (λ t. at.sent ++ paragraphs (cut_by rules) t) nothing_more in
         let part = open_part text is_open text_or_none in
         let written : written_of (front_paragraphs rules bytes) (is_none (input_fault ending bytes)) ≡ at.sent =
         ap (λ (w : Option RunFault). written_of (front_paragraphs rules bytes) (is_none w)) wrong_is ∙ ap (λ ps. written_of ps false) pars ∙ part.0 in

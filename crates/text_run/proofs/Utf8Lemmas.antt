@@ -60,49 +60,49 @@ utf8_front bs = ⊎_elim
     (λ valid. valid.front)
     (utf8_or_not bs)
 
-behind : (cs : List ℕ) (es b : List ℕ) → scalars es ≡ true → encodes es ≡ encodes cs ++ b → IsUtf8 b
-behind [] es b all is = (es, (all, is))
-behind (c ∷ cs) es b all is =
+after : (cs : List ℕ) (es b : List ℕ) → scalars es ≡ true → encodes es ≡ encodes cs ++ b → IsUtf8 b
+after [] es b all is = (es, (all, is))
+after (c ∷ cs) es b all is =
     let later = cons_from_encodes es (encodes cs ++ b) c (is ∙ append_assoc (encode c) (encodes cs) b) in
     let both = and_parts _ _ (ap scalars (sym later.1) ∙ all) in
-    behind cs later.0 b both.1 later.2
+    after cs later.0 b both.1 later.2
 
--- what stands behind UTF-8 in UTF-8
-pub IsUtf8-behind : (a b : List ℕ) → IsUtf8 (a ++ b) → IsUtf8 a → IsUtf8 b
-IsUtf8-behind a b all front = behind front.0 all.0 b all.1.0 (all.1.1 ∙ ap (λ t. t ++ b) (sym front.1.1))
+-- what stands after UTF-8 in UTF-8
+pub IsUtf8-after : (a b : List ℕ) → IsUtf8 (a ++ b) → IsUtf8 a → IsUtf8 b
+IsUtf8-after a b all front = after front.0 all.0 b all.1.0 (all.1.1 ∙ ap (λ t. t ++ b) (sym front.1.1))
 
-take_behind : (a b : List ℕ) (m : ℕ) → length a ≤ m → take m (a ++ b) ≡ a ++ take (m - length a) b
-take_behind a b m more =
+take_after : (a b : List ℕ) (m : ℕ) → length a ≤ m → take m (a ++ b) ≡ a ++ take (m - length a) b
+take_after a b m more =
     let same : m ≡ length a + (m - length a) = omega arith in
     ap (λ k. take k (a ++ b)) same ∙ take-append-add a b (m - length a)
 
-valid_behind : (a b : List ℕ) (v : ℕ) → IsUtf8 a → IsValidUpTo b v → IsValidUpTo (a ++ b) (length a + v)
-valid_behind a b v u valid = record {
+valid_after : (a b : List ℕ) (v : ℕ) → IsUtf8 a → IsValidUpTo b v → IsValidUpTo (a ++ b) (length a + v)
+valid_after a b v u valid = record {
   short = omega (arith, length-append a b, valid.short);
   front = subst IsUtf8 (sym (take-append-add a b v)) (IsUtf8-append a (take v b) u valid.front);
   longest = λ m above all.
-      valid.longest (m - length a) (omega arith) (IsUtf8-behind a (take (m - length a) b) (subst IsUtf8 (take_behind a b m (omega arith)) all) u);
+      valid.longest (m - length a) (omega arith) (IsUtf8-after a (take (m - length a) b) (subst IsUtf8 (take_after a b m (omega arith)) all) u);
 }
 
 -- how far bytes are UTF-8 that begin with UTF-8
-pub utf8_valid_len-behind : (a b : List ℕ) → IsUtf8 a → utf8_valid_len (a ++ b) ≡ length a + utf8_valid_len b
-utf8_valid_len-behind a b u = ⊎_elim
+pub utf8_valid_len-after : (a b : List ℕ) → IsUtf8 a → utf8_valid_len (a ++ b) ≡ length a + utf8_valid_len b
+utf8_valid_len-after a b u = ⊎_elim
     (λ v.
     let all = utf8_valid_len-IsUtf8 (a ++ b) (IsUtf8-append a b u v) in
     let part = utf8_valid_len-IsUtf8 b v in
     omega (arith, length-append a b, all, part))
-    (λ valid. utf8_valid_len-IsValidUpTo (a ++ b) (length a + utf8_valid_len b) (valid_behind a b (utf8_valid_len b) u valid))
+    (λ valid. utf8_valid_len-IsValidUpTo (a ++ b) (length a + utf8_valid_len b) (valid_after a b (utf8_valid_len b) u valid))
     (utf8_or_not b)
 
--- and what stands behind
-pub drop-valid-behind : (a b : List ℕ) → IsUtf8 a → drop (utf8_valid_len (a ++ b)) (a ++ b) ≡ drop (utf8_valid_len b) b
-drop-valid-behind a b u = ap (λ n. drop n (a ++ b)) (utf8_valid_len-behind a b u) ∙ drop-append-add a b (utf8_valid_len b)
+-- and what stands after
+pub drop-valid-after : (a b : List ℕ) → IsUtf8 a → drop (utf8_valid_len (a ++ b)) (a ++ b) ≡ drop (utf8_valid_len b) b
+drop-valid-after a b u = ap (λ n. drop n (a ++ b)) (utf8_valid_len-after a b u) ∙ drop-append-add a b (utf8_valid_len b)
 
-pub take-valid-behind : (a b : List ℕ) → IsUtf8 a → take (utf8_valid_len (a ++ b)) (a ++ b) ≡ a ++ take (utf8_valid_len b) b
-take-valid-behind a b u = ap (λ n. take n (a ++ b)) (utf8_valid_len-behind a b u) ∙ take-append-add a b (utf8_valid_len b)
+pub take-valid-after : (a b : List ℕ) → IsUtf8 a → take (utf8_valid_len (a ++ b)) (a ++ b) ≡ a ++ take (utf8_valid_len b) b
+take-valid-after a b u = ap (λ n. take n (a ++ b)) (utf8_valid_len-after a b u) ∙ take-append-add a b (utf8_valid_len b)
 
-pub is_bad-behind : (a b : List ℕ) → IsUtf8 a → is_bad (a ++ b) ≡ is_bad b
-is_bad-behind a b u = ap (λ t. is_some (utf8_error_len t)) (drop-valid-behind a b u)
+pub is_bad-after : (a b : List ℕ) → IsUtf8 a → is_bad (a ++ b) ≡ is_bad b
+is_bad-after a b u = ap (λ t. is_some (utf8_error_len t)) (drop-valid-after a b u)
 
 -- bytes that are UTF-8 throughout
 pub whole_text : (bytes : List ℕ) → IsUtf8 bytes → take (utf8_valid_len bytes) bytes ≡ bytes
@@ -123,7 +123,7 @@ whole_good bytes u =
     let none : drop (utf8_valid_len bytes) bytes ≡ [] = drop_all (utf8_valid_len bytes) bytes (omega (arith, utf8_valid_len-IsUtf8 bytes u)) in
     sym (ap (λ t. is_some (utf8_error_len t)) none ∙ ap is_some utf8_error_len-nil)
 
--- text, and behind it the beginning of a character
+-- text, and after it the beginning of a character
 pub record IsTextUpTo (bytes front : List ℕ) : Type 0 where
   pub text : front ≡ take (utf8_valid_len bytes) bytes
   pub good : false ≡ is_bad bytes
@@ -132,10 +132,10 @@ pub record IsTextUpTo (bytes front : List ℕ) : Type 0 where
 pub text_up_to : (bytes front cut : List ℕ) → front ++ cut ≡ bytes → IsUtf8 front → utf8_valid_len cut ≡ 0 → utf8_error_len cut ≡ None → length cut < 4 → IsTextUpTo bytes front
 text_up_to bytes front cut parts u none fault few =
     let text : take (utf8_valid_len bytes) bytes ≡ front =
-    ap (λ t. take (utf8_valid_len t) t) (sym parts) ∙ take-valid-behind front cut u ∙ ap (λ n. front ++ take n cut) none ∙ append-nil front in
-    let len : utf8_valid_len bytes ≡ length front + 0 = ap utf8_valid_len (sym parts) ∙ utf8_valid_len-behind front cut u ∙ ap (λ n. length front + n) none in
+    ap (λ t. take (utf8_valid_len t) t) (sym parts) ∙ take-valid-after front cut u ∙ ap (λ n. front ++ take n cut) none ∙ append-nil front in
+    let len : utf8_valid_len bytes ≡ length front + 0 = ap utf8_valid_len (sym parts) ∙ utf8_valid_len-after front cut u ∙ ap (λ n. length front + n) none in
     let bad : is_bad bytes ≡ is_some (utf8_error_len cut) =
-    ap is_bad (sym parts) ∙ is_bad-behind front cut u ∙ ap (λ n. is_some (utf8_error_len (drop n cut))) none in
+    ap is_bad (sym parts) ∙ is_bad-after front cut u ∙ ap (λ n. is_some (utf8_error_len (drop n cut))) none in
     record {
       text = sym text;
       good = sym (bad ∙ ap is_some fault);
@@ -238,9 +238,9 @@ beginning_of c (suc (suc (suc zero))) valid (of4 a b d x l u f g h is e) less =
     ap (λ t. utf8_error_len (take 3 t)) e ∙ error_three a b d (omega arith) both.0 both.1 g
 beginning_of c (suc (suc (suc (suc n)))) valid (of4 a b d x l u f g h is e) less = absurd (omega (arith, ap length e))
 
--- a character that bytes begin with, whatever stands behind: they are a beginning of it, or begin with it
-char_in_front : (x more r : List ℕ) (c : ℕ) → scalar c ≡ true → x ++ more ≡ encode c ++ r → utf8_valid_len x ≡ 0 → is_some (utf8_error_len x) ≡ true → ⊥
-char_in_front x more r c s is none fault = go (cases_lt (length x) (length (encode c)))
+-- a character that bytes begin with, whatever stands after: they are a beginning of it, or begin with it
+char_before : (x more r : List ℕ) (c : ℕ) → scalar c ≡ true → x ++ more ≡ encode c ++ r → utf8_valid_len x ≡ 0 → is_some (utf8_error_len x) ≡ true → ⊥
+char_before x more r c s is none fault = go (cases_lt (length x) (length (encode c)))
   where
     front : (n : ℕ) → n ≤ length x → n ≤ length (encode c) → take n x ≡ take n (encode c)
     front n le le_2 = sym (take-append-le n x more le) ∙ ap (take n) is ∙ take-append-le n (encode c) r le_2
@@ -254,10 +254,10 @@ char_in_front x more r c s is none fault = go (cases_lt (length x) (length (enco
         let n = length (encode c) in
         let x_is : x ≡ encode c ++ drop n x =
         sym (take-append-drop n x) ∙ ap (λ t. t ++ drop n x) (front n all (omega arith) ∙ take_all n (encode c) (omega arith)) in
-        let len = utf8_valid_len-behind (encode c) (drop n x) (IsUtf8-encode c s) in
+        let len = utf8_valid_len-after (encode c) (drop n x) (IsUtf8-encode c s) in
         omega (arith, none, ap utf8_valid_len x_is, len, encode_filled c)
 
--- bytes that begin no character begin none, whatever stands behind them
+-- bytes that begin no character begin none, whatever stands after them
 pub bad_stays : (x more : List ℕ) → utf8_valid_len x ≡ 0 → is_some (utf8_error_len x) ≡ true → utf8_valid_len (x ++ more) ≡ 0
 bad_stays x more none fault = go (utf8_valid_len (x ++ more)) refl (utf8_front (x ++ more))
   where
@@ -268,4 +268,4 @@ bad_stays x more none fault = go (utf8_valid_len (x ++ more)) refl (utf8_front (
         let m = utf8_valid_len (x ++ more) in
         let parts : x ++ more ≡ encode c ++ (encodes cs ++ drop m (x ++ more)) =
         sym (take-append-drop m (x ++ more)) ∙ ap (λ t. t ++ drop m (x ++ more)) (sym spelt) ∙ append_assoc (encode c) (encodes cs) (drop m (x ++ more)) in
-        absurd (char_in_front x more (encodes cs ++ drop m (x ++ more)) c (and_parts _ _ all).0 parts none fault)
+        absurd (char_before x more (encodes cs ++ drop m (x ++ more)) c (and_parts _ _ all).0 parts none fault)

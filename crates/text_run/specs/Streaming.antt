@@ -43,7 +43,7 @@ module _ (is_cut : ℕ → ℕ → Bool) where
     pub within : are_within (paragraphs is_cut text) ≡ true
     pub more : 1 < length (paragraphs is_cut text)
 
-  -- what is wrong with a text behind which bad bytes stand or not: its first paragraph is too long, or is open there
+  -- what is wrong with a text after which bad bytes stand or not: its first paragraph is too long, or is open there
   abbrev pub IsFaultAhead : List ℕ → Bool → ℕ → RunFault → Type 0
   IsFaultAhead text bad place f.ParagraphTooLong = StartsLong text
   IsFaultAhead text bad place (f.NotUtf8 n) = IsOpen text × (bad ≡ true) × (n ≡ place)
@@ -71,14 +71,14 @@ pub record IsReadTo (place n : ℕ) (old new : List ℕ) (reader_old reader_new 
   pub small : place + n ≤ length old
   pub piece : take (place + n) new ≡ take place old ++ take n buffer
 
--- n bytes were read behind those that wait
+-- n bytes were read after those that wait
 pub record IsRead (n : ℕ) (old new : Held) (reader_old reader_new : Device) : Type 0 where
   pub read : IsReadTo old.waiting n old.piece.items new.piece.items reader_old reader_new
   pub small : old.waiting + n ≤ vec_len old.piece
   pub room : vec_len new.piece ≡ vec_len old.piece
   pub same : new ≡ record old { piece = new.piece }
 
--- Some bytes were decoded, and the lines of the paragraphs that are known to end then were gathered. The bytes behind the
+-- Some bytes were decoded, and the lines of the paragraphs that are known to end then were gathered. The bytes after the
 -- characters wait, and are wrong or not.
 pub record Gathers (rules : Rules) (width : ℕ) (print : Print) (bytes : List ℕ) (old new : Held) (engine_old engine_new : Engine) (fault : Option RunFault) : Type 0 where
   pub pushed : Pushed rules width print (old.text.items ++ front_of bytes) new.text.items old.page.bytes.items new.page.bytes.items engine_old engine_new
@@ -128,7 +128,7 @@ Finishes rules width print held old new (Err f.Memory) = (held.waiting ≡ 0) ×
 Finishes rules width print held old new (Err fault) = ⊥
 
 -- Between two states of its devices a run has read some bytes and written the lines of some paragraphs. It waits with some bytes at
--- the end, and holds the characters behind the last cut, and lines that aren't written yet.
+-- the end, and holds the characters after the last cut, and lines that aren't written yet.
 pub record IsAt (rules : Rules) (width : ℕ) (print : Print) (reader_old reader_new writer_old writer_new : Device) (waiting text lines : List ℕ) : Type 0 where
   pub decoded : List ℕ
   pub sent : List (List ℕ)

@@ -19,11 +19,11 @@ use Rattle.text_run.specs.declared.text.Ending.{Ending}
 use Rattle.text_run.specs.declared.text.Ending.TheVariants.{AtEnd, AtFailure}
 use Rattle.device.specs.Device.{Device, FailedLast, Took, Wrote, StoppedAt}
 
--- the characters in front of the first byte that is not UTF-8
+-- the characters before the first byte that is not UTF-8
 abbrev pub front_of : List ℕ → List ℕ
 front_of bytes = chars (take (utf8_valid_len bytes) bytes)
 
--- whether the bytes behind the front can begin no character, whatever follows them
+-- whether the bytes after the front can begin no character, whatever follows them
 abbrev pub is_bad : List ℕ → Bool
 is_bad bytes = is_some (utf8_error_len (drop (utf8_valid_len bytes) bytes))
 
@@ -40,7 +40,7 @@ is_within paragraph = nat_le (length paragraph) PARAGRAPH_LIMIT
 abbrev pub are_within : List (List ℕ) → Bool
 are_within pars = list_all is_within pars
 
--- The paragraphs that are written: those in front of the first that is too long; else all, or all but the last where the input isn't whole.
+-- The paragraphs that are written: those before the first that is too long; else all, or all but the last where the input isn't whole.
 abbrev pub written_of : List (List ℕ) → Bool → List (List ℕ)
 written_of pars is_whole =
     if are_within pars then (if is_whole then pars else take (length pars - 1) pars) else take_while is_within pars
@@ -111,12 +111,12 @@ abbrev pub PrintsNoMore : Print → Device → Device → Engine → Engine → 
 PrintsNoMore print reader_old reader_new engine_old engine_new =
     (bytes : List ℕ) × HasRead reader_old reader_new bytes × PrintsAtMost (length (front_of bytes)) print engine_old engine_new
 
--- how many bytes a run reads behind the paragraphs that it has written, at most: those of one character more than a paragraph may have, and one piece
+-- how many bytes a run reads after the paragraphs that it has written, at most: those of one character more than a paragraph may have, and one piece
 abbrev pub read_ahead : ℕ
 read_ahead = 4 * (PARAGRAPH_LIMIT + 1) + PIECE
 
 -- Where a run ended with a fault, the lines of the first k paragraphs of what the reader gave were written, and n bytes of the next
--- one's. At most so many bytes behind these k paragraphs were read.
+-- one's. At most so many bytes after these k paragraphs were read.
 abbrev pub ReadsAhead : Rules → ℕ → Print → Device → Device → Device → Device → Type 0
 ReadsAhead rules width print reader_old reader_new writer_old writer_new =
     (ending : Ending) × (bytes : List ℕ) × Gave reader_old reader_new ending bytes

@@ -8,7 +8,7 @@ pub enum RunFault {
     /// The source failed.
     #[error("cannot read")]
     Read,
-    /// The sink failed behind so many bytes of this call.
+    /// The sink failed after so many bytes of this call.
     #[error("cannot write after {0} bytes")]
     Write(u64),
     /// The bytes from this one on, counted from 0 in the input, are not UTF-8.

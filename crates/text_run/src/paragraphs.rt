@@ -15,7 +15,7 @@ use bidi::paragraphs_are_pieces;
 use lines::{Engine, PARAGRAPH_LIMIT, Print};
 use std::alloc::{AllocError, Global};
 
-// What the characters that come behind a text make of its first paragraph.
+// What the characters that come after a text make of its first paragraph.
 #[derive(Clone, Copy, Debug, PartialEq, Eq)]
 enum Ahead {
     // It is too long.
@@ -87,7 +87,7 @@ fn look_ahead(engine: &Engine, text: &[char], more: &str) -> Ahead
     let mut len = text.len();
     let mut last = text.last().copied();
     for c in more.chars() {
-        if is_cut_behind(engine, last, c) {
+        if is_cut_after(engine, last, c) {
             return Ahead::Ended;
         }
         if len == PARAGRAPH_LIMIT {
@@ -99,8 +99,8 @@ fn look_ahead(engine: &Engine, text: &[char], more: &str) -> Ahead
     Ahead::Open
 }
 
-// Whether there is a cut in front of a character, behind the one that was last, if one was.
-fn is_cut_behind(engine: &Engine, last: Option<char>, c: char) -> bool
+// Whether there is a cut before a character, after the one that was last, if one was.
+fn is_cut_after(engine: &Engine, last: Option<char>, c: char) -> bool
     ensures cut { result ≡ true
         → (a : ℕ) × (last ≡ Some a) × (cut_by (rules_of engine.now) a c ≡ true) }
     ensures none { result ≡ false
@@ -136,9 +136,9 @@ pub fn push_paragraphs<'a>(
     let mut rest = text;
     let mut seen = seen;
     while let Some(end) = next_cut(engine, rest, seen) {
-        let (paragraph, behind) = rest.split_at(end);
+        let (paragraph, after) = rest.split_at(end);
         push_paragraph(alloc, page, engine, width, print, paragraph)?;
-        rest = behind;
+        rest = after;
         seen = 0;
     }
     Ok(rest)
@@ -151,8 +151,8 @@ fn next_cut(engine: &Engine, text: &[char], seen: usize) -> Option<usize>
     ensures { SplitsAt (cut_by (rules_of engine.now)) text.now result }
 {
     let from = text.len().min(seen).saturating_sub(1);
-    let (_, behind) = text.split_at(from);
-    match engine.first_cut(behind) {
+    let (_, after) = text.split_at(from);
+    match engine.first_cut(after) {
         Some(end) => Some(from + end),
         None => None,
     }

@@ -17,7 +17,7 @@ pub fn push_characters(text: &str, characters: &mut Vec<char>) -> Result<(), All
     Ok(())
 }
 
-/// The longest front of some bytes that is UTF-8, and whether what stands behind it can begin no character.
+/// The longest front of some bytes that is UTF-8, and whether what stands after it can begin no character.
 pub fn front(bytes: &[u8]) -> (&str, bool)
     ensures text { result.0.now ≡ take (utf8_valid_len bytes.now) bytes.now }
     ensures bad { result.1 ≡ is_bad bytes.now }
@@ -64,14 +64,14 @@ fn is_beginning(bytes: &[u8]) -> bool
 fn whole_len(bytes: &[u8]) -> usize
     ensures { result ≤ length bytes.now }
 {
-    for behind in 1..4 {
-        if behind > bytes.len() {
+    for after in 1..4 {
+        if after > bytes.len() {
             break;
         }
-        let at = bytes.len() - behind;
-        // The bytes behind the first one of a character are below 0xC0.
+        let at = bytes.len() - after;
+        // The bytes after the first one of a character are below 0xC0.
         if bytes[at] >= 0xc0 {
-            return if behind < char_len(bytes[at]) {
+            return if after < char_len(bytes[at]) {
                 at
             } else {
                 bytes.len()

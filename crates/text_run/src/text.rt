@@ -41,9 +41,9 @@ struct Held {
     // What was read last, and how many bytes at its front are the beginning of a character.
     piece: Vec<u8>,
     waiting: usize,
-    // How many bytes in front of these were decoded.
+    // How many bytes before these were decoded.
     decoded: u64,
-    // The characters behind the last cut.
+    // The characters after the last cut.
     text: Vec<char>,
     // The lines that aren't written yet, and how many bytes are written.
     page: Page,
@@ -78,8 +78,8 @@ fn read_to<R: Source>(reader: &mut R, buffer: &mut [u8], place: usize) -> Result
     ensures err { OnErr result (Fails (R.state reader.old) (R.state reader.new)) }
     ensures len { length buffer.new ≡ length buffer.old }
 {
-    let (_, behind) = buffer.split_at_mut(place);
-    match reader.read(behind) {
+    let (_, after) = buffer.split_at_mut(place);
+    match reader.read(after) {
         Ok(n) => Ok(n),
         Err(error) => Err(error),
     }
@@ -102,7 +102,7 @@ impl Held {
         })
     }
 
-    // Reads bytes behind those that wait, and says how many.
+    // Reads bytes after those that wait, and says how many.
     fn read<R: Source>(&mut self, reader: &mut R) -> Result<usize, ErrorKind>
         requires { self.old.waiting < vec_len self.old.piece }
         ensures ok { IfOk result (λ n.
@@ -286,7 +286,7 @@ fn step<R: Source, W: Sink>(
         (R.state reader.new) (W.state writer.new) engine.new held.new result }
     ensures reads { TellsReads result (R.state reader.old) (R.state reader.new) }
 
-    // Where memory ran out nothing was written: so this isn't answered once the lines in front of a fault
+    // Where memory ran out nothing was written: so this isn't answered once the lines before a fault
     // are.
     ensures memory { IsErrOf result RunFault.Memory → W.state writer.new ≡ W.state writer.old }
     ensures rises { result ≡ Ok true → (R.state reader.old).passed < (R.state reader.new).passed }

@@ -4,11 +4,11 @@ use Rattle.std.specs.Char.{IsScalar}
 use Rattle.std.specs.Str.{chars, IsUtf8}
 use Rattle.std.proofs.lemmas.List.{append_assoc, append-nil, drop-drop}
 use Rattle.std.proofs.lemmas.Str.{chars-append, chars-encodes}
-use Rattle.tool.specs.Scripts.{onto, unescaped, unescaped_behind, written}
+use Rattle.tool.specs.Scripts.{onto, unescaped, unescaped_after, written}
 
 -- an escape is passed over
-skipped : (n : ℕ) (text : List ℕ) → unescaped_behind n text ≡ unescaped (drop n text)
-unfolding unescaped_behind
+skipped : (n : ℕ) (text : List ℕ) → unescaped_after n text ≡ unescaped (drop n text)
+unfolding unescaped_after
 skipped zero text = refl
 skipped (suc n) [] = refl
 skipped (suc n) (c ∷ text) = skipped n text
@@ -18,12 +18,12 @@ begins_at [] n d within = absurd (omega arith)
 begins_at (c ∷ text) zero d within = refl
 begins_at (c ∷ text) (suc n) d within = let later = begins_at text n d (omega (arith, within)) in rw add-one (rw add-one at later)
 
-one : (c : ℕ) (behind : List ℕ) (w : Option (ℕ × ℕ)) → written c behind ≡ w → unescaped (c ∷ behind) ≡ onto w (λ len. unescaped_behind (len - 1) behind)
-unfolding unescaped_behind
-one c behind w is = ap (λ (o : Option (ℕ × ℕ)). onto o (λ len. unescaped_behind (len - 1) behind)) is
+one : (c : ℕ) (after : List ℕ) (w : Option (ℕ × ℕ)) → written c after ≡ w → unescaped (c ∷ after) ≡ onto w (λ len. unescaped_after (len - 1) after)
+unfolding unescaped_after
+one c after w is = ap (λ (o : Option (ℕ × ℕ)). onto o (λ len. unescaped_after (len - 1) after)) is
 
 none_left : unescaped [] ≡ Some []
-unfolding unescaped_behind
+unfolding unescaped_after
 none_left = refl
 
 joined : (front : List ℕ) (c : ℕ) (rest : Option (List ℕ)) → option_map (λ cs. front ++ cs) (option_map (λ cs. c ∷ cs) rest) ≡ option_map (λ cs. (front ++ c ∷ []) ++ cs) rest
@@ -41,7 +41,7 @@ module _ (text : List ℕ) (n d : ℕ) (within : n < length text) where
       → option_map (λ cs. front ++ cs) (unescaped (drop n text)) ≡ option_map (λ cs. (front ++ c ∷ []) ++ cs) (unescaped (drop (n + len) text))
   next_written front c len is some =
       let place : (n + 1) + (len - 1) ≡ n + len = omega (arith, some) in
-      let rest : unescaped_behind (len - 1) (drop (n + 1) text) ≡ unescaped (drop (n + len) text) =
+      let rest : unescaped_after (len - 1) (drop (n + 1) text) ≡ unescaped (drop (n + len) text) =
       skipped (len - 1) (drop (n + 1) text) ∙ ap unescaped (drop-drop (len - 1) (n + 1) text ∙ ap (λ k. drop k text) place) in
       let here : unescaped (drop n text) ≡ option_map (λ cs. c ∷ cs) (unescaped (drop (n + len) text)) =
       ap unescaped (begins_at text n d within) ∙ one (get_or text n d) (drop (n + 1) text) (Some (c, len)) is ∙ ap (option_map (λ cs. c ∷ cs)) rest in

@@ -14,7 +14,7 @@ use Rattle.session.specs.Sessions.{State, held_at}
 use Rattle.tool.specs.Reading.{FailsAt, NoEnd}
 use Rattle.tool.specs.Scripts.{is_line_end, lines_among, request_of_line, script_lines}
 use Rattle.tool.specs.ScriptRun.{after_line, after_lines, answer_line, answers, good_lines, input_fault, is_good, line_read_ahead, script_fault, with_ends}
-use Rattle.tool.specs.ScriptEnds.{Answered, EndsBehind, IsScriptRun, obeyed_lines}
+use Rattle.tool.specs.ScriptEnds.{Answered, EndsAfter, IsScriptRun, obeyed_lines}
 use Rattle.tool.specs.Work.{LineWorks, LinesWork}
 use Rattle.text_run.specs.TextRun.{Gave}
 use Rattle.text_run.specs.declared.faults.RunFault.{RunFault}
@@ -26,7 +26,7 @@ use Rattle.tool.proofs.WorkLemmas.{lines_work_bad, lines_work_more}
 
 -- ---- lines
 
--- there is always a part, and bytes in front of it in which no line ends go on with it
+-- there is always a part, and bytes before it in which no line ends go on with it
 pub parts_some : (bytes : List ℕ) → (p : List ℕ) × (ps : List (List ℕ)) × (slice_split is_line_end bytes ≡ p ∷ ps)
 parts_some [] = ([], [], refl)
 parts_some (b ∷ bytes) =
@@ -40,7 +40,7 @@ parts_some (b ∷ bytes) =
 no_end_tail : (b : ℕ) (bytes : List ℕ) → NoEnd (b ∷ bytes) → NoEnd bytes
 no_end_tail b bytes none = λ k e within. none (suc k) e (omega (arith, within))
 
--- the first part goes on in front
+-- the first part goes on at the front
 pub first_part : (front bytes p : List ℕ) (ps : List (List ℕ)) → NoEnd front → slice_split is_line_end bytes ≡ p ∷ ps → slice_split is_line_end (front ++ bytes) ≡ (front ++ p) ∷ ps
 first_part [] bytes p ps none parts = parts
 first_part (b ∷ front) bytes p ps none parts =
@@ -48,11 +48,11 @@ first_part (b ∷ front) bytes p ps none parts =
     let later = first_part front bytes p ps (no_end_tail b front none) parts in
     rw (isnt, later) refl
 
--- a part behind others is a line, whatever becomes of those behind it
-pub lines_behind : (ending : Ending) (done : List (List ℕ)) (p : List ℕ) (ps : List (List ℕ)) → lines_among ending (done ++ p ∷ ps) ≡ done ++ lines_among ending (p ∷ ps)
-lines_behind ending [] p ps = refl
-lines_behind ending (d ∷ []) p ps = refl
-lines_behind ending (d ∷ e ∷ done) p ps = ap (λ l. d ∷ l) (lines_behind ending (e ∷ done) p ps)
+-- a part after others is a line, whatever becomes of those after it
+pub lines_after : (ending : Ending) (done : List (List ℕ)) (p : List ℕ) (ps : List (List ℕ)) → lines_among ending (done ++ p ∷ ps) ≡ done ++ lines_among ending (p ∷ ps)
+lines_after ending [] p ps = refl
+lines_after ending (d ∷ []) p ps = refl
+lines_after ending (d ∷ e ∷ done) p ps = ap (λ l. d ∷ l) (lines_after ending (e ∷ done) p ps)
 
 -- ---- which lines are answered
 
@@ -81,7 +81,7 @@ all_but (l ∷ ls) line others bad = go (is_good l) (all_but ls line others bad)
     go true later = later
     go false later = refl
 
--- ---- one line behind others
+-- ---- one line after others
 
 module _ (rules : Rules) (print : Print) where
   pub after_more : (held : Held) (ls ms : List (List ℕ)) → after_lines rules held (ls ++ ms) ≡ after_lines rules (after_lines rules held ls) ms
@@ -101,22 +101,22 @@ module _ (rules : Rules) (print : Print) (start now : State) (reader_old writer_
   abbrev before : Held
   before = held_at start
 
-  -- what was read behind these lines is no more than may be
+  -- what was read after these lines is no more than may be
   pub record IsDone (done : List (List ℕ)) : Type 0 where
     pub ahead : reader_new.passed ≤ reader_old.passed + length (with_ends done) + line_read_ahead
 
-  abbrev Behind : List (List ℕ) → Option RunFault → ℕ → Option RunFault → Type 0
-  Behind lines wrong k stop = EndsBehind rules print start now lines wrong k reader_old reader_new writer_old writer_new stop
+  abbrev After : List (List ℕ) → Option RunFault → ℕ → Option RunFault → Type 0
+  After lines wrong k stop = EndsAfter rules print start now lines wrong k reader_old reader_new writer_old writer_new stop
 
-  -- the run ends behind the lines done
-  ends_behind : (lines done others : List (List ℕ)) (wrong stop : Option RunFault) → lines ≡ done ++ others → IsDone done
+  -- the run ends after the lines done
+  ends_after : (lines done others : List (List ℕ)) (wrong stop : Option RunFault) → lines ≡ done ++ others → IsDone done
       → Answered rules print before (done ++ others) wrong (length done) writer_old writer_new stop
       → held_at now ≡ after_lines rules before (obeyed_lines (done ++ others) (length done) stop)
-      → LinesWork rules before (done ++ take 1 others) start.engine now.engine → Behind lines wrong (length done) stop
-  ends_behind lines done others wrong stop is ahead wrote held works =
+      → LinesWork rules before (done ++ take 1 others) start.engine now.engine → After lines wrong (length done) stop
+  ends_after lines done others wrong stop is ahead wrote held works =
       let first : take (length done) (done ++ others) ≡ done = take-append_seam done others in
       let next : take (length done + 1) (done ++ others) ≡ done ++ take 1 others = take-append-add done others 1 in
-      subst (λ (ls : List (List ℕ)). Behind ls wrong (length done) stop) (sym is) (record {
+      subst (λ (ls : List (List ℕ)). After ls wrong (length done) stop) (sym is) (record {
         wrote = wrote;
         held = held;
         ahead = subst (λ (ls : List (List ℕ)). reader_new.passed ≤ reader_old.passed + length (with_ends ls) + line_read_ahead) (sym first) ahead.ahead;
@@ -157,10 +157,10 @@ module _ (rules : Rules) (print : Print) (start now : State) (reader_old writer_
         bytes,
         gave,
         (finished, passed),
-        (length done, ends_behind _ done [] _ None are all.done_is (none, size_all done, wrote_all done all) (held_all done all) (works_all done all)),
+        (length done, ends_after _ done [] _ None are all.done_is (none, size_all done, wrote_all done all) (held_all done all) (works_all done all)),
       )
 
-  -- a read failed behind all that are whole
+  -- a read failed after all that are whole
   pub ends_at_failure : (bytes : List ℕ) (done : List (List ℕ)) → Gave reader_old reader_new AtFailure bytes → script_lines AtFailure bytes ≡ done → list_all is_good done ≡ true
       → IsAll done → IsScriptRun rules print start now reader_old reader_new writer_old writer_new (Err f.Read)
   ends_at_failure bytes done gave lines good all =
@@ -171,7 +171,7 @@ module _ (rules : Rules) (print : Print) (start now : State) (reader_old writer_
         bytes,
         gave,
         tt,
-        (length done, ends_behind _ done [] _ (Some f.Read) are all.done_is (fault, size_all done, wrote_all done all) (held_all done all) (works_all done all)),
+        (length done, ends_after _ done [] _ (Some f.Read) are all.done_is (fault, size_all done, wrote_all done all) (held_all done all) (works_all done all)),
       )
 
   -- a line is none
@@ -187,10 +187,10 @@ module _ (rules : Rules) (print : Print) (start now : State) (reader_old writer_
         bytes,
         gave,
         tt,
-        (length done, ends_behind _ done [] _ (Some (f.BadLine n)) are all.done_is (fault, size_all done, wrote_all done all) (held_all done all) (works_all done all)),
+        (length done, ends_after _ done [] _ (Some (f.BadLine n)) are all.done_is (fault, size_all done, wrote_all done all) (held_all done all) (works_all done all)),
       )
 
-  -- memory was wanting, behind these lines or for the next
+  -- memory was wanting, after these lines or for the next
   pub ends_short : (ending : Ending) (bytes : List ℕ) (done others : List (List ℕ)) → Gave reader_old reader_new ending bytes → script_lines ending bytes ≡ done ++ others → list_all is_good done ≡ true
       → IsDone done → Wrote (answers rules print before done) writer_old writer_new → held_at now ≡ after_lines rules before done
       → LinesWork rules before (done ++ take 1 (good_lines others)) start.engine now.engine
@@ -204,7 +204,7 @@ module _ (rules : Rules) (print : Print) (start now : State) (reader_old writer_
         tt,
         (
           length done,
-          ends_behind _ done (good_lines others) _ (Some f.Memory) are ahead
+          ends_after _ done (good_lines others) _ (Some f.Memory) are ahead
               (subst (λ (ls : List (List ℕ)). Wrote (answers rules print before ls) writer_old writer_new) (sym first) wrote)
               (held ∙ ap (after_lines rules before) (sym first)) works,
         ),
@@ -224,7 +224,7 @@ module _ (rules : Rules) (print : Print) (start now : State) (reader_old writer_
       let next = answer_line rules print (after_lines rules before done) (request_of_line line) in
       let m = n - written in
       let stopped_next : StoppedAt m next writer_mid writer_new = subst (λ (h : Held). StoppedAt m (answer_line rules print h (request_of_line line)) writer_mid writer_new) held_is stopped.stopped in
-      let m_is : n ≡ length front + m = omega (arith, stopped.behind, count) in
+      let m_is : n ≡ length front + m = omega (arith, stopped.after, count) in
       let took : Took writer_old writer_new (front ++ take m next) = Took-append writer_old writer_mid writer_new front (take m next) wrote.0 stopped_next.1 in
       let text : answers rules print before (done ++ line ∷ []) ≡ front ++ next = answers_more rules print before done (line ∷ []) ∙ ap (λ t. front ++ t) (append-nil next) in
       let cut : take n (front ++ next) ≡ front ++ take m next = ap (λ k. take k (front ++ next)) m_is ∙ take-append-add front next m in
@@ -243,7 +243,7 @@ module _ (rules : Rules) (print : Print) (start now : State) (reader_old writer_
         bytes,
         gave,
         tt,
-        (length done, ends_behind _ done (line ∷ good_lines others) _ (Some (f.Write n)) are ahead (least, whole) held_now works),
+        (length done, ends_after _ done (line ∷ good_lines others) _ (Some (f.Write n)) are ahead (least, whole) held_now works),
       )
 
   -- a line fails

@@ -26,7 +26,7 @@ use Rattle.text_run.specs.declared.text.Ending.{Ending}
 use Rattle.text_run.specs.declared.text.Ending.TheVariants.{AtEnd, AtFailure}
 use Rattle.text_run.proofs.Devices.{Took-nothing}
 use Rattle.tool.proofs.WorkLemmas.{lines_work_front, lines_work_more, works_none}
-use Rattle.tool.proofs.ScriptLemmas.{IsDone, after_more, answers_more, ends_at_failure, ends_line, ends_short, ends_whole, first_part, lines_behind, parts_some}
+use Rattle.tool.proofs.ScriptLemmas.{IsDone, after_more, answers_more, ends_at_failure, ends_line, ends_short, ends_whole, first_part, lines_after, parts_some}
 use Rattle.text_run.proofs.StreamLemmas.{Consumes-append, Consumes-kept, Wrote-append, had, had_all}
 use Rattle.text_run.specs.declared.text.TheConstants.{PIECE}
 use Rattle.tool.specs.declared.script.TheConstants.{LINE_LIMIT}
@@ -35,12 +35,12 @@ with_ends_more : (ls : List (List ℕ)) (l : List ℕ) → length (with_ends (ls
 with_ends_more [] l = omega (arith, length-append (l ++ 10 ∷ []) [], length-append l (10 ∷ []))
 with_ends_more (m ∷ ls) l = omega (arith, with_ends_more ls l, length-append (m ++ 10 ∷ []) (with_ends (ls ++ l ∷ [])), length-append (m ++ 10 ∷ []) (with_ends ls))
 
--- an ended line is the first part, behind the bytes in front of the piece
-pub ended_first : (line piece front behind more : List ℕ) → NoEnd line → EndsIn piece front behind → slice_split is_line_end (line ++ (piece ++ more)) ≡ (line ++ front) ∷ slice_split is_line_end (behind ++ more)
-ended_first line piece front behind more none ends =
-    let place : line ++ (piece ++ more) ≡ (line ++ front) ++ 10 ∷ (behind ++ more) =
-    ap (λ t. line ++ (t ++ more)) ends.whole ∙ ap (λ t. line ++ t) (append_assoc front (10 ∷ behind) more) ∙ sym (append_assoc line front (10 ∷ (behind ++ more))) in
-    ap (slice_split is_line_end) place ∙ slice_split_at is_line_end (line ++ front) 10 (behind ++ more) (All-append (λ b. is_line_end b ≡ false) line front none ends.none) refl
+-- an ended line is the first part, after the bytes before the piece
+pub ended_first : (line piece front after more : List ℕ) → NoEnd line → EndsIn piece front after → slice_split is_line_end (line ++ (piece ++ more)) ≡ (line ++ front) ∷ slice_split is_line_end (after ++ more)
+ended_first line piece front after more none ends =
+    let place : line ++ (piece ++ more) ≡ (line ++ front) ++ 10 ∷ (after ++ more) =
+    ap (λ t. line ++ (t ++ more)) ends.whole ∙ ap (λ t. line ++ t) (append_assoc front (10 ∷ after) more) ∙ sym (append_assoc line front (10 ∷ (after ++ more))) in
+    ap (slice_split is_line_end) place ∙ slice_split_at is_line_end (line ++ front) 10 (after ++ more) (All-append (λ b. is_line_end b ≡ false) line front none ends.none) refl
 
 -- a part that is too long already is a line, and none of a script
 some_bytes : (p : List ℕ) → LINE_LIMIT < length p → nat_lt 0 (length p) ≡ true
@@ -132,11 +132,11 @@ module _ (rules : Rules) (print : Print) (start : State) (reader_old reader writ
         obeyed_written = omega (arith, obeys.wrote.count, at.written, ap length answers_are, length-append (answers rules print before at.done) (answer_line rules print (held_at now) (request_of_line line)))
 
       pub at_line : (n : ℕ) (state : State) (new : Reading) (writer_new : Device) (taken : EndsLine rules print waiting n now state reading new writer writer_new)
-          → IsAt rules print start reader_old reader writer_old writer_new state new taken.behind
+          → IsAt rules print start reader_old reader writer_old writer_new state new taken.after
       at_line n state new writer_new taken =
           let line = reading.line.items ++ taken.front in
           let obeys = taken.obeys in
-          let whole = length-append taken.front (10 ∷ taken.behind) in
+          let whole = length-append taken.front (10 ∷ taken.after) in
           record {
             bytes = at.bytes;
             done = at.done ++ line ∷ [];
@@ -144,9 +144,9 @@ module _ (rules : Rules) (print : Print) (start : State) (reader_old reader writ
             passed = at.passed;
             failures = at.failures;
             parts = λ more.
-                at.parts more ∙ ap (λ t. at.done ++ t) (ended_first reading.line.items waiting taken.front taken.behind more at.none taken.ends)
-                ∙ sym (append_assoc at.done (line ∷ []) (slice_split is_line_end (taken.behind ++ more)))
-                ∙ ap (λ t. (at.done ++ line ∷ []) ++ slice_split is_line_end (t ++ (taken.behind ++ more))) (sym obeys.empty);
+                at.parts more ∙ ap (λ t. at.done ++ t) (ended_first reading.line.items waiting taken.front taken.after more at.none taken.ends)
+                ∙ sym (append_assoc at.done (line ∷ []) (slice_split is_line_end (taken.after ++ more)))
+                ∙ ap (λ t. (at.done ++ line ∷ []) ++ slice_split is_line_end (t ++ (taken.after ++ more))) (sym obeys.empty);
             good = obeyed_good line state new writer_new obeys;
             none = subst NoEnd (sym obeys.empty) (λ k d within. absurd (omega (arith, within)));
             size = omega (arith, at.size, with_ends_more at.done line, length-append reading.line.items taken.front, ap length taken.ends.whole, whole, ap length obeys.empty);
@@ -164,8 +164,8 @@ module _ (rules : Rules) (print : Print) (start : State) (reader_old reader writ
       at_taken n state new writer_new (inl more) =
           subst (IsAt rules print start reader_old reader writer_old writer_new state new) (sym (ap (λ k. drop k waiting) more.all ∙ drop_all (length waiting) waiting (omega arith))) (at_more n state new writer_new more)
       at_taken n state new writer_new (inr taken) =
-          let place : drop n waiting ≡ taken.behind =
-          ap (λ k. drop k waiting) taken.taken ∙ ap (drop (length taken.front + 1)) taken.ends.whole ∙ drop-append-add taken.front (10 ∷ taken.behind) 1 in
+          let place : drop n waiting ≡ taken.after =
+          ap (λ k. drop k waiting) taken.taken ∙ ap (drop (length taken.front + 1)) taken.ends.whole ∙ drop-append-add taken.front (10 ∷ taken.after) 1 in
           subst (IsAt rules print start reader_old reader writer_old writer_new state new) (sym place) (at_line n state new writer_new taken)
 
       -- ---- the run ends within it
@@ -179,7 +179,7 @@ module _ (rules : Rules) (print : Print) (start : State) (reader_old reader writ
       gave = (had reader_old.bytes reader.bytes at.bytes at.read, at.failures)
 
       lines_are : (p : List ℕ) (ps : List (List ℕ)) → slice_split is_line_end (reading.line.items ++ (waiting ++ rest)) ≡ p ∷ ps → script_lines AtEnd (at.bytes ++ rest) ≡ at.done ++ lines_among AtEnd (p ∷ ps)
-      lines_are p ps parts = ap (lines_among AtEnd) (at.parts rest ∙ ap (λ t. at.done ++ t) parts) ∙ lines_behind AtEnd at.done p ps
+      lines_are p ps parts = ap (lines_among AtEnd) (at.parts rest ∙ ap (λ t. at.done ++ t) parts) ∙ lines_after AtEnd at.done p ps
 
       -- for want of memory
       pub ends_memory : IsScriptRun rules print start now reader_old reader writer_old writer (Err f.Memory)
@@ -194,43 +194,43 @@ module _ (rules : Rules) (print : Print) (start : State) (reader_old reader writ
           → IsScriptRun rules print start state reader_old reader writer_old writer_new (Err fault)
       ends_ended state writer_new fault failed =
           let line = reading.line.items ++ failed.front in
-          let some = parts_some (failed.behind ++ rest) in
-          let parts : slice_split is_line_end (reading.line.items ++ (waiting ++ rest)) ≡ line ∷ (some.0 ∷ some.1) = ended_first reading.line.items waiting failed.front failed.behind rest at.none failed.ends ∙ ap (λ t. line ∷ t) some.2 in
+          let some = parts_some (failed.after ++ rest) in
+          let parts : slice_split is_line_end (reading.line.items ++ (waiting ++ rest)) ≡ line ∷ (some.0 ∷ some.1) = ended_first reading.line.items waiting failed.front failed.after rest at.none failed.ends ∙ ap (λ t. line ∷ t) some.2 in
           ends_line rules print start state reader_old writer_old reader writer_new AtEnd (at.bytes ++ rest) at.done line (lines_among AtEnd (some.0 ∷ some.1)) now reading.lines reading.written writer fault
           gave (lines_are line (some.0 ∷ some.1) parts) at.good at.held_is at.lines at.written at.wrote at.works failed.fails failed.works (ahead_now state writer_new)
 
       -- at one that is too long, wherever it ends
-      ends_long : (n : ℕ) (front behind : List ℕ) → waiting ≡ front ++ behind → NoEnd front → LINE_LIMIT < length (reading.line.items ++ front) → n ≡ reading.lines + 1
+      ends_long : (n : ℕ) (front after : List ℕ) → waiting ≡ front ++ after → NoEnd front → LINE_LIMIT < length (reading.line.items ++ front) → n ≡ reading.lines + 1
           → IsScriptRun rules print start now reader_old reader writer_old writer (Err (f.BadLine n))
-      ends_long n front behind whole none long number =
+      ends_long n front after whole none long number =
           let line = reading.line.items ++ front in
-          let some = parts_some (behind ++ rest) in
+          let some = parts_some (after ++ rest) in
           let first = line ++ some.0 in
-          let place : reading.line.items ++ (waiting ++ rest) ≡ line ++ (behind ++ rest) =
-          ap (λ t. reading.line.items ++ (t ++ rest)) whole ∙ ap (λ t. reading.line.items ++ t) (append_assoc front behind rest) ∙ sym (append_assoc reading.line.items front (behind ++ rest)) in
+          let place : reading.line.items ++ (waiting ++ rest) ≡ line ++ (after ++ rest) =
+          ap (λ t. reading.line.items ++ (t ++ rest)) whole ∙ ap (λ t. reading.line.items ++ t) (append_assoc front after rest) ∙ sym (append_assoc reading.line.items front (after ++ rest)) in
           let parts : slice_split is_line_end (reading.line.items ++ (waiting ++ rest)) ≡ first ∷ some.1 =
-          ap (slice_split is_line_end) place ∙ first_part line (behind ++ rest) some.0 some.1 (All-append (λ b. is_line_end b ≡ false) reading.line.items front at.none none) some.2 in
+          ap (slice_split is_line_end) place ∙ first_part line (after ++ rest) some.0 some.1 (All-append (λ b. is_line_end b ≡ false) reading.line.items front at.none none) some.2 in
           let more : LINE_LIMIT < length first = omega (arith, long, length-append line some.0) in
           let is_line = long_line first some.1 more in
           let bad : is_good first ≡ false = long_is_bad first more in
           ends_line rules print start now reader_old writer_old reader writer AtEnd (at.bytes ++ rest) at.done first is_line.0 now reading.lines reading.written writer (f.BadLine n)
           gave (lines_are first some.1 parts ∙ ap (λ t. at.done ++ t) is_line.1) at.good at.held_is at.lines at.written at.wrote at.works (bad, number, refl, refl) (works_none rules _ now.engine now.engine refl) (ahead_now now writer)
 
-      ends_unkept : (front behind : List ℕ) → waiting ≡ front ++ behind → NoEnd front → (fault : RunFault) → GrowsNot front reading fault
+      ends_unkept : (front after : List ℕ) → waiting ≡ front ++ after → NoEnd front → (fault : RunFault) → GrowsNot front reading fault
           → IsScriptRun rules print start now reader_old reader writer_old writer (Err fault)
-      ends_unkept front behind whole none (f.BadLine n) (long, number) = ends_long n front behind whole none long number
-      ends_unkept front behind whole none f.Memory fails = ends_memory
-      ends_unkept front behind whole none f.Read fails = absurd fails
-      ends_unkept front behind whole none (f.Write n) fails = absurd fails
-      ends_unkept front behind whole none (f.NotUtf8 n) fails = absurd fails
-      ends_unkept front behind whole none f.ParagraphTooLong fails = absurd fails
-      ends_unkept front behind whole none f.TextTooLong fails = absurd fails
+      ends_unkept front after whole none (f.BadLine n) (long, number) = ends_long n front after whole none long number
+      ends_unkept front after whole none f.Memory fails = ends_memory
+      ends_unkept front after whole none f.Read fails = absurd fails
+      ends_unkept front after whole none (f.Write n) fails = absurd fails
+      ends_unkept front after whole none (f.NotUtf8 n) fails = absurd fails
+      ends_unkept front after whole none f.ParagraphTooLong fails = absurd fails
+      ends_unkept front after whole none f.TextTooLong fails = absurd fails
 
       pub ends_in : (state : State) (writer_new : Device) (fault : RunFault) → FailsIn rules print waiting now state reading writer writer_new fault → IsScriptRun rules print start state reader_old reader writer_old writer_new (Err fault)
       ends_in state writer_new fault (inl failed) = ends_ended state writer_new fault failed
       ends_in state writer_new fault (inr not) =
           subst (λ (s : State). IsScriptRun rules print start s reader_old reader writer_old writer_new (Err fault)) (sym not.state)
-          (subst (λ w. IsScriptRun rules print start now reader_old reader writer_old w (Err fault)) (sym not.writer) (ends_unkept not.front not.behind not.whole not.none fault not.grows))
+          (subst (λ w. IsScriptRun rules print start now reader_old reader writer_old w (Err fault)) (sym not.writer) (ends_unkept not.front not.after not.whole not.none fault not.grows))
 
     -- ---- nothing waits
     module _ (at : IsAt rules print start reader_old reader writer_old writer now reading []) where
@@ -240,7 +240,7 @@ module _ (rules : Rules) (print : Print) (start : State) (reader_old reader writ
           ∙ ap (λ t. at.done ++ t) (slice_split_none is_line_end reading.line.items at.none)
 
       all_lines : (ending : Ending) → script_lines ending at.bytes ≡ at.done ++ (if is_last_line ending reading.line.items then reading.line.items ∷ [] else [])
-      all_lines ending = ap (lines_among ending) all_parts ∙ lines_behind ending at.done reading.line.items []
+      all_lines ending = ap (lines_among ending) all_parts ∙ lines_after ending at.done reading.line.items []
 
       -- a read failed
       pub ends_read : (reader_new : Device) → Fails reader reader_new → IsScriptRun rules print start now reader_old reader_new writer_old writer (Err f.Read)
@@ -357,7 +357,7 @@ module _ (rules held_rules : Rules) (print : Print) (start : State) (reader_old 
 pub takes_some : (rules : Rules) (print : Print) (piece : List ℕ) (n : ℕ) (now state : State) (reading new : Reading) (writer writer_new : Device) → 0 < length piece → Takes rules print piece n now state reading new writer writer_new → (0 < n) × (n ≤ length piece)
 takes_some rules print piece n now state reading new writer writer_new some (inl more) = (omega (arith, some, more.all), omega (arith, more.all))
 takes_some rules print piece n now state reading new writer writer_new some (inr ended) =
-    (omega (arith, ended.taken), omega (arith, ended.taken, ap length ended.ends.whole, length-append ended.front (10 ∷ ended.behind)))
+    (omega (arith, ended.taken), omega (arith, ended.taken, ap length ended.ends.whole, length-append ended.front (10 ∷ ended.after)))
 
 -- a read that gave nothing leaves the run where it stands
 pub at_none : (rules : Rules) (print : Print) (start : State) (reader_old reader writer_old writer : Device) (now : State) (reading : Reading) (reader_new : Device) (n : ℕ) (buffer : List ℕ)

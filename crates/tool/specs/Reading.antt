@@ -81,9 +81,9 @@ FailsAt rules print line lines written held_old held_new old new fault = ⊥
 abbrev pub NoEnd : List ℕ → Type 0
 NoEnd bytes = All (λ b. is_line_end b ≡ false) bytes
 
--- a line ends within a piece, behind its first bytes
-pub record EndsIn (piece front behind : List ℕ) : Type 0 where
-  pub whole : piece ≡ front ++ 10 ∷ behind
+-- a line ends within a piece, after its first bytes
+pub record EndsIn (piece front after : List ℕ) : Type 0 where
+  pub whole : piece ≡ front ++ 10 ∷ after
   pub none : NoEnd front
 
 -- bytes were added to the beginning of a line
@@ -109,8 +109,8 @@ pub record GoesOn (piece : List ℕ) (n : ℕ) (state_old state_new : State) (ol
 
 pub record EndsLine (rules : Rules) (print : Print) (piece : List ℕ) (n : ℕ) (state_old state_new : State) (old new : Reading) (writer_old writer_new : Device) : Type 0 where
   pub front : List ℕ
-  pub behind : List ℕ
-  pub ends : EndsIn piece front behind
+  pub after : List ℕ
+  pub ends : EndsIn piece front after
   pub taken : n ≡ length front + 1
   pub obeys : ObeysLine rules print (old.line.items ++ front) (held_at state_old) (held_at state_new) old new writer_old writer_new
   pub works : LineWorks rules (held_at state_old) (old.line.items ++ front) state_old.engine state_new.engine
@@ -122,16 +122,16 @@ Takes rules print piece n state_old state_new old new writer_old writer_new =
 -- a line that ends in a piece fails
 pub record FailsLine (rules : Rules) (print : Print) (piece : List ℕ) (state_old state_new : State) (reading : Reading) (old new : Device) (fault : RunFault) : Type 0 where
   pub front : List ℕ
-  pub behind : List ℕ
-  pub ends : EndsIn piece front behind
+  pub after : List ℕ
+  pub ends : EndsIn piece front after
   pub fails : FailsAt rules print (reading.line.items ++ front) reading.lines reading.written (held_at state_old) (held_at state_new) old new fault
   pub works : LineWorks rules (held_at state_old) (reading.line.items ++ front) state_old.engine state_new.engine
 
 -- or its beginning, up to the end of the piece or to its own, can't be kept
 pub record IsNotKept (piece : List ℕ) (state_old state_new : State) (reading : Reading) (old new : Device) (fault : RunFault) : Type 0 where
   pub front : List ℕ
-  pub behind : List ℕ
-  pub whole : piece ≡ front ++ behind
+  pub after : List ℕ
+  pub whole : piece ≡ front ++ after
   pub none : NoEnd front
   pub grows : GrowsNot front reading fault
   pub state : state_new ≡ state_old
@@ -141,7 +141,7 @@ abbrev pub FailsIn : Rules → Print → List ℕ → State → State → Readin
 FailsIn rules print piece state_old state_new reading old new fault =
     FailsLine rules print piece state_old state_new reading old new fault ⊎ IsNotKept piece state_old state_new reading old new fault
 
--- Between two states of its devices and of its session a run has read some bytes and obeyed some lines. Behind these it holds the
+-- Between two states of its devices and of its session a run has read some bytes and obeyed some lines. After these it holds the
 -- beginning of a line, and bytes that wait.
 pub record IsAt (rules : Rules) (print : Print) (start : State) (reader_old reader_new writer_old writer_new : Device) (now : State) (reading : Reading) (waiting : List ℕ) : Type 0 where
   pub bytes : List ℕ

@@ -13,7 +13,7 @@ use Rattle.tool.specs.ScriptRun.{after_lines, answers, good_lines, line_read_ahe
 use Rattle.tool.specs.Scripts.{script_lines}
 use Rattle.tool.specs.Work.{LinesWork}
 
--- What was written where the first k lines were answered: a write failed behind n bytes, within the answer to the next line; where
+-- What was written where the first k lines were answered: a write failed after n bytes, within the answer to the next line; where
 -- memory ran out, no byte of the next answer was written; and else these are all lines, and the end is as the input has it.
 abbrev pub Answered : Rules → Print → Held → List (List ℕ) → Option RunFault → ℕ → Device → Device → Option RunFault → Type 0
 Answered rules print held lines wrong k old new (Some (fault.Write n)) =
@@ -26,9 +26,9 @@ abbrev pub obeyed_lines : List (List ℕ) → ℕ → Option RunFault → List (
 obeyed_lines lines k (Some (fault.Write n)) = take (k + 1) lines
 obeyed_lines lines k stop = take k lines
 
--- A run ended behind the first k lines. No more lines than these were obeyed, but for the one whose answer was being written; so
+-- A run ended after the first k lines. No more lines than these were obeyed, but for the one whose answer was being written; so
 -- much was read ahead; and the session worked no more than these lines ask for, and the next one, at which the run ended.
-pub record EndsBehind (rules : Rules) (print : Print) (old new : State) (lines : List (List ℕ)) (wrong : Option RunFault) (k : ℕ) (reader_old reader_new writer_old writer_new : Device) (stop : Option RunFault) : Type 0 where
+pub record EndsAfter (rules : Rules) (print : Print) (old new : State) (lines : List (List ℕ)) (wrong : Option RunFault) (k : ℕ) (reader_old reader_new writer_old writer_new : Device) (stop : Option RunFault) : Type 0 where
   pub wrote : Answered rules print (held_at old) lines wrong k writer_old writer_new stop
   pub held : held_at new ≡ after_lines rules (held_at old) (obeyed_lines lines k stop)
   pub ahead : reader_new.passed ≤ reader_old.passed + length (with_ends (take k lines)) + line_read_ahead
@@ -41,4 +41,4 @@ IsScriptRun rules print old new reader_old reader_new writer_old writer_new resu
     (ending : Ending) × (bytes : List ℕ) × Gave reader_old reader_new ending bytes
     × HasReadAll (fault_of result) reader_old reader_new bytes
     × (let lines = script_lines ending bytes in
-    (k : ℕ) × EndsBehind rules print old new (good_lines lines) (script_fault ending lines) k reader_old reader_new writer_old writer_new (fault_of result))
+    (k : ℕ) × EndsAfter rules print old new (good_lines lines) (script_fault ending lines) k reader_old reader_new writer_old writer_new (fault_of result))

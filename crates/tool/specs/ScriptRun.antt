@@ -97,7 +97,7 @@ answers rules print held (line ∷ lines) =
 
 -- ---- the run
 
--- the lines in front of the first that is no line of a script
+-- the lines before the first that is no line of a script
 abbrev pub is_good : List ℕ → Bool
 is_good line = is_some (request_of_line line)
 
@@ -112,7 +112,7 @@ input_fault AtFailure = Some fault.Read
 abbrev pub script_fault : Ending → List (List ℕ) → Option RunFault
 script_fault ending lines = if list_all is_good lines then input_fault ending else Some (fault.BadLine (length (good_lines lines) + 1))
 
--- how many bytes a run reads behind the lines that it has answered, at most: a line with its end, and one piece
+-- how many bytes a run reads after the lines that it has answered, at most: a line with its end, and one piece
 abbrev pub line_read_ahead : ℕ
 line_read_ahead = LINE_LIMIT + 1 + PIECE
 

@@ -15,7 +15,7 @@ use Rattle.tool.specs.declared.script.TheConstants.{LINE_LIMIT}
 abbrev pub is_line_end : ℕ → Bool
 is_line_end b = b == 10
 
--- What stands behind the last end is a line too, where the script ended and it isn't empty. Where the source failed it is none,
+-- What stands after the last end is a line too, where the script ended and it isn't empty. Where the source failed it is none,
 -- unless it is over the limit already.
 abbrev pub is_last_line : Ending → List ℕ → Bool
 is_last_line AtEnd rest = nat_lt 0 (length rest)
@@ -32,7 +32,7 @@ script_lines ending bytes = lines_among ending (slice_split is_line_end bytes)
 
 -- ---- what a line asks for
 
--- to put a piece in front of the character at a place, to take characters out from a place on, to set the width, or to show all lines
+-- to put a piece before the character at a place, to take characters out from a place on, to set the width, or to show all lines
 pub data Request : Type 0 where
   Insert : (pos : ℕ) (piece : List ℕ) → Request
   Delete : (pos count : ℕ) → Request
@@ -50,7 +50,7 @@ abbrev pub number_in : List ℕ → Option ℕ
 number_in text = if nat_lt 0 (length text) && (nat_le (length text) 9 && are_digits 10 text) then Some (number_by 10 text) else None
 
 -- An escape is a backslash and `n`, `r`, another backslash, or `u{H}`, where H is 1 to 6 hexadecimal digits that write the number of a
--- character. By the text behind the backslash: the character, and how many characters the whole escape has.
+-- character. By the text after the backslash: the character, and how many characters the whole escape has.
 abbrev pub is_character : ℕ → Bool
 is_character n = nat_lt n 0xD800 || (nat_le 0xE000 n && nat_le n 0x10FFFF)
 
@@ -69,22 +69,22 @@ escaped text =
     else (if slice_index text 0 == 92 then Some (92, 2)
     else (if slice_index text 0 == 117 && slice_index text 1 == 123 then braced (drop 2 text) else None)))
 
--- the character that a text begins to write, by its first one and those behind it, and how many write it
+-- the character that a text begins to write, by its first one and those after it, and how many write it
 abbrev pub written : ℕ → List ℕ → Option (ℕ × ℕ)
-written c behind = if c == 92 then escaped behind else Some (c, 1)
+written c after = if c == 92 then escaped after else Some (c, 1)
 
 -- the characters that a text writes, of which the first `skip` belong to an escape before it
 abbrev pub onto : Option (ℕ × ℕ) → (ℕ → Option (List ℕ)) → Option (List ℕ)
 onto None others = None
 onto (Some (c, len)) others = option_map (λ cs. c ∷ cs) (others len)
 
-unfoldable pub unescaped_behind : ℕ → List ℕ → Option (List ℕ)
-unescaped_behind skip [] = Some []
-unescaped_behind (suc skip) (c ∷ text) = unescaped_behind skip text
-unescaped_behind zero (c ∷ text) = onto (written c text) (λ len. unescaped_behind (len - 1) text)
+unfoldable pub unescaped_after : ℕ → List ℕ → Option (List ℕ)
+unescaped_after skip [] = Some []
+unescaped_after (suc skip) (c ∷ text) = unescaped_after skip text
+unescaped_after zero (c ∷ text) = onto (written c text) (λ len. unescaped_after (len - 1) text)
 
 abbrev pub unescaped : List ℕ → Option (List ℕ)
-unescaped text = unescaped_behind 0 text
+unescaped text = unescaped_after 0 text
 
 -- what stands on both sides of the first space
 abbrev pub is_space : ℕ → Bool
@@ -93,7 +93,7 @@ is_space c = c == 32
 abbrev pub parted : List ℕ → Option (List ℕ × List ℕ)
 parted text = if nat_lt (position_or_len is_space text) (length text) then Some (before_first is_space text, after_first is_space text) else None
 
--- what stands behind a beginning
+-- what stands after a beginning
 abbrev pub stripped : List ℕ → List ℕ → Option (List ℕ)
 stripped word text = if pointwise (◌==◌) (take (length word) text) word then Some (drop (length word) text) else None
 

@@ -14,7 +14,7 @@ use std::alloc::{AllocError, Global};
 /// What a line of a script asks for.
 #[derive(Debug, Drop)]
 pub enum Request {
-    /// To put a text in front of the character at a place.
+    /// To put a text before the character at a place.
     Insert(usize, String),
     /// To take so many characters out, from a place on.
     Delete(usize, usize),
@@ -36,20 +36,20 @@ const WIDTH: [char; 6] = ['w', 'i', 'd', 't', 'h', ' '];
 pub fn read_request(alloc: Global, line: &[char]) -> Result<Option<Request>, AllocError>
     ensures { IfOk result (λ request. option_map request_of request ≡ request_in line.now) }
 {
-    if let Some(rest) = behind(&SHOW, line) {
+    if let Some(rest) = after(&SHOW, line) {
         return Ok(if rest.is_empty() {
             Some(Request::Show)
         } else {
             None
         });
     }
-    if let Some(rest) = behind(&INSERT, line) {
+    if let Some(rest) = after(&INSERT, line) {
         return insertion(alloc, rest);
     }
-    if let Some(rest) = behind(&DELETE, line) {
+    if let Some(rest) = after(&DELETE, line) {
         return Ok(deletion(rest));
     }
-    match behind(&WIDTH, line) {
+    match after(&WIDTH, line) {
         Some(rest) => Ok(width(rest)),
         None => Ok(None),
     }
@@ -84,8 +84,8 @@ fn width(text: &[char]) -> Option<Request>
     Some(Request::SetWidth(number(text)?))
 }
 
-// What stands behind a beginning of a text, if it begins so.
-fn behind<'a>(word: &[char], text: &'a [char]) -> Option<&'a [char]>
+// What stands after a beginning of a text, if it begins so.
+fn after<'a>(word: &[char], text: &'a [char]) -> Option<&'a [char]>
     ensures { option_map (λ rest. rest.now) result ≡ stripped word.now text.now }
 {
     text.strip_prefix(word)
@@ -160,18 +160,18 @@ fn unescape(alloc: Global, text: &[char]) -> Result<Option<String>, AllocError>
 }
 
 // The character that a text begins to write, and how many characters write it.
-fn written(c: char, behind: &[char]) -> Option<(char, usize)>
-    ensures value { result ≡ written c behind.now }
-    ensures within { IfSome result (λ w. (0 < w.1) × (w.1 ≤ length behind.now + 1)) }
+fn written(c: char, after: &[char]) -> Option<(char, usize)>
+    ensures value { result ≡ written c after.now }
+    ensures within { IfSome result (λ w. (0 < w.1) × (w.1 ≤ length after.now + 1)) }
 {
     if c == '\\' {
-        escaped(behind)
+        escaped(after)
     } else {
         Some((c, 1))
     }
 }
 
-// The same of an escape, by what stands behind its backslash.
+// The same of an escape, by what stands after its backslash.
 fn escaped(text: &[char]) -> Option<(char, usize)>
     ensures value { result ≡ escaped text.now }
     ensures within { IfSome result (λ w. (0 < w.1) × (w.1 ≤ length text.now + 1)) }
@@ -190,7 +190,7 @@ fn escaped(text: &[char]) -> Option<(char, usize)>
     }
 }
 
-// The same behind `\u{`.
+// The same after `\u{`.
 fn braced(text: &[char]) -> Option<(char, usize)>
     ensures value { result ≡ braced text.now }
     ensures within { IfSome result (λ w. (0 < w.1) × (w.1 ≤ length text.now + 3)) }

@@ -35,7 +35,7 @@ pub const LINE_LIMIT: usize = 1_048_576;
 /// What a run holds between two reads.
 #[derive(Debug)]
 struct Reading {
-    // The bytes behind the last end of a line.
+    // The bytes after the last end of a line.
     line: Vec<u8>,
     // How many lines were obeyed, and how many bytes are written.
     lines: u64,
@@ -106,7 +106,7 @@ fn delete<S: ParagraphStore<Kept>>(
     session.delete(pos, count)
 }
 
-// Writes the answer to a change behind so many bytes.
+// Writes the answer to a change after so many bytes.
 fn write_answer<W: Sink>(
     writer: &mut W,
     written: u64,
@@ -126,7 +126,7 @@ fn write_answer<W: Sink>(
     }
 }
 
-// Writes all lines behind so many bytes.
+// Writes all lines after so many bytes.
 fn show<W: Sink, S: ParagraphStore<Kept>>(
     session: &Session<S>,
     writer: &mut W,
@@ -155,7 +155,7 @@ fn lacks_memory(change: &Result<Damage, EditFault>) -> bool
     }
 }
 
-// Obeys a line, and writes its answer behind so many bytes.
+// Obeys a line, and writes its answer after so many bytes.
 fn obey<W: Sink, S: ParagraphStore<Kept>>(
     session: &mut Session<S>,
     writer: &mut W,
@@ -318,7 +318,7 @@ fn take_part<W: Sink, S: ParagraphStore<Kept>>(
     }
 }
 
-// Obeys the lines that end in a piece, and keeps what stands behind them.
+// Obeys the lines that end in a piece, and keeps what stands after them.
 fn feed<W: Sink, S: ParagraphStore<Kept>>(
     alloc: Global,
     session: &mut Session<S>,
@@ -346,7 +346,7 @@ fn feed<W: Sink, S: ParagraphStore<Kept>>(
     Ok(())
 }
 
-// Ends a script of which no more comes: what stands behind the last end is a line too, unless it is empty.
+// Ends a script of which no more comes: what stands after the last end is a line too, unless it is empty.
 fn finish<W: Sink, S: ParagraphStore<Kept>>(
     alloc: Global,
     session: &mut Session<S>,

@@ -36,7 +36,7 @@ impl Page {
     }
 }
 
-/// Writes on a page, and fails behind its end.
+/// Writes on a page, and fails after its end.
 #[derive(Drop)]
 pub struct Writer<'a> {
     pub page: &'a mut Page,

@@ -7,7 +7,7 @@ use Rattle.tool.specs.Scripts.{unescaped, written}
 use Rattle.tool.proofs.EscapeLemmas.{all_written, chars-push, next_written, none_written}
 use Rattle.tool.proofs.requests.unescape.Goals as goal
 
--- nothing in front
+-- nothing before
 id_map : (o : Option (List ℕ)) → option_map (λ cs. [] ++ cs) o ≡ o
 id_map None = refl
 id_map (Some cs) = refl
