@@ -114,8 +114,9 @@ impl<'a> VisualLine<'a> {
         Ok(())
     }
 
-    // The same behind so many bytes, and how many are written then.
-    pub(crate) fn write_behind<W: Sink>(
+    /// Writes it behind `done` bytes that the sink passed before, and says how many bytes that makes; a
+    /// fault counts these too.
+    pub fn write_behind<W: Sink>(
         &self,
         writer: &mut W,
         done: u64,

@@ -7,6 +7,7 @@ mod OpenLemmas
 mod PartLemmas
 mod PlaceLemmas
 mod PrintLemmas
+mod ReadingLemmas
 mod RefusalLemmas
 mod RegionParts
 mod RunLemmas

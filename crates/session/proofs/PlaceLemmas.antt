@@ -277,7 +277,7 @@ module _ (kept : List Layout) (pos : ℕ) (found : Found) (f : Finds chars_of li
       ap paragraph_starts f.place ∙ paragraphs_from-append 0 f.before (f.item ∷ f.behind)
       ∙ ap (λ m. paragraphs_from 0 f.before ++ paragraphs_from m (f.item ∷ f.behind)) (omega (arith, length-text f.before))
 
-  count_paragraphs : count_to pos (paragraph_starts kept) ≡ found.index + 1
+  pub count_paragraphs : count_to pos (paragraph_starts kept) ≡ found.index + 1
   count_paragraphs =
       let front : List ℕ = paragraphs_from 0 f.before in
       let back : List ℕ = paragraphs_from (before + chars_of f.item) f.behind in
@@ -379,7 +379,7 @@ place_behind kept pos lined is last last-is =
     (same_place _ _ _ _ _ _ (ap (λ n. n - 1) (sym same_pars)) (ap (λ n. n - 1) (sym same_lines))
     (omega (arith, last_below pos (line_starts kept) k lines) ∙ ap (λ n. pos + 1 - get_or (line_starts kept) (n - 1) 0) (sym same_lines))))
 
-text_append : (xs ys : List Layout) → text_of (xs ++ ys) ≡ text_of xs ++ text_of ys
+pub text_append : (xs ys : List Layout) → text_of (xs ++ ys) ≡ text_of xs ++ text_of ys
 text_append [] ys = refl
 text_append (x ∷ xs) ys = ap (λ more. x.text ++ more) (text_append xs ys) ∙ sym (append_assoc x.text (text_of xs) (text_of ys))
 

@@ -1,7 +1,12 @@
 -- The bytes of all paragraphs, one after the other.
-use Rattle.std.proofs.Common.{◌≡◌, ℕ, ◌<◌, ◌≤◌, List, [], ◌∷◌, ◌++◌, length, map, take, get_or, Some, refl, sym, ap, ap₂, ◌∙◌}
+use Rattle.std.proofs.Common.{◌≡◌, ℕ, zero, suc, ◌+◌, ◌-◌, ◌<◌, ◌≤◌, min, List, [], ◌∷◌, ◌++◌, length, map, take, drop, get_or, Some, unwrap_or, inl, inr, arith, refl, sym, ap, ap₂, subst, ◌∙◌}
 use Rattle.std.specs.List.{concat, flat_map, slice_get}
-use Rattle.std.proofs.lemmas.List.{get_or-map, length-map, take_all}
+use Rattle.std.proofs.lemmas.List.{append-nil, append_assoc, drop_at, get_or-map, length-drop, length-map, length-take, take-append-le, take_all}
+use Rattle.std.proofs.lemmas.Bool.{cases_lt}
+use Rattle.std.proofs.Math.Seq.{drop-append-add, drop-append-le, take-append-add}
+use Rattle.store.specs.Finding.{Finds}
+use Rattle.store.specs.declared.found.Found.{Found}
+use Rattle.session.proofs.EdgeLemmas.{length-lines, length-visuals, lines_of}
 use Rattle.std.proofs.lemmas.List.Concat.{flat_map-append}
 use Rattle.std.proofs.lemmas.List.Folds.{flat_map-map}
 use Rattle.std.proofs.lemmas.Option.{get_or_from_slice_get, slice_get_within}
@@ -9,9 +14,14 @@ use Rattle.bidi.specs.Cuts.{paragraphs}
 use Rattle.lines.specs.Bytes.{line_bytes}
 use Rattle.lines.specs.Engine.{rules_of}
 use Rattle.lines.specs.Layouts.{Layout, layout_of, visuals}
+use Rattle.lines.specs.Visual.{Visual}
 use Rattle.lines.specs.Pages.{layout_bytes}
 use Rattle.lines.specs.declared.print.Print.{Print}
 use Rattle.session.specs.Kept.{lines_in}
+use Rattle.session.specs.Printing.{lines_page, PrintsNot}
+use Rattle.session.specs.declared.printing.LinesFault.{LinesFault}
+use Rattle.session.specs.declared.printing.LinesFault.TheVariants.{Write}
+use Rattle.lines.specs.declared.bytes.WriteFault.{WriteFault}
 use Rattle.session.specs.Sessions.{State, IsWholeLayout, cuts_at, page_at, text_at}
 
 module _ (width : ℕ) (print : Print) where
@@ -52,3 +62,100 @@ by_lines law width print (l ∷ kept) =
 
 pub page_by_lines : LinesArePrinted → (state : State) (print : Print) → IsWholeLayout state → page_at state print ≡ flat_map (line_bytes state.width print) (lines_in state.kept)
 page_by_lines law state print whole = sym (page_of_kept state print whole) ∙ by_lines law state.width print state.kept
+
+-- ---- some lines of all
+
+-- a line among so many from one on
+part_get : {A : Type 0} (xs : List A) (from count n : ℕ) → n < count → slice_get (take count (drop from xs)) n ≡ slice_get xs (from + n)
+part_get [] zero zero n below = absurd (omega (arith, below))
+part_get [] zero (suc count) n below = refl
+part_get [] (suc from) zero n below = absurd (omega (arith, below))
+part_get [] (suc from) (suc count) n below = refl
+part_get (x ∷ xs) zero zero n below = absurd (omega (arith, below))
+part_get (x ∷ xs) zero (suc count) zero below = refl
+part_get (x ∷ xs) zero (suc count) (suc n) below = let e : suc (0 + n) ≡ 0 + suc n = omega arith in part_get xs zero count n (omega (arith, below)) ∙ ap (slice_get (x ∷ xs)) e
+part_get (x ∷ xs) (suc from) count n below = let e : suc (from + n) ≡ suc from + n = omega arith in part_get xs from count n below ∙ ap (slice_get (x ∷ xs)) e
+
+module _ (width : ℕ) (print : Print) where
+  abbrev pub line_pieces : List Visual → List (List ℕ)
+  line_pieces lines = map (line_bytes width print) lines
+
+  pub line_pieces_whole : (lines : List Visual) → concat (line_pieces lines) ≡ flat_map (line_bytes width print) lines
+  line_pieces_whole [] = refl
+  line_pieces_whole (line ∷ lines) = ap (λ more. line_bytes width print line ++ more) (line_pieces_whole lines)
+
+  pub line_pieces_all : (lines : List Visual) (k : ℕ) → length lines ≤ k → concat (take k (line_pieces lines)) ≡ flat_map (line_bytes width print) lines
+  line_pieces_all lines k past = ap concat (take_all k (line_pieces lines) (rw (length-map lines (line_bytes width print)) past)) ∙ line_pieces_whole lines
+
+  module _ (lines : List Visual) (from count n : ℕ) (below : n < count) (line : Visual) (read : Some line ≡ slice_get lines (from + n)) where
+    read_there : slice_get (take count (drop from lines)) n ≡ Some line
+    read_there = part_get lines from count n below ∙ sym read
+
+    pub line_within : n < length (line_pieces (take count (drop from lines)))
+    line_within = rw (length-map (take count (drop from lines)) (line_bytes width print)) (slice_get_within (take count (drop from lines)) n line read_there)
+
+    pub line_piece : line_bytes width print line ≡ get_or (line_pieces (take count (drop from lines))) n []
+    line_piece =
+        sym (get_or-map (line_bytes width print) (take count (drop from lines)) n line [] (slice_get_within (take count (drop from lines)) n line read_there)
+        ∙ ap (line_bytes width print) (get_or_from_slice_get (take count (drop from lines)) n line line read_there))
+
+pub part_few : {A : Type 0} (xs : List A) (from count : ℕ) → length (take count (drop from xs)) ≤ count
+part_few xs from count = omega (arith, length-take count (drop from xs))
+
+-- ---- lines of one paragraph after another
+
+pub lines_there : (kept : List Layout) (i : ℕ) (l : Layout) → Some l ≡ slice_get kept i → lines_in (drop i kept) ≡ visuals l ++ lines_in (drop (i + 1) kept)
+lines_there [] i l read = absurd (cc read)
+lines_there (x ∷ kept) zero l read = ap (λ y. visuals y ++ lines_in kept) (ap (λ o. unwrap_or o x) (sym read))
+lines_there (x ∷ kept) (suc i) l read = let e : suc (i + 1) ≡ suc i + 1 = omega arith in lines_there kept i l read ∙ ap (λ j. visuals l ++ lines_in (drop j (x ∷ kept))) e
+
+pub lines_begin : (kept : List Layout) (first : ℕ) (found : Found) → Finds lines_of lines_of kept first found
+    → drop found.rest (lines_in (drop found.index kept)) ≡ drop first (lines_in kept)
+lines_begin kept first found f =
+    let there : drop found.index kept ≡ f.item ∷ f.behind = ap (drop found.index) f.place ∙ drop_at f.before (f.item ∷ f.behind) found.index (sym f.index) in
+    let place : length (lines_in f.before) + found.rest ≡ first = omega (arith, f.rest, length-lines f.before) in
+    let whole : lines_in kept ≡ lines_in f.before ++ lines_in (f.item ∷ f.behind) = ap lines_in f.place ∙ flat_map-append visuals f.before (f.item ∷ f.behind) in
+    ap (λ ks. drop found.rest (lines_in ks)) there
+    ∙ sym (ap₂ (λ (n : ℕ) (vs : List Visual). drop n vs) (sym place) whole ∙ drop-append-add (lines_in f.before) (lines_in (f.item ∷ f.behind)) found.rest)
+
+-- what is wanted of a list and of one behind it
+pub wanted_parts : {A : Type 0} (xs ys : List A) (from left part : ℕ) → from ≤ length xs → part ≡ min left (length xs - from)
+    → take left (drop from (xs ++ ys)) ≡ take part (drop from xs) ++ take (left - part) ys
+wanted_parts xs ys from left part within part-is =
+    let size : length (drop from xs) ≡ length xs - from = length-drop from xs in
+    let front : drop from (xs ++ ys) ≡ drop from xs ++ ys = drop-append-le from xs ys within in
+    elim (cases_lt (length xs - from) left) [
+      | inl more ↦
+          let all : part ≡ length (drop from xs) = omega (arith, part-is, size, more) in
+          let rest : left ≡ length (drop from xs) + (left - part) = omega (arith, all, size, more) in
+          ap₂ (λ n zs. take n zs) rest front ∙ take-append-add (drop from xs) ys (left - part)
+          ∙ ap (λ zs. zs ++ take (left - part) ys) (sym (take_all part (drop from xs) (omega (arith, all))))
+      | inr few ↦
+          let all : left ≡ part = omega (arith, part-is, few) in
+          let none : left - part ≡ 0 = omega (arith, all) in
+          ap (take left) front ∙ take-append-le left (drop from xs) ys (omega (arith, few, size))
+          ∙ ap (λ n. take n (drop from xs)) all ∙ sym (append-nil (take part (drop from xs))) ∙ ap (λ n. take part (drop from xs) ++ take n ys) (sym none)
+    ]
+
+-- the front of what is wanted, with the lines of one more paragraph
+pub front_more : (kept : List Layout) (i from left part : ℕ) (l : Layout) → Some l ≡ slice_get kept i → from ≤ length l.lines → part ≡ min left (length l.lines - from)
+    → (front whole : List Visual) → front ++ take left (drop from (lines_in (drop i kept))) ≡ whole
+    → (front ++ take part (drop from (visuals l))) ++ take (left - part) (lines_in (drop (i + 1) kept)) ≡ whole
+front_more kept i from left part l read within part-is front whole so_far =
+    let rest : List Visual = lines_in (drop (i + 1) kept) in
+    append_assoc front (take part (drop from (visuals l))) (take (left - part) rest)
+    ∙ ap (λ vs. front ++ vs)
+    (sym (ap (λ vs. take left (drop from vs)) (lines_there kept i l read)
+    ∙ wanted_parts (visuals l) rest from left part (omega (arith, within, length-visuals l)) (part-is ∙ ap (λ n. min left (n - from)) (sym (length-visuals l)))))
+    ∙ so_far
+
+-- all lines are the page
+pub lines_page_all : (state : State) (print : Print) (count : ℕ) → count ≡ length (lines_in state.kept) → page_at state print ≡ flat_map (line_bytes state.width print) (lines_in state.kept)
+    → lines_page state 0 count print ≡ page_at state print
+lines_page_all state print count is law =
+    ap (flat_map (line_bytes state.width print)) (take_all (0 + count - 0) (lines_in state.kept) (omega (arith, is))) ∙ sym law
+
+-- the sink's fault
+pub fault_of_sink : (state : State) (first count : ℕ) (untouched : Type 0) (stopped : ℕ → Type 0) (fault : LinesFault) (of_sink : WriteFault) → fault ≡ Write of_sink
+    → PrintsNot state first count untouched stopped fault → stopped of_sink.written
+fault_of_sink state first count untouched stopped fault of_sink is h = (subst (PrintsNot state first count untouched stopped) is h).1

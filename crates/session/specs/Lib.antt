@@ -3,6 +3,8 @@ pub mod Damage
 pub mod Edges
 pub mod Kept
 pub mod Places
+pub mod Printing
+pub mod Reading
 pub mod Runs
 pub mod Scans
 pub mod Sessions

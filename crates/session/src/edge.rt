@@ -60,14 +60,15 @@ pub fn back_edge<S: ParagraphStore<Kept>>(store: &S, to: usize) -> Edge
     }
 }
 
-// The characters in front of a place, and those from a place on, as far as there are any.
-fn front(text: &[char], to: usize) -> &[char]
+/// The characters in front of a place, as far as there are any.
+pub fn front(text: &[char], to: usize) -> &[char]
     ensures { result.now ≡ take to text.now }
 {
     &text[..to.min(text.len())]
 }
 
-fn back(text: &[char], from: usize) -> &[char]
+/// Those from a place on.
+pub fn back(text: &[char], from: usize) -> &[char]
     ensures { result.now ≡ drop from text.now }
 {
     &text[from.min(text.len())..]

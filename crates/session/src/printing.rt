@@ -1,38 +1,98 @@
-//! All lines that a store keeps, written to a sink.
-ghost use Rattle.std.specs.Prelude.{◌≤◌, IfOk, IfErr};
+//! Lines that a store keeps, written to a sink.
+ghost use Rattle.std.specs.Prelude.{◌≡◌, ◌+◌, ◌≤◌, drop, length, take, IfOk, IfErr};
 ghost use Rattle.std.specs.List.{flat_map};
-ghost use Rattle.lines.specs.Pages.{layout_bytes};
+ghost use Rattle.lines.specs.Bytes.{line_bytes};
+ghost use Rattle.lines.specs.Layouts.{visuals};
 ghost use Rattle.lines.specs.Writing.{PassedOn, StoppedIn};
+ghost use Rattle.session.specs.Kept.{lines_in};
 
 use crate::kept::Kept;
 use device::Sink;
-use lines::{Print, WriteFault};
-use store::ParagraphStore;
+use lines::{Laid, Print, WriteFault};
+use store::{Measured, ParagraphStore};
+use thiserror::Error;
 
-/// Writes the lines of each paragraph behind so many bytes, and no more behind a failure of the sink. Says
-/// how many bytes are written then.
-pub fn write_store<S: ParagraphStore<Kept>, W: Sink>(
-    store: &S,
+/// Why lines are not written, or not all of them.
+#[derive(Clone, Copy, Debug, PartialEq, Eq, Error)]
+pub enum LinesFault {
+    /// They reach past the last line, and nothing was written.
+    #[error("out of range")]
+    OutOfRange,
+    /// The sink failed.
+    #[error("{0}")]
+    Write(WriteFault),
+}
+
+// Writes so many lines of a paragraph, from one on, behind so many bytes. Says how many bytes are written
+// then.
+fn write_part<W: Sink>(
+    laid: &Laid,
+    from: usize,
+    count: usize,
     writer: &mut W,
     done: u64,
     width: u16,
     print: &Print,
 ) -> Result<u64, WriteFault>
-    requires { done ≤ (W.state writer.old).passed }
+    requires within { from + count ≤ length laid.now.lines }
+    requires done { done ≤ (W.state writer.old).passed }
     ensures ok { IfOk result (λ n.
-        PassedOn (flat_map (layout_bytes width print.now) (S.items store.now)) done
+        PassedOn (flat_map (line_bytes width print.now) (take count (drop from (visuals laid.now)))) done
         (W.state writer.old) (W.state writer.new) n) }
     ensures err { IfErr result (λ fault.
-        StoppedIn (flat_map (layout_bytes width print.now) (S.items store.now)) done
+        StoppedIn (flat_map (line_bytes width print.now) (take count (drop from (visuals laid.now)))) done
         (W.state writer.old) (W.state writer.new) fault.written) }
     ensures counted { IfOk result (λ n. n ≤ (W.state writer.new).passed) }
 {
+    // Shows that the number of lines fits.
+    let _lines = laid.line_count();
     let mut written = done;
-    for index in 0..store.count() {
-        match store.get(index) {
-            Some(kept) => written = kept.laid().write_behind(writer, written, width, print)?,
-            None => unreachable!(),
+    for n in 0..count {
+        let Some(line) = laid.line(from + n) else {
+            unreachable!()
+        };
+        written = line.write_behind(writer, written, width, print)?;
+    }
+    Ok(written)
+}
+
+/// Writes so many lines, from one on, behind so many bytes, and no more behind a failure of the sink. Says
+/// how many bytes are written then. The first line alone is looked up.
+pub fn write_lines<S: ParagraphStore<Kept>, W: Sink>(
+    store: &S,
+    first: usize,
+    count: usize,
+    writer: &mut W,
+    done: u64,
+    width: u16,
+    print: &Print,
+) -> Result<u64, WriteFault>
+    requires within { first + count ≤ length (lines_in (S.items store.now)) }
+    requires done { done ≤ (W.state writer.old).passed }
+    ensures ok { IfOk result (λ n. PassedOn (flat_map (line_bytes width print.now)
+        (take count (drop first (lines_in (S.items store.now))))) done
+        (W.state writer.old) (W.state writer.new) n) }
+    ensures err { IfErr result (λ fault. StoppedIn (flat_map (line_bytes width print.now)
+        (take count (drop first (lines_in (S.items store.now))))) done
+        (W.state writer.old) (W.state writer.new) fault.written) }
+    ensures counted { IfOk result (λ n. n ≤ (W.state writer.new).passed) }
+{
+    if count == 0 {
+        return Ok(done);
+    }
+    let found = store.find_line(first);
+    let (mut from, mut left, mut written) = (found.rest, count, done);
+    for index in found.index..store.count() {
+        if left == 0 {
+            return Ok(written);
         }
+        let Some(kept) = store.get(index) else {
+            unreachable!()
+        };
+        let part = left.min(kept.lines() - from);
+        written = write_part(kept.laid(), from, part, writer, written, width, print)?;
+        left -= part;
+        from = 0;
     }
     Ok(written)
 }

@@ -1,7 +1,8 @@
 //! A session that keeps the layout of a text under inserts, deletes and width changes, over any store of
 //! paragraphs.
-ghost use Rattle.std.specs.Prelude.{◌≡◌, ◌≤◌, nat_le, nat_lt, length, is_none, option_map, slice_get};
-ghost use Rattle.std.specs.Prelude.{IfOk, IfErr, OnOk, OnErr};
+ghost use Rattle.std.specs.Prelude.{◌≡◌, ◌+◌, ◌<◌, ◌≤◌, nat_le, nat_lt, length};
+ghost use Rattle.std.specs.Prelude.{is_none, option_map, slice_get};
+ghost use Rattle.std.specs.Prelude.{IfOk, IfErr, IfSome, OnOk, OnErr};
 ghost use Rattle.std.specs.List.{flat_map};
 ghost use Rattle.std.specs.Str.{chars};
 ghost use Rattle.device.specs.Device.{StoppedAt, Wrote};
@@ -12,6 +13,8 @@ ghost use Rattle.lines.specs.declared.print.Print.{Print};
 ghost use Rattle.session.specs.Changes.{after_all, changing, deletion, insertion};
 ghost use Rattle.session.specs.Kept.{lines_in};
 ghost use Rattle.session.specs.Places.{line_starts, place_at};
+ghost use Rattle.session.specs.Printing.{lines_page, HasLines, PrintsNot};
+ghost use Rattle.session.specs.Reading.{text_part};
 ghost use Rattle.session.specs.Runs.{StopsAt, WorksAtMost};
 ghost use Rattle.session.specs.Sessions.{cuts_at, held_at, page_at, text_at, IsWholeLayout};
 ghost use Rattle.session.specs.Sessions.{Edits, EditsNot, Opens, OpensNot, Refills, RefillsNot};
@@ -21,7 +24,8 @@ use crate::edits::{Damage, Edit, EditFault, TEXT_LIMIT};
 use crate::joined::lay_out_joined;
 use crate::kept::Kept;
 use crate::places::{Place, line_start, place_of};
-use crate::printing::write_store;
+use crate::printing::{LinesFault, write_lines};
+use crate::reading::text_part;
 use crate::width::change_width;
 use bidi::paragraphs_are_pieces;
 use device::Sink;
@@ -160,6 +164,20 @@ impl<S: ParagraphStore<Kept>> Session<S> {
         place_of(&self.store, &self.engine, pos)
     }
 
+    /// Of `count` characters from `pos` on those that stand in the paragraph of the first one, where the text
+    /// has them all: so a part comes at a time, none is empty while characters are wanted, and the others
+    /// are had by asking again, from `pos + part.len()` on, for `count - part.len()`.
+    pub fn text(&self, pos: usize, count: usize) -> Option<&[char]>
+        ensures part { option_map (λ part. part.now) result ≡ text_part self.now.kept pos count }
+        ensures some { 0 < count → IfSome result (λ part. 0 < length part.now) }
+        ensures none { is_none result ≡ nat_lt (length (text_at self.now)) (pos + count) }
+    {
+        // The laws by which no paragraph is empty.
+        paragraphs_are_pieces();
+        Laid::lines_begin_in_order();
+        text_part(&self.store, pos, count)
+    }
+
     /// How many characters the text has.
     pub fn char_count(&self) -> usize
         ensures { result ≡ length (text_at self.now) }
@@ -247,8 +265,12 @@ impl<S: ParagraphStore<Kept>> Session<S> {
         ensures err { IfErr result (λ fault. StoppedAt fault.written (page_at self.now print.now)
             (W.state writer.old) (W.state writer.new)) }
     {
-        self.print_behind(writer, 0, print)?;
-        Ok(())
+        self.prints_its_lines();
+        match self.print_lines(writer, 0, self.line_count(), print) {
+            Ok(()) => Ok(()),
+            Err(LinesFault::Write(fault)) => Err(fault),
+            Err(LinesFault::OutOfRange) => unreachable!(),
+        }
     }
 
     /// Writes them behind `done` bytes that the sink passed before, and says how many bytes that makes; a
@@ -266,7 +288,63 @@ impl<S: ParagraphStore<Kept>> Session<S> {
             (W.state writer.old) (W.state writer.new) fault.written) }
         ensures counted { IfOk result (λ n. n ≤ (W.state writer.new).passed) }
     {
-        write_store(&self.store, writer, done, self.width, print)
+        self.prints_its_lines();
+        match self.print_lines_behind(writer, done, 0, self.line_count(), print) {
+            Ok(written) => Ok(written),
+            Err(LinesFault::Write(fault)) => Err(fault),
+            Err(LinesFault::OutOfRange) => unreachable!(),
+        }
+    }
+
+    /// Writes `count` lines, from the one of number `first` on, as `print` writes them. Where there are not
+    /// so many, nothing is written. It takes no memory.
+    pub fn print_lines<W: Sink>(
+        &self,
+        writer: &mut W,
+        first: usize,
+        count: usize,
+        print: &Print,
+    ) -> Result<(), LinesFault>
+        ensures within { OnOk result (HasLines self.now first count) }
+        ensures ok { OnOk result (Wrote (lines_page self.now first count print.now)
+            (W.state writer.old) (W.state writer.new)) }
+        ensures err { IfErr result (PrintsNot self.now first count
+            (W.state writer.new ≡ W.state writer.old)
+            (λ written. StoppedAt written (lines_page self.now first count print.now)
+            (W.state writer.old) (W.state writer.new))) }
+    {
+        self.print_lines_behind(writer, 0, first, count, print)?;
+        Ok(())
+    }
+
+    /// Writes them behind `done` bytes that the sink passed before, and says how many bytes that makes; a
+    /// fault counts these too.
+    pub fn print_lines_behind<W: Sink>(
+        &self,
+        writer: &mut W,
+        done: u64,
+        first: usize,
+        count: usize,
+        print: &Print,
+    ) -> Result<u64, LinesFault>
+        requires { done ≤ (W.state writer.old).passed }
+        ensures within { OnOk result (HasLines self.now first count) }
+        ensures ok { IfOk result (λ n. PassedOn (lines_page self.now first count print.now) done
+            (W.state writer.old) (W.state writer.new) n) }
+        ensures err { IfErr result (PrintsNot self.now first count
+            (W.state writer.new ≡ W.state writer.old)
+            (λ written. StoppedIn (lines_page self.now first count print.now) done
+            (W.state writer.old) (W.state writer.new) written)) }
+        ensures counted { IfOk result (λ n. n ≤ (W.state writer.new).passed) }
+    {
+        let lines = self.store.total_lines();
+        if first > lines || count > lines - first {
+            return Err(LinesFault::OutOfRange);
+        }
+        match write_lines(&self.store, first, count, writer, done, self.width, print) {
+            Ok(written) => Ok(written),
+            Err(fault) => Err(LinesFault::Write(fault)),
+        }
     }
 
     /// What is printed is what is written of each line, one after another, which `line` and

@@ -224,7 +224,7 @@ module _ (rules : Rules) (print : Print) (start now : State) (reader_old writer_
       let next = answer_line rules print (after_lines rules before done) (request_of_line line) in
       let m = n - written in
       let stopped_next : StoppedAt m next writer_mid writer_new = subst (λ (h : Held). StoppedAt m (answer_line rules print h (request_of_line line)) writer_mid writer_new) held_is stopped.stopped in
-      let m_is : n ≡ length front + m = omega (arith, stopped.after, count) in
+      let m_is : n ≡ length front + m = omega (arith, stopped.behind, count) in
       let took : Took writer_old writer_new (front ++ take m next) = Took-append writer_old writer_mid writer_new front (take m next) wrote.0 stopped_next.1 in
       let text : answers rules print before (done ++ line ∷ []) ≡ front ++ next = answers_more rules print before done (line ∷ []) ∙ ap (λ t. front ++ t) (append-nil next) in
       let cut : take n (front ++ next) ≡ front ++ take m next = ap (λ k. take k (front ++ next)) m_is ∙ take-append-add front next m in

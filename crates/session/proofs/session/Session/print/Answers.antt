@@ -1,10 +1,17 @@
-use Rattle.device.specs.Device.{StoppedAt}
-use Rattle.lines.proofs.WriteLemmas.{stopped-whole, same_fault}
+use Rattle.std.proofs.Common.{subst}
+use Rattle.device.specs.Device.{StoppedAt, Wrote}
+use Rattle.session.specs.Printing.{lines_page}
+use Rattle.session.proofs.PrintLemmas.{fault_of_sink, lines_page_all}
 use Rattle.session.proofs.session.Session.print.Goals as goal
 
-pub returns-in_err-print_behind-clause-err : goal.returns-in_err-print_behind-clause-err
-returns-in_err-print_behind-clause-err g c =
-    same_fault _ _ (λ n. StoppedAt n _ _ _) c.from_residual.ensures.1 (stopped-whole c.in_err-print_behind.ensures.err)
+pub returns-in-Ok-clause-ok : goal.returns-in-Ok-clause-ok
+returns-in-Ok-clause-ok g c =
+    let all = lines_page_all c.args.self.now c.args.print.now c.line_count.result c.line_count.ensures (c.prints_its_lines.ensures c.args.print.now) in
+    subst (λ bytes. Wrote bytes (g.W.Sink.state c.args.writer.now) (g.W.Sink.state c.print_lines.new.writer)) all c.in-Ok.ensures.ok
 
-pub returns-clause-ok : goal.returns-clause-ok
-returns-clause-ok g c = c.in_ok-print_behind.ensures.ok.wrote
+pub returns-in-Err-Write-clause-err : goal.returns-in-Err-Write-clause-err
+returns-in-Err-Write-clause-err g c =
+    let all = lines_page_all c.args.self.now c.args.print.now c.line_count.result c.line_count.ensures (c.prints_its_lines.ensures c.args.print.now) in
+    subst (λ bytes. StoppedAt c.in-Err-Write.fault.written bytes (g.W.Sink.state c.args.writer.now) (g.W.Sink.state c.print_lines.new.writer)) all
+    (fault_of_sink c.args.self.now 0 c.line_count.result _ (λ w. StoppedAt w (lines_page c.args.self.now 0 c.line_count.result c.args.print.now) (g.W.Sink.state c.args.writer.now) (g.W.Sink.state c.print_lines.new.writer))
+    _ _ c.in-Err-Write.field-0-is c.in-Err-Write.ensures.err)

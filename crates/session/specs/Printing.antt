@@ -1,0 +1,22 @@
+-- Lines of a text, as they are written, and how that ends.
+use Rattle.std.specs.Prelude.{ℕ, ◌+◌, ◌<◌, ◌≤◌, List, length}
+use Rattle.std.specs.List.{flat_map, slice_range}
+use Rattle.lines.specs.Bytes.{line_bytes}
+use Rattle.lines.specs.declared.print.Print.{Print}
+use Rattle.session.specs.Kept.{lines_in}
+use Rattle.session.specs.Sessions.{State}
+use Rattle.session.specs.declared.printing.LinesFault.{LinesFault}
+use Rattle.session.specs.declared.printing.LinesFault.TheVariants.{OutOfRange, Write}
+
+-- what is printed of so many lines, from one on
+abbrev pub lines_page : State → ℕ → ℕ → Print → List ℕ
+lines_page state first count print = flat_map (line_bytes state.width print) (slice_range (lines_in state.kept) first (first + count))
+
+-- there are so many
+abbrev pub HasLines : State → ℕ → ℕ → Type 0
+HasLines state first count = first + count ≤ length (lines_in state.kept)
+
+-- Where there are not so many, nothing is touched; else the sink failed behind so many bytes.
+abbrev pub PrintsNot : State → ℕ → ℕ → Type 0 → (ℕ → Type 0) → LinesFault → Type 0
+PrintsNot state first count untouched stopped OutOfRange = (length (lines_in state.kept) < first + count) × untouched
+PrintsNot state first count untouched stopped (Write fault) = (first + count ≤ length (lines_in state.kept)) × stopped fault.written

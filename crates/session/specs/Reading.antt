@@ -1,0 +1,17 @@
+-- The characters of a text, a paragraph's part at a time.
+use Rattle.std.specs.Prelude.{ℕ, ◌+◌, nat_lt, List, length, take, Option, Some, None, if◌then◌else◌}
+use Rattle.std.specs.List.{slice_range}
+use Rattle.lines.specs.Layouts.{Layout}
+use Rattle.session.specs.Kept.{pars_of, text_of}
+use Rattle.session.specs.Places.{count_to, paragraph_starts}
+use Rattle.session.specs.Touched.{start_of}
+
+-- where the paragraph ends that has the character at a position: the paragraphs up to it begin there or before
+abbrev pub paragraph_end : List Layout → ℕ → ℕ
+paragraph_end kept pos = start_of (pars_of kept) (count_to pos (paragraph_starts kept))
+
+-- so many characters from there on, as far as the paragraph has them, where the text has them all
+abbrev pub text_part : List Layout → ℕ → ℕ → Option (List ℕ)
+text_part kept pos count =
+    if nat_lt (length (text_of kept)) (pos + count) then None
+    else Some (take count (slice_range (text_of kept) pos (paragraph_end kept pos)))
