@@ -33,9 +33,8 @@ all program bench-program:
 	mkdir -p bin
 	for name in $(filter fribidi bench,$(programs)); do cp crates/$$name/out/$$name bin/$$name; done
 
-lib-bidi lib-breaks: lib-ucd
-# (not above bidi, but proved beside lines, since nothing else is ready then)
-lib-store: lib-bidi
+# (store isn't above ucd, but begins when the tables' proofs leave processors idle)
+lib-bidi lib-breaks lib-store: lib-ucd
 lib-lines: lib-device lib-bidi lib-breaks
 lib-session: lib-lines lib-store
 lib-command_line lib-text_run: lib-lines
