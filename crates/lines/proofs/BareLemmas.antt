@@ -15,7 +15,7 @@ use Rattle.lines.specs.Places.{place, places}
 use Rattle.lines.specs.Visual.{Line, line_between, lines_from}
 use Rattle.lines.specs.declared.options.Options.{Options}
 use Rattle.lines.specs.declared.places.Place.{Place}
-use Rattle.lines.specs.declared.visual.Shown.{Shown}
+use Rattle.lines.specs.declared.fill.Shown.{Shown}
 
 -- ---- lists
 

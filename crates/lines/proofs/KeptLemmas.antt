@@ -7,7 +7,7 @@ use Rattle.lines.specs.Extents.{shown_in}
 use Rattle.lines.specs.Kept.{line_in, lines_by}
 use Rattle.lines.specs.Layouts.{is_line_within, start_of}
 use Rattle.lines.specs.Visual.{Line}
-use Rattle.lines.specs.declared.visual.Shown.{Shown}
+use Rattle.lines.specs.declared.fill.Shown.{Shown}
 use Rattle.lines.proofs.ShowLemmas.{length_range}
 
 module _ (levels ltov vtol chars : List ℕ) where

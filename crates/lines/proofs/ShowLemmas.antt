@@ -20,7 +20,7 @@ use Rattle.lines.specs.Spaces.{line_levels}
 use Rattle.lines.specs.Visual.{Line, lines_from}
 use Rattle.lines.specs.declared.options.Options.{Options}
 use Rattle.lines.specs.declared.places.Place.{Place}
-use Rattle.lines.specs.declared.visual.Shown.{Shown}
+use Rattle.lines.specs.declared.fill.Shown.{Shown}
 
 -- ---- where a line ends
 

@@ -5,7 +5,7 @@ use Rattle.lines.specs.Layouts.{Layout, Rules, start_of}
 use Rattle.lines.specs.Places.{places_of}
 use Rattle.lines.specs.Visual.{Line, lines_from}
 use Rattle.lines.specs.declared.places.Place.{Place}
-use Rattle.lines.specs.declared.visual.Shown.{Shown}
+use Rattle.lines.specs.declared.fill.Shown.{Shown}
 
 pub record Spans : Type 0 where
   pub starts : List ℕ

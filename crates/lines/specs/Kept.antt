@@ -2,7 +2,7 @@
 use Rattle.std.specs.Prelude.{◌≡◌, ℕ, ◌+◌, ◌<◌, ◌≤◌, List, [], ◌∷◌, length, slice_index, slice_index_or, slice_range, All}
 use Rattle.bidi.specs.Runs.{AreWithin}
 use Rattle.lines.specs.Visual.{Line}
-use Rattle.lines.specs.declared.visual.Shown.{Shown}
+use Rattle.lines.specs.declared.fill.Shown.{Shown}
 
 -- the lines, by where they start and how much of each is shown
 module _ (levels ltov vtol chars : List ℕ) where

@@ -3,7 +3,7 @@ use Rattle.std.specs.Prelude.{List, length}
 use Rattle.lines.specs.Kept.{IsSound, lines_in}
 use Rattle.lines.specs.Layouts.{Filled}
 use Rattle.lines.specs.Visual.{Line}
-use Rattle.lines.specs.declared.visual.Lists.{Lists}
+use Rattle.lines.specs.declared.fill.Lists.{Lists}
 
 abbrev pub held_lines : Lists → List Line
 held_lines l = lines_in l.starts.items l.shown.items l.levels.items l.ltov.items l.vtol.items l.chars.items

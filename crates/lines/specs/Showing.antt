@@ -9,7 +9,7 @@ use Rattle.lines.specs.Order.{ltov_of, vtol_of}
 use Rattle.lines.specs.Spaces.{line_levels}
 use Rattle.lines.specs.Visual.{Line}
 use Rattle.lines.specs.declared.options.Options.{Options}
-use Rattle.lines.specs.declared.visual.Shown.{Shown}
+use Rattle.lines.specs.declared.fill.Shown.{Shown}
 
 -- where a line ends, of a paragraph of n characters
 abbrev pub end_of : ℕ → List ℕ → ℕ → ℕ

@@ -14,11 +14,11 @@ ghost use Rattle.lines.specs.Printing.{FailedAs, skips_lines};
 use crate::bytes::write_base;
 use crate::counts::{Counts, raise};
 use crate::extents::{Extents, Room};
+use crate::fill::{Fill, Lists};
 use crate::laid::Laid;
 use crate::options::Options;
 use crate::print::{Print, PrintFault};
-use crate::visual::{Fill, Lists};
-use crate::work::{Kept, Parts, Work};
+use crate::work::{LayoutLists, Parts, Work};
 use bidi::{base_level, first_cut, is_cut};
 use breaks::{Mark, Tailoring, marks_are_as_many};
 use device::Sink;
@@ -38,7 +38,7 @@ pub struct Engine {
     // Made for the first paragraph, and kept for the next ones.
     work: Option<Work>,
     // What the last paragraph that was written consisted of.
-    kept: Option<Kept>,
+    kept: Option<LayoutLists>,
 }
 
 impl Drop for Engine {
@@ -283,7 +283,7 @@ impl Engine {
         ensures rules { SameRules self.old self.new }
     {
         let work = self.work.get_or_insert_with(|| Work::new(alloc));
-        let kept = self.kept.get_or_insert_with(|| Kept::new(alloc));
+        let kept = self.kept.get_or_insert_with(|| LayoutLists::new(alloc));
         let counts = &mut self.counts;
         let Ok(base) = work.lay_out(alloc, &self.tables, self.options, text, width, kept, counts)
         else {
@@ -348,7 +348,7 @@ impl Engine {
         ensures rules { SameRules self.old self.new }
     {
         let work = self.work.get_or_insert_with(|| Work::new(alloc));
-        let mut kept = Kept::new(alloc);
+        let mut kept = LayoutLists::new(alloc);
         let counts = &mut self.counts;
         let base = work.lay_out(
             alloc,

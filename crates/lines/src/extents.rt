@@ -3,7 +3,7 @@
 ghost use Rattle.std.specs.Prelude.{◌≡◌, ◌≤◌, length, map, IfOk};
 ghost use Rattle.ucd.specs.Properties.{properties_of};
 
-use crate::visual::Shown;
+use crate::fill::Shown;
 use std::alloc::{AllocError, Global};
 use std::marker::Model;
 use ucd::{Properties, Tables};

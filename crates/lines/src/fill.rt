@@ -1,35 +1,170 @@
-//! The lines that a fill keeps, one by one, and what is written of all of them.
-ghost use Rattle.std.specs.Prelude.{◌≡◌, ◌+◌, ◌≤◌, length};
-ghost use Rattle.lines.specs.Kept.{line_in};
+//! The lines of a paragraph at a width as they are kept: one by one, written over by those at another width,
+//! and what is written of all of them.
+ghost use Rattle.std.specs.Prelude.{◌≡◌, ◌+◌, ◌≤◌, List, length, map, option_map, slice_get};
+ghost use Rattle.std.specs.Prelude.{IfErr, IfOk, IfSome};
+ghost use Rattle.ucd.specs.Properties.{properties_of};
+ghost use Rattle.bidi.specs.Runs.{AreWithin};
+ghost use Rattle.lines.specs.Engine.{counted};
+ghost use Rattle.lines.specs.Extents.{extents_in, shown_from};
+ghost use Rattle.lines.specs.Kept.{AreStarts, line_in};
+ghost use Rattle.lines.specs.Layouts;
 ghost use Rattle.lines.specs.Parts.{line_of};
+ghost use Rattle.lines.specs.Visual.{lines_from};
+ghost use Rattle.lines.specs.declared.places.Place.{Place};
+ghost use Rattle.lines.specs.declared.engine.TheConstants.{PARAGRAPH_LIMIT};
 
 use crate::bytes::WriteFault;
+use crate::extents::Extents;
+use crate::options::Options;
 use crate::print::Print;
-use crate::visual::{Fill, Shown};
+use crate::showing::show_each;
 use crate::visual_line::VisualLine;
 use device::Sink;
+use std::alloc::Global;
+use std::marker::Model;
+use ucd::{Properties, Tables};
 
-/// A line without what it has of its paragraph.
-#[derive(Clone, Copy)]
-pub(crate) struct Part<'a> {
-    pub(crate) start: u32,
-    pub(crate) columns: u32,
-    pub(crate) levels: &'a [u8],
-    pub(crate) ltov: &'a [u32],
-    pub(crate) vtol: &'a [u32],
-    pub(crate) chars: &'a [char],
+/// How much of a line is shown.
+#[derive(Clone, Copy, Debug)]
+pub struct Shown {
+    /// How many of its characters.
+    pub len: u32,
+    /// In how many columns.
+    pub columns: u32,
+}
+
+/// The lines of a paragraph at some width. What belongs to a line stands at the place of the line's
+/// characters.
+#[derive(Debug)]
+pub struct Fill {
+    pub(crate) starts: Vec<u32>,
+    pub(crate) shown: Vec<Shown>,
+    pub(crate) levels: Vec<u8>,
+    pub(crate) ltov: Vec<u32>,
+    pub(crate) vtol: Vec<u32>,
+    pub(crate) chars: Vec<char>,
+}
+
+impl Drop for Fill {
+    fn drop(self) {
+        let Fill {
+            starts: _,
+            shown: _,
+            levels: _,
+            ltov: _,
+            vtol: _,
+            chars: _,
+        } = self;
+    }
+}
+
+impl Model for Fill {
+    ghost use Rattle.std.specs.Prelude.{length};
+    ghost use Rattle.lines.specs.Kept.{IsSound, lines_in};
+    ghost use Rattle.lines.specs.Layouts.{Filled};
+
+    ghost Value = { Filled };
+
+    ghost view = { λ f. record {
+      lines = lines_in f.starts.items f.shown.items f.levels.items f.ltov.items f.vtol.items f.chars.items;
+      len = length f.levels.items;
+    } };
+
+    ghost invariant = { λ f.
+        IsSound f.starts.items f.shown.items f.levels.items f.ltov.items f.vtol.items f.chars.items };
 }
 
 impl Fill {
-    ghost use Rattle.std.specs.Prelude.{◌≡◌, ◌≤◌, length, map, option_map, slice_get};
-    ghost use Rattle.std.specs.Prelude.{IfErr, IfOk, IfSome};
-    ghost use Rattle.bidi.specs.Runs.{AreWithin};
-    ghost use Rattle.lines.specs.Layouts;
+    ghost use Rattle.lines.specs.Lists.{held_in, AreSound};
     ghost use Rattle.lines.specs.Layouts.{is_line_within, start_of};
     ghost use Rattle.lines.specs.Pages.{lines_bytes};
     ghost use Rattle.lines.specs.Parts.{line_of};
     ghost use Rattle.lines.specs.Visual.{visual_of};
     ghost use Rattle.lines.specs.Writing.{PassedOn, StoppedIn};
+
+    /// The lines that some lists hold.
+    pub(crate) fn of(lists: Lists) -> Fill
+        requires { AreSound lists }
+        ensures { result ≡ held_in lists }
+    {
+        Fill {
+            starts: lists.starts,
+            shown: lists.shown,
+            levels: lists.levels,
+            ltov: lists.ltov,
+            vtol: lists.vtol,
+            chars: lists.chars,
+        }
+    }
+
+    /// Writes other lines of the paragraph over these: L1 on each line, and L2 and L4 on its shown part.
+    /// Their extents are exchanged for those of the old lines.
+    pub(crate) fn reflow(
+        &mut self,
+        tables: &Tables,
+        text: &[char],
+        properties: &[Properties],
+        options: Options,
+        base: u8,
+        levels: &[u8],
+        extents: &mut Extents,
+        written: &mut u64,
+    )
+        requires len { self.old.len ≡ length text.now }
+        requires properties { properties.now ≡ map (properties_of tables.now) text.now }
+        requires text { length text.now ≤ PARAGRAPH_LIMIT }
+        requires levels { length levels.now ≡ length text.now }
+        requires starts { AreStarts (length text.now) extents.old.starts }
+        requires shown { (places : List Place)
+            × (extents.old.shown ≡ shown_from (length text.now) places extents.old.starts) }
+        ensures lines { (places : List Place)
+            → extents.old.shown ≡ shown_from (length text.now) places extents.old.starts
+            → self.new.lines ≡ lines_from tables.now options base text.now levels.now places
+            extents.old.starts }
+        ensures len { self.new.len ≡ length text.now }
+        ensures within { Layouts.AreWithin (length text.now) self.new.lines }
+        ensures extents { extents.new ≡ extents_in self.old.lines }
+        ensures counts { written.new ≡ counted written.old (length text.now) }
+        ensures least { written.old ≤ written.new }
+    {
+        std::mem::swap(&mut self.starts, &mut extents.starts);
+        std::mem::swap(&mut self.shown, &mut extents.shown);
+        self.levels.copy_from_slice(levels);
+        show_each(
+            tables,
+            text,
+            properties,
+            options,
+            base,
+            &self.starts,
+            &self.shown,
+            &mut self.levels,
+            &mut self.ltov,
+            &mut self.vtol,
+            &mut self.chars,
+            written,
+        );
+    }
+
+    /// The lists alone, of lines that are done with.
+    pub(crate) fn into_lists(self) -> Lists {
+        let Fill {
+            starts,
+            shown,
+            levels,
+            ltov,
+            vtol,
+            chars,
+        } = self;
+        Lists {
+            starts,
+            shown,
+            levels,
+            ltov,
+            vtol,
+            chars,
+        }
+    }
 
     /// Where each line starts.
     pub(crate) fn starts(&self) -> &[u32]
@@ -116,6 +251,42 @@ impl Fill {
         }
         Ok(written)
     }
+}
+
+/// Lists that a fill is put into, whatever they hold.
+#[derive(Debug, Drop)]
+pub(crate) struct Lists {
+    pub(crate) starts: Vec<u32>,
+    pub(crate) shown: Vec<Shown>,
+    pub(crate) levels: Vec<u8>,
+    pub(crate) ltov: Vec<u32>,
+    pub(crate) vtol: Vec<u32>,
+    pub(crate) chars: Vec<char>,
+}
+
+impl Lists {
+    /// Empty ones, which take no memory.
+    pub(crate) fn new(alloc: Global) -> Lists {
+        Lists {
+            starts: Vec::new(alloc),
+            shown: Vec::new(alloc),
+            levels: Vec::new(alloc),
+            ltov: Vec::new(alloc),
+            vtol: Vec::new(alloc),
+            chars: Vec::new(alloc),
+        }
+    }
+}
+
+/// A line without what it has of its paragraph.
+#[derive(Clone, Copy)]
+pub(crate) struct Part<'a> {
+    pub(crate) start: u32,
+    pub(crate) columns: u32,
+    pub(crate) levels: &'a [u8],
+    pub(crate) ltov: &'a [u32],
+    pub(crate) vtol: &'a [u32],
+    pub(crate) chars: &'a [char],
 }
 
 // The line that starts there and of which so much is shown.

@@ -5,9 +5,9 @@ ghost use Rattle.device.specs.Device.{StoppedAt, Wrote};
 
 use crate::bytes::WriteFault;
 use crate::extents::{Extents, Room, look_up};
+use crate::fill::Fill;
 use crate::options::Options;
 use crate::print::Print;
-use crate::visual::Fill;
 use crate::visual_line::VisualLine;
 use breaks::{Mark, paragraphs_end_at_must};
 use device::Sink;

@@ -17,11 +17,12 @@ ghost use Rattle.lines.specs.declared.engine.TheConstants.{PARAGRAPH_LIMIT};
 
 use crate::counts::{Counts, raise};
 use crate::extents::Extents;
+use crate::fill::{Fill, Lists};
 use crate::filling::line_starts;
 use crate::options::Options;
 use crate::places::{Place, take_places};
 use crate::room::make_room;
-use crate::visual::{Fill, Lists, show_lines, take_shown};
+use crate::showing::{show_lines, take_shown};
 use bidi::Resolver;
 use breaks::{Mark, Tailoring, marks_into};
 use std::alloc::{AllocError, Global};
@@ -30,7 +31,7 @@ use ucd::{Properties, Tables};
 /// What a paragraph's layout consists of beside its text and its base level, in lists that may have held
 /// anything before.
 #[derive(Debug, Drop)]
-pub(crate) struct Kept {
+pub(crate) struct LayoutLists {
     pub(crate) levels: Vec<u8>,
     pub(crate) marks: Vec<Mark>,
     pub(crate) lines: Lists,
@@ -45,10 +46,10 @@ pub(crate) struct Parts {
     pub(crate) lines: Fill,
 }
 
-impl Kept {
+impl LayoutLists {
     /// Empty lists, which take no memory.
-    pub(crate) fn new(alloc: Global) -> Kept {
-        Kept {
+    pub(crate) fn new(alloc: Global) -> LayoutLists {
+        LayoutLists {
             levels: Vec::new(alloc),
             marks: Vec::new(alloc),
             lines: Lists::new(alloc),
@@ -102,7 +103,7 @@ impl Work {
         options: Options,
         text: &[char],
         width: u16,
-        kept: &mut Kept,
+        kept: &mut LayoutLists,
         counts: &mut Counts,
     ) -> Result<u8, AllocError>
         requires { length text.now ≤ PARAGRAPH_LIMIT }

@@ -1,0 +1,13 @@
+use Rattle.std.proofs.Common.{◌≤◌, take}
+use Rattle.std.specs.List.{concat}
+use Rattle.lines.proofs.PageLemmas.{pieces}
+use Rattle.lines.specs.Writing.{PassedOn}
+use Rattle.lines.proofs.fill.Fill.write_behind.Given as goal
+
+abbrev pub invariant-loop-n : goal.invariant-loop-n
+invariant-loop-n g l =
+    let state = g.W.Sink.state in
+    record {
+      passed : PassedOn (concat (take l.n (pieces l.width l.print l.base l.text l.self.lines))) l.done (state l.fn.writer) (state l.writer) l.written;
+      counted : l.written ≤ (state l.writer).passed;
+    }

@@ -1,0 +1,34 @@
+use Rattle.std.proofs.Common.{length, ap, sym, ◌∙◌, arith, rules}
+use Rattle.std.proofs.lemmas.List.{with_items_is}
+use Rattle.lines.proofs.ShowLemmas.{all_shown, all_within, length-shown_from, shown_as, sound, taken_shown}
+use Rattle.lines.proofs.showing.show_lines.Goals as goal
+
+-- how much of each line is shown is that of these places
+pub show_each-requires-clause-shown : goal.show_each-requires-clause-shown
+show_each-requires-clause-shown c = (
+  c.args.places.now,
+  c.deref-3.ensures.value
+      ∙ taken_shown (length c.args.text.now) (length c.args.places.now) c.args.places.now c.deref-2.result.now c.deref.result.now c.requires.text.0
+      (c.deref.ensures.value ∙ sym c.deref-2.ensures.value) c.in_ok-take_shown.ensures,
+)
+
+pub returns : goal.returns
+returns c =
+    let l = with_items_is c.copy.new.list c.show_each.new.levels (omega arith) in
+    let t = with_items_is c.make_numbers.new.list c.show_each.new.ltov (omega arith) in
+    let v = with_items_is c.make_numbers-2.new.list c.show_each.new.vtol (omega arith) in
+    let h = with_items_is c.make_characters.new.list c.show_each.new.chars (omega arith) in
+    let parts = taken_shown (length c.args.text.now) (length c.args.places.now) c.args.places.now c.args.lists.now.starts.items c.deref.result.now c.requires.text.0
+    c.deref.ensures.value c.in_ok-take_shown.ensures in
+    let count = ap length parts ∙ length-shown_from (length c.args.text.now) c.args.places.now c.args.lists.now.starts.items in
+    let shown = shown_as c.args.tables.now c.args.options c.args.base c.args.text.now c.args.levels.now c.deref_mut.result.now c.args.lists.now.starts.items c.deref-2.result.now
+    c.take_shown.new.shown.items c.deref-3.result.now (c.deref_mut.ensures.value ∙ c.in_ok-copy.ensures) c.deref-2.ensures.value c.deref-3.ensures.value c.show_each.ensures.shown in
+    record {
+      sound = rw (l, t, v, h) (sound _ _ _ _ _ _ _ _ _ _ _ c.requires.starts count (omega (arith, ap length c.in_ok-copy.ensures))
+          (omega (arith, c.in_ok-make_numbers.ensures)) (omega (arith, c.in_ok-make_numbers-2.ensures)) (omega (arith, c.in_ok-make_characters.ensures)) shown);
+      lines = rw (l, t, v, h) (all_shown _ _ _ _ _ _ _ _ _ _ _ _ parts shown);
+      within = rw (l, t, v, h) (all_within _ _ _ _ _ _ _ _ _ _ _ c.requires.starts count (omega (arith, ap length c.in_ok-copy.ensures)) shown);
+      lines_len = rw l (search rules);
+      counts = c.show_each.ensures.counts;
+      at_most = record { least = c.show_each.ensures.least; most = omega (arith, c.show_each.ensures.counts) };
+    }

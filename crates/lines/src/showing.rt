@@ -1,0 +1,339 @@
+//! What is shown of each line of a paragraph: its levels after L1, and its shown part in visual order (L2) with
+//! mirrors (L4).
+ghost use Rattle.std.specs.Prelude.{◌≡◌, ◌<◌, ◌≤◌, ℕ, List, true, false, OnOk};
+ghost use Rattle.std.specs.Prelude.{length, map, take, slice_index};
+ghost use Rattle.std.specs.List.{range_with_len};
+ghost use Rattle.ucd.specs.Properties.{properties_of};
+ghost use Rattle.bidi.specs.Classes.{class_in};
+ghost use Rattle.lines.specs.Spaces.{line_levels};
+ghost use Rattle.bidi.specs.Runs.{AreWithin};
+ghost use Rattle.lines.specs.Engine.{counted, RisesBy};
+ghost use Rattle.lines.specs.Extents.{shown_from};
+ghost use Rattle.lines.specs.Filling.{columns, shown};
+ghost use Rattle.lines.specs.Kept.{AreStarts};
+ghost use Rattle.lines.specs.Layouts;
+ghost use Rattle.lines.specs.Lists.{held_lines, AreSound};
+ghost use Rattle.lines.specs.Mirroring.{visual_chars};
+ghost use Rattle.lines.specs.Order.{is_odd, ltov_of, vtol_of};
+ghost use Rattle.lines.specs.Showing.{end_of, AreShown, IsShown};
+ghost use Rattle.lines.specs.Visual.{lines_from};
+ghost use Rattle.lines.specs.declared.places.Place.{Place};
+ghost use Rattle.lines.specs.declared.engine.TheConstants.{PARAGRAPH_LIMIT};
+
+use crate::counts::raise;
+use crate::fill::{Lists, Shown};
+use crate::mirror::visual_chars;
+use crate::options::Options;
+use crate::order::{identity, order};
+use crate::places::Place;
+use crate::room::make_room;
+use crate::spaces::reset_levels;
+use std::alloc::AllocError;
+use ucd::{Properties, Tables};
+
+/// The lines of a paragraph, put into lists of which the first says where they start: L1 on each line, and L2
+/// and L4 on its shown part.
+pub(crate) fn show_lines(
+    tables: &Tables,
+    text: &[char],
+    properties: &[Properties],
+    options: Options,
+    base: u8,
+    levels: &[u8],
+    places: &[Place],
+    lists: &mut Lists,
+    written: &mut u64,
+) -> Result<(), AllocError>
+    requires properties { properties.now ≡ map (properties_of tables.now) text.now }
+    requires text { (length text.now ≡ length places.now) × (length text.now ≤ PARAGRAPH_LIMIT) }
+    requires levels { length levels.now ≡ length text.now }
+    requires starts { AreStarts (length text.now) lists.old.starts.items }
+    ensures sound { OnOk result (AreSound lists.new) }
+    ensures lines { OnOk result (held_lines lists.new
+        ≡ lines_from tables.now options base text.now levels.now places.now lists.old.starts.items) }
+    ensures within { OnOk result (Layouts.AreWithin (length text.now) (held_lines lists.new)) }
+    ensures lines_len { OnOk result (length lists.new.levels.items ≡ length text.now) }
+    ensures counts { OnOk result (written.new ≡ counted written.old (length text.now)) }
+    ensures at_most { RisesBy (length text.now) written.old written.new }
+{
+    take_shown(places, &lists.starts, &mut lists.shown)?;
+    copy(levels, &mut lists.levels)?;
+    make_numbers(&mut lists.ltov, text.len())?;
+    make_numbers(&mut lists.vtol, text.len())?;
+    make_characters(&mut lists.chars, text.len())?;
+    show_each(
+        tables,
+        text,
+        properties,
+        options,
+        base,
+        &lists.starts,
+        &lists.shown,
+        &mut lists.levels,
+        &mut lists.ltov,
+        &mut lists.vtol,
+        &mut lists.chars,
+        written,
+    );
+    Ok(())
+}
+
+// The levels before L1, to be changed, in place of what a list has.
+fn copy(levels: &[u8], list: &mut Vec<u8>) -> Result<(), AllocError>
+    ensures { OnOk result (list.new.items ≡ levels.now) }
+{
+    list.clear();
+    make_room(list, levels.len())?;
+    list.extend_from_slice(levels)
+}
+
+// Gives a list a number for each character. What it has stays, since all that is read is written before.
+fn make_numbers(list: &mut Vec<u32>, len: usize) -> Result<(), AllocError>
+    ensures { OnOk result (length list.new.items ≡ len) }
+{
+    make_room(list, len)?;
+    list.resize(len, 0)
+}
+
+// Gives a list so many characters, of which the same holds.
+fn make_characters(list: &mut Vec<char>, len: usize) -> Result<(), AllocError>
+    ensures { OnOk result (length list.new.items ≡ len) }
+{
+    make_room(list, len)?;
+    list.resize(len, '\0')
+}
+
+/// How much of each line is shown, put in place of what a list has.
+pub(crate) fn take_shown(
+    places: &[Place],
+    starts: &[u32],
+    shown: &mut Vec<Shown>,
+) -> Result<(), AllocError>
+    requires len { length places.now ≤ PARAGRAPH_LIMIT }
+    requires starts { AreStarts (length places.now) starts.now }
+    ensures { OnOk result (shown.new.items ≡ shown_from (length places.now) places.now starts.now) }
+{
+    shown.clear();
+    make_room(shown, starts.len())?;
+    let mut k = 0;
+    while k < starts.len() {
+        let start = starts[k] as usize;
+        let end = end_of(starts, k, places.len());
+        shown.push(shown_of(&places[start..end]))?;
+        k += 1;
+    }
+    Ok(())
+}
+
+/// Writes what belongs to each line to its place, over the levels before L1. Counts the characters.
+pub(crate) fn show_each(
+    tables: &Tables,
+    text: &[char],
+    properties: &[Properties],
+    options: Options,
+    base: u8,
+    starts: &[u32],
+    shown: &[Shown],
+    levels: &mut [u8],
+    ltov: &mut [u32],
+    vtol: &mut [u32],
+    chars: &mut [char],
+    written: &mut u64,
+)
+    requires properties { properties.now ≡ map (properties_of tables.now) text.now }
+    requires text { length text.now ≤ PARAGRAPH_LIMIT }
+    requires starts { AreStarts (length text.now) starts.now }
+    requires shown { (places : List Place) × (shown.now ≡ shown_from (length text.now) places starts.now) }
+    requires levels { length levels.old ≡ length text.now }
+    requires ltov { length ltov.old ≡ length text.now }
+    requires vtol { length vtol.old ≡ length text.now }
+    requires chars { length chars.old ≡ length text.now }
+    ensures shown { AreShown tables.now options base text.now levels.old starts.now (length starts.now)
+        shown.now levels.new ltov.new vtol.new chars.new }
+    ensures counts { written.new ≡ counted written.old (length text.now) }
+    ensures least { written.old ≤ written.new }
+{
+    raise(written, text.len());
+    let mut k = 0;
+    while k < starts.len() {
+        let start = starts[k] as usize;
+        let end = end_of(starts, k, text.len());
+        show_line(
+            tables,
+            &text[start..end],
+            &properties[start..end],
+            options,
+            base,
+            shown[k],
+            &mut levels[start..end],
+            &mut ltov[start..end],
+            &mut vtol[start..end],
+            &mut chars[start..end],
+        );
+        k += 1;
+    }
+}
+
+// Where a line ends: where the next one starts, the last one with the paragraph.
+fn end_of(starts: &[u32], k: usize, len: usize) -> usize
+    requires starts { AreStarts len starts.now }
+    requires k { k < length starts.now }
+    ensures end { result ≡ end_of len starts.now k }
+    ensures within { (slice_index starts.now k < result) × (result ≤ len) }
+{
+    if k + 1 < starts.len() {
+        starts[k + 1] as usize
+    } else {
+        len
+    }
+}
+
+// Writes the levels of a line after L1, and what belongs to its shown part.
+fn show_line(
+    tables: &Tables,
+    line: &[char],
+    properties: &[Properties],
+    options: Options,
+    base: u8,
+    shown: Shown,
+    levels: &mut [u8],
+    ltov: &mut [u32],
+    vtol: &mut [u32],
+    chars: &mut [char],
+)
+    requires properties { properties.now ≡ map (properties_of tables.now) line.now }
+    requires line { length line.now ≤ PARAGRAPH_LIMIT }
+    requires shown { shown.len ≤ length line.now }
+    requires levels { length levels.old ≡ length line.now }
+    requires ltov { length ltov.old ≡ length line.now }
+    requires vtol { length vtol.old ≡ length line.now }
+    requires chars { length chars.old ≡ length line.now }
+    ensures { IsShown tables.now options base line.now levels.old shown
+        levels.new ltov.new vtol.new chars.new }
+{
+    let is_flat = reset_line(properties, base, levels);
+    let n = shown.len as usize;
+    show_part(
+        tables,
+        &line[..n],
+        properties,
+        options,
+        &levels[..n],
+        is_flat,
+        &mut ltov[..n],
+        &mut vtol[..n],
+        &mut chars[..n],
+    );
+}
+
+// L1 on a line; true only where all levels are 0 then.
+fn reset_line(properties: &[Properties], base: u8, levels: &mut [u8]) -> bool
+    requires { length properties.now ≡ length levels.old }
+    ensures levels { levels.new ≡ line_levels base (map class_in properties.now) levels.old }
+    ensures flat { result ≡ true → (k : ℕ) → slice_index levels.new k ≡ 0 }
+{
+    if base == 0 && are_zero(levels) {
+        return true;
+    }
+    reset_levels(properties, base, levels);
+    false
+}
+
+// Whether all levels are 0.
+fn are_zero(levels: &[u8]) -> bool
+    ensures { result ≡ true → (k : ℕ) → slice_index levels.now k ≡ 0 }
+{
+    let mut highest = 0;
+    for level in levels {
+        highest = highest.max(*level);
+    }
+    highest == 0
+}
+
+// Whether no level is odd.
+fn are_even(levels: &[u8]) -> bool
+    ensures { result ≡ true → (k : ℕ) → is_odd (slice_index levels.now k) ≡ false }
+{
+    let mut odd = 0;
+    for level in levels {
+        odd = odd.max(*level % 2);
+    }
+    odd == 0
+}
+
+// Whether no level is odd, which needs no look at levels that are all 0.
+fn is_plain(levels: &[u8], is_flat: bool) -> bool
+    requires { is_flat ≡ true → (k : ℕ) → slice_index levels.now k ≡ 0 }
+    ensures { result ≡ true → (k : ℕ) → is_odd (slice_index levels.now k) ≡ false }
+{
+    is_flat || are_even(levels)
+}
+
+// Writes what belongs to the shown part of a line without an odd level: it is its own order.
+fn show_plain(part: &[char], ltov: &mut [u32], vtol: &mut [u32], chars: &mut [char])
+    requires part { length part.now ≤ PARAGRAPH_LIMIT }
+    requires ltov { length ltov.old ≡ length part.now }
+    requires vtol { length vtol.old ≡ length part.now }
+    requires chars { length chars.old ≡ length part.now }
+    ensures ltov { ltov.new ≡ range_with_len 0 (length part.now) }
+    ensures vtol { vtol.new ≡ range_with_len 0 (length part.now) }
+    ensures chars { chars.new ≡ part.now }
+{
+    identity(ltov);
+    identity(vtol);
+    chars.copy_from_slice(part);
+}
+
+// Writes what belongs to the shown part of a line: its order, and its characters in visual order.
+fn show_part(
+    tables: &Tables,
+    part: &[char],
+    line: &[Properties],
+    options: Options,
+    levels: &[u8],
+    is_flat: bool,
+    ltov: &mut [u32],
+    vtol: &mut [u32],
+    chars: &mut [char],
+)
+    requires levels { (length levels.now ≡ length part.now) × (length part.now ≤ PARAGRAPH_LIMIT) }
+    requires line { length levels.now ≤ length line.now }
+    requires properties { take (length part.now) line.now ≡ map (properties_of tables.now) part.now }
+    requires flat { is_flat ≡ true → (k : ℕ) → slice_index levels.now k ≡ 0 }
+    requires ltov { length ltov.old ≡ length part.now }
+    requires vtol { length vtol.old ≡ length part.now }
+    requires chars { length chars.old ≡ length part.now }
+    ensures ltov { ltov.new ≡ ltov_of options.reordernsm (map class_in line.now) levels.now }
+    ensures vtol { vtol.new ≡ vtol_of options.reordernsm (map class_in line.now) levels.now }
+    ensures chars { chars.new ≡ visual_chars tables.now levels.now part.now
+        (vtol_of options.reordernsm (map class_in line.now) levels.now) }
+    ensures within { AreWithin (length levels.now) vtol.new }
+{
+    if is_plain(levels, is_flat) {
+        show_plain(part, ltov, vtol, chars);
+    } else {
+        order(line, levels, options.reordernsm, vtol, ltov);
+        visual_chars(tables, part, &line[..part.len()], levels, vtol, chars);
+    }
+}
+
+// How much of a line is shown: all but its tail.
+fn shown_of(line: &[Place]) -> Shown
+    requires { length line.now ≤ PARAGRAPH_LIMIT }
+    ensures len { result.len ≡ length (shown line.now) }
+    ensures columns { result.columns ≡ columns (shown line.now) }
+    ensures within { result.len ≤ length line.now }
+{
+    let mut shown = Shown { len: 0, columns: 0 };
+    let mut columns = 0;
+    for (k, place) in line.iter().enumerate() {
+        columns += place.columns as u32;
+        if !place.is_trailing {
+            shown = Shown {
+                len: k as u32 + 1,
+                columns,
+            };
+        }
+    }
+    shown
+}
