@@ -2,6 +2,7 @@ mod AloneLemmas
 mod BareLemmas
 mod BeginningLemmas
 pub mod ClusterLemmas
+mod ColumnLemmas
 mod ExtentLemmas
 mod FewLines
 mod GroupLemmas

@@ -3,6 +3,7 @@ pub mod BarePlaces
 pub mod Beginnings
 pub mod Bytes
 pub mod Clusters
+pub mod Columns
 pub mod Counts
 pub mod Engine
 pub mod Extents

@@ -1,8 +1,12 @@
 //! One line of a paragraph as it is shown, which borrows from the paragraph.
-ghost use Rattle.std.specs.Prelude.{◌≡◌, ◌≤◌, OnOk, IfOk, IfErr};
+ghost use Rattle.std.specs.Prelude.{◌≡◌, ◌<◌, ◌≤◌, false, length, slice_index, OnOk, IfOk, IfErr};
 ghost use Rattle.device.specs.Device.{Wrote, StoppedAt};
-ghost use Rattle.lines.specs.Bytes.{line_bytes};
+ghost use Rattle.bidi.specs.Runs.{AreWithin};
+ghost use Rattle.lines.specs.Bytes.{line_bytes, padding};
+ghost use Rattle.lines.specs.Columns.{columns_left, covering, padding_of};
+ghost use Rattle.lines.specs.Places.{columns_of};
 ghost use Rattle.lines.specs.Writing.{PassedOn, StoppedIn};
+ghost use Rattle.lines.specs.declared.print.Print.{Print};
 
 use crate::bytes::{
     WriteFault, write_direction, write_levels, write_ltov, write_shown, write_vtol,
@@ -10,6 +14,7 @@ use crate::bytes::{
 use crate::print::Print;
 use device::Sink;
 use std::marker::Model;
+use unicode_width::UnicodeWidthChar;
 
 /// A line as it is shown. All but `is_first` and `base` speak of its shown part, which is the line without
 /// the spaces and separators at its end; positions count from its start.
@@ -97,6 +102,46 @@ impl<'a> VisualLine<'a> {
         self.columns
     }
 
+    /// How many columns are left of a visual position, or of the line's end where it has no such position.
+    /// They are those of the characters in the text, and not of their mirrors.
+    pub fn columns_left(&self, place: usize) -> usize
+        ensures { result ≡ columns_left self.now place }
+    {
+        let mut columns = 0;
+        for k in 0..place.min(self.vtol.len()) {
+            columns += columns_at(self.text, self.vtol, k);
+        }
+        columns
+    }
+
+    /// The visual position whose character covers a column, counted from 0 at the left edge: none right of
+    /// the line. A character that takes no columns covers none.
+    pub fn covering(&self, column: usize) -> Option<usize>
+        ensures { result ≡ covering self.now column }
+    {
+        let mut columns = 0;
+        for k in 0..self.vtol.len() {
+            columns += columns_at(self.text, self.vtol, k);
+            if column < columns {
+                return Some(k);
+            }
+        }
+        None
+    }
+
+    /// How many columns printing at a width leaves free left of the line, unless it pads no lines: those
+    /// that it doesn't take, where the paragraph is from right to left.
+    pub fn padding(&self, width: u16) -> u32
+        ensures value { result ≡ padding_of width self.now }
+        ensures spaces { (print : Print) → print.nopad ≡ false
+            → result ≡ length (padding width print self.now) }
+    {
+        if self.base % 2 == 1 {
+            return u32::from(width).saturating_sub(self.columns);
+        }
+        0
+    }
+
     /// Writes the line, and no more behind a failure of the sink. It takes no memory.
     pub fn write<W: Sink>(
         &self,
@@ -135,5 +180,18 @@ impl<'a> VisualLine<'a> {
         let ltov = write_ltov(writer, direction, self, print)?;
         let vtol = write_vtol(writer, ltov, self, print)?;
         write_levels(writer, vtol, self, print)
+    }
+}
+
+// The columns of the character at a visual position.
+fn columns_at(text: &[char], vtol: &[u32], place: usize) -> usize
+    requires within { AreWithin (length text.now) vtol.now }
+    requires place { place < length vtol.now }
+    ensures value { result ≡ columns_of (slice_index text.now (slice_index vtol.now place)) }
+    ensures few { result ≤ 3 }
+{
+    match text[vtol[place] as usize].width() {
+        Some(width) => width,
+        None => 0,
     }
 }

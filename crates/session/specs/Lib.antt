@@ -1,6 +1,7 @@
 pub mod Changes
 pub mod Damage
 pub mod Edges
+pub mod Hits
 pub mod Kept
 pub mod Places
 pub mod Printing

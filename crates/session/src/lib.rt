@@ -5,6 +5,7 @@
 mod edge;
 mod edit;
 mod edits;
+mod hits;
 mod joined;
 mod kept;
 mod laws;
@@ -16,6 +17,7 @@ mod session;
 mod width;
 
 pub use edits::{Damage, Edit, EditFault, TEXT_LIMIT};
+pub use hits::Hit;
 pub use kept::Kept;
 pub use laws::texts_are_laid_out_in_parts;
 pub use places::Place;

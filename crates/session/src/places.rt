@@ -1,7 +1,7 @@
 //! Where the lines of a text begin, and on which of them a character stands: found by the store's sums,
 //! and within a paragraph by where its lines begin.
 ghost use Rattle.std.specs.Prelude.{◌≡◌, ◌^◌, ◌<◌, ◌≤◌, ℕ, All, nat_le, count_by, length};
-ghost use Rattle.std.specs.Prelude.{slice_get, slice_index};
+ghost use Rattle.std.specs.Prelude.{slice_get, slice_index, IfSome};
 ghost use Rattle.std.specs.List.Sorted.{IsNonDecreasing};
 ghost use Rattle.lines.specs.Engine.{rules_of};
 ghost use Rattle.session.specs.Kept.{pars_of, text_of};
@@ -55,7 +55,8 @@ fn start_of_nth(starts: &[u32], n: usize) -> usize
 /// Where a line begins, counted from 0.
 pub fn line_start<S: ParagraphStore<Kept>>(store: &S, n: usize) -> Option<usize>
     requires { length (text_of (S.items store.now)) ≤ TEXT_LIMIT }
-    ensures { result ≡ slice_get (line_starts (S.items store.now)) n }
+    ensures start { result ≡ slice_get (line_starts (S.items store.now)) n }
+    ensures fits { IfSome result (λ start. start < 2 ^ 33) }
 {
     if n >= store.total_lines() {
         return None;

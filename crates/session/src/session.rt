@@ -11,6 +11,7 @@ ghost use Rattle.lines.specs.Engine.{analysed_of, filled_of, rules_of, written_o
 ghost use Rattle.lines.specs.Writing.{PassedOn, StoppedIn};
 ghost use Rattle.lines.specs.declared.print.Print.{Print};
 ghost use Rattle.session.specs.Changes.{after_all, changing, deletion, insertion};
+ghost use Rattle.session.specs.Hits.{hit_at};
 ghost use Rattle.session.specs.Kept.{lines_in};
 ghost use Rattle.session.specs.Places.{line_starts, place_at};
 ghost use Rattle.session.specs.Printing.{lines_page, HasLines, PrintsNot};
@@ -21,6 +22,7 @@ ghost use Rattle.session.specs.Sessions.{Edits, EditsNot, Opens, OpensNot, Refil
 
 use crate::edit::edit;
 use crate::edits::{Damage, Edit, EditFault, TEXT_LIMIT};
+use crate::hits::{Hit, hit_in};
 use crate::joined::lay_out_joined;
 use crate::kept::Kept;
 use crate::places::{Place, line_start, place_of};
@@ -162,6 +164,18 @@ impl<S: ParagraphStore<Kept>> Session<S> {
         paragraphs_are_pieces();
         Laid::lines_begin_in_order();
         place_of(&self.store, &self.engine, pos)
+    }
+
+    /// The character whose columns cover a column of a line, counted from 0 at the left edge of the line's
+    /// shown part; right of that part the rightmost character that takes columns, and in a line without
+    /// columns its start.
+    pub fn hit(&self, n: usize, column: usize) -> Option<Hit>
+        ensures hit { result ≡ hit_at self.now.kept n column }
+        ensures none { is_none result ≡ nat_le (length (lines_in self.now.kept)) n }
+    {
+        let start = line_start(&self.store, n)?;
+        let line = self.line(n)?;
+        Some(hit_in(&line, start, column))
     }
 
     /// Of `count` characters from `pos` on those that stand in the paragraph of the first one, where the text

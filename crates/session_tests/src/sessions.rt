@@ -1,6 +1,8 @@
 //! Worked rows, and long lists of changes against sessions made anew, over both stores. The tests pass
 //! too where one allocation is refused, whichever it is: a change that is refused for memory leaves all
 //! as it was, and is made when it is asked for again. A `run` alone is asked for once.
+mod parts;
+mod places;
 mod random;
 mod refusals;
 mod rows;
@@ -331,6 +333,8 @@ impl<S: ParagraphStore<Kept> + Drop, T: ParagraphStore<Kept> + Drop> Pair<S, T> 
             Check::Steps => Ok(rows::check_all_steps(rt, self)?),
             Check::Widths => Ok(rows::check_widths(rt, self)?),
             Check::Run => Ok(rows::check_run(rt, self, &rows::CHANGES)?),
+            Check::Parts => Ok(parts::check_parts(rt, self)?),
+            Check::Places => Ok(places::check_rows(rt, self, &places::ROWS)?),
             Check::Refusals => Ok(refusals::check_refused(rt, self)?),
             Check::Random(seed) => random::check_changes(rt, alloc, self, seed),
         }
@@ -344,6 +348,8 @@ enum Check {
     Steps,
     Widths,
     Run,
+    Parts,
+    Places,
     Refusals,
     Random(u64),
 }

@@ -7,8 +7,8 @@ use Rattle.session.proofs.EdgeLemmas.{length-lines, length-text, lines_of, found
 use Rattle.session.proofs.PlaceLemmas.{length-lines_from, rest_within, start_read, start_within}
 use Rattle.session.proofs.places.line_start.Goals as goal
 
-pub returns-then-n-total_lines : goal.returns-then-n-total_lines
-returns-then-n-total_lines g c =
+pub returns-then-n-total_lines-clause-start : goal.returns-then-n-total_lines-clause-start
+returns-then-n-total_lines-clause-start g c =
     let kept = g.S.ParagraphStore.items c.args.store.now in
     sym (slice_get_past (line_starts kept) c.args.n (omega (arith, c.if-n-total_lines.true, c.total_lines.ensures, length-lines_from 0 kept, length-lines kept)))
 
@@ -25,9 +25,14 @@ overflow_add-result g c =
 pub unreachable-requires : goal.unreachable-requires
 unreachable-requires g c = found_some lines_of (g.S.ParagraphStore.items c.args.store.now) c.args.n c.find_line-found.result c.find_line-found.ensures c.in-None.ensures
 
-pub returns : goal.returns
-returns g c =
+pub returns-clause-start : goal.returns-clause-start
+returns-clause-start g c =
     let kept = g.S.ParagraphStore.items c.args.store.now in
     let read = start_read kept c.args.n c.find_line-found.result c.find_line-found.ensures c.in-Some.kept.now c.in-Some.ensures in
     let starts = c.line_starts.ensures ∙ ap (λ (l : Layout). map begins l.lines) c.laid.ensures in
     ap₂ (λ n m. Some (n + m)) c.chars_before.ensures (c.start_of_nth-start.ensures.start ∙ ap (λ ss. get_or ss c.find_line-found.result.rest 0) starts) ∙ sym read
+
+pub returns-clause-fits : goal.returns-clause-fits
+returns-clause-fits g c =
+    let kept = g.S.ParagraphStore.items c.args.store.now in
+    omega (arith, c.requires, length-text kept, start_within kept c.find_line-found.result.index _ refl, c.chars_before.ensures, c.start_of_nth-start.ensures.fits)

@@ -11,9 +11,9 @@ line_start-requires g c =
     text_short state c.self.invariant
 
 pub returns-clause-start : goal.returns-clause-start
-returns-clause-start g c = rw (← c.self.view_is) c.line_start.ensures
+returns-clause-start g c = rw (← c.self.view_is) c.line_start.ensures.start
 
 pub returns-clause-none : goal.returns-clause-none
 returns-clause-none g c =
     let kept = g.S.ParagraphStore.items c.self.inside.store in
-    rw (← c.self.view_is) (ap is_none c.line_start.ensures ∙ none_past (line_starts kept) c.args.n (length (lines_in kept)) (sym (length-lines_from 0 kept)))
+    rw (← c.self.view_is) (ap is_none c.line_start.ensures.start ∙ none_past (line_starts kept) c.args.n (length (lines_in kept)) (sym (length-lines_from 0 kept)))

@@ -1,0 +1,21 @@
+use Rattle.std.proofs.Common.{ℕ, List, length, get_or, ap, ap₂, ◌∙◌, arith}
+use Rattle.lines.specs.Places.{columns_of}
+use Rattle.lines.specs.Visual.{Visual}
+use Rattle.lines.proofs.ColumnLemmas.{left_more, left_to}
+use Rattle.lines.proofs.visual_line.VisualLine.columns_left.Goals as goal
+
+pub loop-k-preserved : goal.loop-k-preserved
+loop-k-preserved c =
+    let text = ap (λ (v : Visual). v.text) c.self.view_is in
+    let vtol = ap (λ (v : Visual). v.vtol) c.self.view_is in
+    let value = c.columns_at-columns.ensures.value ∙ ap₂ (λ (cs ps : List ℕ). columns_of (get_or cs (get_or ps c.loop-k.k 0) 0)) text vtol in
+    let next = left_more c.args.self.now c.loop-k.k (omega (arith, c.loop-k-test.true, c.min-k-end.ensures, ap length vtol)) in
+    record {
+      left = omega (arith, c.loop-k.invariant.left, value, next);
+      few = omega (arith, c.loop-k.invariant.few, c.columns_at-columns.ensures.few);
+    }
+
+pub returns : goal.returns
+returns c =
+    let vtol = ap (λ (v : Visual). v.vtol) c.self.view_is in
+    c.loop-k.invariant.left ∙ left_to c.args.self.now c.args.place c.loop-k.k (omega (arith, c.loop-k-test.false, c.loop-k.auto.k-end, c.min-k-end.ensures, ap length vtol))

@@ -1,0 +1,34 @@
+-- Which character stands at a column of a line.
+use Rattle.std.specs.Prelude.{ℕ, ◌+◌, ◌-◌, false, not, List, length, slice_get, slice_index, Option, Some, None}
+use Rattle.lines.specs.Columns.{columns_left, covering}
+use Rattle.lines.specs.Layouts.{Layout}
+use Rattle.lines.specs.Order.{is_odd}
+use Rattle.lines.specs.Visual.{Visual}
+use Rattle.session.specs.Kept.{lines_in}
+use Rattle.session.specs.Places.{line_starts}
+use Rattle.session.specs.declared.hits.Hit.{Hit}
+
+-- the visual place that covers the last column of a line, which is the rightmost that takes columns
+abbrev pub rightmost : Visual → Option ℕ
+rightmost line = covering line (columns_left line (length line.vtol) - 1)
+
+-- of a line that begins at a position: the character that covers the column; right of the line its rightmost one, which the column is
+-- past in the direction of an even level, and not in that of an odd one; in a line without columns its start
+abbrev pub hit_by : ℕ → Visual → Option ℕ → Option ℕ → Hit
+hit_by start line (Some place) last = record { pos = start + slice_index line.vtol place; trailing = false }
+hit_by start line None (Some place) = record {
+  pos = start + slice_index line.vtol place;
+  trailing = not (is_odd (slice_index line.levels (slice_index line.vtol place)));
+}
+hit_by start line None None = record { pos = start; trailing = false }
+
+abbrev pub hit_in : ℕ → Visual → ℕ → Hit
+hit_in start line column = hit_by start line (covering line column) (rightmost line)
+
+-- where there is such a line
+abbrev pub hit_of : Option ℕ → Option Visual → ℕ → Option Hit
+hit_of (Some start) (Some line) column = Some (hit_in start line column)
+hit_of start line column = None
+
+abbrev pub hit_at : List Layout → ℕ → ℕ → Option Hit
+hit_at kept n column = hit_of (slice_get (line_starts kept) n) (slice_get (lines_in kept) n) column

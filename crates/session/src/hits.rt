@@ -1,0 +1,72 @@
+//! Which character stands at a column of a line.
+ghost use Rattle.std.specs.Prelude.{◌≡◌, ◌^◌, ◌<◌, not, slice_index};
+ghost use Rattle.lines.specs.Columns.{columns_left, covering};
+ghost use Rattle.lines.specs.Order.{is_odd};
+ghost use Rattle.session.specs.Hits.{hit_in, rightmost};
+
+use lines::VisualLine;
+
+/// The character at a column of a line.
+#[derive(Clone, Copy, Debug, PartialEq, Eq)]
+pub struct Hit {
+    /// Its position in the text.
+    pub pos: usize,
+    /// Whether the column lies past the character in the character's own direction, so that a caret belongs
+    /// after it: right of one at an even level, left of one at an odd level.
+    pub trailing: bool,
+}
+
+// The character at a visual position of a line, counted from the line's start.
+fn logical(line: &VisualLine<'_>, place: usize) -> usize
+    ensures value { result ≡ slice_index line.now.vtol place }
+    ensures fits { result < 2 ^ 32 }
+{
+    match line.vtol().get(place) {
+        Some(k) => *k as usize,
+        None => 0,
+    }
+}
+
+// Whether a character of a line is at an even level.
+fn is_even(line: &VisualLine<'_>, k: usize) -> bool
+    ensures { result ≡ not (is_odd (slice_index line.now.levels k)) }
+{
+    match line.levels().get(k) {
+        Some(level) => level % 2 != 1,
+        None => true,
+    }
+}
+
+// The visual position that covers the last column.
+fn rightmost(line: &VisualLine<'_>) -> Option<usize>
+    ensures { result ≡ rightmost line.now }
+{
+    let columns = line.columns_left(line.vtol().len());
+    line.covering(columns.saturating_sub(1))
+}
+
+/// The character at a column of a line that begins at a position.
+pub fn hit_in(line: &VisualLine<'_>, start: usize, column: usize) -> Hit
+    requires { start < 2 ^ 33 }
+    ensures { result ≡ hit_in start line.now column }
+{
+    if let Some(place) = line.covering(column) {
+        return Hit {
+            pos: start + logical(line, place),
+            trailing: false,
+        };
+    }
+    match rightmost(line) {
+        Some(place) => {
+            let k = logical(line, place);
+            Hit {
+                pos: start + k,
+                trailing: is_even(line, k),
+            }
+        }
+        None => Hit {
+            pos: start,
+            trailing: false,
+        },
+    }
+}

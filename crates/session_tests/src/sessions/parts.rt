@@ -1,0 +1,111 @@
+//! Some lines printed, and the characters of a range.
+use super::{Check, Pair, Taker, check_in_tree, renew};
+use device::ToWrite;
+use lines::Print;
+use session::{EditFault, Kept, LinesFault, Session};
+use std::process::Abort;
+use std::test::Fail;
+use store::ParagraphStore;
+
+const TEXT: &str = "abc def\n\u{5d0}\u{5d1}\nx";
+
+// Lines as they are shown, with the direction behind the first of each paragraph.
+const SHOWN: Print = Print {
+    novisual: false,
+    basedir: true,
+    ltov: false,
+    vtol: false,
+    levels: false,
+    nopad: false,
+    nomirror: false,
+};
+
+// The first line and how many, and what is printed of them where there are so many.
+type Lines<'a> = (usize, usize, Option<&'a str>);
+
+pub(super) static LINES: [Lines<'_>; 8] = [
+    (0, 0, Some("")),
+    (0, 1, Some("abc\nLTR\n")),
+    (1, 1, Some("def\n")),
+    (1, 2, Some("def\n  \u{5d1}\u{5d0}\nRTL\n")),
+    (0, 4, Some("abc\nLTR\ndef\n  \u{5d1}\u{5d0}\nRTL\nx\nLTR\n")),
+    (4, 0, Some("")),
+    (3, 2, None),
+    (5, 0, None),
+];
+
+// What is printed of some lines, for which there is room, or nothing where there are not so many.
+fn print_lines<'a, S: ParagraphStore<Kept>>(
+    session: &Session<S>,
+    room: &'a mut [u8],
+    first: usize,
+    count: usize,
+) -> Option<&'a [u8]> {
+    let mut taken = 0;
+    let mut writer = ToWrite::new(Taker {
+        room,
+        taken: &mut taken,
+    });
+    let result = session.print_lines(&mut writer, first, count, &SHOWN);
+    drop(writer);
+    match result {
+        Ok(()) => room.get(..taken),
+        Err(LinesFault::OutOfRange) => None,
+        Err(LinesFault::Write(_)) => Some(b"fault"),
+    }
+}
+
+fn are_lines<S: ParagraphStore<Kept>>(
+    session: &Session<S>,
+    room: &mut [u8],
+    row: &Lines<'_>,
+) -> bool {
+    let (first, count, wanted) = *row;
+    match (print_lines(session, room, first, count), wanted) {
+        (Some(bytes), Some(wanted)) => bytes == wanted.as_bytes(),
+        (None, None) => true,
+        _ => false,
+    }
+}
+
+// A position and a count, and the part of the first paragraph, where the text has so many.
+type Part<'a> = (usize, usize, Option<&'a [char]>);
+
+pub(super) static PARTS: [Part<'_>; 7] = [
+    (0, 3, Some(&['a', 'b', 'c'])),
+    (5, 6, Some(&['e', 'f', '\n'])),
+    (8, 2, Some(&['\u{5d0}', '\u{5d1}'])),
+    (11, 1, Some(&['x'])),
+    (12, 0, Some(&[])),
+    (11, 2, None),
+    (13, 0, None),
+];
+
+fn is_part<S: ParagraphStore<Kept>>(session: &Session<S>, row: &Part<'_>) -> bool {
+    let (pos, count, wanted) = *row;
+    session.text(pos, count) == wanted
+}
+
+// Each row, over one store and over the other.
+pub(super) fn check_parts<S: ParagraphStore<Kept> + Drop, T: ParagraphStore<Kept> + Drop>(
+    rt: &impl Abort,
+    pair: &mut Pair<S, T>,
+) -> Result<(), EditFault> {
+    renew(&mut pair.edited, TEXT, 4)?;
+    renew(&mut pair.anew, TEXT, 4)?;
+    for row in &LINES {
+        let is_right = are_lines(&pair.edited, &mut pair.room, row)
+            & are_lines(&pair.anew, &mut pair.room, row);
+        assert!(rt; is_right, "{} {}", row.0, row.1);
+    }
+    for row in &PARTS {
+        let is_right = is_part(&pair.edited, row) & is_part(&pair.anew, row);
+        assert!(rt; is_right, "{} {}", row.0, row.1);
+    }
+    Ok(())
+}
+
+#[test]
+fn lines_and_parts(rt: HostRuntime) -> Result<(), Fail> {
+    check_in_tree(&rt, rt.alloc(), Check::Parts)
+}

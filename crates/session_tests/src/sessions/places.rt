@@ -1,0 +1,118 @@
+//! Where lines begin, and on which of them each character stands.
+use super::{Check, Pair, check_in_tree, renew};
+use session::{EditFault, Kept, Place, Session};
+use std::process::Abort;
+use std::test::Fail;
+use store::ParagraphStore;
+
+// A text, its width, where its lines begin, and of each position the paragraph, the line and the offset.
+type Row<'a> = (&'a str, u16, &'a [usize], &'a [[usize; 3]]);
+
+// Whether lines begin there, and no others.
+fn begin_at<S: ParagraphStore<Kept>>(session: &Session<S>, starts: &[usize]) -> bool {
+    let mut all = session.line_start(starts.len()).is_none();
+    for n in 0..starts.len() {
+        all &= session.line_start(n) == Some(starts[n]);
+    }
+    all
+}
+
+fn is_place(place: Option<Place>, [paragraph, line, offset]: [usize; 3]) -> bool {
+    place
+        == Some(Place {
+            paragraph,
+            line,
+            offset,
+        })
+}
+
+// Whether each position stands there, and there are no others.
+fn stand_at<S: ParagraphStore<Kept>>(session: &Session<S>, places: &[[usize; 3]]) -> bool {
+    let mut all = session.place(places.len()).is_none();
+    for pos in 0..places.len() {
+        all &= is_place(session.place(pos), places[pos]);
+    }
+    all
+}
+
+fn is_row<S: ParagraphStore<Kept>>(
+    session: &mut Session<S>,
+    row: &Row<'_>,
+) -> Result<bool, EditFault> {
+    let (text, width, starts, places) = *row;
+    renew(session, text, width)?;
+    Ok(begin_at(session, starts) & stand_at(session, places))
+}
+
+pub(super) static ROWS: [Row<'_>; 6] = [
+    (
+        "ab\ncd",
+        80,
+        &[0, 3],
+        &[
+            [0, 0, 0],
+            [0, 0, 1],
+            [0, 0, 2],
+            [1, 1, 0],
+            [1, 1, 1],
+            [1, 1, 2],
+        ],
+    ),
+    (
+        "ab\n",
+        80,
+        &[0],
+        &[[0, 0, 0], [0, 0, 1], [0, 0, 2], [1, 1, 0]],
+    ),
+    ("", 80, &[], &[[0, 0, 0]]),
+    (
+        "ab cd",
+        2,
+        &[0, 3],
+        &[
+            [0, 0, 0],
+            [0, 0, 1],
+            [0, 0, 2],
+            [0, 1, 0],
+            [0, 1, 1],
+            [0, 1, 2],
+        ],
+    ),
+    (
+        "a\r\nb",
+        80,
+        &[0, 3],
+        &[[0, 0, 0], [0, 0, 1], [0, 0, 2], [1, 1, 0], [1, 1, 1]],
+    ),
+    (
+        "\u{5d0}\n\na\r",
+        80,
+        &[0, 2, 3],
+        &[
+            [0, 0, 0],
+            [0, 0, 1],
+            [1, 1, 0],
+            [2, 2, 0],
+            [2, 2, 1],
+            [3, 3, 0],
+        ],
+    ),
+];
+
+// Each row, over one store and over the other.
+pub(super) fn check_rows<S: ParagraphStore<Kept> + Drop, T: ParagraphStore<Kept> + Drop>(
+    rt: &impl Abort,
+    pair: &mut Pair<S, T>,
+    rows: &[Row<'_>],
+) -> Result<(), EditFault> {
+    for row in rows {
+        let is_right = is_row(&mut pair.edited, row)? & is_row(&mut pair.anew, row)?;
+        assert!(rt; is_right, "{:?}", row.0);
+    }
+    Ok(())
+}
+
+#[test]
+fn places_of_rows(rt: HostRuntime) -> Result<(), Fail> {
+    check_in_tree(&rt, rt.alloc(), Check::Places)
+}
