@@ -11,13 +11,13 @@ const TEXT: &str = "abc def\n\u{5d0}\u{5d1}\nx";
 
 // Lines as they are shown, with the direction behind the first of each paragraph.
 const SHOWN: Print = Print {
-    novisual: false,
+    visual: true,
     basedir: true,
     ltov: false,
     vtol: false,
     levels: false,
-    nopad: false,
-    nomirror: false,
+    padded: true,
+    mirrored: true,
 };
 
 // The first line and how many, and what is printed of them where there are so many.
