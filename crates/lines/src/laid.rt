@@ -215,6 +215,7 @@ impl Laid {
 impl Laid {
     ghost use Rattle.std.specs.Prelude.{List};
     ghost use Rattle.lines.specs.Beginnings.{BeginInOrder};
+    ghost use Rattle.lines.specs.Clusters.{cluster_ends};
     ghost use Rattle.lines.specs.Layouts.{Rules, lines_of};
 
     /// The lines of a paragraph begin one after another, the first at 0, by whatever rules and at whatever
@@ -225,5 +226,16 @@ impl Laid {
     {
         // Each paragraph has marks.
         paragraphs_end_at_must();
+    }
+
+    /// Whether a grapheme cluster ends behind each character (UAX #29).
+    pub fn cluster_ends(
+        &self,
+        alloc: std::alloc::Global,
+    ) -> Result<Vec<bool>, std::alloc::AllocError>
+        ensures ends { IfOk result (λ ends. ends.items ≡ cluster_ends self.now.text) }
+        ensures len { IfOk result (λ ends. length ends.items ≡ length self.now.text) }
+    {
+        crate::clusters::cluster_ends(alloc, &self.text)
     }
 }

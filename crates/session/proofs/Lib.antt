@@ -1,4 +1,5 @@
 mod ChangeLemmas
+mod ClusterLemmas
 mod EdgeLemmas
 mod EditLemmas
 mod JoinedLemmas

@@ -1,4 +1,5 @@
 pub mod Changes
+pub mod Clusters
 pub mod Damage
 pub mod Edges
 pub mod Hits

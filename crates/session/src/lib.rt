@@ -2,6 +2,7 @@
 //! the whole current text.
 #![tactic(auto)]
 
+mod clusters;
 mod edge;
 mod edit;
 mod edits;
@@ -16,6 +17,7 @@ mod scan;
 mod session;
 mod width;
 
+pub use clusters::Cluster;
 pub use edits::{Damage, Edit, EditFault, TEXT_LIMIT};
 pub use hits::Hit;
 pub use kept::Kept;

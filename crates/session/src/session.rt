@@ -11,6 +11,7 @@ ghost use Rattle.lines.specs.Engine.{analysed_of, filled_of, rules_of, written_o
 ghost use Rattle.lines.specs.Writing.{PassedOn, StoppedIn};
 ghost use Rattle.lines.specs.declared.print.Print.{Print};
 ghost use Rattle.session.specs.Changes.{after_all, changing, deletion, insertion};
+ghost use Rattle.session.specs.Clusters.{cluster_at};
 ghost use Rattle.session.specs.Hits.{hit_at};
 ghost use Rattle.session.specs.Kept.{lines_in};
 ghost use Rattle.session.specs.Places.{line_starts, place_at};
@@ -20,6 +21,7 @@ ghost use Rattle.session.specs.Runs.{StopsAt, WorksAtMost};
 ghost use Rattle.session.specs.Sessions.{cuts_at, held_at, page_at, text_at, IsWholeLayout};
 ghost use Rattle.session.specs.Sessions.{Edits, EditsNot, Opens, OpensNot, Refills, RefillsNot};
 
+use crate::clusters::{Cluster, cluster_of};
 use crate::edit::edit;
 use crate::edits::{Damage, Edit, EditFault, TEXT_LIMIT};
 use crate::hits::{Hit, hit_in};
@@ -176,6 +178,17 @@ impl<S: ParagraphStore<Kept>> Session<S> {
         let start = line_start(&self.store, n)?;
         let line = self.line(n)?;
         Some(hit_in(&line, start, column))
+    }
+
+    /// The grapheme cluster of the character at a position, within its paragraph, where there is one. It
+    /// takes memory for the paragraph's characters, and time that grows with them.
+    pub fn cluster(&self, pos: usize) -> Result<Option<Cluster>, AllocError>
+        ensures { IfOk result (λ cluster. cluster ≡ cluster_at self.now.kept pos) }
+    {
+        // The laws by which no paragraph is empty.
+        paragraphs_are_pieces();
+        Laid::lines_begin_in_order();
+        cluster_of(&self.store, self.alloc, pos)
     }
 
     /// Of `count` characters from `pos` on those that stand in the paragraph of the first one, where the text

@@ -1,6 +1,7 @@
 //! Worked rows, and long lists of changes against sessions made anew, over both stores. The tests pass
 //! too where one allocation is refused, whichever it is: a change that is refused for memory leaves all
 //! as it was, and is made when it is asked for again. A `run` alone is asked for once.
+mod hits;
 mod parts;
 mod places;
 mod random;
@@ -333,6 +334,7 @@ impl<S: ParagraphStore<Kept> + Drop, T: ParagraphStore<Kept> + Drop> Pair<S, T> 
             Check::Steps => Ok(rows::check_all_steps(rt, self)?),
             Check::Widths => Ok(rows::check_widths(rt, self)?),
             Check::Run => Ok(rows::check_run(rt, self, &rows::CHANGES)?),
+            Check::Hits => Ok(hits::check_hits(rt, self, &hits::ROWS)?),
             Check::Parts => Ok(parts::check_parts(rt, self)?),
             Check::Places => Ok(places::check_rows(rt, self, &places::ROWS)?),
             Check::Refusals => Ok(refusals::check_refused(rt, self)?),
@@ -348,6 +350,7 @@ enum Check {
     Steps,
     Widths,
     Run,
+    Hits,
     Parts,
     Places,
     Refusals,

@@ -1,0 +1,42 @@
+-- The grapheme cluster of a character.
+use Rattle.std.proofs.Common.{◌≡◌, ℕ, ◌+◌, ◌-◌, ◌<◌, ◌≤◌, nat_le, Bool, List, [], length, get_or, sum_by, Some, None, refl, sym, ap, ap₂, ◌∙◌, arith}
+use Rattle.std.specs.List.{All, slice_get}
+use Rattle.std.proofs.lemmas.Bool.{cond-true, cond-false, le-leb, lt-leb}
+use Rattle.bidi.specs.Brackets.{greatest}
+use Rattle.bidi.specs.Least.{least}
+use Rattle.lines.specs.Layouts.{Layout}
+use Rattle.store.specs.Finding.{Finds}
+use Rattle.store.specs.declared.found.Found.{Found}
+use Rattle.session.specs.Clusters.{cluster_at, cluster_in, ends_at}
+use Rattle.session.specs.Kept.{pars_of, text_of}
+use Rattle.session.specs.Places.{IsLined, count_to, paragraph_starts}
+use Rattle.session.specs.Touched.{start_of}
+use Rattle.session.proofs.EdgeLemmas.{chars_of, lines_of, front_is, start_of-is, sum_whole, item_read, text_read}
+use Rattle.session.proofs.PlaceLemmas.{count_paragraphs}
+
+-- a walk back from a character, and one on from it
+module _ (ends : List Bool) (k : ℕ) where
+  abbrev pub BeginsBy : ℕ → Type 0
+  BeginsBy start = greatest (ends_at ends) k ≡ greatest (ends_at ends) start
+
+  abbrev pub EndsBy : ℕ → Type 0
+  EndsBy last = least (ends_at ends) k (length ends - k) ≡ least (ends_at ends) last (length ends - last)
+
+pub no_cluster : (kept : List Layout) (pos : ℕ) → length (text_of kept) ≤ pos → None ≡ cluster_at kept pos
+no_cluster kept pos past = sym (cond-true (nat_le (length (text_of kept)) pos) None _ (le-leb (length (text_of kept)) pos past))
+
+module _ (kept : List Layout) (pos : ℕ) (found : Found) (f : Finds chars_of lines_of kept pos found) (l : Layout) (read : Some l ≡ slice_get kept found.index) (lined : All IsLined kept) where
+  pub cluster-fits : (total n : ℕ) → total ≡ sum_by chars_of kept → n ≤ length l.text → pos - found.rest + n ≤ total
+  cluster-fits total n is few = omega (arith, is, few, f.rest, sum_whole chars_of kept pos found f chars_of, ap chars_of (item_read chars_of kept pos found f l read))
+
+  pub cluster-read : pos < length (text_of kept) → Some (cluster_in (pos - found.rest) l.text pos) ≡ cluster_at kept pos
+  cluster-read within =
+      let i : count_to pos (paragraph_starts kept) - 1 ≡ found.index = omega (arith, count_paragraphs kept pos found f l read lined _ refl) in
+      let start : start_of (pars_of kept) found.index ≡ pos - found.rest = omega (arith, f.rest, start_of-is kept found.index ∙ ap (sum_by chars_of) (front_is chars_of kept pos found f)) in
+      let text : get_or (pars_of kept) found.index [] ≡ l.text = text_read kept found.index (Some l) read in
+      sym (cond-false (nat_le (length (text_of kept)) pos) None _ (lt-leb (length (text_of kept)) pos within)
+      ∙ ap (λ n. Some (cluster_in (start_of (pars_of kept) n) (get_or (pars_of kept) n []) pos)) i
+      ∙ ap₂ (λ (n : ℕ) (cs : List ℕ). Some (cluster_in n cs pos)) start text)
+
+  pub cluster-rest : pos - (pos - found.rest) ≡ found.rest
+  cluster-rest = omega (arith, f.rest)

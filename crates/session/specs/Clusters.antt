@@ -1,0 +1,38 @@
+-- The grapheme cluster of a character.
+use Rattle.std.specs.Prelude.{ℕ, ◌+◌, ◌-◌, nat_le, Bool, false, List, [], length, slice_index_or, Option, Some, None, if◌then◌else◌}
+use Rattle.bidi.specs.Brackets.{greatest}
+use Rattle.bidi.specs.Least.{least}
+use Rattle.lines.specs.Clusters.{cluster_ends}
+use Rattle.lines.specs.Layouts.{Layout}
+use Rattle.session.specs.Kept.{pars_of, text_of}
+use Rattle.session.specs.Places.{count_to, paragraph_starts}
+use Rattle.session.specs.Touched.{start_of}
+use Rattle.session.specs.declared.clusters.Cluster.{Cluster}
+
+abbrev pub ends_at : List Bool → ℕ → Bool
+ends_at ends k = slice_index_or ends k false
+
+-- behind one that is there, or else
+abbrev pub behind : Option ℕ → ℕ → ℕ
+behind (Some k) other = k + 1
+behind None other = other
+
+-- The cluster of a character begins behind the last one before it at which one ends, and ends with the first from it on.
+abbrev pub cluster_begin : List Bool → ℕ → ℕ
+cluster_begin ends k = behind (greatest (ends_at ends) k) 0
+
+abbrev pub cluster_end : List Bool → ℕ → ℕ
+cluster_end ends k = behind (least (ends_at ends) k (length ends - k)) (length ends)
+
+-- in a paragraph that begins at a position
+abbrev pub cluster_in : ℕ → List ℕ → ℕ → Cluster
+cluster_in start text pos = record {
+  start = start + cluster_begin (cluster_ends text) (pos - start);
+  end = start + cluster_end (cluster_ends text) (pos - start);
+}
+
+-- in the last paragraph that begins at the position or before, where there is a character
+abbrev pub cluster_at : List Layout → ℕ → Option Cluster
+cluster_at kept pos =
+    let i = count_to pos (paragraph_starts kept) - 1 in
+    (if nat_le (length (text_of kept)) pos then None else Some (cluster_in (start_of (pars_of kept) i) (slice_index_or (pars_of kept) i []) pos))

@@ -1,0 +1,77 @@
+//! The grapheme cluster of a character, so that a caret does not land inside one.
+ghost use Rattle.std.specs.Prelude.{◌≡◌, ◌<◌, ◌≤◌, All, length, IfOk};
+ghost use Rattle.session.specs.Clusters.{cluster_at, cluster_begin, cluster_end};
+ghost use Rattle.session.specs.Places.{IsLined};
+
+use crate::kept::Kept;
+use std::alloc::{AllocError, Global};
+use store::ParagraphStore;
+
+/// A grapheme cluster of a text.
+#[derive(Clone, Copy, Debug, PartialEq, Eq)]
+pub struct Cluster {
+    /// The position of its first character.
+    pub start: usize,
+    /// The position behind its last one.
+    pub end: usize,
+}
+
+// Where the cluster of a character begins, where it is known behind which characters clusters end.
+fn begin(ends: &[bool], k: usize) -> usize
+    requires { k < length ends.now }
+    ensures value { result ≡ cluster_begin ends.now k }
+    ensures most { result ≤ k }
+{
+    let mut start = k;
+    while start > 0 {
+        if ends[start - 1] {
+            return start;
+        }
+        start -= 1;
+    }
+    0
+}
+
+// And where it ends.
+fn end_of(ends: &[bool], k: usize) -> usize
+    requires { k < length ends.now }
+    ensures value { result ≡ cluster_end ends.now k }
+    ensures most { result ≤ length ends.now }
+{
+    let mut last = k;
+    while last < ends.len() {
+        if ends[last] {
+            return last + 1;
+        }
+        last += 1;
+    }
+    ends.len()
+}
+
+/// The cluster of the character at a position, where there is one.
+pub fn cluster_of<S: ParagraphStore<Kept>>(
+    store: &S,
+    alloc: Global,
+    pos: usize,
+) -> Result<Option<Cluster>, AllocError>
+    requires { All IsLined (S.items store.now) }
+    ensures { IfOk result (λ cluster. cluster ≡ cluster_at (S.items store.now) pos) }
+{
+    // Shows that the characters fit.
+    let len = store.total_chars();
+    if pos >= len {
+        return Ok(None);
+    }
+    let found = store.find_char(pos);
+    match store.get(found.index) {
+        Some(kept) => {
+            let ends = kept.laid().cluster_ends(alloc)?;
+            let start = pos - found.rest;
+            Ok(Some(Cluster {
+                start: start + begin(&ends, found.rest),
+                end: start + end_of(&ends, found.rest),
+            }))
+        }
+        None => unreachable!(),
+    }
+}

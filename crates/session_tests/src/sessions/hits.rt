@@ -1,0 +1,139 @@
+//! Which character stands at a column, the columns of lines, and the clusters of characters.
+use super::{Check, Pair, check_in_tree, renew};
+use session::{Cluster, EditFault, Hit, Kept, Session};
+use std::alloc::AllocError;
+use std::process::Abort;
+use std::test::Fail;
+use store::ParagraphStore;
+
+// A text, a line of it and a column, and the position there and whether the column is past it.
+type Row<'a> = (&'a str, [usize; 2], Option<(usize, bool)>);
+
+const MIXED: &str = "abc \u{5d0}\u{5d1}\u{5d2}\n";
+
+const WIDE: &str = "\u{4e2d}b";
+
+const RIGHT_TO_LEFT: &str = "\u{5d0}\u{5d1} a";
+
+pub(super) static ROWS: [Row<'_>; 16] = [
+    (MIXED, [0, 0], Some((0, false))),
+    (MIXED, [0, 4], Some((6, false))),
+    (MIXED, [0, 6], Some((4, false))),
+    (MIXED, [0, 9], Some((4, false))),
+    (MIXED, [1, 0], None),
+    ("ab", [0, 1], Some((1, false))),
+    ("ab", [0, 5], Some((1, true))),
+    (WIDE, [0, 0], Some((0, false))),
+    (WIDE, [0, 1], Some((0, false))),
+    (WIDE, [0, 2], Some((1, false))),
+    (RIGHT_TO_LEFT, [0, 0], Some((3, false))),
+    (RIGHT_TO_LEFT, [0, 3], Some((0, false))),
+    (RIGHT_TO_LEFT, [0, 4], Some((0, false))),
+    ("x\n\ny", [1, 3], Some((2, false))),
+    ("x\n\ny", [2, 0], Some((3, false))),
+    ("", [0, 0], None),
+];
+
+fn is_hit(hit: Option<Hit>, wanted: Option<(usize, bool)>) -> bool {
+    match (hit, wanted) {
+        (Some(hit), Some((pos, trailing))) => (hit.pos == pos) & (hit.trailing == trailing),
+        (None, None) => true,
+        _ => false,
+    }
+}
+
+fn is_row<S: ParagraphStore<Kept>>(
+    session: &mut Session<S>,
+    row: &Row<'_>,
+) -> Result<bool, EditFault> {
+    let (text, [line, column], wanted) = *row;
+    renew(session, text, 80)?;
+    Ok(is_hit(session.hit(line, column), wanted))
+}
+
+// Whether the only line has these columns left of its first positions, and such a padding.
+fn has_columns<S: ParagraphStore<Kept>>(
+    session: &mut Session<S>,
+    text: &str,
+    left: [usize; 3],
+    padding: u32,
+) -> Result<bool, EditFault> {
+    renew(session, text, 80)?;
+    match session.line(0) {
+        Some(line) => Ok(
+            (line.columns_left(0) == left[0])
+                & (line.columns_left(1) == left[1])
+                & (line.columns_left(9) == left[2])
+                & (line.covering(left[2]).is_none())
+                & (line.covering(0) == Some(0))
+                & (line.padding(80) == padding),
+        ),
+        None => Ok(false),
+    }
+}
+
+// A text, a position, and where the cluster there begins and ends.
+type ClusterRow<'a> = (&'a str, usize, Option<(usize, usize)>);
+
+// A woman, a joiner and a man are one cluster, and so are a letter and its mark, and a line's end of two.
+static CLUSTERS: [ClusterRow<'_>; 8] = [
+    ("a\u{1f469}\u{200d}\u{1f468}b", 0, Some((0, 1))),
+    ("a\u{1f469}\u{200d}\u{1f468}b", 1, Some((1, 4))),
+    ("a\u{1f469}\u{200d}\u{1f468}b", 3, Some((1, 4))),
+    ("a\u{1f469}\u{200d}\u{1f468}b", 4, Some((4, 5))),
+    ("x\ne\u{301}\ny", 3, Some((2, 4))),
+    ("x\r\ny", 2, Some((1, 3))),
+    ("x\r\ny", 3, Some((3, 4))),
+    ("x\r\ny", 4, None),
+];
+
+// The cluster, for which memory is asked once more where it was refused.
+fn cluster<S: ParagraphStore<Kept>>(
+    session: &Session<S>,
+    pos: usize,
+) -> Result<Option<Cluster>, AllocError> {
+    match session.cluster(pos) {
+        Ok(cluster) => Ok(cluster),
+        Err(_) => session.cluster(pos),
+    }
+}
+
+fn is_cluster<S: ParagraphStore<Kept>>(
+    session: &mut Session<S>,
+    row: &ClusterRow<'_>,
+) -> Result<bool, EditFault> {
+    let (text, pos, wanted) = *row;
+    renew(session, text, 80)?;
+    match (cluster(session, pos), wanted) {
+        (Ok(Some(cluster)), Some((start, end))) => {
+            Ok((cluster.start == start) & (cluster.end == end))
+        }
+        (Ok(None), None) => Ok(true),
+        _ => Ok(false),
+    }
+}
+
+// Each row, over one store and over the other.
+pub(super) fn check_hits<S: ParagraphStore<Kept> + Drop, T: ParagraphStore<Kept> + Drop>(
+    rt: &impl Abort,
+    pair: &mut Pair<S, T>,
+    rows: &[Row<'_>],
+) -> Result<(), EditFault> {
+    for row in rows {
+        let is_right = is_row(&mut pair.edited, row)? & is_row(&mut pair.anew, row)?;
+        assert!(rt; is_right, "{:?}", row.0);
+    }
+    let are_right = has_columns(&mut pair.edited, WIDE, [0, 2, 3], 0)?
+        & has_columns(&mut pair.edited, RIGHT_TO_LEFT, [0, 1, 4], 76)?;
+    assert!(rt; are_right);
+    for row in &CLUSTERS {
+        let is_right = is_cluster(&mut pair.edited, row)? & is_cluster(&mut pair.anew, row)?;
+        assert!(rt; is_right, "{:?}", row.0);
+    }
+    Ok(())
+}
+
+#[test]
+fn hits_of_rows(rt: HostRuntime) -> Result<(), Fail> {
+    check_in_tree(&rt, rt.alloc(), Check::Hits)
+}
