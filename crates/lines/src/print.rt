@@ -25,8 +25,15 @@ pub struct Print {
 
 impl Default for Print {
     // What a command line prints that has none of these options: lines alone, padded and mirrored.
-    ghost is_default = { λ print. print
-        ≡ record { visual = true; basedir = false; ltov = false; vtol = false; levels = false; padded = true; mirrored = true } };
+    ghost is_default = { λ print. print ≡ record {
+      visual = true;
+      basedir = false;
+      ltov = false;
+      vtol = false;
+      levels = false;
+      padded = true;
+      mirrored = true;
+    } };
 
     fn default() -> Print {
         Print {

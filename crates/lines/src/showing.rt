@@ -1,5 +1,5 @@
-//! What is shown of each line of a paragraph: its levels after L1, and its shown part in visual order (L2) with
-//! mirrors (L4).
+//! What is shown of each line of a paragraph: its levels after L1, and its shown part in visual order (L2)
+//! with mirrors (L4).
 ghost use Rattle.std.specs.Prelude.{◌≡◌, ◌<◌, ◌≤◌, ℕ, List, true, false, OnOk};
 ghost use Rattle.std.specs.Prelude.{length, map, take, slice_index};
 ghost use Rattle.std.specs.List.{range_with_len};

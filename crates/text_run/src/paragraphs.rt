@@ -27,9 +27,9 @@ enum Ahead {
 }
 
 /// What is wrong with a text without a cut, which isn't too long, by the characters that follow, which are
-/// no more than a paragraph may have, and whether bytes that are bad stand after them, at a place in the input:
-/// its first paragraph is too long with them, or is not ended by them and the bytes are bad. No memory is
-/// taken.
+/// no more than a paragraph may have, and whether bytes that are bad stand after them, at a place in the
+/// input: its first paragraph is too long with them, or isn't ended by them and the bytes are bad. It takes
+/// no memory.
 pub fn fault_ahead(
     engine: &Engine,
     text: &[char],

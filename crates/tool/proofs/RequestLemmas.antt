@@ -60,7 +60,7 @@ module _ (rules : Rules) (print : Print) (request : Request) (old new : Held) wh
     stops (Ok n) stopped = tt
     stops (Err fault) stopped = stops_at fault stopped
 
-  -- where memory ran out nothing refuses the request, and all stays
+  -- where memory ran out nothing refuses what is asked, and all stays
   pub wants : (change : Result Damage EditFault) → Changed rules request old new change → lacks_memory change ≡ true → (request_refusal rules old request ≡ None) × (new ≡ old)
   wants (Ok damage) changed short = absurd (true≢false (sym short))
   wants (Err e.NoMemory) changed short = changed

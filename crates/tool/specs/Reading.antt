@@ -45,7 +45,7 @@ abbrev pub Stops : List ℕ → ℕ → Device → Device → RunFault → Type 
 Stops answer written old new (f.Write n) = StoppedIn answer written old new n
 Stops answer written old new fault = ⊥
 
--- the request was obeyed and its answer written
+-- a request was obeyed and its answer written
 pub record Obeys (rules : Rules) (print : Print) (request : Request) (written : ℕ) (held_old held_new : Held) (old new : Device) (n : ℕ) : Type 0 where
   pub held : held_new ≡ after_request rules held_old request
   pub wrote : PassedOn (answer_to rules print held_old request) written old new n
