@@ -3,7 +3,7 @@
 
 ghost use Rattle.std.specs.Prelude.{◌<◌};
 
-use command_line::{SettingsFault, Settings, settings};
+use command_line::{Settings, SettingsFault, settings};
 use device::{FromRead, ToWrite};
 use lines::{Engine, Print};
 use session::{Kept, Session};
