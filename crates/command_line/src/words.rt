@@ -48,7 +48,7 @@ fn with_layout<'a>(alloc: Global, command: Command<'a>) -> Result<Command<'a>, A
             ("nobreak", "end lines at mandatory breaks only"),
             (
                 "reordernsm",
-                "marks after their letters from right to left too",
+                "marks behind their letters from right to left too",
             ),
             ("whole-numbers", "end no line inside a number"),
         ],
