@@ -63,7 +63,7 @@ fn with_print<'a>(alloc: Global, command: Command<'a>) -> Result<Command<'a>, Al
         alloc,
         command,
         &[
-            ("nopad", "no spaces before lines from right to left"),
+            ("nopad", "no spaces in front of lines from right to left"),
             ("nomirror", "characters as they are, not their mirrors"),
             ("novisual", "no visual lines"),
             ("basedir", "print the direction of each paragraph"),
