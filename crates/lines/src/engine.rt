@@ -1,6 +1,6 @@
 //! What lays paragraphs out: the tables and options, and how much was analysed, filled and written.
 ghost use Rattle.std.specs.Prelude.{◌≡◌, ◌<◌, ◌≤◌, ℕ, [], true, false, length, map};
-ghost use Rattle.std.specs.Prelude.{IfOk, IfErr, IsErrOf, OnOk};
+ghost use Rattle.std.specs.Prelude.{IfOk, IfErr, IsErrOf, OnErr, OnOk};
 ghost use Rattle.std.specs.Prelude.{if◌then◌else◌};
 ghost use Rattle.device.specs.Device.{Wrote};
 ghost use Rattle.bidi.specs.Levels.{levels_of};
@@ -111,6 +111,13 @@ impl Engine {
         ensures paragraphs { SplitsAt (cut_by (rules_of self.now)) text.now result }
     {
         first_cut(&self.tables, text)
+    }
+
+    /// The base level of a paragraph that has no characters yet, 0 or 1.
+    pub fn empty_base(&self) -> u8
+        ensures { result ≡ base_of (rules_of self.now) [] }
+    {
+        base_level(&self.tables, &[], self.options.base)
     }
 
     /// How many characters were analysed, up to the greatest `u64`, at which the count stays.
@@ -229,7 +236,8 @@ impl Engine {
 
     /// Room in which the lines of any paragraph of at most so many characters can be written.
     pub fn room(&self, alloc: Global, len: usize) -> Result<Room, AllocError>
-        ensures { IfOk result (λ room. room ≡ record { len = len; written = 0 }) }
+        ensures ok { IfOk result (λ room. room ≡ record { len = len; written = 0 }) }
+        ensures memory { OnErr result (0 < len) }
     {
         Room::new(alloc, &self.tables, len)
     }

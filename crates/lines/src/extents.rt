@@ -1,6 +1,6 @@
 //! What there is to find of the lines of a paragraph at a width before they are written, and the room in
 //! which they can be written without memory.
-ghost use Rattle.std.specs.Prelude.{◌≡◌, ◌≤◌, length, map, IfOk};
+ghost use Rattle.std.specs.Prelude.{◌≡◌, ◌<◌, ◌≤◌, length, map, IfOk, OnErr};
 ghost use Rattle.ucd.specs.Properties.{properties_of};
 
 use crate::fill::Shown;
@@ -44,7 +44,8 @@ impl Model for Room {
 impl Room {
     /// Room for so many characters.
     pub(crate) fn new(alloc: Global, tables: &Tables, len: usize) -> Result<Room, AllocError>
-        ensures { IfOk result (λ room. room ≡ record { len = len; written = 0 }) }
+        ensures ok { IfOk result (λ room. room ≡ record { len = len; written = 0 }) }
+        ensures memory { OnErr result (0 < len) }
     {
         let mut properties = Vec::new(alloc);
         properties.resize(len, tables.properties('\0'))?;

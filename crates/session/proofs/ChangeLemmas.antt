@@ -46,7 +46,7 @@ IsSpliced-from_touched law is_cut pars pos count piece touched whole within t =
     ap (λ ps. length (concat ps)) (sym (take-append-drop touched.end pars)) ∙ ap length (concat-append (take touched.end pars) right) ∙ length-append (concat (take touched.end pars)) (concat right) in
     let n : pos + count - touched.start - from ≡ count = omega (arith, t.before) in
     let place : length (concat left) + from ≡ pos = omega (arith, t.start, t.before) in
-    let reach : from + count ≤ length (concat mid) = omega (arith, t.start, t.stop, t.before, t.behind) in
+    let reach : from + count ≤ length (concat mid) = omega (arith, t.start, t.stop, t.before, t.after) in
     let region_is : region_of pars touched pos (pos + count) piece ≡ changed (concat mid) (changing from count piece) =
     ap (λ m. changed (concat mid) (changing from m piece)) n in
     let text : changed (concat pars) (changing pos count piece) ≡ concat left ++ (changed (concat mid) (changing from count piece) ++ concat right) =
@@ -58,7 +58,7 @@ IsSpliced-from_touched law is_cut pars pos count piece touched whole within t =
     ap (paragraphs is_cut) text
     ∙ paragraphs-splice is_cut law left mid right (changed (concat mid) (changing from count piece)) old
     (λ some. first-changed (concat mid) piece from count (omega (arith, t.start, t.before_strictly)) reach)
-    (λ some. last-changed (concat mid) piece from count (omega (arith, t.start, t.stop, t.before, t.behind_strictly))) in
+    (λ some. last-changed (concat mid) piece from count (omega (arith, t.start, t.stop, t.before, t.after_strictly))) in
     let gap : pos + count - pos ≡ count = omega arith in
     let first : touched.first ≡ first_touched pars (changing pos count piece) = t.first ∙ ap (λ m. first_touched pars (changing pos m piece)) gap in
     let size : length (changed (concat mid) (changing from count piece)) ≡ length (concat mid) - count + length piece = length-changed (concat mid) piece from count reach in

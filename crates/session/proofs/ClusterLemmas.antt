@@ -25,7 +25,7 @@ module _ (ends : List Bool) (k : ℕ) where
 pub no_cluster : (kept : List Layout) (pos : ℕ) → length (text_of kept) ≤ pos → None ≡ cluster_at kept pos
 no_cluster kept pos past = sym (cond-true (nat_le (length (text_of kept)) pos) None _ (le-leb (length (text_of kept)) pos past))
 
-module _ (kept : List Layout) (pos : ℕ) (found : Found) (f : Finds chars_of lines_of kept pos found) (l : Layout) (read : Some l ≡ slice_get kept found.index) (lined : All IsLined kept) where
+module _ (kept : List Layout) (pos : ℕ) (found : Found) (f : Finds chars_of chars_of lines_of kept pos found) (l : Layout) (read : Some l ≡ slice_get kept found.index) (lined : All IsLined kept) where
   pub cluster-fits : (total n : ℕ) → total ≡ sum_by chars_of kept → n ≤ length l.text → pos - found.rest + n ≤ total
   cluster-fits total n is few = omega (arith, is, few, f.rest, sum_whole chars_of kept pos found f chars_of, ap chars_of (item_read chars_of kept pos found f l read))
 

@@ -46,13 +46,13 @@ text_read kept i read e =
     sym (unwrap_or-slice_get (pars_of kept) i []) ∙ ap (λ o. unwrap_or o []) (slice_get-map (λ l. l.text) kept i) ∙ ap (λ o. unwrap_or (option_map (λ l. l.text) o) []) (sym e)
 
 -- the item that a search found
-slice_get_at : {A : Type 0} (before : List A) (x : A) (behind : List A) → slice_get (before ++ x ∷ behind) (length before) ≡ Some x
-slice_get_at [] x behind = refl
-slice_get_at (y ∷ before) x behind = slice_get_at before x behind
+slice_get_at : {A : Type 0} (before : List A) (x : A) (after : List A) → slice_get (before ++ x ∷ after) (length before) ≡ Some x
+slice_get_at [] x after = refl
+slice_get_at (y ∷ before) x after = slice_get_at before x after
 
-module _ (size : Layout → ℕ) (kept : List Layout) (n : ℕ) (found : Found) (f : Finds size lines_of kept n found) where
+module _ (size : Layout → ℕ) (kept : List Layout) (n : ℕ) (found : Found) (f : Finds size chars_of lines_of kept n found) where
   pub found_item : Some f.item ≡ slice_get kept found.index
-  found_item = sym (ap (λ ks. slice_get ks found.index) f.place ∙ ap (slice_get (f.before ++ f.item ∷ f.behind)) f.index ∙ slice_get_at f.before f.item f.behind)
+  found_item = sym (ap (λ ks. slice_get ks found.index) f.place ∙ ap (slice_get (f.before ++ f.item ∷ f.after)) f.index ∙ slice_get_at f.before f.item f.after)
 
   pub item_read : (l : Layout) → Some l ≡ slice_get kept found.index → l ≡ f.item
   item_read l e = ap (λ o. unwrap_or o l) (e ∙ sym found_item)
@@ -64,20 +64,20 @@ module _ (size : Layout → ℕ) (kept : List Layout) (n : ℕ) (found : Found) 
   found_within = slice_get_within kept found.index f.item (sym found_item)
 
   pub front_is : take found.index kept ≡ f.before
-  front_is = ap (take found.index) f.place ∙ take_at f.before (f.item ∷ f.behind) found.index (sym f.index)
+  front_is = ap (take found.index) f.place ∙ take_at f.before (f.item ∷ f.after) found.index (sym f.index)
 
   next_is : take (found.index + 1) kept ≡ f.before ++ f.item ∷ []
   next_is =
-      ap (take (found.index + 1)) (f.place ∙ sym (append_assoc f.before (f.item ∷ []) f.behind))
-      ∙ take_at (f.before ++ f.item ∷ []) f.behind (found.index + 1) (length-append f.before (f.item ∷ []) ∙ omega (arith, f.index))
+      ap (take (found.index + 1)) (f.place ∙ sym (append_assoc f.before (f.item ∷ []) f.after))
+      ∙ take_at (f.before ++ f.item ∷ []) f.after (found.index + 1) (length-append f.before (f.item ∷ []) ∙ omega (arith, f.index))
 
   pub sum_next : (g : Layout → ℕ) → sum_by g (take (found.index + 1) kept) ≡ sum_by g f.before + g f.item
   sum_next g = ap (sum_by g) next_is ∙ sum_by_push g f.before f.item
 
-  pub sum_whole : (g : Layout → ℕ) → sum_by g kept ≡ sum_by g f.before + (g f.item + sum_by g f.behind)
-  sum_whole g = ap (sum_by g) f.place ∙ sum_by-append g f.before (f.item ∷ f.behind) ∙ ap (λ m. sum_by g f.before + m) (sum_by-cons g f.item f.behind)
+  pub sum_whole : (g : Layout → ℕ) → sum_by g kept ≡ sum_by g f.before + (g f.item + sum_by g f.after)
+  sum_whole g = ap (sum_by g) f.place ∙ sum_by-append g f.before (f.item ∷ f.after) ∙ ap (λ m. sum_by g f.before + m) (sum_by-cons g f.item f.after)
 
-pub IsFrontEdge-found : (kept : List Layout) (pos : ℕ) (found : Found) → (pos ≡ 0 → ⊥) → Finds chars_of lines_of kept (pos - 1) found
+pub IsFrontEdge-found : (kept : List Layout) (pos : ℕ) (found : Found) → (pos ≡ 0 → ⊥) → Finds chars_of chars_of lines_of kept (pos - 1) found
     → IsFrontEdge kept pos (record { index = found.index; chars = pos - 1 - found.rest; lines = found.lines_before })
 IsFrontEdge-found kept pos found some f =
     let start : start_of (pars_of kept) found.index ≡ sum_by chars_of f.before = start_of-is kept found.index ∙ ap (sum_by chars_of) (front_is chars_of kept (pos - 1) found f) in
@@ -89,10 +89,10 @@ IsFrontEdge-found kept pos found some f =
         lines = f.lines_before ∙ sym (ap (sum_by lines_of) (front_is chars_of kept (pos - 1) found f)) ∙ sym (length-lines (take found.index kept));
       };
       before = λ _. omega (arith, f.rest, some);
-      behind = λ _. omega (arith, f.rest, f.within, next);
+      after = λ _. omega (arith, f.rest, f.within, next);
     }
 
-pub IsBackEdge-found : (kept : List Layout) (to : ℕ) (found : Found) (l : Layout) → Some l ≡ slice_get kept found.index → Finds chars_of lines_of kept to found
+pub IsBackEdge-found : (kept : List Layout) (to : ℕ) (found : Found) (l : Layout) → Some l ≡ slice_get kept found.index → Finds chars_of chars_of lines_of kept to found
     → IsBackEdge kept to (record { index = found.index + 1; chars = to - found.rest + chars_of l; lines = found.lines_before + lines_of l })
 IsBackEdge-found kept to found l read f =
     let start : start_of (pars_of kept) found.index ≡ sum_by chars_of f.before = start_of-is kept found.index ∙ ap (sum_by chars_of) (front_is chars_of kept to found f) in
@@ -107,7 +107,7 @@ IsBackEdge-found kept to found l read f =
             ∙ sym (length-lines (take (found.index + 1) kept) ∙ sum_next chars_of kept to found f lines_of);
       };
       before = λ i below. let le = start_of-le (pars_of kept) i found.index (omega arith) in omega (arith, le, start, f.rest);
-      behind = λ _. omega (arith, f.rest, f.within, size);
+      after = λ _. omega (arith, f.rest, f.within, size);
     }
 
 pub IsBackEdge-end : (kept : List Layout) (to count chars lines : ℕ) → count ≡ length kept → chars ≡ sum_by chars_of kept → lines ≡ sum_by lines_of kept → to ≡ chars
@@ -121,7 +121,7 @@ IsBackEdge-end kept to count chars lines count-is chars-is lines-is at_end =
         lines = lines-is ∙ sym (length-lines (take count kept) ∙ ap (sum_by lines_of) (take_all count kept (omega arith)));
       };
       before = λ i below. let le = start_of-le-length (pars_of kept) i in omega (arith, le, size);
-      behind = λ more. absurd (omega arith);
+      after = λ more. absurd (omega arith);
     }
 
 -- the sums of a store fit
@@ -133,13 +133,13 @@ to_within kept to chars within chars-is other =
     let size = length-text kept in
     elim (cases_eq to chars) [ inl e ↦ absurd (other e) | inr ne ↦ omega arith ]
 
-pub chars_next : (kept : List Layout) (to chars : ℕ) (found : Found) (l : Layout) → Some l ≡ slice_get kept found.index → Finds chars_of lines_of kept to found → chars ≡ sum_by chars_of kept
+pub chars_next : (kept : List Layout) (to chars : ℕ) (found : Found) (l : Layout) → Some l ≡ slice_get kept found.index → Finds chars_of chars_of lines_of kept to found → chars ≡ sum_by chars_of kept
     → to - found.rest + chars_of l ≤ chars
 chars_next kept to chars found l read f chars-is =
     let size : chars_of l ≡ chars_of f.item = ap chars_of (item_read chars_of kept to found f l read) in
     omega (arith, f.rest, size, sum_whole chars_of kept to found f chars_of)
 
-pub lines_next : (kept : List Layout) (to lines : ℕ) (found : Found) (l : Layout) → Some l ≡ slice_get kept found.index → Finds chars_of lines_of kept to found → lines ≡ sum_by lines_of kept
+pub lines_next : (kept : List Layout) (to lines : ℕ) (found : Found) (l : Layout) → Some l ≡ slice_get kept found.index → Finds chars_of chars_of lines_of kept to found → lines ≡ sum_by lines_of kept
     → found.lines_before + lines_of l ≤ lines
 lines_next kept to lines found l read f lines-is =
     let size : lines_of l ≡ lines_of f.item = ap lines_of (item_read chars_of kept to found f l read) in

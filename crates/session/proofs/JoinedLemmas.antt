@@ -1,5 +1,8 @@
 -- A text that stands in three parts, and its paragraphs one by one.
 use Rattle.std.proofs.Common.{◌≡◌, ℕ, ◌<◌, ◌≤◌, Bool, true, false, not, ◌==◌, List, [], ◌∷◌, ◌++◌, length, map, take, drop, Some, None, nat_le, sym, ap, subst, ◌∙◌, arith}
+use Rattle.std.specs.Str.{chars, IsUtf8}
+use Rattle.std.proofs.Math.Utf8.{encodes, scalars}
+use Rattle.std.proofs.lemmas.Str.{chars-encodes, chars-nil}
 use Rattle.std.proofs.lemmas.Bool.{and_parts, both_ways, eqb-true, leb-true}
 use Rattle.std.proofs.lemmas.List.{append-nil, append_assoc, nil_from_length}
 use Rattle.bidi.specs.Cuts.{paragraphs, SplitsAt}
@@ -49,12 +52,12 @@ module _ (law : ParagraphsArePieces) (rules : Rules) (text : List ℕ) (within :
   }
 
 -- the layouts so far with one more
-pub layouts_more : (rules : Rules) (width : ℕ) (text rest first behind : List ℕ) (kept more : List Layout) (one : Layout) → paragraphs (cut_by rules) rest ≡ first ∷ paragraphs (cut_by rules) behind
-    → one ≡ layout_of rules width first → more ≡ kept ++ one ∷ [] → kept ++ layouts_of rules width rest ≡ layouts_of rules width text → more ++ layouts_of rules width behind ≡ layouts_of rules width text
-layouts_more rules width text rest first behind kept more one split one-is more-is so_far =
-    ap (λ ks. ks ++ layouts_of rules width behind) more-is
-    ∙ append_assoc kept (one ∷ []) (layouts_of rules width behind)
-    ∙ ap (λ k. kept ++ k ∷ layouts_of rules width behind) one-is
+pub layouts_more : (rules : Rules) (width : ℕ) (text rest first after : List ℕ) (kept more : List Layout) (one : Layout) → paragraphs (cut_by rules) rest ≡ first ∷ paragraphs (cut_by rules) after
+    → one ≡ layout_of rules width first → more ≡ kept ++ one ∷ [] → kept ++ layouts_of rules width rest ≡ layouts_of rules width text → more ++ layouts_of rules width after ≡ layouts_of rules width text
+layouts_more rules width text rest first after kept more one split one-is more-is so_far =
+    ap (λ ks. ks ++ layouts_of rules width after) more-is
+    ∙ append_assoc kept (one ∷ []) (layouts_of rules width after)
+    ∙ ap (λ k. kept ++ k ∷ layouts_of rules width after) one-is
     ∙ ap (λ ps. kept ++ map (layout_of rules width) ps) (sym split)
     ∙ so_far
 
@@ -73,3 +76,15 @@ some_left (x ∷ xs) b e t = omega arith
 
 pub none_left : (xs : List ℕ) (b : Bool) → b ≡ (length xs == 0) → b ≡ true → xs ≡ []
 none_left xs b e t = nil_from_length xs (eqb-true (length xs) 0 (sym e ∙ t))
+
+-- a text that has bytes has characters
+some_spelled : (bytes cs : List ℕ) → scalars cs ≡ true → encodes cs ≡ bytes → 0 < length bytes → 0 < length (chars bytes)
+some_spelled bytes [] s e some = absurd (omega (arith, some, ap length e))
+some_spelled bytes (c ∷ cs) s e some = omega (arith, ap length (ap chars (sym e) ∙ chars-encodes (c ∷ cs) s))
+
+pub some_chars : (bytes : List ℕ) → IsUtf8 bytes → 0 < length bytes → 0 < length (chars bytes)
+some_chars bytes u some = some_spelled bytes u.0 u.1.0 u.1.1 some
+
+pub no_chars : (bytes : List ℕ) → length bytes ≡ 0 → length (chars bytes) ≡ 0
+no_chars [] none = ap length chars-nil
+no_chars (b ∷ bytes) none = absurd (omega (arith, none))

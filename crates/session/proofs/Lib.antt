@@ -15,5 +15,6 @@ mod RunLemmas
 mod ScanLemmas
 mod SpliceLemmas
 mod TouchedLemmas
+mod WantLemmas
 mod WidthLemmas
 mod WorkedRows

@@ -8,7 +8,7 @@ use Rattle.store.specs.Finding.{Finds}
 use Rattle.store.specs.declared.found.Found.{Found}
 use Rattle.lines.specs.Layouts.{visuals}
 use Rattle.session.specs.Kept.{lines_in}
-use Rattle.session.proofs.EdgeLemmas.{lines_of, length-lines, length-visuals, item_read}
+use Rattle.session.proofs.EdgeLemmas.{chars_of, lines_of, length-lines, length-visuals, item_read}
 
 pub slice_get_behind : {A : Type 0} (xs ys : List A) (i : ℕ) → slice_get (xs ++ ys) (length xs + i) ≡ slice_get ys i
 slice_get_behind [] ys i = rw zero-add refl
@@ -19,15 +19,15 @@ slice_get_left [] ys i within = absurd (omega arith)
 slice_get_left (x ∷ xs) ys zero within = refl
 slice_get_left (x ∷ xs) ys (suc i) within = slice_get_left xs ys i (omega arith)
 
-pub line_read : (kept : List Layout) (n : ℕ) (found : Found) → Finds lines_of lines_of kept n found → (l : Layout) → Some l ≡ slice_get kept found.index
+pub line_read : (kept : List Layout) (n : ℕ) (found : Found) → Finds lines_of chars_of lines_of kept n found → (l : Layout) → Some l ≡ slice_get kept found.index
     → slice_get (lines_in kept) n ≡ slice_get (visuals l) found.rest
 line_read kept n found f l read =
     let item : l ≡ f.item = item_read lines_of kept n found f l read in
-    let whole : lines_in kept ≡ lines_in f.before ++ (visuals f.item ++ lines_in f.behind) = ap lines_in f.place ∙ flat_map-append visuals f.before (f.item ∷ f.behind) in
+    let whole : lines_in kept ≡ lines_in f.before ++ (visuals f.item ++ lines_in f.after) = ap lines_in f.place ∙ flat_map-append visuals f.before (f.item ∷ f.after) in
     let place : n ≡ length (lines_in f.before) + found.rest = sym f.rest ∙ ap (λ m. m + found.rest) (sym (length-lines f.before)) in
     let within : found.rest < length (visuals f.item) = omega (arith, f.within, length-visuals f.item) in
-    ap₂ slice_get whole place ∙ slice_get_behind (lines_in f.before) (visuals f.item ++ lines_in f.behind) found.rest
-    ∙ slice_get_left (visuals f.item) (lines_in f.behind) found.rest within
+    ap₂ slice_get whole place ∙ slice_get_behind (lines_in f.before) (visuals f.item ++ lines_in f.after) found.rest
+    ∙ slice_get_left (visuals f.item) (lines_in f.after) found.rest within
     ∙ ap (λ x. slice_get (visuals x) found.rest) (sym item)
 
 pub line_past : (kept : List Layout) (n total : ℕ) → total ≡ length (lines_in kept) → total ≤ n → None ≡ slice_get (lines_in kept) n

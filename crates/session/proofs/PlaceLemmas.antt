@@ -27,27 +27,8 @@ use Rattle.session.specs.declared.edits.TheConstants.{TEXT_LIMIT}
 use Rattle.session.proofs.RefusalLemmas.{allowed-length}
 use Rattle.session.proofs.WidthLemmas.{all_each, each_laid_out}
 use Rattle.session.specs.declared.places.Place.{Place}
-use Rattle.session.specs.Touched.{start_of}
 use Rattle.session.proofs.EdgeLemmas.{chars_of, lines_of, front_is, item_read, length-lines, length-text, length-visuals, start_of-is, sum_next, sum_whole}
 use Rattle.session.proofs.LineLemmas.{slice_get_behind, slice_get_left}
-use Rattle.session.proofs.TouchedLemmas.{start_of-le, start_of-le-length}
-
--- ---- how many characters are in front of a paragraph
-
-pub in_front : (kept : List Layout) (m index : ℕ) (found : Found) → Finds chars_of lines_of kept m found → found.index < index → m < start_of (pars_of kept) index
-in_front kept m index found f below =
-    let le = start_of-le (pars_of kept) (found.index + 1) index (omega arith) in
-    let next : start_of (pars_of kept) (found.index + 1) ≡ sum_by chars_of f.before + chars_of f.item = start_of-is kept (found.index + 1) ∙ sum_next chars_of kept m found f chars_of in
-    omega (arith, le, next, f.rest, f.within)
-
-pub not_in_front : (kept : List Layout) (m index : ℕ) (found : Found) → Finds chars_of lines_of kept m found → index ≤ found.index → start_of (pars_of kept) index ≤ m
-not_in_front kept m index found f above =
-    let le = start_of-le (pars_of kept) index found.index above in
-    let start : start_of (pars_of kept) found.index ≡ sum_by chars_of f.before = start_of-is kept found.index ∙ ap (sum_by chars_of) (front_is chars_of kept m found f) in
-    omega (arith, le, start, f.rest)
-
-pub start_within : (kept : List Layout) (index total : ℕ) → total ≡ sum_by chars_of kept → start_of (pars_of kept) index ≤ total
-start_within kept index total is = omega (arith, is, start_of-le-length (pars_of kept) index, length-text kept)
 
 -- ---- where lines begin
 
@@ -69,32 +50,35 @@ length-lines_from place (l ∷ kept) =
     ∙ sym (length-append (visuals l) (lines_in kept))
 
 -- those of the text in which an item was found
-starts_whole : (size : Layout → ℕ) (kept : List Layout) (n : ℕ) (found : Found) (f : Finds size lines_of kept n found)
-    → line_starts kept ≡ lines_from 0 f.before ++ (starts_at (sum_by chars_of f.before) f.item ++ lines_from (sum_by chars_of f.before + chars_of f.item) f.behind)
+starts_whole : (size : Layout → ℕ) (kept : List Layout) (n : ℕ) (found : Found) (f : Finds size chars_of lines_of kept n found)
+    → line_starts kept ≡ lines_from 0 f.before ++ (starts_at (sum_by chars_of f.before) f.item ++ lines_from (sum_by chars_of f.before + chars_of f.item) f.after)
 starts_whole size kept n found f =
-    ap line_starts f.place ∙ lines_from-append 0 f.before (f.item ∷ f.behind)
-    ∙ ap (λ m. lines_from 0 f.before ++ lines_from m (f.item ∷ f.behind)) (omega (arith, length-text f.before))
+    ap line_starts f.place ∙ lines_from-append 0 f.before (f.item ∷ f.after)
+    ∙ ap (λ m. lines_from 0 f.before ++ lines_from m (f.item ∷ f.after)) (omega (arith, length-text f.before))
 
 start_at : (place : ℕ) (lines : List Line) (i : ℕ) → i < length lines → slice_get (map (λ line. place + line.start) lines) i ≡ Some (place + get_or (map begins lines) i 0)
 start_at place [] i within = absurd (omega (arith, within))
 start_at place (line ∷ lines) zero within = refl
 start_at place (line ∷ lines) (suc i) within = start_at place lines i (omega (arith, within))
 
-pub start_read : (kept : List Layout) (n : ℕ) (found : Found) → Finds lines_of lines_of kept n found → (l : Layout) → Some l ≡ slice_get kept found.index
-    → slice_get (line_starts kept) n ≡ Some (start_of (pars_of kept) found.index + get_or (map begins l.lines) found.rest 0)
+pub start_read : (kept : List Layout) (n : ℕ) (found : Found) → Finds lines_of chars_of lines_of kept n found → (l : Layout) → Some l ≡ slice_get kept found.index
+    → slice_get (line_starts kept) n ≡ Some (found.chars_before + get_or (map begins l.lines) found.rest 0)
 start_read kept n found f l read =
     let item : l ≡ f.item = item_read lines_of kept n found f l read in
     let before : ℕ = sum_by chars_of f.before in
-    let start : start_of (pars_of kept) found.index ≡ before = start_of-is kept found.index ∙ ap (sum_by chars_of) (front_is lines_of kept n found f) in
     let place : n ≡ length (lines_from 0 f.before) + found.rest = omega (arith, f.rest, length-lines_from 0 f.before, length-lines f.before) in
     let within : found.rest < length (starts_at before f.item) = omega (arith, f.within, length-map f.item.lines (λ line. before + line.start)) in
     ap₂ slice_get (starts_whole lines_of kept n found f) place
-    ∙ slice_get_behind (lines_from 0 f.before) (starts_at before f.item ++ lines_from (before + chars_of f.item) f.behind) found.rest
-    ∙ slice_get_left (starts_at before f.item) (lines_from (before + chars_of f.item) f.behind) found.rest within
+    ∙ slice_get_behind (lines_from 0 f.before) (starts_at before f.item ++ lines_from (before + chars_of f.item) f.after) found.rest
+    ∙ slice_get_left (starts_at before f.item) (lines_from (before + chars_of f.item) f.after) found.rest within
     ∙ start_at before f.item.lines found.rest f.within
-    ∙ ap₂ (λ (m : ℕ) (x : Layout). Some (m + get_or (map begins x.lines) found.rest 0)) (sym start) (sym item)
+    ∙ ap₂ (λ (m : ℕ) (x : Layout). Some (m + get_or (map begins x.lines) found.rest 0)) (sym f.chars_before) (sym item)
 
-pub rest_within : (kept : List Layout) (n : ℕ) (found : Found) → Finds lines_of lines_of kept n found → (l : Layout) → Some l ≡ slice_get kept found.index
+-- within the characters of the text
+pub before_within : (kept : List Layout) (n : ℕ) (found : Found) → Finds lines_of chars_of lines_of kept n found → found.chars_before ≤ length (text_of kept)
+before_within kept n found f = omega (arith, f.chars_before, sum_whole lines_of kept n found f chars_of, length-text kept)
+
+pub rest_within : (kept : List Layout) (n : ℕ) (found : Found) → Finds lines_of chars_of lines_of kept n found → (l : Layout) → Some l ≡ slice_get kept found.index
     → found.rest < length (map begins l.lines)
 rest_within kept n found f l read = omega (arith, f.within, length-map l.lines begins, ap (λ (x : Layout). length x.lines) (item_read lines_of kept n found f l read))
 
@@ -106,23 +90,23 @@ count_cons pos s starts = sum_by-cons (λ k. cond (nat_le k pos) 1 0) s starts
 count_append : (pos : ℕ) (xs ys : List ℕ) → count_to pos (xs ++ ys) ≡ count_to pos xs + count_to pos ys
 count_append pos xs ys = sum_by-append (λ k. cond (nat_le k pos) 1 0) xs ys
 
--- those in front of one are not behind the position, and the others are
+-- those before one are not after the position, and the others are
 pub count_point : (pos : ℕ) (starts : List ℕ) (i : ℕ) → i ≤ length starts → ((k : ℕ) → k < i → get_or starts k 0 ≤ pos)
     → ((k : ℕ) → i ≤ k → k < length starts → pos < get_or starts k 0) → count_to pos starts ≡ i
-count_point pos [] i within before behind = omega (arith, within)
-count_point pos (s ∷ starts) zero within before behind =
+count_point pos [] i within before after = omega (arith, within)
+count_point pos (s ∷ starts) zero within before after =
     omega (
       arith,
       count_cons pos s starts,
-      cond-false {A = ℕ} (nat_le s pos) 1 0 (lt-leb s pos (behind 0 (omega arith) (omega arith))),
-      count_point pos starts 0 (omega arith) (λ k below. absurd (omega (arith, below))) (λ k above under. behind (suc k) (omega arith) (omega (arith, under))),
+      cond-false {A = ℕ} (nat_le s pos) 1 0 (lt-leb s pos (after 0 (omega arith) (omega arith))),
+      count_point pos starts 0 (omega arith) (λ k below. absurd (omega (arith, below))) (λ k above under. after (suc k) (omega arith) (omega (arith, under))),
     )
-count_point pos (s ∷ starts) (suc i) within before behind =
+count_point pos (s ∷ starts) (suc i) within before after =
     omega (
       arith,
       count_cons pos s starts,
       cond-true {A = ℕ} (nat_le s pos) 1 0 (le-leb s pos (before 0 (omega arith))),
-      count_point pos starts i (omega (arith, within)) (λ k below. before (suc k) (omega (arith, below))) (λ k above under. behind (suc k) (omega (arith, above)) (omega (arith, under))),
+      count_point pos starts i (omega (arith, within)) (λ k below. before (suc k) (omega (arith, below))) (λ k above under. after (suc k) (omega (arith, above)) (omega (arith, under))),
     )
 
 pub some_to : (pos : ℕ) (starts : List ℕ) → slice_get starts 0 ≡ Some 0 → 1 ≤ count_to pos starts
@@ -225,7 +209,7 @@ same_place : (p n o q m r : ℕ) → p ≡ q → n ≡ m → o ≡ r
     → let here : Place = record { paragraph = p; line = n; offset = o } in here ≡ record { paragraph = q; line = m; offset = r }
 same_place p n o q m r e f h = rw (e, f, h) refl
 
-module _ (kept : List Layout) (pos : ℕ) (found : Found) (f : Finds chars_of lines_of kept pos found) (l : Layout) (read : Some l ≡ slice_get kept found.index) (lined : All IsLined kept) (j : ℕ)
+module _ (kept : List Layout) (pos : ℕ) (found : Found) (f : Finds chars_of chars_of lines_of kept pos found) (l : Layout) (read : Some l ≡ slice_get kept found.index) (lined : All IsLined kept) (j : ℕ)
     (j-is : j ≡ count_to found.rest (map begins l.lines)) where
   abbrev before : ℕ
   before = sum_by chars_of f.before
@@ -249,9 +233,9 @@ module _ (kept : List Layout) (pos : ℕ) (found : Found) (f : Finds chars_of li
   place-fits total is = omega (arith, is, f.lines_before, place-few, lines_there, sum_whole chars_of kept pos found f lines_of)
 
   lined_before : All IsLined f.before
-  lined_before = all_before f.before (f.item ∷ f.behind) (subst (All IsLined) f.place lined)
+  lined_before = all_before f.before (f.item ∷ f.after) (subst (All IsLined) f.place lined)
 
-  whole_lines : line_starts kept ≡ lines_from 0 f.before ++ (starts_at before f.item ++ lines_from (before + chars_of f.item) f.behind)
+  whole_lines : line_starts kept ≡ lines_from 0 f.before ++ (starts_at before f.item ++ lines_from (before + chars_of f.item) f.after)
   whole_lines = starts_whole chars_of kept pos found f
 
   size_before : length (lines_from 0 f.before) ≡ found.lines_before
@@ -261,32 +245,32 @@ module _ (kept : List Layout) (pos : ℕ) (found : Found) (f : Finds chars_of li
   count_lines =
       let front : List ℕ = lines_from 0 f.before in
       let mid : List ℕ = starts_at before f.item in
-      let back : List ℕ = lines_from (before + chars_of f.item) f.behind in
+      let back : List ℕ = lines_from (before + chars_of f.item) f.after in
       let all : count_to pos front ≡ length front =
       count_point pos front (length front) (omega arith)
       (λ k below. omega (arith, f.rest, length-text f.before, lines_below 0 f.before lined_before k 0 below)) (λ k above under. absurd (omega (arith, above, under))) in
       let none : count_to pos back ≡ 0 =
       count_point pos back 0 (omega arith) (λ k below. absurd (omega (arith, below)))
-      (λ k above under. omega (arith, f.rest, f.within, lines_above (before + chars_of f.item) f.behind k 0 under)) in
+      (λ k above under. omega (arith, f.rest, f.within, lines_above (before + chars_of f.item) f.after k 0 under)) in
       let here : count_to pos mid ≡ j =
       ap (λ n. count_to n mid) (sym f.rest) ∙ count_shift before found.rest f.item.lines ∙ ap (λ (x : Layout). count_to found.rest (map begins x.lines)) (sym item) ∙ sym j-is in
       ap (count_to pos) whole_lines ∙ count_append pos front (mid ++ back) ∙ omega (arith, all, none, here, count_append pos mid back, size_before)
 
-  whole_paragraphs : paragraph_starts kept ≡ paragraphs_from 0 f.before ++ before ∷ paragraphs_from (before + chars_of f.item) f.behind
+  whole_paragraphs : paragraph_starts kept ≡ paragraphs_from 0 f.before ++ before ∷ paragraphs_from (before + chars_of f.item) f.after
   whole_paragraphs =
-      ap paragraph_starts f.place ∙ paragraphs_from-append 0 f.before (f.item ∷ f.behind)
-      ∙ ap (λ m. paragraphs_from 0 f.before ++ paragraphs_from m (f.item ∷ f.behind)) (omega (arith, length-text f.before))
+      ap paragraph_starts f.place ∙ paragraphs_from-append 0 f.before (f.item ∷ f.after)
+      ∙ ap (λ m. paragraphs_from 0 f.before ++ paragraphs_from m (f.item ∷ f.after)) (omega (arith, length-text f.before))
 
   pub count_paragraphs : count_to pos (paragraph_starts kept) ≡ found.index + 1
   count_paragraphs =
       let front : List ℕ = paragraphs_from 0 f.before in
-      let back : List ℕ = paragraphs_from (before + chars_of f.item) f.behind in
+      let back : List ℕ = paragraphs_from (before + chars_of f.item) f.after in
       let all : count_to pos front ≡ length front =
       count_point pos front (length front) (omega arith)
       (λ k below. omega (arith, f.rest, length-text f.before, paragraphs_below 0 f.before lined_before k 0 below)) (λ k above under. absurd (omega (arith, above, under))) in
       let none : count_to pos back ≡ 0 =
       count_point pos back 0 (omega arith) (λ k below. absurd (omega (arith, below)))
-      (λ k above under. omega (arith, f.rest, f.within, paragraphs_above (before + chars_of f.item) f.behind k 0 under)) in
+      (λ k above under. omega (arith, f.rest, f.within, paragraphs_above (before + chars_of f.item) f.after k 0 under)) in
       ap (count_to pos) whole_paragraphs ∙ count_append pos front (before ∷ back)
       ∙ omega (arith, all, none, count_cons pos before back, cond-true {A = ℕ} (nat_le before pos) 1 0 (le-leb before pos (omega (arith, f.rest))), length-paragraphs_from 0 f.before, f.index)
 
@@ -294,7 +278,7 @@ module _ (kept : List Layout) (pos : ℕ) (found : Found) (f : Finds chars_of li
   start_there =
       let front : List ℕ = lines_from 0 f.before in
       let mid : List ℕ = starts_at before f.item in
-      let back : List ℕ = lines_from (before + chars_of f.item) f.behind in
+      let back : List ℕ = lines_from (before + chars_of f.item) f.after in
       let few : j - 1 < length f.item.lines = omega (arith, place-few, place-some, lines_there) in
       ap₂ (λ (ss : List ℕ) (n : ℕ). get_or ss n 0) whole_lines (ap (λ n. n + (j - 1)) (sym size_before))
       ∙ get_or-append-add front (mid ++ back) (j - 1) 0
@@ -362,7 +346,7 @@ last_below pos starts k below = elim (cases_lt k (length starts)) [
   | inr past ↦ omega (arith, get_or-eq_default starts 0 past)
 ]
 
--- behind the last character
+-- after the last character
 pub place_behind : (kept : List Layout) (pos : ℕ) → All IsLined kept → pos + 1 ≡ length (text_of kept) → (last : Place) → last ≡ place_in kept pos
     → let here : Place = record { paragraph = last.paragraph; line = last.line; offset = last.offset + 1 } in here ≡ place_in kept (length (text_of kept))
 place_behind kept pos lined is last last-is =
@@ -384,16 +368,16 @@ text_append [] ys = refl
 text_append (x ∷ xs) ys = ap (λ more. x.text ++ more) (text_append xs ys) ∙ sym (append_assoc x.text (text_of xs) (text_of ys))
 
 -- a character that was read
-pub char_read : (kept : List Layout) (pos : ℕ) (found : Found) → Finds chars_of lines_of kept pos found → (l : Layout) → Some l ≡ slice_get kept found.index
+pub char_read : (kept : List Layout) (pos : ℕ) (found : Found) → Finds chars_of chars_of lines_of kept pos found → (l : Layout) → Some l ≡ slice_get kept found.index
     → (found.rest < length l.text) × (get_or l.text found.rest 0 ≡ get_or (text_of kept) pos 0)
 char_read kept pos found f l read =
     let item : l ≡ f.item = item_read chars_of kept pos found f l read in
     let within : found.rest < length l.text = omega (arith, f.within, ap chars_of item) in
     let place : length (text_of f.before) + found.rest ≡ pos = omega (arith, f.rest, length-text f.before) in
-    let whole : text_of kept ≡ text_of f.before ++ (f.item.text ++ text_of f.behind) = ap text_of f.place ∙ text_append f.before (f.item ∷ f.behind) in (
+    let whole : text_of kept ≡ text_of f.before ++ (f.item.text ++ text_of f.after) = ap text_of f.place ∙ text_append f.before (f.item ∷ f.after) in (
       within,
-      sym (ap₂ (λ (cs : List ℕ) (n : ℕ). get_or cs n 0) whole (sym place) ∙ get_or-append-add (text_of f.before) (f.item.text ++ text_of f.behind) found.rest 0
-          ∙ get_or_append_left f.item.text (text_of f.behind) 0 found.rest f.within ∙ ap (λ (x : Layout). get_or x.text found.rest 0) (sym item)),
+      sym (ap₂ (λ (cs : List ℕ) (n : ℕ). get_or cs n 0) whole (sym place) ∙ get_or-append-add (text_of f.before) (f.item.text ++ text_of f.after) found.rest 0
+          ∙ get_or_append_left f.item.text (text_of f.after) 0 found.rest f.within ∙ ap (λ (x : Layout). get_or x.text found.rest 0) (sym item)),
     )
 
 -- what is kept of a text has lines

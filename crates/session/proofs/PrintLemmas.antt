@@ -6,7 +6,7 @@ use Rattle.std.proofs.lemmas.Bool.{cases_lt}
 use Rattle.std.proofs.Math.Seq.{drop-append-add, drop-append-le, take-append-add}
 use Rattle.store.specs.Finding.{Finds}
 use Rattle.store.specs.declared.found.Found.{Found}
-use Rattle.session.proofs.EdgeLemmas.{length-lines, length-visuals, lines_of}
+use Rattle.session.proofs.EdgeLemmas.{chars_of, length-lines, length-visuals, lines_of}
 use Rattle.std.proofs.lemmas.List.Concat.{flat_map-append}
 use Rattle.std.proofs.lemmas.List.Folds.{flat_map-map}
 use Rattle.std.proofs.lemmas.Option.{get_or_from_slice_get, slice_get_within}
@@ -109,16 +109,16 @@ lines_there [] i l read = absurd (cc read)
 lines_there (x ∷ kept) zero l read = ap (λ y. visuals y ++ lines_in kept) (ap (λ o. unwrap_or o x) (sym read))
 lines_there (x ∷ kept) (suc i) l read = let e : suc (i + 1) ≡ suc i + 1 = omega arith in lines_there kept i l read ∙ ap (λ j. visuals l ++ lines_in (drop j (x ∷ kept))) e
 
-pub lines_begin : (kept : List Layout) (first : ℕ) (found : Found) → Finds lines_of lines_of kept first found
+pub lines_begin : (kept : List Layout) (first : ℕ) (found : Found) → Finds lines_of chars_of lines_of kept first found
     → drop found.rest (lines_in (drop found.index kept)) ≡ drop first (lines_in kept)
 lines_begin kept first found f =
-    let there : drop found.index kept ≡ f.item ∷ f.behind = ap (drop found.index) f.place ∙ drop_at f.before (f.item ∷ f.behind) found.index (sym f.index) in
+    let there : drop found.index kept ≡ f.item ∷ f.after = ap (drop found.index) f.place ∙ drop_at f.before (f.item ∷ f.after) found.index (sym f.index) in
     let place : length (lines_in f.before) + found.rest ≡ first = omega (arith, f.rest, length-lines f.before) in
-    let whole : lines_in kept ≡ lines_in f.before ++ lines_in (f.item ∷ f.behind) = ap lines_in f.place ∙ flat_map-append visuals f.before (f.item ∷ f.behind) in
+    let whole : lines_in kept ≡ lines_in f.before ++ lines_in (f.item ∷ f.after) = ap lines_in f.place ∙ flat_map-append visuals f.before (f.item ∷ f.after) in
     ap (λ ks. drop found.rest (lines_in ks)) there
-    ∙ sym (ap₂ (λ (n : ℕ) (vs : List Visual). drop n vs) (sym place) whole ∙ drop-append-add (lines_in f.before) (lines_in (f.item ∷ f.behind)) found.rest)
+    ∙ sym (ap₂ (λ (n : ℕ) (vs : List Visual). drop n vs) (sym place) whole ∙ drop-append-add (lines_in f.before) (lines_in (f.item ∷ f.after)) found.rest)
 
--- what is wanted of a list and of one behind it
+-- what is wanted of a list and of one after it
 pub wanted_parts : {A : Type 0} (xs ys : List A) (from left part : ℕ) → from ≤ length xs → part ≡ min left (length xs - from)
     → take left (drop from (xs ++ ys)) ≡ take part (drop from xs) ++ take (left - part) ys
 wanted_parts xs ys from left part within part-is =

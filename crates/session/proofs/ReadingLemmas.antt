@@ -22,20 +22,20 @@ pub part_within : (kept : List Layout) (pos count : ℕ) → pos + count ≤ len
     → text_part kept pos count ≡ Some (take count (slice_range (text_of kept) pos (paragraph_end kept pos)))
 part_within kept pos count within = cond-false (nat_lt (length (text_of kept)) (pos + count)) None _ (le-ltb (length (text_of kept)) (pos + count) within)
 
-pub part_read : (kept : List Layout) (pos : ℕ) (found : Found) → Finds chars_of lines_of kept pos found → (l : Layout) → Some l ≡ slice_get kept found.index → All IsLined kept
+pub part_read : (kept : List Layout) (pos : ℕ) (found : Found) → Finds chars_of chars_of lines_of kept pos found → (l : Layout) → Some l ≡ slice_get kept found.index → All IsLined kept
     → drop found.rest l.text ≡ slice_range (text_of kept) pos (paragraph_end kept pos)
 part_read kept pos found f l read lined =
     let item : l ≡ f.item = item_read chars_of kept pos found f l read in
     let end : paragraph_end kept pos ≡ sum_by chars_of f.before + chars_of f.item =
     ap (start_of (pars_of kept)) (count_paragraphs kept pos found f l read lined _ refl) ∙ start_of-is kept (found.index + 1) ∙ sum_next chars_of kept pos found f chars_of in
     let place : length (text_of f.before) + found.rest ≡ pos = omega (arith, f.rest, length-text f.before) in
-    let whole : text_of kept ≡ text_of f.before ++ (f.item.text ++ text_of f.behind) = ap text_of f.place ∙ text_append f.before (f.item ∷ f.behind) in
+    let whole : text_of kept ≡ text_of f.before ++ (f.item.text ++ text_of f.after) = ap text_of f.place ∙ text_append f.before (f.item ∷ f.after) in
     let size : length (drop found.rest f.item.text) ≡ paragraph_end kept pos - pos = omega (arith, end, f.rest, length-drop found.rest f.item.text) in
-    let rest : drop pos (text_of kept) ≡ drop found.rest f.item.text ++ text_of f.behind =
-    ap₂ (λ (n : ℕ) (cs : List ℕ). drop n cs) (sym place) whole ∙ drop-append-add (text_of f.before) (f.item.text ++ text_of f.behind) found.rest
-    ∙ drop-append-le found.rest f.item.text (text_of f.behind) (omega (arith, f.within)) in
+    let rest : drop pos (text_of kept) ≡ drop found.rest f.item.text ++ text_of f.after =
+    ap₂ (λ (n : ℕ) (cs : List ℕ). drop n cs) (sym place) whole ∙ drop-append-add (text_of f.before) (f.item.text ++ text_of f.after) found.rest
+    ∙ drop-append-le found.rest f.item.text (text_of f.after) (omega (arith, f.within)) in
     ap (λ (x : Layout). drop found.rest x.text) item
-    ∙ sym (ap (take (paragraph_end kept pos - pos)) rest ∙ take_at (drop found.rest f.item.text) (text_of f.behind) (paragraph_end kept pos - pos) size)
+    ∙ sym (ap (take (paragraph_end kept pos - pos)) rest ∙ take_at (drop found.rest f.item.text) (text_of f.after) (paragraph_end kept pos - pos) size)
 
 pub none_part : (kept : List Layout) (pos count : ℕ) → is_none (text_part kept pos count) ≡ nat_lt (length (text_of kept)) (pos + count)
 none_part kept pos count = go (nat_lt (length (text_of kept)) (pos + count)) (take count (slice_range (text_of kept) pos (paragraph_end kept pos)))

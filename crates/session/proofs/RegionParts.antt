@@ -1,4 +1,4 @@
--- The touched paragraphs of a text after a change: what the first has in front of it, the piece, and what the last has behind it.
+-- The touched paragraphs of a text after a change: what the first has before it, the piece, and what the last has after it.
 use Rattle.std.proofs.Common.{◌≡◌, ℕ, zero, suc, zero-add, suc-add, ◌+◌, ◌-◌, ◌<◌, ◌≤◌, List, [], ◌∷◌, ◌++◌, length, take, drop, get_or, refl, sym, ap, ap₂, ◌∙◌, ◌⊎◌, inl, inr, arith}
 use Rattle.std.specs.List.{concat, slice_range}
 use Rattle.std.proofs.lemmas.Bool.{cases_eq, cases_lt}
@@ -13,7 +13,7 @@ use Rattle.session.specs.declared.edge.Edge.{Edge}
 use Rattle.session.proofs.ChangeLemmas.{region_of}
 use Rattle.session.proofs.TouchedLemmas.{start_of-more, start_of-le, start_of-end, AreTouched-from_walks}
 
--- the start of a paragraph behind others
+-- the start of a paragraph after others
 pub take-both : {A : Type 0} (m n : ℕ) (xs : List A) → take (m + n) xs ≡ take m xs ++ take n (drop m xs)
 take-both zero n xs = rw zero-add refl
 take-both (suc m) n [] = rw suc-add (sym (take_all n [] (omega arith)))
@@ -28,7 +28,7 @@ drop_behind : (left rest : List ℕ) (n : ℕ) → drop (length left + n) (left 
 drop_behind left rest n = sym (drop-drop n (length left) (left ++ rest)) ∙ ap (drop n) (drop_at left rest (length left) refl)
 
 module _ (pars : List (List ℕ)) (first last pos to : ℕ) (some : first < last) (within : last ≤ length pars) where
-  -- the first of the paragraphs, in front of the others
+  -- the first of the paragraphs, before the others
   first_is : slice_range pars first last ≡ get_or pars first [] ∷ take (last - first - 1) (drop (first + 1) pars)
   first_is =
       let n : last - first ≡ suc (last - first - 1) = omega arith in
@@ -41,7 +41,7 @@ module _ (pars : List (List ℕ)) (first last pos to : ℕ) (some : first < last
       let size = start_of-more pars first [] (omega arith) in
       ap (λ ps. take (pos - start_of pars first) (concat ps)) first_is ∙ take-append-le (pos - start_of pars first) p (concat others) (omega arith)
 
-  -- the last one, behind the others
+  -- the last one, after the others
   last_is : slice_range pars first last ≡ take (last - first - 1) (drop first pars) ++ get_or pars (last - 1) [] ∷ []
   last_is =
       let i = last - first - 1 in
@@ -59,7 +59,7 @@ module _ (pars : List (List ℕ)) (first last pos to : ℕ) (some : first < last
       let others = take i (drop first pars) in
       let place : first + i ≡ last - 1 = omega arith in
       let next : last - 1 + 1 ≡ last = omega arith in
-      let behind : start_of pars (last - 1) ≡ start_of pars first + length (concat others) = ap (start_of pars) (sym place) ∙ start_of-behind pars first i in
+      let after : start_of pars (last - 1) ≡ start_of pars first + length (concat others) = ap (start_of pars) (sym place) ∙ start_of-behind pars first i in
       let size : start_of pars last ≡ start_of pars (last - 1) + length q = ap (start_of pars) (sym next) ∙ start_of-more pars (last - 1) [] (omega arith) in
       let whole : concat (slice_range pars first last) ≡ concat others ++ q = ap concat last_is ∙ concat-append others (q ∷ []) ∙ ap (λ t. concat others ++ t) (append-nil q) in
       let from : to - start_of pars first ≡ length (concat others) + (to - start_of pars (last - 1)) = omega arith in
@@ -83,7 +83,7 @@ no_back pars first last n m k none =
 abbrev pub touched_by : Edge → Edge → Span
 touched_by front back = record { first = front.index; end = back.index; start = front.chars; stop = back.chars }
 
--- what the first touched paragraph has in front of a place, and what the last one has behind another
+-- what the first touched paragraph has before a place, and what the last one has after another
 abbrev pub front_of : List (List ℕ) → Edge → ℕ → List ℕ
 front_of pars front pos = take (pos - front.chars) (get_or pars front.index [])
 
@@ -94,7 +94,7 @@ module _ (kept : List Layout) (pos to : ℕ) (front back : Edge) (order : pos �
   pars_number : length (pars_of kept) ≡ length kept
   pars_number = length-map kept (λ l. l.text)
 
-  -- an edge in front of no paragraph stands at 0
+  -- an edge before no paragraph stands at 0
   front_low : front.chars ≤ pos
   front_low = elim (cases_eq front.index 0) [
     | inl e ↦ let start : front.chars ≡ 0 = f.edge_is.chars ∙ ap (start_of (pars_of kept)) e in omega arith
@@ -103,7 +103,7 @@ module _ (kept : List Layout) (pos to : ℕ) (front back : Edge) (order : pos �
 
   back_high : to ≤ back.chars
   back_high = elim (cases_lt back.index (length kept)) [
-    | inl more ↦ omega (arith, b.behind more)
+    | inl more ↦ omega (arith, b.after more)
     | inr all ↦ omega (arith, b.edge_is.chars, start_of-end (pars_of kept) back.index (omega (arith, pars_number)))
   ]
 
@@ -114,7 +114,7 @@ module _ (kept : List Layout) (pos to : ℕ) (front back : Edge) (order : pos �
     | inr none ↦
         let le = start_of-le (pars_of kept) back.index front.index (omega arith) in
         let last : back.index ≡ length kept = elim (cases_lt back.index (length kept)) [
-          | inl more ↦ absurd (omega (arith, b.behind more, b.edge_is.chars, f.edge_is.chars, front_low, le))
+          | inl more ↦ absurd (omega (arith, b.after more, b.edge_is.chars, f.edge_is.chars, front_low, le))
           | inr all ↦ omega (arith, b.edge_is.within)
         ] in
         let whole = start_of-end (pars_of kept) front.index (omega (arith, pars_number, f.edge_is.within)) in
@@ -134,7 +134,7 @@ module _ (kept : List Layout) (pos to : ℕ) (front back : Edge) (order : pos �
   pub AreTouched-edges : AreTouched (pars_of kept) pos to (touched_by front back)
   AreTouched-edges =
       AreTouched-from_walks (pars_of kept) pos to front.index back.index front.chars back.chars order within f.edge_is.chars b.edge_is.chars edges_rise
-      (omega (arith, b.edge_is.within, pars_number)) f.before (λ some. f.behind (omega (arith, pars_number))) (λ i above below. b.before i below) (λ more. b.behind (omega (arith, pars_number)))
+      (omega (arith, b.edge_is.within, pars_number)) f.before (λ some. f.after (omega (arith, pars_number))) (λ i above below. b.before i below) (λ more. b.after (omega (arith, pars_number)))
 
   -- the changed text of the touched paragraphs
   pub region_parts : (piece : List ℕ) → region_of (pars_of kept) (touched_by front back) pos to piece ≡ front_of (pars_of kept) front pos ++ (piece ++ back_of (pars_of kept) back to)
@@ -143,7 +143,7 @@ module _ (kept : List Layout) (pos to : ℕ) (front back : Edge) (order : pos �
       let place : pos - front.chars + (to - front.chars - (pos - front.chars)) ≡ to - front.chars = omega (arith, front_low) in
       let first : take (pos - front.chars) (concat (slice_range pars front.index back.index)) ≡ front_of pars front pos = elim some_or_none [
         | inl some ↦ ap (λ n. take (pos - n) (concat (slice_range pars front.index back.index))) f.edge_is.chars
-            ∙ front_part pars front.index back.index pos to some (omega (arith, b.edge_is.within, pars_number)) (f.behind (omega (arith, b.edge_is.within)))
+            ∙ front_part pars front.index back.index pos to some (omega (arith, b.edge_is.within, pars_number)) (f.after (omega (arith, b.edge_is.within)))
             ∙ ap (λ n. take (pos - n) (get_or pars front.index [])) (sym f.edge_is.chars)
         | inr none ↦ no_front pars front.index back.index (pos - front.chars) none
       ] in

@@ -216,7 +216,7 @@ HasRun-stops start old new edits n d edit within read run stayed works =
     record {
       front = front;
       edit = edit;
-      behind = drop (n + 1) edits;
+      after = drop (n + 1) edits;
       place = sym (take-append-drop (n + 1) edits) ∙ ap (λ xs. xs ++ drop (n + 1) edits) more ∙ append_assoc front (edit ∷ []) (drop (n + 1) edits);
       held = stayed.moved.held ∙ run.held;
       accepted = ap (λ held. edit_refusal (cuts_at start) held edit) stayed.moved.held ∙ ap (λ r. edit_refusal (cut_by r) (held_at old) edit) (sym run.rules) ∙ stayed.accepted;

@@ -10,7 +10,7 @@ use Rattle.session.specs.Scans.{HasScanned}
 use Rattle.session.specs.declared.scan.Scan.{Scan}
 use Rattle.lines.specs.declared.engine.TheConstants.{PARAGRAPH_LIMIT}
 
--- the last of pieces, and pieces with a character put behind them, which begins a piece or is put onto the last
+-- the last of pieces, and pieces with a character put after them, which begins a piece or is put onto the last
 last_of : List (List ℕ) → List ℕ
 last_of [] = []
 last_of (p ∷ []) = p
@@ -21,7 +21,7 @@ push starts c [] = (c ∷ []) ∷ []
 push starts c (p ∷ []) = if starts then p ∷ (c ∷ []) ∷ [] else (p ++ c ∷ []) ∷ []
 push starts c (p ∷ q ∷ ps) = p ∷ push starts c (q ∷ ps)
 
--- whether a character begins a piece behind the last one, if there is one
+-- whether a character begins a piece after the last one, if there is one
 pub starts_piece : (ℕ → ℕ → Bool) → Option ℕ → ℕ → Bool
 starts_piece is_cut None c = false
 starts_piece is_cut (Some a) c = is_cut a c
@@ -84,7 +84,7 @@ module _ (is_cut : ℕ → ℕ → Bool) where
       ∙ ap (λ (ps : List (List ℕ)). push starts c (if is_cut a b then (a ∷ []) ∷ ps else onto_first a ps)) (sym some.2)
       ∙ ap (λ (o : Option ℕ). push (starts_piece is_cut o c) c (paragraphs is_cut (a ∷ b ∷ text))) (sym (slice_get_last-cons a b text))
 
--- what is put behind pieces shows at the last of them
+-- what is put after pieces shows at the last of them
 last_of-cons-push : (starts : Bool) (c : ℕ) (p q : List ℕ) (ps : List (List ℕ)) → last_of (p ∷ push starts c (q ∷ ps)) ≡ last_of (push starts c (q ∷ ps))
 unfolding last_of push
 last_of-cons-push true c p q [] = refl

@@ -1,4 +1,4 @@
--- A text whose middle is changed: the paragraphs before and behind stay, where the middle keeps its first and its last character.
+-- A text whose middle is changed: the paragraphs before and after stay, where the middle keeps its first and its last character.
 use Rattle.std.proofs.Common.{◌≡◌, ℕ, ◌+◌, ◌-◌, ◌<◌, ◌≤◌, Bool, true, ◌&&◌, List, [], ◌∷◌, ◌++◌, length, take, drop, slice_index, nat_le, zero-add, suc-add, add_assoc, refl, sym, ap, ◌∙◌, arith}
 use Rattle.std.specs.List.{concat}
 use Rattle.std.proofs.lemmas.List.{append-nil, append_assoc, get_or-append-add, get_or_append_left, length-append, length-drop, length-take-le, get_or-take, get_or-drop, take-append-le, drop-append-le}
@@ -28,7 +28,7 @@ module _ (is_cut : ℕ → ℕ → Bool) where
   some-concat : (piece : List ℕ) (pieces : List (List ℕ)) → ArePieces is_cut (piece ∷ pieces) → 0 < length (concat (piece ∷ pieces))
   some-concat piece pieces h = let some = first_is_filled piece pieces h in rw (length-append piece (concat pieces)) (omega arith)
 
-  -- pieces before and behind a cut
+  -- pieces before and after a cut
   pub ArePieces-append : (before after : List (List ℕ)) → ArePieces is_cut before → ArePieces is_cut after → IsCutAt is_cut (concat before) (concat after) → ArePieces is_cut (before ++ after)
   ArePieces-append [] after h g between = g
   ArePieces-append (piece ∷ []) [] h g between = h
@@ -69,10 +69,10 @@ module _ (is_cut : ℕ → ℕ → Bool) where
       → paragraphs is_cut (concat left ++ (new ++ concat right)) ≡ left ++ (paragraphs is_cut new ++ right)
   paragraphs-splice law left mid right new h first last =
       let inner = ArePieces-after left (mid ++ right) h in
-      let behind : IsCutAt is_cut new (concat right) = λ _ filled.
+      let after : IsCutAt is_cut new (concat right) = λ _ filled.
       let same = last filled in rw same.2 (ArePieces-between mid right inner same.0 filled) in
       let tail : ArePieces is_cut (paragraphs is_cut new ++ right) =
-      ArePieces-append (paragraphs is_cut new) right (law.pieces is_cut new) (ArePieces-after mid right inner) (rw (law.whole is_cut new) behind) in
+      ArePieces-append (paragraphs is_cut new) right (law.pieces is_cut new) (ArePieces-after mid right inner) (rw (law.whole is_cut new) after) in
       let text : concat (paragraphs is_cut new ++ right) ≡ new ++ concat right = concat-append (paragraphs is_cut new) right ∙ ap (λ t. t ++ concat right) (law.whole is_cut new) in
       let before : IsCutAt is_cut (concat left) (new ++ concat right) = λ filled _.
       let same = first filled in
@@ -103,7 +103,7 @@ changed-middle left mid right piece from count within =
     ap (λ n. drop n (left ++ (mid ++ right))) (add_assoc (length left) from count) ∙ drop-add left (mid ++ right) (from + count) ∙ drop-append-le (from + count) mid right within in
     rw (front, back) (simp append_assoc)
 
--- the first and the last character of what a change makes of a text, where it lies behind the one and before the other
+-- the first and the last character of what a change makes of a text, where it lies after the one and before the other
 pub first-changed : (mid piece : List ℕ) (from count : ℕ) → 0 < from → from + count ≤ length mid
     → (0 < length mid) × (0 < length (changed mid (changing from count piece))) × (slice_index (changed mid (changing from count piece)) 0 ≡ slice_index mid 0)
 first-changed mid piece from count some within =
@@ -133,7 +133,7 @@ length-changed mid piece from count within =
     let back : length (drop (from + count) mid) ≡ length mid - (from + count) = length-drop (from + count) mid in
     rw (length-append (take from mid) (piece ++ drop (from + count) mid), length-append piece (drop (from + count) mid)) (omega arith)
 
--- which paragraphs are too long, where those before and behind are not
+-- which paragraphs are too long, where those before and after are not
 pub are_within-splice : (left mid right new : List (List ℕ)) → are_within (left ++ (mid ++ right)) ≡ true → are_within (left ++ (new ++ right)) ≡ are_within new
 are_within-splice left mid right new h =
     let p : List ℕ → Bool = λ q. nat_le (length q) PARAGRAPH_LIMIT in

@@ -24,18 +24,18 @@ least_found p low (suc count) k from to here before =
 count_of_interval : (p : ℕ → Bool) (low count first end : ℕ) → first ≤ end → end ≤ low + count
     → ((k : ℕ) → low ≤ k → first ≤ k → k < end → p k ≡ true) → ((k : ℕ) → low ≤ k → k < first → p k ≡ false) → ((k : ℕ) → low ≤ k → end ≤ k → k < low + count → p k ≡ false)
     → count_by p (range_with_len low count) ≡ end - max first low
-count_of_interval p low zero first end order within inside before behind = omega arith
-count_of_interval p low (suc count) first end order within inside before behind =
+count_of_interval p low zero first end order within inside before after = omega arith
+count_of_interval p low (suc count) first end order within inside before after =
     let step : count_by p (range_with_len low (suc count)) ≡ cond (p low) 1 0 + count_by p (range_with_len (low + 1) count) =
     sum_by-cons (λ k. cond (p k) 1 0) low (range_with_len (low + 1) count) in
     let rest : count_by p (range_with_len (low + 1) count) ≡ end - max first (low + 1) =
     count_of_interval p (low + 1) count first end order (omega arith)
-    (λ k above. inside k (omega arith)) (λ k above. before k (omega arith)) (λ k above past under. behind k (omega arith) past (omega arith)) in
+    (λ k above. inside k (omega arith)) (λ k above. before k (omega arith)) (λ k above past under. after k (omega arith) past (omega arith)) in
     elim (cases_lt low first) [
       | inl lower ↦ omega (arith, cond-false {A = ℕ} (p low) 1 0 (before low (omega arith) lower))
       | inr from ↦ elim (cases_lt low end) [
         | inl under ↦ omega (arith, cond-true {A = ℕ} (p low) 1 0 (inside low (omega arith) from under))
-        | inr past ↦ omega (arith, cond-false {A = ℕ} (p low) 1 0 (behind low (omega arith) past (omega arith)))
+        | inr past ↦ omega (arith, cond-false {A = ℕ} (p low) 1 0 (after low (omega arith) past (omega arith)))
       ]
     ]
 
@@ -67,7 +67,7 @@ pub AreTouched-from_walks : (pars : List (List ℕ)) (pos end first last start s
     → (0 < first → start < pos) → (first < length pars → pos ≤ start_of pars (first + 1))
     → ((i : ℕ) → first ≤ i → i < last → start_of pars i ≤ end) → (last < length pars → end < stop)
     → AreTouched pars pos end (record { first = first; end = last; start = start; stop = stop })
-AreTouched-from_walks pars pos end first last start stop order within at_first at_last rise few before next inside behind =
+AreTouched-from_walks pars pos end first last start stop order within at_first at_last rise few before next inside after =
     let change : Change = region_change pos end [] in
     let reach : pos + (end - pos) ≡ end = omega arith in
     let earlier : (k : ℕ) → k < first → is_touched pars change k ≡ false = λ k below.
@@ -75,7 +75,7 @@ AreTouched-from_walks pars pos end first last start stop order within at_first a
     and_right (nat_le (start_of pars k) (pos + (end - pos))) (nat_le pos (start_of pars (k + 1))) (lt-leb pos (start_of pars (k + 1)) (omega (arith, before (omega arith)))) in
     let later : (k : ℕ) → last ≤ k → k < length pars → is_touched pars change k ≡ false = λ k above under.
     let le = start_of-le pars last k above in
-    and_left (nat_le (start_of pars k) (pos + (end - pos))) (nat_le pos (start_of pars (k + 1))) (lt-leb (start_of pars k) (pos + (end - pos)) (omega (arith, behind (omega arith)))) in
+    and_left (nat_le (start_of pars k) (pos + (end - pos))) (nat_le pos (start_of pars (k + 1))) (lt-leb (start_of pars k) (pos + (end - pos)) (omega (arith, after (omega arith)))) in
     let between : (k : ℕ) → first ≤ k → k < last → is_touched pars change k ≡ true = λ k above under.
     let le = start_of-le pars (first + 1) (k + 1) (omega arith) in
     and_from (nat_le (start_of pars k) (pos + (end - pos))) (nat_le pos (start_of pars (k + 1)))
@@ -86,7 +86,7 @@ AreTouched-from_walks pars pos end first last start stop order within at_first a
       | inr ne ↦ omega (arith, before (omega arith))
     ] in
     let high : end ≤ stop = elim (cases_lt last (length pars)) [
-      | inl more ↦ omega (arith, behind more)
+      | inl more ↦ omega (arith, after more)
       | inr all ↦ omega (arith, start_of-end pars last all)
     ] in
     let counted : touched_count pars change ≡ last - first =
@@ -111,13 +111,13 @@ AreTouched-from_walks pars pos end first last start stop order within at_first a
       start = at_first;
       stop = at_last;
       before = low;
-      behind = high;
+      after = high;
       before_strictly = λ some. elim (cases_eq first 0) [
         | inl e ↦ let zero_start : start_of pars first ≡ 0 = ap (start_of pars) e in absurd (omega arith)
         | inr ne ↦ before (omega arith)
       ];
-      behind_strictly = λ more. elim (cases_lt last (length pars)) [
-        | inl under ↦ behind under
+      after_strictly = λ more. elim (cases_lt last (length pars)) [
+        | inl under ↦ after under
         | inr all ↦ absurd (omega (arith, start_of-end pars last all))
       ];
     }

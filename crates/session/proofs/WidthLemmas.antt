@@ -144,7 +144,7 @@ module _ (start now : Engine) (width : ℕ) (kept : List Layout) (n : ℕ) (fill
     upto : length l.text + sum_by chars_of (take n kept) ≤ length (text_of kept)
     upto = omega (arith, size, sum_by-take-le chars_of kept (n + 1), length-text kept)
 
-    -- where memory runs out behind the next one
+    -- where memory runs out after the next one
     pub FindsExtentsAtMost-next : FindsExtentsAtMost (length (text_of kept)) start next
     FindsExtentsAtMost-next = record {
       analysed = counts.analysed ∙ so_far.analysed;

@@ -12,17 +12,17 @@ use Rattle.session.specs.declared.clusters.Cluster.{Cluster}
 abbrev pub ends_at : List Bool → ℕ → Bool
 ends_at ends k = slice_index_or ends k false
 
--- behind one that is there, or else
-abbrev pub behind : Option ℕ → ℕ → ℕ
-behind (Some k) other = k + 1
-behind None other = other
+-- after one that is there, or else
+abbrev pub after : Option ℕ → ℕ → ℕ
+after (Some k) other = k + 1
+after None other = other
 
--- The cluster of a character begins behind the last one before it at which one ends, and ends with the first from it on.
+-- The cluster of a character begins after the last one before it at which one ends, and ends with the first from it on.
 abbrev pub cluster_begin : List Bool → ℕ → ℕ
-cluster_begin ends k = behind (greatest (ends_at ends) k) 0
+cluster_begin ends k = after (greatest (ends_at ends) k) 0
 
 abbrev pub cluster_end : List Bool → ℕ → ℕ
-cluster_end ends k = behind (least (ends_at ends) k (length ends - k)) (length ends)
+cluster_end ends k = after (least (ends_at ends) k (length ends - k)) (length ends)
 
 -- in a paragraph that begins at a position
 abbrev pub cluster_in : ℕ → List ℕ → ℕ → Cluster

@@ -1,4 +1,4 @@
--- Where paragraphs meet, and what stands in front of that place.
+-- Where paragraphs meet, and what stands before that place.
 use Rattle.std.specs.Prelude.{◌≡◌, ℕ, ◌+◌, ◌-◌, ◌<◌, ◌≤◌, List, length, take}
 use Rattle.lines.specs.Layouts.{Layout}
 use Rattle.session.specs.Kept.{pars_of, lines_in}
@@ -6,23 +6,23 @@ use Rattle.session.specs.Touched.{start_of}
 use Rattle.session.specs.declared.edge.Edge.{Edge}
 use Rattle.session.specs.declared.edits.Damage.{Damage}
 
--- so many paragraphs stand in front of an edge, with so many characters and lines
+-- so many paragraphs stand before an edge, with so many characters and lines
 pub record IsEdge (kept : List Layout) (edge : Edge) : Type 0 where
   pub within : edge.index ≤ length kept
   pub chars : edge.chars ≡ start_of (pars_of kept) edge.index
   pub lines : edge.lines ≡ length (lines_in (take edge.index kept))
 
--- in front of the first paragraph whose closed span meets a range that begins at pos
+-- before the first paragraph whose closed span meets a range that begins at pos
 pub record IsFrontEdge (kept : List Layout) (pos : ℕ) (edge : Edge) : Type 0 where
   pub edge_is : IsEdge kept edge
   pub before : 0 < edge.index → edge.chars < pos
-  pub behind : edge.index < length kept → pos ≤ start_of (pars_of kept) (edge.index + 1)
+  pub after : edge.index < length kept → pos ≤ start_of (pars_of kept) (edge.index + 1)
 
--- behind the last one whose closed span meets a range that stops at a place
+-- after the last one whose closed span meets a range that stops at a place
 pub record IsBackEdge (kept : List Layout) (to : ℕ) (edge : Edge) : Type 0 where
   pub edge_is : IsEdge kept edge
   pub before : (i : ℕ) → i < edge.index → start_of (pars_of kept) i ≤ to
-  pub behind : edge.index < length kept → to < edge.chars
+  pub after : edge.index < length kept → to < edge.chars
 
 -- the damage where new paragraphs stand between two edges
 abbrev pub damage_between : Edge → Edge → List Layout → Damage

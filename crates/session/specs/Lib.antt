@@ -1,3 +1,4 @@
+pub mod Carets
 pub mod Changes
 pub mod Clusters
 pub mod Damage

@@ -27,7 +27,7 @@ paragraph_starts kept = paragraphs_from 0 kept
 abbrev pub count_to : ℕ → List ℕ → ℕ
 count_to pos starts = count_by (λ start. nat_le start pos) starts
 
--- the last line and the last paragraph that begin there or before, and how far behind the line's beginning the position is
+-- the last line and the last paragraph that begin there or before, and how far after the line's beginning the position is
 abbrev pub place_in : List Layout → ℕ → Place
 place_in kept pos = record {
   paragraph = count_to pos (paragraph_starts kept) - 1;
@@ -35,15 +35,15 @@ place_in kept pos = record {
   offset = pos - slice_index (line_starts kept) (count_to pos (line_starts kept) - 1);
 }
 
--- the paragraph and the line that would come, behind all that there are
+-- the paragraph and the line that would come, after all that there are
 abbrev pub next_place : List Layout → Place
 next_place kept = record { paragraph = length kept; line = length (lines_in kept); offset = 0 }
 
--- a text behind which another paragraph would begin: an empty one, and one that ends with a separator
+-- a text after which another paragraph would begin: an empty one, and one that ends with a separator
 abbrev pub is_closed : Rules → List ℕ → Bool
 is_closed rules text = length text == 0 || is_separator (class_of rules.tables (slice_index text (length text - 1)))
 
--- The place of a position of the text. Its end is that behind the last character, or where the next paragraph would begin.
+-- The place of a position of the text. Its end is that after the last character, or where the next paragraph would begin.
 abbrev pub place_at : Rules → List Layout → ℕ → Option Place
 place_at rules kept pos =
     if nat_lt (length (text_of kept)) pos then None

@@ -16,7 +16,7 @@ lines_page state first count print = flat_map (line_bytes state.width print) (sl
 abbrev pub HasLines : State → ℕ → ℕ → Type 0
 HasLines state first count = first + count ≤ length (lines_in state.kept)
 
--- Where there are not so many, nothing is touched; else the sink failed behind so many bytes.
+-- Where there are not so many, nothing is touched; else the sink failed after so many bytes.
 abbrev pub PrintsNot : State → ℕ → ℕ → Type 0 → (ℕ → Type 0) → LinesFault → Type 0
 PrintsNot state first count untouched stopped OutOfRange = (length (lines_in state.kept) < first + count) × untouched
 PrintsNot state first count untouched stopped (Write fault) = (first + count ≤ length (lines_in state.kept)) × stopped fault.written

@@ -42,12 +42,12 @@ module _ (is_cut : ℕ → ℕ → Bool) where
     pub filled : RisesBy (work_of_all filled_by start edits) (filled_of old) (filled_of new)
     pub written : RisesBy (work_of_all filled_by start edits) (written_of old) (written_of new)
 
-  -- All changes in front of one were made or refused, and there is no reason to refuse that one. It may have worked too.
+  -- All changes before one were made or refused, and there is no reason to refuse that one. It may have worked too.
   pub record StopsAt (start : Held) (edits : List Edit) (now : Held) (old new : Engine) : Type 0 where
     pub front : List Edit
     pub edit : Edit
-    pub behind : List Edit
-    pub place : edits ≡ front ++ edit ∷ behind
+    pub after : List Edit
+    pub place : edits ≡ front ++ edit ∷ after
     pub held : now ≡ after_all is_cut start front
     pub accepted : edit_refusal now edit ≡ None
     pub works : WorksAtMost start (front ++ edit ∷ []) old new

@@ -35,7 +35,7 @@ pub record Span : Type 0 where
   pub start : ℕ
   pub stop : ℕ
 
--- the paragraphs that a change of the characters from pos up to end touches: where others stand before or behind them, a character stays at that side
+-- the paragraphs that a change of the characters from pos up to end touches: where others stand before or after them, a character stays at that side
 pub record AreTouched (pars : List (List ℕ)) (pos end : ℕ) (touched : Span) : Type 0 where
   pub first : touched.first ≡ first_touched pars (region_change pos end [])
   pub count : touched.end ≡ touched.first + touched_count pars (region_change pos end [])
@@ -43,6 +43,6 @@ pub record AreTouched (pars : List (List ℕ)) (pos end : ℕ) (touched : Span) 
   pub start : touched.start ≡ start_of pars touched.first
   pub stop : touched.stop ≡ start_of pars touched.end
   pub before : touched.start ≤ pos
-  pub behind : end ≤ touched.stop
+  pub after : end ≤ touched.stop
   pub before_strictly : 0 < touched.start → touched.start < pos
-  pub behind_strictly : touched.stop < length (concat pars) → end < touched.stop
+  pub after_strictly : touched.stop < length (concat pars) → end < touched.stop

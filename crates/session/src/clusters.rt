@@ -1,6 +1,7 @@
 //! The grapheme cluster of a character, so that a caret does not land inside one.
-ghost use Rattle.std.specs.Prelude.{◌≡◌, ◌<◌, ◌≤◌, All, length, IfOk};
+ghost use Rattle.std.specs.Prelude.{◌≡◌, ◌<◌, ◌≤◌, All, length, IfOk, OnErr};
 ghost use Rattle.session.specs.Clusters.{cluster_at, cluster_begin, cluster_end};
+ghost use Rattle.session.specs.Kept.{text_of};
 ghost use Rattle.session.specs.Places.{IsLined};
 
 use crate::kept::Kept;
@@ -12,11 +13,11 @@ use store::ParagraphStore;
 pub struct Cluster {
     /// The position of its first character.
     pub start: usize,
-    /// The position behind its last one.
+    /// The position after its last one.
     pub end: usize,
 }
 
-// Where the cluster of a character begins, where it is known behind which characters clusters end.
+// Where the cluster of a character begins, where it is known after which characters clusters end.
 fn begin(ends: &[bool], k: usize) -> usize
     requires { k < length ends.now }
     ensures value { result ≡ cluster_begin ends.now k }
@@ -55,7 +56,8 @@ pub fn cluster_of<S: ParagraphStore<Kept>>(
     pos: usize,
 ) -> Result<Option<Cluster>, AllocError>
     requires { All IsLined (S.items store.now) }
-    ensures { IfOk result (λ cluster. cluster ≡ cluster_at (S.items store.now) pos) }
+    ensures ok { IfOk result (λ cluster. cluster ≡ cluster_at (S.items store.now) pos) }
+    ensures memory { OnErr result (pos < length (text_of (S.items store.now))) }
 {
     // Shows that the characters fit.
     let len = store.total_chars();

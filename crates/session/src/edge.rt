@@ -6,7 +6,7 @@ ghost use Rattle.session.specs.Kept.{pars_of, text_of};
 use crate::kept::Kept;
 use store::{Measured, ParagraphStore};
 
-/// Where a paragraph starts, or the text ends: how many paragraphs, characters and lines are in front
+/// Where a paragraph starts, or the text ends: how many paragraphs, characters and lines are before
 /// of it.
 #[derive(Clone, Copy, Debug)]
 pub struct Edge {
@@ -15,7 +15,7 @@ pub struct Edge {
     pub lines: usize,
 }
 
-/// In front of the first paragraph that a change from `pos` on touches.
+/// Before the first paragraph that a change from `pos` on touches.
 pub fn front_edge<S: ParagraphStore<Kept>>(store: &S, pos: usize) -> Edge
     requires { pos ≤ length (text_of (S.items store.now)) }
     ensures { IsFrontEdge (S.items store.now) pos result }
@@ -35,7 +35,7 @@ pub fn front_edge<S: ParagraphStore<Kept>>(store: &S, pos: usize) -> Edge
     }
 }
 
-/// Behind the last paragraph that a change up to `to` touches.
+/// After the last paragraph that a change up to `to` touches.
 pub fn back_edge<S: ParagraphStore<Kept>>(store: &S, to: usize) -> Edge
     requires { to ≤ length (text_of (S.items store.now)) }
     ensures { IsBackEdge (S.items store.now) to result }
@@ -60,7 +60,7 @@ pub fn back_edge<S: ParagraphStore<Kept>>(store: &S, to: usize) -> Edge
     }
 }
 
-/// The characters in front of a place, as far as there are any.
+/// The characters before a place, as far as there are any.
 pub fn front(text: &[char], to: usize) -> &[char]
     ensures { result.now ≡ take to text.now }
 {
@@ -74,7 +74,7 @@ pub fn back(text: &[char], from: usize) -> &[char]
     &text[from.min(text.len())..]
 }
 
-/// The characters of the paragraph behind an edge up to `pos`.
+/// The characters of the paragraph after an edge up to `pos`.
 pub fn front_text<S: ParagraphStore<Kept>>(store: &S, edge: Edge, pos: usize) -> &[char]
     ensures { result.now
         ≡ take (pos - edge.chars) (slice_index_or (pars_of (S.items store.now)) edge.index []) }
@@ -85,7 +85,7 @@ pub fn front_text<S: ParagraphStore<Kept>>(store: &S, edge: Edge, pos: usize) ->
     }
 }
 
-/// The characters of the paragraph in front of an edge from `from` on.
+/// The characters of the paragraph before an edge from `from` on.
 pub fn back_text<S: ParagraphStore<Kept>>(store: &S, edge: Edge, from: usize) -> &[char]
     ensures { (text : List ℕ) → text ≡ slice_index_or (pars_of (S.items store.now)) (edge.index - 1) []
         → result.now ≡ drop (length text - (edge.chars - from)) text }

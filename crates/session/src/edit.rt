@@ -1,10 +1,11 @@
 //! An edit of the text that a store keeps. What can fail is done before anything is changed.
-ghost use Rattle.std.specs.Prelude.{◌≡◌, ◌^◌, ◌<◌, ◌≤◌, List, ℕ, length, sum_by};
-ghost use Rattle.std.specs.Prelude.{IfOk, IfErr, OnOk, OnErr};
+ghost use Rattle.std.specs.Prelude.{◌≡◌, ◌+◌, ◌-◌, ◌^◌, ◌<◌, ◌≤◌, List, ℕ, length, sum_by};
+ghost use Rattle.std.specs.Prelude.{IfOk, IfErr, IsErrOf, OnOk, OnErr};
 ghost use Rattle.std.specs.List.{splice};
 ghost use Rattle.std.specs.Str.{chars};
 ghost use Rattle.session.specs.Sessions.{Edits, EditsNot, IsWholeLayout};
 ghost use Rattle.session.specs.Changes.{changing};
+ghost use Rattle.session.specs.Kept.{text_of};
 ghost use Rattle.session.specs.Edges.{damage_between, IsEdge};
 ghost use Rattle.session.specs.declared.edits.EditFault.TheVariants.{NoMemory};
 
@@ -36,6 +37,7 @@ fn put<S: ParagraphStore<Kept>>(
     ensures damage { IfOk result (λ damage. damage ≡ damage_between front back new.items) }
     ensures err { OnErr result (S.items store.new ≡ S.items store.old) }
     ensures fault { IfErr result (λ fault. fault ≡ NoMemory) }
+    ensures memory { OnErr result (0 < back.index - front.index + length new.items) }
 {
     let (total, new_pars) = (store.total_lines(), new.len());
     if store.replace(front.index..back.index, new).is_err() {
@@ -69,6 +71,8 @@ pub fn edit<S: ParagraphStore<Kept>>(
     ensures err { IfErr result (EditsNot (changing pos count (chars piece.now))
         (record { engine = engine.old; width = width; kept = S.items store.old })
         (record { engine = engine.new; width = width; kept = S.items store.new })) }
+    ensures memory { IsErrOf result NoMemory
+        → 0 < length (text_of (S.items store.old)) + length (chars piece.now) }
 {
     let len = store.total_chars();
     if pos > len || count > len - pos {

@@ -8,7 +8,7 @@ pub const TEXT_LIMIT: usize = 16_777_216;
 /// scalar values).
 #[derive(Clone, Copy, Debug)]
 pub enum Edit<'a> {
-    /// Puts a text in front of the character at a position, or at the end.
+    /// Puts a text before the character at a position, or at the end.
     Insert(usize, &'a str),
     /// Takes so many characters out, from a position on.
     Delete(usize, usize),

@@ -1,7 +1,7 @@
-//! The paragraphs of a text that stands in three parts, laid out: what is in front of a change, the new
-//! piece, and what is behind it.
-ghost use Rattle.std.specs.Prelude.{◌≡◌, ◌<◌, ◌++◌, true, not, List, [], ℕ, length};
-ghost use Rattle.std.specs.Prelude.{IfOk, IfErr};
+//! The paragraphs of a text that stands in three parts, laid out: what is before a change, the new
+//! piece, and what is after it.
+ghost use Rattle.std.specs.Prelude.{◌≡◌, ◌<◌, ◌++◌, true, false, not, List, [], ℕ, length};
+ghost use Rattle.std.specs.Prelude.{IfOk, IfErr, IsErrOf};
 ghost use Rattle.std.specs.Str.{chars};
 ghost use Rattle.lines.specs.Engine.{rules_of, LaysOutAtMost, SameRules};
 ghost use Rattle.lines.specs.Layouts.{cut_by, layout_of, IsParagraph};
@@ -9,6 +9,7 @@ ghost use Rattle.session.specs.Sessions.{IsCountedFor};
 ghost use Rattle.session.specs.Changes.{is_within_limit, paragraphs_refusal};
 ghost use Rattle.session.specs.Kept.{layouts_of};
 ghost use Rattle.session.specs.Sessions.{IsAnswerFor};
+ghost use Rattle.session.specs.declared.edits.EditFault.TheVariants.{NoMemory};
 
 use crate::edits::EditFault;
 use crate::kept::Kept;
@@ -27,6 +28,20 @@ fn has_long(engine: &Engine, front: &[char], piece: &str, back: &[char]) -> bool
     scan.take_text(engine, piece);
     scan.take_all(engine, back);
     scan.is_long()
+}
+
+// Whether there is nothing to lay out.
+fn are_empty(front: &[char], piece: &str, back: &[char]) -> bool
+    ensures none { result ≡ true → length (front.now ++ (chars piece.now ++ back.now)) ≡ 0 }
+    ensures some { result ≡ false → 0 < length (front.now ++ (chars piece.now ++ back.now)) }
+{
+    if !front.is_empty() {
+        return false;
+    }
+    if !back.is_empty() {
+        return false;
+    }
+    piece.is_empty()
 }
 
 // The three parts as one.
@@ -84,9 +99,9 @@ fn lay_out(
     let mut kept = Vec::new(alloc);
     let mut rest = text;
     while let Some(end) = engine.first_cut(rest) {
-        let (first, behind) = rest.split_at(end);
+        let (first, after) = rest.split_at(end);
         kept.push(lay_out_one(alloc, engine, first, width)?)?;
-        rest = behind;
+        rest = after;
     }
     if !rest.is_empty() {
         kept.push(lay_out_one(alloc, engine, rest, width)?)?;
@@ -110,6 +125,8 @@ pub fn lay_out_joined(
         (front.now ++ (chars piece.now ++ back.now))) }
     ensures err { IfErr result (IsAnswerFor (paragraphs_refusal (cut_by (rules_of engine.old))
         (front.now ++ (chars piece.now ++ back.now)))) }
+    ensures memory { IsErrOf result NoMemory
+        → 0 < length (front.now ++ (chars piece.now ++ back.now)) }
     ensures rules { SameRules engine.old engine.new }
     ensures counts { LaysOutAtMost (length (front.now ++ (chars piece.now ++ back.now)))
         engine.old engine.new }
@@ -118,6 +135,9 @@ pub fn lay_out_joined(
 {
     if has_long(engine, front, piece, back) {
         return Err(EditFault::ParagraphTooLong);
+    }
+    if are_empty(front, piece, back) {
+        return Ok(Vec::new(alloc));
     }
     let Ok(text) = joined(alloc, front, piece, back) else {
         return Err(EditFault::NoMemory);

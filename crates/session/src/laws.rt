@@ -9,7 +9,7 @@ ghost use Rattle.session.specs.Kept.{layouts_of, IsCutAt};
 use bidi::paragraphs_are_pieces;
 
 /// Of a text that is parted where a cut stands, the layouts of the paragraphs are those of its parts, one
-/// list behind the other, by whatever rules and at whatever width, and so is what is printed of it: a law,
+/// list after the other, by whatever rules and at whatever width, and so is what is printed of it: a law,
 /// which takes no time. So parts of a long text may be laid out anywhere and in any order.
 pub fn texts_are_laid_out_in_parts()
     ensures layouts { (rules : Rules) (width : ℕ) (front rest : List ℕ)

@@ -2,6 +2,7 @@
 //! the whole current text.
 #![tactic(auto)]
 
+mod carets;
 mod clusters;
 mod edge;
 mod edit;
@@ -17,6 +18,7 @@ mod scan;
 mod session;
 mod width;
 
+pub use carets::Caret;
 pub use clusters::Cluster;
 pub use edits::{Damage, Edit, EditFault, TEXT_LIMIT};
 pub use hits::Hit;

@@ -4,9 +4,8 @@ ghost use Rattle.std.specs.Prelude.{◌≡◌, ◌^◌, ◌<◌, ◌≤◌, ℕ,
 ghost use Rattle.std.specs.Prelude.{slice_get, slice_index, IfSome};
 ghost use Rattle.std.specs.List.Sorted.{IsNonDecreasing};
 ghost use Rattle.lines.specs.Engine.{rules_of};
-ghost use Rattle.session.specs.Kept.{pars_of, text_of};
+ghost use Rattle.session.specs.Kept.{text_of};
 ghost use Rattle.session.specs.Places.{is_closed, line_starts, place_at, place_in, IsLined};
-ghost use Rattle.session.specs.Touched.{start_of};
 ghost use Rattle.session.specs.declared.edits.TheConstants.{TEXT_LIMIT};
 
 use crate::kept::Kept;
@@ -22,25 +21,6 @@ pub struct Place {
     pub line: usize,
     /// How many characters of this line are before it.
     pub offset: usize,
-}
-
-// How many characters the paragraphs before one have: the least position that is not in these. The store
-// tells of a position in which paragraph it is.
-fn chars_before<S: ParagraphStore<Kept>>(store: &S, index: usize) -> usize
-    requires { index ≤ length (S.items store.now) }
-    ensures { result ≡ start_of (pars_of (S.items store.now)) index }
-{
-    let mut low = 0;
-    let mut high = store.total_chars();
-    while low < high {
-        let middle = low + (high - low) / 2;
-        if store.find_char(middle).index < index {
-            low = middle + 1;
-        } else {
-            high = middle;
-        }
-    }
-    low
 }
 
 // One of the starts of lines.
@@ -65,7 +45,7 @@ pub fn line_start<S: ParagraphStore<Kept>>(store: &S, n: usize) -> Option<usize>
     match store.get(found.index) {
         Some(kept) => {
             let start = start_of_nth(kept.laid().line_starts(), found.rest);
-            Some(chars_before(store, found.index) + start)
+            Some(found.chars_before + start)
         }
         None => unreachable!(),
     }
@@ -118,7 +98,7 @@ fn char_at<S: ParagraphStore<Kept>>(store: &S, pos: usize) -> char
     }
 }
 
-// Whether another paragraph would begin behind the text. A separator is cut from one of its kind.
+// Whether another paragraph would begin after the text. A separator is cut from one of its kind.
 fn is_closed<S: ParagraphStore<Kept>>(store: &S, engine: &Engine) -> bool
     ensures { result ≡ is_closed (rules_of engine.now) (text_of (S.items store.now)) }
 {

@@ -23,7 +23,7 @@ pub enum LinesFault {
     Write(WriteFault),
 }
 
-// Writes so many lines of a paragraph, from one on, behind so many bytes. Says how many bytes are written
+// Writes so many lines of a paragraph, from one on, after so many bytes. Says how many bytes are written
 // then.
 fn write_part<W: Sink>(
     laid: &Laid,
@@ -56,7 +56,7 @@ fn write_part<W: Sink>(
     Ok(written)
 }
 
-/// Writes so many lines, from one on, behind so many bytes, and no more behind a failure of the sink. Says
+/// Writes so many lines, from one on, after so many bytes, and no more after a failure of the sink. Says
 /// how many bytes are written then. The first line alone is looked up.
 pub fn write_lines<S: ParagraphStore<Kept>, W: Sink>(
     store: &S,

@@ -2,7 +2,7 @@
 //! paragraphs.
 ghost use Rattle.std.specs.Prelude.{◌≡◌, ◌+◌, ◌<◌, ◌≤◌, nat_le, nat_lt, length};
 ghost use Rattle.std.specs.Prelude.{is_none, option_map, slice_get};
-ghost use Rattle.std.specs.Prelude.{IfOk, IfErr, IfSome, OnOk, OnErr};
+ghost use Rattle.std.specs.Prelude.{IfOk, IfErr, IfSome, IsErrOf, OnOk, OnErr};
 ghost use Rattle.std.specs.List.{flat_map};
 ghost use Rattle.std.specs.Str.{chars};
 ghost use Rattle.device.specs.Device.{StoppedAt, Wrote};
@@ -10,6 +10,7 @@ ghost use Rattle.lines.specs.Bytes.{line_bytes};
 ghost use Rattle.lines.specs.Engine.{analysed_of, filled_of, rules_of, written_of, SameRules};
 ghost use Rattle.lines.specs.Writing.{PassedOn, StoppedIn};
 ghost use Rattle.lines.specs.declared.print.Print.{Print};
+ghost use Rattle.session.specs.Carets.{caret_at};
 ghost use Rattle.session.specs.Changes.{after_all, changing, deletion, insertion};
 ghost use Rattle.session.specs.Clusters.{cluster_at};
 ghost use Rattle.session.specs.Hits.{hit_at};
@@ -20,7 +21,9 @@ ghost use Rattle.session.specs.Reading.{text_part};
 ghost use Rattle.session.specs.Runs.{StopsAt, WorksAtMost};
 ghost use Rattle.session.specs.Sessions.{cuts_at, held_at, page_at, text_at, IsWholeLayout};
 ghost use Rattle.session.specs.Sessions.{Edits, EditsNot, Opens, OpensNot, Refills, RefillsNot};
+ghost use Rattle.session.specs.declared.edits.EditFault.TheVariants.{NoMemory};
 
+use crate::carets::{Caret, caret_in};
 use crate::clusters::{Cluster, cluster_of};
 use crate::edit::edit;
 use crate::edits::{Damage, Edit, EditFault, TEXT_LIMIT};
@@ -80,6 +83,7 @@ fn fill_store<S: ParagraphStore<Kept> + Drop>(
     ensures ok { IfOk result (λ store. Opens engine.old (chars text.now) width
         (record { engine = engine.new; width = width; kept = S.items store })) }
     ensures err { IfErr result (λ fault. OpensNot engine.old (chars text.now) width (engine.new, fault)) }
+    ensures memory { IsErrOf result NoMemory → 0 < length (chars text.now) }
 {
     if width == 0 {
         return Err(EditFault::WidthOutOfRange);
@@ -111,6 +115,7 @@ impl<S: ParagraphStore<Kept> + Drop> Session<S> {
     ) -> Result<Session<S>, (Engine, EditFault)>
         ensures ok { IfOk result (Opens engine (chars text.now) width) }
         ensures err { IfErr result (OpensNot engine (chars text.now) width) }
+        ensures memory { IfErr result (λ back. back.1 ≡ NoMemory → 0 < length (chars text.now)) }
     {
         let mut engine = engine;
         match fill_store(alloc, &mut engine, text, width) {
@@ -155,7 +160,7 @@ impl<S: ParagraphStore<Kept>> Session<S> {
         line_start(&self.store, n)
     }
 
-    /// Where the character at a position stands. The end of the text is behind its last character, or where
+    /// Where the character at a position stands. The end of the text is after its last character, or where
     /// the next paragraph would begin: in a text that is empty or ends with a separator, so that `line` is
     /// `line_count` there. Past the end there is nothing.
     pub fn place(&self, pos: usize) -> Option<Place>
@@ -166,6 +171,35 @@ impl<S: ParagraphStore<Kept>> Session<S> {
         paragraphs_are_pieces();
         Laid::lines_begin_in_order();
         place_of(&self.store, &self.engine, pos)
+    }
+
+    /// Where a caret stands before the character at a position: at the character's leading edge as it is
+    /// shown, which is its left one where its level is even, and its right one where it is odd. Before a
+    /// character that is not shown, and at the end of the text, it stands at the line's end in the direction
+    /// of the paragraph; on the line that would come, at column 0. Past the end there is nothing.
+    ///
+    /// Where the direction changes, one position has two edges: this one, and the trailing edge of the
+    /// character before it, which is the other side of the caret at `pos - 1`. A caret between a Latin `c`
+    /// and the first letter of a Hebrew word, shown right of it:
+    ///
+    /// ```text
+    /// positions   0 1 2 3 4 5 6       a b c, a space, and the letters 4, 5 and 6
+    /// shown       a b c _ 6 5 4
+    /// columns    0 1 2 3 4 5 6 7      caret(3): column 3; caret(4): column 7, at 4's right edge
+    /// ```
+    pub fn caret(&self, pos: usize) -> Option<Caret>
+        ensures caret { result ≡ caret_at (rules_of self.now.engine) self.now.kept pos }
+        ensures none { is_none result ≡ nat_lt (length (text_at self.now)) pos }
+    {
+        let place = self.place(pos)?;
+        match self.line(place.line) {
+            Some(line) => Some(caret_in(&line, place)),
+            None => Some(Caret {
+                line: place.line,
+                column: 0,
+                level: self.engine.empty_base(),
+            }),
+        }
     }
 
     /// The character whose columns cover a column of a line, counted from 0 at the left edge of the line's
@@ -183,7 +217,8 @@ impl<S: ParagraphStore<Kept>> Session<S> {
     /// The grapheme cluster of the character at a position, within its paragraph, where there is one. It
     /// takes memory for the paragraph's characters, and time that grows with them.
     pub fn cluster(&self, pos: usize) -> Result<Option<Cluster>, AllocError>
-        ensures { IfOk result (λ cluster. cluster ≡ cluster_at self.now.kept pos) }
+        ensures ok { IfOk result (λ cluster. cluster ≡ cluster_at self.now.kept pos) }
+        ensures memory { OnErr result (pos < length (text_at self.now)) }
     {
         // The laws by which no paragraph is empty.
         paragraphs_are_pieces();
@@ -255,10 +290,12 @@ impl<S: ParagraphStore<Kept>> Session<S> {
         self.engine.written()
     }
 
-    /// Puts a text in front of the character at `pos`, or at the end.
+    /// Puts a text before the character at `pos`, or at the end.
     pub fn insert(&mut self, pos: usize, text: &str) -> Result<Damage, EditFault>
         ensures ok { IfOk result (Edits (insertion pos (chars text.now)) self.old self.new) }
         ensures err { IfErr result (EditsNot (insertion pos (chars text.now)) self.old self.new) }
+        ensures memory { IsErrOf result NoMemory
+            → 0 < length (text_at self.old) + length (chars text.now) }
     {
         self.change(pos, 0, text)
     }
@@ -267,6 +304,7 @@ impl<S: ParagraphStore<Kept>> Session<S> {
     pub fn delete(&mut self, pos: usize, count: usize) -> Result<Damage, EditFault>
         ensures ok { IfOk result (Edits (deletion pos count) self.old self.new) }
         ensures err { IfErr result (EditsNot (deletion pos count) self.old self.new) }
+        ensures memory { IsErrOf result NoMemory → 0 < length (text_at self.old) }
     {
         self.change(pos, count, "")
     }
@@ -275,6 +313,7 @@ impl<S: ParagraphStore<Kept>> Session<S> {
     pub fn set_width(&mut self, width: u16) -> Result<Damage, EditFault>
         ensures ok { IfOk result (Refills width self.old self.new) }
         ensures err { IfErr result (RefillsNot width self.old self.new) }
+        ensures memory { IsErrOf result NoMemory → 0 < length (text_at self.old) }
     {
         change_width(
             self.alloc,
@@ -285,7 +324,7 @@ impl<S: ParagraphStore<Kept>> Session<S> {
         )
     }
 
-    /// Writes all lines, and no more behind a failure of the sink. It takes no memory.
+    /// Writes all lines, and no more after a failure of the sink. It takes no memory.
     pub fn print<W: Sink>(&self, writer: &mut W, print: &Print) -> Result<(), WriteFault>
         ensures ok { OnOk result (Wrote (page_at self.now print.now)
             (W.state writer.old) (W.state writer.new)) }
@@ -300,7 +339,7 @@ impl<S: ParagraphStore<Kept>> Session<S> {
         }
     }
 
-    /// Writes them behind `done` bytes that the sink passed before, and says how many bytes that makes; a
+    /// Writes them after `done` bytes that the sink passed before, and says how many bytes that makes; a
     /// fault counts these too.
     pub fn print_behind<W: Sink>(
         &self,
@@ -344,7 +383,7 @@ impl<S: ParagraphStore<Kept>> Session<S> {
         Ok(())
     }
 
-    /// Writes them behind `done` bytes that the sink passed before, and says how many bytes that makes; a
+    /// Writes them after `done` bytes that the sink passed before, and says how many bytes that makes; a
     /// fault counts these too.
     pub fn print_lines_behind<W: Sink>(
         &self,
@@ -417,6 +456,8 @@ impl<S: ParagraphStore<Kept>> Session<S> {
     fn change(&mut self, pos: usize, count: usize, piece: &str) -> Result<Damage, EditFault>
         ensures ok { IfOk result (Edits (changing pos count (chars piece.now)) self.old self.new) }
         ensures err { IfErr result (EditsNot (changing pos count (chars piece.now)) self.old self.new) }
+        ensures memory { IsErrOf result NoMemory
+            → 0 < length (text_at self.old) + length (chars piece.now) }
     {
         edit(
             self.alloc,

@@ -1,12 +1,13 @@
 //! A change of the width: of all lines that change it is known where they start and how much of each is
 //! shown, before the first of them is written over those at the old width.
-ghost use Rattle.std.specs.Prelude.{◌≡◌, ◌^◌, ◌<◌, ◌≤◌, ℕ, is_none, length, map, sum_by};
-ghost use Rattle.std.specs.Prelude.{IfOk, IfErr, IfSome};
+ghost use Rattle.std.specs.Prelude.{◌≡◌, ◌^◌, ◌<◌, ◌≤◌, ℕ, false, is_none, length, map, sum_by};
+ghost use Rattle.std.specs.Prelude.{IfOk, IfErr, IfSome, IsErrOf, OnErr};
 ghost use Rattle.std.specs.List.{All, AllZip};
 ghost use Rattle.lines.specs.Engine.{rules_of, FindsExtentsAtMost, RewritesAtMost, SameRules};
 ghost use Rattle.lines.specs.Layouts.{is_line_within, IsLaidOut};
 ghost use Rattle.session.specs.Sessions.{IsWholeLayout, Refills, RefillsNot};
 ghost use Rattle.session.specs.Kept.{put_into, text_of, BringsTo, CanBePut};
+ghost use Rattle.session.specs.declared.edits.EditFault.TheVariants.{NoMemory};
 ghost use Rattle.store.specs.Exchanging.{pairwise, total_cost};
 
 use crate::edits::{Damage, EditFault};
@@ -27,6 +28,7 @@ fn find_one(
     requires width { 0 < width }
     ensures ok { IfOk result (BringsTo (rules_of engine.old) width laid.now) }
     ensures kept { IfOk result (λ part. is_none part ≡ is_line_within width laid.now.lines) }
+    ensures memory { OnErr result (is_line_within width laid.now.lines ≡ false) }
     ensures rules { SameRules engine.old engine.new }
     ensures counts { FindsExtentsAtMost (length laid.now.text) engine.old engine.new }
 {
@@ -47,6 +49,7 @@ fn find_each(
     requires width { 0 < width }
     ensures ok { IfOk result (λ parts.
         AllZip (BringsTo (rules_of engine.old) width) (map (λ kept. kept.now) list.now) parts.items) }
+    ensures memory { OnErr result (0 < length list.now) }
     ensures rules { SameRules engine.old engine.new }
     ensures counts { FindsExtentsAtMost (length (text_of (map (λ kept. kept.now) list.now)))
         engine.old engine.new }
@@ -60,8 +63,12 @@ fn find_each(
 
 // The most characters that one of some paragraphs has.
 fn longest(list: &[&Kept]) -> usize
-    ensures { All (λ kept. length kept.text ≤ result) (map (λ kept. kept.now) list.now) }
+    ensures all { All (λ kept. length kept.text ≤ result) (map (λ kept. kept.now) list.now) }
+    ensures none { length list.now ≡ 0 → result ≡ 0 }
 {
+    if list.is_empty() {
+        return 0;
+    }
     let mut most = 0;
     for kept in list {
         most = most.max(kept.chars());
@@ -84,6 +91,7 @@ fn find_all<S: ParagraphStore<Kept>>(
     ensures room { IfOk result (λ found.
         All (λ kept. length kept.text ≤ found.1.len) (S.items store.now)) }
     ensures unwritten { IfOk result (λ found. found.1.written ≡ 0) }
+    ensures memory { OnErr result (0 < length (S.items store.now)) }
     ensures rules { SameRules engine.old engine.new }
     ensures counts { FindsExtentsAtMost (length (text_of (S.items store.now))) engine.old engine.new }
 {
@@ -138,6 +146,7 @@ pub fn change_width<S: ParagraphStore<Kept>>(
     ensures err { IfErr result (RefillsNot new_width
         (record { engine = engine.old; width = width.old; kept = S.items store.old })
         (record { engine = engine.new; width = width.new; kept = S.items store.new })) }
+    ensures memory { IsErrOf result NoMemory → 0 < length (S.items store.old) }
 {
     if new_width == 0 {
         return Err(EditFault::WidthOutOfRange);

@@ -283,7 +283,7 @@ fn is_of(laid: &Laid, text: &[char], base: u8) -> bool {
     laid.text() == text && laid.base() == base
 }
 
-// Whether its characters have these levels, and these marks behind them.
+// Whether its characters have these levels, and these marks after them.
 fn has(laid: &Laid, levels: &[u8], marks: &[Mark]) -> bool {
     laid.levels() == levels && laid.marks() == marks
 }

@@ -7,7 +7,7 @@ use Rattle.std.proofs.Math.ListN.{drop_of_length-le}
 use Rattle.std.proofs.lemmas.List.{append-nil, reverse-append, length-reverse, take_all, take-append-drop, length-take-le, drop-drop, take-append-le, drop-append-le, take-take, take_more, set_split, get_or-drop}
 
 module _ {A : Type 0} where
-  -- a list is what stands before, at and behind one of its places
+  -- a list is what stands before, at and after one of its places
   pub at_place : (xs : List A) (i : ℕ) (x : A) → i < length xs → x ≡ get_or xs i x → xs ≡ take i xs ++ x ∷ drop (i + 1) xs
   at_place xs i x h e =
       let f : drop i xs ≡ get_or xs i x ∷ drop (i + 1) xs = rw (add-one) (drop-cons xs i x h) in
@@ -18,7 +18,7 @@ module _ {A : Type 0} where
       let e : i + (j - i) ≡ j = omega arith in
       drop-drop (j - i) i xs ∙ ap (λ k. drop k xs) e
 
-  -- a list is what stands before, in and behind a range
+  -- a list is what stands before, in and after a range
   pub at_range : (xs : List A) (i j : ℕ) → i ≤ j → xs ≡ take i xs ++ (slice_range xs i j ++ drop j xs)
   at_range xs i j h =
       sym (take-append-drop i xs) ∙ ap (λ ys. take i xs ++ ys) (sym (take-append-drop (j - i) (drop i xs)) ∙ ap (λ ys. slice_range xs i j ++ ys) (drop_range xs i j h))
@@ -35,7 +35,7 @@ module _ {A : Type 0} where
       let n : length a + length b - length a ≡ length b = omega arith in
       rw (e, f, g, n) (simp (take-append_seam, drop-append-add, drop-append_seam))
 
-  -- `replace` in a plain list: the new items are put behind all, and brought to their place
+  -- `replace` in a plain list: the new items are put after all, and brought to their place
   pub replaced : (xs ys all turned kept moved result : List A) (i j n : ℕ) → i ≤ j → j ≤ length xs → n + length ys ≡ length kept → all ≡ xs ++ ys
       → turned ≡ take i all ++ (drop j all ++ slice_range all i j)
       → kept ≡ take (length turned - (j - i)) turned → moved ≡ drop (length turned - (j - i)) turned
@@ -65,11 +65,11 @@ module _ {A : Type 0} where
       let lt : length (take k made) ≡ k = length-take-le k made (omega arith) in
       let front : take k now ≡ take k made = rw now_is (take-append-le k (take k made) (drop k xs) (omega arith) ∙ take-take k k made (omega arith)) in
       let within : k < length now = omega (arith, ap length now_is, length-append (take k made) (drop k xs), length-drop k xs) in
-      let behind : drop (k + 1) now ≡ drop (k + 1) xs =
+      let after : drop (k + 1) now ≡ drop (k + 1) xs =
       rw now_is (ap (λ n. drop (n + 1) (take k made ++ drop k xs)) (sym lt) ∙ drop-append-add (take k made) (drop k xs) 1 ∙ drop-drop 1 k xs) in
       let more : take (k + 1) made ≡ take k made ++ y ∷ [] =
       take_more made k y (omega arith) ∙ ap (λ z. take k made ++ z ∷ []) (sym y_is) in
-      set_split now k y within ∙ rw (← add-one) (ap (λ zs. zs ++ y ∷ drop (k + 1) now) front ∙ ap (λ zs. take k made ++ y ∷ zs) behind
+      set_split now k y within ∙ rw (← add-one) (ap (λ zs. zs ++ y ∷ drop (k + 1) now) front ∙ ap (λ zs. take k made ++ y ∷ zs) after
       ∙ sym (append_assoc (take k made) (y ∷ []) (drop (k + 1) xs)) ∙ ap (λ zs. zs ++ drop (k + 1) xs) (sym more))
 
   pub get_next : (made xs now : List A) (k : ℕ) (d : A) → length made ≡ length xs → k < length xs
@@ -89,7 +89,7 @@ module _ {A : Type 0} where
   overwritten now old n l n_is =
       ap (λ ys. take n (now ++ ys)) (drop_of_length-le old (omega arith)) ∙ ap (λ ys. take n ys) (append-nil now) ∙ take_all n now (omega arith)
 
-  -- a list that is taken from behind: some items, one more, and some more
+  -- a list that is taken from after: some items, one more, and some more
   pub taken : (xs front rest : List A) (top : A) (m b r : ℕ) → b + 1 + r ≡ m → m ≤ length xs → take (length xs - b) xs ≡ front
       → front ≡ rest ++ top ∷ []
       → (length rest + 1 ≡ length xs - b) × (take (length rest - r) rest ≡ take (length xs - m) xs)
@@ -113,7 +113,7 @@ module _ {A : Type 0} where
         ap reverse whole ∙ turned rest,
       )
 
-  -- a list that is cut behind one of its places
+  -- a list that is cut after one of its places
   pub take_far : (l r : List A) (x : A) (n : ℕ) → length l < n → take n (l ++ x ∷ r) ≡ l ++ x ∷ take (n - length l - 1) r
   take_far l r x n h =
       let e : n ≡ length l + suc (n - length l - 1) = omega arith in
@@ -169,7 +169,7 @@ module _ {A : Type 0} (f : A → ℕ) where
         sum_around_splice f xs i j ys h,
       )
 
--- the last item of a list is put at the end of another one, which is read from behind
+-- the last item of a list is put at the end of another one, which is read from after
 pub one_over : {A : Type 0} (items front spares more all : List A) (x y : A) → items ≡ front ++ x ∷ [] → y ≡ x → more ≡ spares ++ y ∷ []
     → items ++ reverse spares ≡ all → front ++ reverse more ≡ all
 one_over items front spares more all x y items_is y_is more_is all_is =

@@ -10,12 +10,13 @@ measure chars lines Char = chars
 measure chars lines Line = lines
 
 -- Number n of what an item has `size` of, counted through all items in order from 0, is number `rest` of the item at `index`.
-pub record Finds {P : Type 0} (size lines : P → ℕ) (items : List P) (n : ℕ) (found : Found) : Type 0 where
+pub record Finds {P : Type 0} (size chars lines : P → ℕ) (items : List P) (n : ℕ) (found : Found) : Type 0 where
   pub before : List P
   pub item : P
-  pub behind : List P
-  pub place : items ≡ before ++ item ∷ behind
+  pub after : List P
+  pub place : items ≡ before ++ item ∷ after
   pub index : found.index ≡ length before
   pub rest : sum_by size before + found.rest ≡ n
   pub within : found.rest < size item
+  pub chars_before : found.chars_before ≡ sum_by chars before
   pub lines_before : found.lines_before ≡ sum_by lines before

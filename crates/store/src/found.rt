@@ -11,7 +11,9 @@ pub struct Found {
     pub index: usize,
     /// Which one of that item's it is, counted from 0.
     pub rest: usize,
-    /// How many lines the items before that item have.
+    /// How many characters the items before that item have.
+    pub chars_before: usize,
+    /// And how many lines.
     pub lines_before: usize,
     /// How many items the search looked at.
     pub visits: usize,

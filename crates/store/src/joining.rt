@@ -94,26 +94,26 @@ fn lift<P: Measured>(
     left: Subtree<P>,
     before: Spare<P>,
     inner: Subtree<P>,
-    behind: Spare<P>,
+    after: Spare<P>,
     right: Subtree<P>,
 ) -> Subtree<P>
     requires fits { Fits P.chars P.lines
-        (in_order left ++ before ∷ in_order inner ++ behind ∷ in_order right) }
+        (in_order left ++ before ∷ in_order inner ++ after ∷ in_order right) }
     requires higher { (height inner ≡ height left + 1) × (height inner ≡ height right + 1) }
-    ensures items { in_order result ≡ in_order left ++ before ∷ in_order inner ++ behind ∷ in_order right }
+    ensures items { in_order result ≡ in_order left ++ before ∷ in_order inner ++ after ∷ in_order right }
     ensures height { height result ≡ height inner + 1 }
 {
     let Some((first, middle, second)) = inner.open() else {
         unreachable!()
     };
-    middle.over(before.over(left, first), behind.over(second, right))
+    middle.over(before.over(left, first), after.over(second, right))
 }
 
 // Trees of the items before a place, and of those from it on.
 fn split<P: Measured>(tree: Subtree<P>, at: usize) -> (Subtree<P>, Subtree<P>)
     requires { at ≤ length (in_order tree) }
     ensures front { in_order result.0 ≡ take at (in_order tree) }
-    ensures behind { in_order result.1 ≡ drop at (in_order tree) }
+    ensures after { in_order result.1 ≡ drop at (in_order tree) }
 {
     let Some((left, top, right)) = tree.open() else {
         return (Subtree::empty(), Subtree::empty());
@@ -123,8 +123,8 @@ fn split<P: Measured>(tree: Subtree<P>, at: usize) -> (Subtree<P>, Subtree<P>)
         let (front, middle) = split(left, at);
         return (front, join(middle, top, right));
     }
-    let (middle, behind) = split(right, at - before - 1);
-    (join(left, top, middle), behind)
+    let (middle, after) = split(right, at - before - 1);
+    (join(left, top, middle), after)
 }
 
 // Takes the first item out.
@@ -194,13 +194,13 @@ pub(crate) fn put_in<P: Measured>(
 {
     let whole = mem::replace(tree, Subtree::empty());
     let (front, rest) = split(whole, first);
-    let (gone, behind) = split(rest, second - first);
+    let (gone, after) = split(rest, second - first);
     let middle = build_all(spares);
-    mem::replace(tree, append(append(front, middle), behind)).discard();
+    mem::replace(tree, append(append(front, middle), after)).discard();
     gone
 }
 
-/// Moves the items behind those of a list that has room for them, and lets go of the nodes.
+/// Moves the items after those of a list that has room for them, and lets go of the nodes.
 pub(crate) fn move_items<P: Measured>(tree: Subtree<P>, items: &mut Vec<P>)
     requires { length items.old.items + length (in_order tree) ≤ vec_capacity items.old }
     ensures items { items.new.items ≡ items.old.items ++ in_order tree }

@@ -1,5 +1,5 @@
 //! Stores of items: a list with its sums, whatever holds it.
-ghost use Rattle.std.specs.Prelude.{◌≡◌, ◌+◌, ◌^◌, ◌<◌, ◌≤◌};
+ghost use Rattle.std.specs.Prelude.{◌≡◌, ◌+◌, ◌-◌, ◌^◌, ◌<◌, ◌≤◌};
 ghost use Rattle.std.specs.Prelude.{ℕ, List, [], length, map, slice_get, slice_range, option_map, sum_by};
 ghost use Rattle.std.specs.Prelude.{IfOk, IfErr, OnOk, OnErr};
 ghost use Rattle.std.specs.List.{splice, AllZip};
@@ -12,7 +12,7 @@ use std::alloc::{AllocError, Global};
 use std::ops::Range;
 
 /// A list of items, with the sums of their characters and of their lines. Only `replace` and `list`
-/// take memory. No call drops or copies an item.
+/// take memory, and none where there is nothing to list or to replace. No call drops or copies an item.
 pub trait ParagraphStore<P: Measured> {
     // The items in order.
     ghost items: { Self → List P };
@@ -39,17 +39,18 @@ pub trait ParagraphStore<P: Measured> {
 
     /// All items in order, found in one walk over the store.
     fn list(&self, alloc: Global) -> Result<Vec<&P>, AllocError>
-        ensures { IfOk result (λ list. map (λ item. item.now) list.items ≡ items self.now) };
+        ensures ok { IfOk result (λ list. map (λ item. item.now) list.items ≡ items self.now) }
+        ensures memory { OnErr result (0 < length (items self.now)) };
 
     /// The item in which a character stands, counted through all items from 0.
     fn find_char(&self, pos: usize) -> Found
         requires { pos < sum_by P.chars (items self.now) }
-        ensures { Finds P.chars P.lines (items self.now) pos result };
+        ensures { Finds P.chars P.chars P.lines (items self.now) pos result };
 
     /// The item in which a line stands, counted through all items from 0.
     fn find_line(&self, n: usize) -> Found
         requires { n < sum_by P.lines (items self.now) }
-        ensures { Finds P.lines P.lines (items self.now) n result };
+        ensures { Finds P.lines P.chars P.lines (items self.now) n result };
 
     /// Puts new items in place of those in a range, and hands the old ones out. The new sums fit a
     /// `usize`. Where memory is refused nothing is changed, and the new items come back.
@@ -68,7 +69,8 @@ pub trait ParagraphStore<P: Measured> {
             (items self.new ≡ splice (items self.old) range.start range.end new_items.items) }
         ensures old { IfOk result (λ old. old.items ≡ slice_range (items self.old) range.start range.end) }
         ensures err { OnErr result (self.new ≡ self.old) }
-        ensures back { IfErr result (λ e. e.0.items ≡ new_items.items) };
+        ensures back { IfErr result (λ e. e.0.items ≡ new_items.items) }
+        ensures memory { OnErr result (0 < range.end - range.start + length new_items.items) };
 
     /// Each item exchanges with its part, in order. There are as many parts as items, each fits its
     /// item, and the new sum of lines fits a `usize`. It takes no memory.

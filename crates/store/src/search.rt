@@ -26,7 +26,7 @@ impl<P: Measured> Subtree<P> {
         Some(&node.item)
     }
 
-    /// Puts all items in order behind those of a list that has room for them.
+    /// Puts all items in order after those of a list that has room for them.
     pub(crate) fn list_into<'a>(&'a self, list: &mut Vec<&'a P>)
         requires { length list.old.items + length (in_order self.now) ≤ vec_capacity list.old }
         ensures items { map (λ item. item.now) list.new.items
@@ -45,7 +45,7 @@ impl<P: Measured> Subtree<P> {
     /// The item in which number `n` of the counted stands.
     pub(crate) fn find(&self, unit: Unit, n: usize) -> Found
         requires { n < sum_by (measure P.chars P.lines unit) (in_order self.now) }
-        ensures found { Finds (measure P.chars P.lines unit) P.lines (in_order self.now) n result }
+        ensures found { Finds (measure P.chars P.lines unit) P.chars P.lines (in_order self.now) n result }
         ensures visits { result.visits ≡ nodes_to self.now result.index }
     {
         let Some(node) = &self.root else {
@@ -53,7 +53,8 @@ impl<P: Measured> Subtree<P> {
         };
         let node: &Node<P> = node;
         // Shows that what is counted fits.
-        let (_height, _count, _lines) = (self.height(), self.count(), self.lines());
+        let (_height, _count) = (self.height(), self.count());
+        let (_chars, _lines) = (self.chars(), self.lines());
         let before = node.left.total(unit);
         if n < before {
             let found = node.left.find(unit, n);
@@ -63,13 +64,14 @@ impl<P: Measured> Subtree<P> {
             };
         }
         let index = node.left.count();
-        let lines_before = node.left.lines();
+        let (chars_before, lines_before) = (node.left.chars(), node.left.lines());
         let rest = n - before;
         let size = unit.size_of(&node.item);
         if rest < size {
             return Found {
                 index,
                 rest,
+                chars_before,
                 lines_before,
                 visits: 1,
             };
@@ -78,6 +80,7 @@ impl<P: Measured> Subtree<P> {
         Found {
             index: index + 1 + found.index,
             rest: found.rest,
+            chars_before: chars_before + node.item.chars() + found.chars_before,
             lines_before: lines_before + node.item.lines() + found.lines_before,
             visits: found.visits + 1,
         }

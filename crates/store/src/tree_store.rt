@@ -63,6 +63,7 @@ fn hang<P: Measured>(alloc: Global, items: &mut Vec<P>) -> Result<Vec<Spare<P>>,
     ensures ok { IfOk result (λ spares. spares.items ≡ reverse items.old.items) }
     ensures left { OnOk result (items.new.items ≡ []) }
     ensures err { OnErr result (items.new.items ≡ items.old.items) }
+    ensures memory { OnErr result (0 < length items.old.items) }
 {
     let mut spares = Vec::with_capacity(alloc, items.len())?;
     for _ in 0..items.len() {
@@ -103,6 +104,7 @@ fn take_memory<P: Measured>(
     ensures count { OnOk result (kept + length items.old.items < 2 ^ 64) }
     ensures left { OnOk result (items.new.items ≡ []) }
     ensures err { OnErr result (items.new.items ≡ items.old.items) }
+    ensures memory { OnErr result (0 < removed + length items.old.items) }
 {
     if items.len() > usize::MAX - kept {
         return Err(AllocError);
@@ -152,7 +154,7 @@ impl<P: Measured> ParagraphStore<P> for TreeStore<P> {
     /// It looks at the nodes from the root to the answered item.
     fn find_char(&self, pos: usize) -> Found
         requires { pos < sum_by P.chars (in_order self.now) }
-        ensures found { Finds P.chars P.lines (in_order self.now) pos result }
+        ensures found { Finds P.chars P.chars P.lines (in_order self.now) pos result }
         ensures visits { result.visits ≡ nodes_to self.now result.index }
         ensures few { 2 ^ (result.visits / 2) ≤ length (in_order self.now) + 1 }
     {
@@ -163,7 +165,7 @@ impl<P: Measured> ParagraphStore<P> for TreeStore<P> {
     /// It looks at the nodes from the root to the answered item.
     fn find_line(&self, n: usize) -> Found
         requires { n < sum_by P.lines (in_order self.now) }
-        ensures found { Finds P.lines P.lines (in_order self.now) n result }
+        ensures found { Finds P.lines P.chars P.lines (in_order self.now) n result }
         ensures visits { result.visits ≡ nodes_to self.now result.index }
         ensures few { 2 ^ (result.visits / 2) ≤ length (in_order self.now) + 1 }
     {
@@ -187,6 +189,7 @@ impl<P: Measured> ParagraphStore<P> for TreeStore<P> {
         ensures old { IfOk result (λ old. old.items ≡ slice_range (in_order self.old) range.start range.end) }
         ensures err { OnErr result (self.new ≡ self.old) }
         ensures back { IfErr result (λ e. e.0.items ≡ new_items.items) }
+        ensures memory { OnErr result (0 < range.end - range.start + length new_items.items) }
     {
         let mut new_items = new_items;
         let removed = range.end - range.start;

@@ -14,7 +14,7 @@ use std::alloc::{AllocError, Global};
 use std::marker::Model;
 use std::ops::Range;
 
-/// A store that is a list. A search walks over the items, and `replace` moves those behind the range.
+/// A store that is a list. A search walks over the items, and `replace` moves those after the range.
 #[derive(Debug)]
 pub struct VecStore<P: Measured> {
     items: Vec<P>,
@@ -64,23 +64,26 @@ fn sums<P: Measured>(items: &[P]) -> (usize, usize)
 // Walks to the item in which number `n` of the counted stands.
 fn find<P: Measured>(items: &[P], unit: Unit, n: usize) -> Found
     requires within { n < sum_by (measure P.chars P.lines unit) items.now }
+    requires chars_fit { sum_by P.chars items.now < 2 ^ 64 }
     requires lines_fit { sum_by P.lines items.now < 2 ^ 64 }
-    ensures found { Finds (measure P.chars P.lines unit) P.lines items.now n result }
+    ensures found { Finds (measure P.chars P.lines unit) P.chars P.lines items.now n result }
     ensures visits { result.visits ≡ result.index + 1 }
 {
     let mut rest = n;
-    let mut lines_before = 0;
+    let (mut chars_before, mut lines_before) = (0, 0);
     for (index, item) in items.iter().enumerate() {
         let size = unit.size_of(item);
         if rest < size {
             return Found {
                 index,
                 rest,
+                chars_before,
                 lines_before,
                 visits: index + 1,
             };
         }
         rest -= size;
+        chars_before += item.chars();
         lines_before += item.lines();
     }
     unreachable!()
@@ -101,7 +104,7 @@ fn move_last<P>(items: &mut Vec<P>, count: usize, old: &mut Vec<P>)
     old.reverse();
 }
 
-// Brings what stands from the second place on in front of what stands from the first place on.
+// Brings what stands from the second place on before what stands from the first place on.
 fn rotate<P>(items: &mut Vec<P>, first: usize, second: usize)
     requires { (first ≤ second) × (second ≤ length items.old.items) }
     ensures items { items.new.items ≡ take first items.old.items
@@ -181,28 +184,31 @@ impl<P: Measured> ParagraphStore<P> for VecStore<P> {
     }
 
     fn list(&self, alloc: Global) -> Result<Vec<&P>, AllocError> {
+        if self.items.is_empty() {
+            return Ok(Vec::new(alloc));
+        }
         self.items.iter().collect(alloc)
     }
 
     /// It looks at each item up to the answered one.
     fn find_char(&self, pos: usize) -> Found
         requires { pos < sum_by P.chars self.now }
-        ensures found { Finds P.chars P.lines self.now pos result }
+        ensures found { Finds P.chars P.chars P.lines self.now pos result }
         ensures visits { result.visits ≡ result.index + 1 }
     {
-        // Shows that the sum of lines fits.
-        let _lines = self.lines;
+        // Shows that the sums fit.
+        let (_chars, _lines) = (self.chars, self.lines);
         find(&self.items, Unit::Char, pos)
     }
 
     /// It looks at each item up to the answered one.
     fn find_line(&self, n: usize) -> Found
         requires { n < sum_by P.lines self.now }
-        ensures found { Finds P.lines P.lines self.now n result }
+        ensures found { Finds P.lines P.chars P.lines self.now n result }
         ensures visits { result.visits ≡ result.index + 1 }
     {
-        // Shows that the sum of lines fits.
-        let _lines = self.lines;
+        // Shows that the sums fit.
+        let (_chars, _lines) = (self.chars, self.lines);
         find(&self.items, Unit::Line, n)
     }
 
@@ -221,6 +227,7 @@ impl<P: Measured> ParagraphStore<P> for VecStore<P> {
         ensures old { IfOk result (λ old. old.items ≡ slice_range self.old range.start range.end) }
         ensures err { OnErr result (self.new ≡ self.old) }
         ensures back { IfErr result (λ e. e.0.items ≡ new_items.items) }
+        ensures memory { OnErr result (0 < range.end - range.start + length new_items.items) }
     {
         let mut new_items = new_items;
         let removed = range.end - range.start;

@@ -1,4 +1,4 @@
-//! Marks behind their bases, in reading order, and in front of them without the option.
+//! Marks after their bases, in reading order, and before them without the option.
 use super::lay_out;
 use super::printed::{ALL, PLAIN, UNMIRRORED, are_printed};
 use crate::files::{FILES, engine};
@@ -34,7 +34,7 @@ type Row = (
     &'static [u32],
 );
 
-// With the option. The last two: a mark of another level, and one behind a space at the line's end.
+// With the option. The last two: a mark of another level, and one after a space at the line's end.
 static READ_ROWS: [Row; 7] = [
     (
         "\u{5D0}\u{300}\u{5D1}",
@@ -114,7 +114,7 @@ static REVERSED_ROWS: [Row; 5] = [
     ),
 ];
 
-// At an even level a mark stands behind its base anyway.
+// At an even level a mark stands after its base anyway.
 static RTL_ROWS: [Row; 1] = [("a\u{300}", &['a', '\u{300}'], &[0, 1], &[0, 1])];
 
 static POINT_ROWS: [Row; 1] = [(

@@ -45,7 +45,7 @@ const DIRECTION: Print = Print {
     ..NOTHING
 };
 
-// A paragraph, a width, what is printed, and the bytes. Shorter ones stand behind longer ones, whose lists
+// A paragraph, a width, what is printed, and the bytes. Shorter ones stand after longer ones, whose lists
 // are used again.
 static ROWS: [(&str, u16, Print, &str); 10] = [
     ("abcdefgh ij kl", 3, PLAIN, "abc\ndef\ngh\nij\nkl\n"),
@@ -65,7 +65,7 @@ static ROWS: [(&str, u16, Print, &str); 10] = [
     ("\n", 1, DIRECTION, "LTR\n"),
 ];
 
-// Whether these bytes were written, and nothing behind them.
+// Whether these bytes were written, and nothing after them.
 fn holds(taken: &[u8], bytes: &[u8]) -> bool {
     if bytes.len() > taken.len() {
         return false;

@@ -1,6 +1,7 @@
-//! Which character stands at a column, the columns of lines, and the clusters of characters.
+//! Which character stands at a column, where carets stand, the columns of lines, and the clusters of
+//! characters.
 use super::{Check, Pair, check_in_tree, renew};
-use session::{Cluster, EditFault, Hit, Kept, Session};
+use session::{Caret, Cluster, EditFault, Hit, Kept, Session};
 use std::alloc::AllocError;
 use std::process::Abort;
 use std::test::Fail;
@@ -49,6 +50,59 @@ fn is_row<S: ParagraphStore<Kept>>(
     let (text, [line, column], wanted) = *row;
     renew(session, text, 80)?;
     Ok(is_hit(session.hit(line, column), wanted))
+}
+
+// A text, its width and a position, and the line, the column and the level of the caret there.
+type CaretRow<'a> = (&'a str, u16, usize, Option<(usize, usize, u8)>);
+
+static CARETS: [CaretRow<'_>; 17] = [
+    (MIXED, 80, 0, Some((0, 0, 0))),
+    (MIXED, 80, 3, Some((0, 3, 0))),
+    (MIXED, 80, 4, Some((0, 7, 1))),
+    (MIXED, 80, 6, Some((0, 5, 1))),
+    (MIXED, 80, 7, Some((0, 7, 0))),
+    (MIXED, 80, 8, Some((1, 0, 0))),
+    (MIXED, 80, 9, None),
+    (RIGHT_TO_LEFT, 80, 0, Some((0, 4, 1))),
+    (RIGHT_TO_LEFT, 80, 3, Some((0, 0, 2))),
+    (RIGHT_TO_LEFT, 80, 4, Some((0, 0, 1))),
+    (WIDE, 80, 1, Some((0, 2, 0))),
+    (WIDE, 80, 2, Some((0, 3, 0))),
+    ("e\u{301}x", 80, 1, Some((0, 1, 0))),
+    ("ab  ", 80, 3, Some((0, 2, 0))),
+    ("ab cd", 2, 2, Some((0, 2, 0))),
+    ("ab cd", 2, 3, Some((1, 0, 0))),
+    ("", 80, 0, Some((0, 0, 0))),
+];
+
+fn is_caret(caret: Option<Caret>, wanted: Option<(usize, usize, u8)>) -> bool {
+    match (caret, wanted) {
+        (Some(caret), Some((line, column, level))) => {
+            (caret.line == line) & (caret.column == column) & (caret.level == level)
+        }
+        (None, None) => true,
+        _ => false,
+    }
+}
+
+fn is_caret_row<S: ParagraphStore<Kept>>(
+    session: &mut Session<S>,
+    row: &CaretRow<'_>,
+) -> Result<bool, EditFault> {
+    let (text, width, pos, wanted) = *row;
+    renew(session, text, width)?;
+    Ok(is_caret(session.caret(pos), wanted))
+}
+
+fn check_carets<S: ParagraphStore<Kept> + Drop, T: ParagraphStore<Kept> + Drop>(
+    rt: &impl Abort,
+    pair: &mut Pair<S, T>,
+) -> Result<(), EditFault> {
+    for row in &CARETS {
+        let is_right = is_caret_row(&mut pair.edited, row)? & is_caret_row(&mut pair.anew, row)?;
+        assert!(rt; is_right, "{:?} {}", row.0, row.2);
+    }
+    Ok(())
 }
 
 // Whether the only line has these columns left of its first positions, and such a padding.
@@ -130,7 +184,7 @@ pub(super) fn check_hits<S: ParagraphStore<Kept> + Drop, T: ParagraphStore<Kept>
         let is_right = is_cluster(&mut pair.edited, row)? & is_cluster(&mut pair.anew, row)?;
         assert!(rt; is_right, "{:?}", row.0);
     }
-    Ok(())
+    check_carets(rt, pair)
 }
 
 #[test]

@@ -9,7 +9,7 @@ use store::ParagraphStore;
 
 const TEXT: &str = "abc def\n\u{5d0}\u{5d1}\nx";
 
-// Lines as they are shown, with the direction behind the first of each paragraph.
+// Lines as they are shown, with the direction after the first of each paragraph.
 const SHOWN: Print = Print {
     visual: true,
     basedir: true,

@@ -63,7 +63,7 @@ fn refusal(text: &str, edit: Edit<'_>) -> Option<EditFault> {
     }
 }
 
-// The text behind the change.
+// The text after the change.
 fn changed(alloc: Global, text: &str, edit: Edit<'_>) -> Result<String, AllocError> {
     let (pos, count, piece) = parts(edit);
     let mut new = String::new(alloc);
@@ -159,18 +159,18 @@ fn stays<S: ParagraphStore<Kept>, T: ParagraphStore<Kept>>(
     new: &Session<S>,
     damage: Damage,
 ) -> bool {
-    let behind = (
+    let after = (
         damage.first_line.wrapping_add(damage.old_lines),
         damage.first_line.wrapping_add(damage.new_lines),
     );
-    let rest = old.line_count().wrapping_sub(behind.0);
+    let rest = old.line_count().wrapping_sub(after.0);
     let behind_pars = (
         damage.first_par.wrapping_add(damage.old_pars),
         damage.first_par.wrapping_add(damage.new_pars),
     );
     let rest_pars = old.paragraph_count().wrapping_sub(behind_pars.0);
     same_lines(old, new, (0, 0), damage.first_line)
-        && same_lines(old, new, behind, rest)
+        && same_lines(old, new, after, rest)
         && same_paragraphs(old, new, (0, 0), damage.first_par)
         && same_paragraphs(old, new, behind_pars, rest_pars)
 }
@@ -193,7 +193,7 @@ fn is_right<S: ParagraphStore<Kept>, T: ParagraphStore<Kept>>(
     }
 }
 
-// Makes a change in a session of this text, which becomes the text behind it.
+// Makes a change in a session of this text, which becomes the text after it.
 fn check_change<S: ParagraphStore<Kept> + Drop, T: ParagraphStore<Kept> + Drop>(
     rt: &impl Abort,
     alloc: Global,
@@ -218,7 +218,7 @@ fn check_change<S: ParagraphStore<Kept> + Drop, T: ParagraphStore<Kept> + Drop>(
     Ok(pair.check_same(rt, text.as_str())?)
 }
 
-// Puts the text behind the change in its place.
+// Puts the text after the change in its place.
 fn change(alloc: Global, text: &mut String, edit: Edit<'_>) -> Result<(), AllocError> {
     *text = match changed(alloc, text.as_str(), edit) {
         Ok(new) => new,

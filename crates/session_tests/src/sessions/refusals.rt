@@ -38,8 +38,8 @@ pub(super) fn check_refused<S: ParagraphStore<Kept> + Drop, T: ParagraphStore<Ke
     renew(&mut pair.edited, "ab\ncd", 7)?;
     let before = [pair.edited.analysed(), pair.edited.filled()];
     let are_refused = refuses(&mut pair.edited, &REFUSED);
-    let behind = [pair.edited.analysed(), pair.edited.filled()];
-    assert!(rt; are_refused & (behind == before));
+    let after = [pair.edited.analysed(), pair.edited.filled()];
+    assert!(rt; are_refused & (after == before));
     pair.check_same(rt, "ab\ncd")
 }
 
@@ -92,7 +92,7 @@ fn sessions_that_are_refused(rt: HostRuntime) -> Result<(), Fail> {
     check_open(&rt, alloc, 1_048_577, 80, EditFault::ParagraphTooLong)
 }
 
-// Whether a paragraph of the greatest length in front of a separator takes no more.
+// Whether a paragraph of the greatest length before a separator takes no more.
 fn is_full<S: ParagraphStore<Kept>>(
     edited: &mut Session<S>,
     long: &str,

@@ -6,10 +6,10 @@ use std::process::Abort;
 use std::test::Fail;
 use store::ParagraphStore;
 
-// A text, its width, a change, the damage, by how much the counts may rise, and the text behind it.
+// A text, its width, a change, the damage, by how much the counts may rise, and the text after it.
 type Row<'a> = (&'a str, u16, Edit<'a>, [usize; 6], [u64; 2], &'a str);
 
-// Whether the change is answered as it should be, and the session is of the text behind it.
+// Whether the change is answered as it should be, and the session is of the text after it.
 fn is_row<S: ParagraphStore<Kept> + Drop, T: ParagraphStore<Kept> + Drop>(
     rt: &impl Abort,
     pair: &mut Pair<S, T>,

@@ -7,10 +7,11 @@ use Rattle.session.specs.declared.clusters.Cluster.{Cluster}
 use Rattle.session.proofs.ClusterLemmas.{cluster-fits, cluster-read, cluster-rest, no_cluster}
 use Rattle.session.proofs.EdgeLemmas.{chars_of, found_some, length-text}
 use Rattle.session.proofs.PlaceLemmas.{char_read}
+use Rattle.session.proofs.WantLemmas.{on_err}
 use Rattle.session.proofs.clusters.cluster_of.Goals as goal
 
-pub returns-then-pos-len : goal.returns-then-pos-len
-returns-then-pos-len g c =
+pub returns-then-pos-len-clause-ok : goal.returns-then-pos-len-clause-ok
+returns-then-pos-len-clause-ok g c =
     no_cluster (g.S.ParagraphStore.items c.args.store.now) c.args.pos (omega (arith, c.if-pos-len.true, c.total_chars-len.ensures, length-text (g.S.ParagraphStore.items c.args.store.now)))
 
 pub begin-requires : goal.begin-requires
@@ -33,8 +34,12 @@ overflow_add-result-in-Some g c =
 pub unreachable-requires : goal.unreachable-requires
 unreachable-requires g c = found_some chars_of (g.S.ParagraphStore.items c.args.store.now) c.args.pos c.find_char-found.result c.find_char-found.ensures c.in-None.ensures
 
-pub returns : goal.returns
-returns g c =
+pub returns-in_err-ends-in-Some-clause-memory : goal.returns-in_err-ends-in-Some-clause-memory
+returns-in_err-ends-in-Some-clause-memory g c =
+    on_err c.from_residual.result (omega (arith, c.if-pos-len.false, c.total_chars-len.ensures, length-text (g.S.ParagraphStore.items c.args.store.now)))
+
+pub returns-clause-ok : goal.returns-clause-ok
+returns-clause-ok g c =
     let kept = g.S.ParagraphStore.items c.args.store.now in
     let l = c.in-Some.kept.now in
     let rest = c.find_char-found.result.rest in

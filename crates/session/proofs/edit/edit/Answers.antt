@@ -14,6 +14,7 @@ use Rattle.session.proofs.EdgeLemmas.{length-text}
 use Rattle.session.proofs.EditLemmas.{rise, chars_fit, lines_fit, refusal-past, EditsNot-unchanged, EditsNot-by_region, Edits-after, ends_ok, ends_err}
 use Rattle.session.proofs.RefusalLemmas.{allowed-length, refusal-too_long}
 use Rattle.session.specs.declared.edits.TheConstants.{TEXT_LIMIT}
+use Rattle.session.proofs.WantLemmas.{of_err, some_put}
 use Rattle.session.proofs.edit.edit.Goals as goal
 use Rattle.session.proofs.edit.edit.Goals.{then-pos-len-via-then-pos-len, then-pos-len-via-else-pos-len+then-count-len}
 
@@ -162,3 +163,11 @@ returns-clause-err g c =
     let counts = subst (λ t. LaysOutAtMost (length t) c.args.engine.now c.lay_out_joined.new.engine) parts c.lay_out_joined.ensures.counts in
     ends_err (λ ks. EditsNot (changing c.args.pos c.args.count piece) old (record { engine = c.lay_out_joined.new.engine; width = c.args.width; kept = ks })) c.put.result _ _ c.put.ensures.err c.put.ensures.fault
     (EditsNot-by_region law few c.args.engine.now c.args.width kept c.requires c.args.pos c.args.count piece within c.front_edge-front.result c.back_edge-back.result f b c.lay_out_joined.new.engine NoMemory short (cond-true _ None (Some ParagraphTooLong) allowed) c.lay_out_joined.ensures.rules counts)
+
+pub returns-clause-memory : goal.returns-clause-memory
+returns-clause-memory g c wants =
+    let kept = g.S.ParagraphStore.items c.args.store.now in
+    let piece = chars c.args.piece.now in
+    let some = of_err c.put.result NoMemory c.put.ensures.memory wants in
+    some_put c.args.engine.now c.args.width kept c.requires c.front_text.result.now piece c.back_text.result.now _ _ _ _ c.front_text.ensures (c.back_text.ensures _ refl)
+    (rules_of c.args.engine.now) c.front_edge-front.result.index c.back_edge-back.result.index c.in-Ok.new.items c.back_edge-back.ensures.edge_is.within c.in-Ok.ensures.ok some

@@ -1,10 +1,10 @@
-use Rattle.std.proofs.Common.{refl, sym, ap, ap₂, length, Some, ◌+◌, ◌∙◌, arith, get_or}
+use Rattle.std.proofs.Common.{sym, ap, length, Some, ◌+◌, ◌∙◌, arith, get_or}
 use Rattle.std.proofs.lemmas.Option.{slice_get_past}
 use Rattle.lines.specs.Layouts.{Layout, start_of as begins}
 use Rattle.std.specs.Prelude.{map}
 use Rattle.session.specs.Places.{line_starts}
-use Rattle.session.proofs.EdgeLemmas.{length-lines, length-text, lines_of, found_some}
-use Rattle.session.proofs.PlaceLemmas.{length-lines_from, rest_within, start_read, start_within}
+use Rattle.session.proofs.EdgeLemmas.{length-lines, lines_of, found_some}
+use Rattle.session.proofs.PlaceLemmas.{length-lines_from, before_within, rest_within, start_read}
 use Rattle.session.proofs.places.line_start.Goals as goal
 
 pub returns-then-n-total_lines-clause-start : goal.returns-then-n-total_lines-clause-start
@@ -20,7 +20,7 @@ start_of_nth-start-requires g c =
 pub overflow_add-result : goal.overflow_add-result
 overflow_add-result g c =
     let kept = g.S.ParagraphStore.items c.args.store.now in
-    omega (arith, c.requires, length-text kept, start_within kept c.find_line-found.result.index _ refl, c.chars_before.ensures, c.start_of_nth-start.ensures.fits)
+    omega (arith, c.requires, before_within kept c.args.n c.find_line-found.result c.find_line-found.ensures, c.start_of_nth-start.ensures.fits)
 
 pub unreachable-requires : goal.unreachable-requires
 unreachable-requires g c = found_some lines_of (g.S.ParagraphStore.items c.args.store.now) c.args.n c.find_line-found.result c.find_line-found.ensures c.in-None.ensures
@@ -30,9 +30,9 @@ returns-clause-start g c =
     let kept = g.S.ParagraphStore.items c.args.store.now in
     let read = start_read kept c.args.n c.find_line-found.result c.find_line-found.ensures c.in-Some.kept.now c.in-Some.ensures in
     let starts = c.line_starts.ensures ∙ ap (λ (l : Layout). map begins l.lines) c.laid.ensures in
-    ap₂ (λ n m. Some (n + m)) c.chars_before.ensures (c.start_of_nth-start.ensures.start ∙ ap (λ ss. get_or ss c.find_line-found.result.rest 0) starts) ∙ sym read
+    ap (λ m. Some (c.find_line-found.result.chars_before + m)) (c.start_of_nth-start.ensures.start ∙ ap (λ ss. get_or ss c.find_line-found.result.rest 0) starts) ∙ sym read
 
 pub returns-clause-fits : goal.returns-clause-fits
 returns-clause-fits g c =
     let kept = g.S.ParagraphStore.items c.args.store.now in
-    omega (arith, c.requires, length-text kept, start_within kept c.find_line-found.result.index _ refl, c.chars_before.ensures, c.start_of_nth-start.ensures.fits)
+    omega (arith, c.requires, before_within kept c.args.n c.find_line-found.result c.find_line-found.ensures, c.start_of_nth-start.ensures.fits)

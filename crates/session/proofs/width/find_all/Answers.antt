@@ -8,9 +8,9 @@ use Rattle.session.proofs.width.find_all.Goals as goal
 pub find_each-requires-clause-laid : goal.find_each-requires-clause-laid
 find_each-requires-clause-laid g c =
     let kept = g.S.ParagraphStore.items c.args.store.now in
-    subst (All (IsLaidOut (rules_of c.args.engine.now))) (sym (ap values c.deref.ensures.value ∙ c.in_ok-list.ensures))
+    subst (All (IsLaidOut (rules_of c.args.engine.now))) (sym (ap values c.deref.ensures.value ∙ c.in_ok-list.ensures.ok))
     (all_each (IsLaidOut (rules_of c.args.engine.now)) kept (each_laid_out c.paragraphs_are_pieces.ensures c.args.engine.now c.requires.laid.0 kept c.requires.laid.1))
 
 pub returns-clause-room : goal.returns-clause-room
 returns-clause-room g c =
-    rw c.in_ok-room.ensures (subst (All (HasRoom c.longest.result)) (ap values c.deref-2.ensures.value ∙ c.in_ok-list.ensures) c.longest.ensures)
+    rw c.in_ok-room.ensures.ok (subst (All (HasRoom c.longest.result)) (ap values c.deref-2.ensures.value ∙ c.in_ok-list.ensures.ok) c.longest.ensures.all)

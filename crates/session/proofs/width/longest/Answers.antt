@@ -12,5 +12,5 @@ loop-kept-preserved c =
     let this : length kept.now.text ≤ c.max-most.result = grind (arith, nat_tests) in
     roomy_more (values c.args.list.now) c.loop-kept.kept-index c.loop-kept.most c.max-most.result kept.now here item order this c.loop-kept.invariant
 
-pub returns : goal.returns
-returns c = all_roomy (values c.args.list.now) c.loop-kept.kept-index c.loop-kept.most (all_listed c.args.list.now c.loop-kept.kept-index c.loop-kept-test.false) c.loop-kept.invariant
+pub returns-clause-all : goal.returns-clause-all
+returns-clause-all c = all_roomy (values c.args.list.now) c.loop-kept.kept-index c.loop-kept.most (all_listed c.args.list.now c.loop-kept.kept-index c.loop-kept-test.false) c.loop-kept.invariant

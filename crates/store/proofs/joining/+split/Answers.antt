@@ -9,7 +9,7 @@ use Rattle.store.proofs.joining.+split.Goals as goal
 pub join-requires : goal.join-requires
 join-requires g t c =
     let whole = subst (λ tree. Fits g.P.Measured.chars g.P.Measured.lines (in_order tree)) c.in-Some.ensures.parts c.in-Some.ensures.fits in
-    rw c.split-front.ensures.behind (fits_behind g.P.Measured.chars g.P.Measured.lines (in_order c.in-Some.left) (c.in-Some.top ∷ in_order c.in-Some.right) c.args.at whole)
+    rw c.split-front.ensures.after (fits_behind g.P.Measured.chars g.P.Measured.lines (in_order c.in-Some.left) (c.in-Some.top ∷ in_order c.in-Some.right) c.args.at whole)
 
 pub join-requires-2 : goal.join-requires-2
 join-requires-2 g t c =
@@ -30,14 +30,14 @@ returns-clause-front g t c =
     let e : in_order c.args.tree ≡ l ++ c.in-Some.top ∷ r = ap in_order c.in-Some.ensures.parts in
     c.join-2.ensures.items ∙ rw (e, c.split-middle.ensures.front, n_is) (sym (take_far l r c.in-Some.top c.args.at far))
 
-pub returns-clause-behind : goal.returns-clause-behind
-returns-clause-behind g t c =
+pub returns-clause-after : goal.returns-clause-after
+returns-clause-after g t c =
     let l = in_order c.in-Some.left in
     let r = in_order c.in-Some.right in
     let n_is : c.count-before.result ≡ length l = c.count-before.ensures in
     let far : length l < c.args.at = omega arith in
     let e : in_order c.args.tree ≡ l ++ c.in-Some.top ∷ r = ap in_order c.in-Some.ensures.parts in
-    c.split-middle.ensures.behind ∙ rw (e, n_is) (sym (drop_far l r c.in-Some.top c.args.at far))
+    c.split-middle.ensures.after ∙ rw (e, n_is) (sym (drop_far l r c.in-Some.top c.args.at far))
 
 pub split-front-requires : goal.split-front-requires
 split-front-requires g t c κs within = grind (arith, common_steps)
@@ -45,8 +45,8 @@ split-front-requires g t c κs within = grind (arith, common_steps)
 pub returns-then-at-before-clause-front : goal.returns-then-at-before-clause-front
 returns-then-at-before-clause-front g t c = grind (arith, common_steps)
 
-pub returns-then-at-before-clause-behind : goal.returns-then-at-before-clause-behind
-returns-then-at-before-clause-behind g t c = grind (arith, common_steps)
+pub returns-then-at-before-clause-after : goal.returns-then-at-before-clause-after
+returns-then-at-before-clause-after g t c = grind (arith, common_steps)
 
 pub split-middle-requires : goal.split-middle-requires
 split-middle-requires g t c κs within = grind (arith, common_steps)

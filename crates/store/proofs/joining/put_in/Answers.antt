@@ -22,8 +22,8 @@ append-requires-2 g c =
       c.append.ensures,
       c.split-front.ensures.front,
       c.build_all-middle.ensures,
-      c.split-gone.ensures.behind,
-      c.split-front.ensures.behind,
+      c.split-gone.ensures.after,
+      c.split-front.ensures.after,
       c.replace-whole.ensures.value,
       drop_range xs c.args.first c.args.second c.requires.order.0,
     )
@@ -38,8 +38,8 @@ returns-clause-items g c =
       c.append.ensures,
       c.split-front.ensures.front,
       c.build_all-middle.ensures,
-      c.split-gone.ensures.behind,
-      c.split-front.ensures.behind,
+      c.split-gone.ensures.after,
+      c.split-front.ensures.after,
       c.replace-whole.ensures.value,
       drop_range xs c.args.first c.args.second c.requires.order.0,
     )

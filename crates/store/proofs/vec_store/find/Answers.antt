@@ -11,13 +11,17 @@ returns-then-rest-size-clause-found g c =
     record {
       before = take i c.args.items.now;
       item = item;
-      behind = drop (i + 1) c.args.items.now;
+      after = drop (i + 1) c.args.items.now;
       place = at_place c.args.items.now i item c.loop-index-test.true c.index-items-index.is;
       index = sym (length-take-le i c.args.items.now (omega arith));
       rest = c.loop-index.invariant.0;
       within = omega (arith, c.size_of-size.ensures);
-      lines_before = c.loop-index.invariant.1;
+      chars_before = c.loop-index.invariant.1;
+      lines_before = c.loop-index.invariant.2;
     }
+
+pub overflow_add-chars_before : goal.overflow_add-chars_before
+overflow_add-chars_before g c = grind (arith, common_steps)
 
 pub overflow_add-lines_before : goal.overflow_add-lines_before
 overflow_add-lines_before g c = grind (arith, common_steps)

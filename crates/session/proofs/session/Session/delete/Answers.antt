@@ -1,3 +1,4 @@
+use Rattle.std.proofs.Common.{length, ap, arith}
 use Rattle.std.proofs.lemmas.Str.{chars-nil}
 use Rattle.session.proofs.session.Session.delete.Goals as goal
 
@@ -6,3 +7,6 @@ returns-clause-ok g c = rw chars-nil at c.change.ensures.ok
 
 pub returns-clause-err : goal.returns-clause-err
 returns-clause-err g c = rw chars-nil at c.change.ensures.err
+
+pub returns-clause-memory : goal.returns-clause-memory
+returns-clause-memory g c wants = omega (arith, c.change.ensures.memory wants, ap length chars-nil)

@@ -3,7 +3,7 @@ use Rattle.std.proofs.Common.{◌≡◌, ◌+◌, ◌-◌, length, sum_by, refl,
 use Rattle.store.specs.Finding.{measure}
 use Rattle.store.specs.Subtrees.{tree_of, tree_of_node}
 use Rattle.store.specs.Trees.{in_order, height}
-use Rattle.store.proofs.FindLemmas.{in_front, in_back}
+use Rattle.store.proofs.FindLemmas.{found_before, found_after}
 use Rattle.store.proofs.TreeLemmas.{nodes_low}
 use Rattle.store.proofs.subtree.Subtree.+find.Goals as goal
 
@@ -17,7 +17,7 @@ pub returns-then-n-before-clause-found : goal.returns-then-n-before-clause-found
 returns-then-n-before-clause-found g t c =
     let n = c.deref-node.result.now in
     let tree_is = sym c.self.view_is ∙ ap tree_of c.in-Some.is ∙ ap tree_of_node (sym c.deref-node.ensures) in
-    rw (ap in_order tree_is) (in_front (measure g.P.Measured.chars g.P.Measured.lines c.args.unit) g.P.Measured.lines (in_order n.left) n.item (in_order n.right) c.args.n c.find-found.result _ refl refl refl c.find-found.ensures.found)
+    rw (ap in_order tree_is) (found_before (measure g.P.Measured.chars g.P.Measured.lines c.args.unit) g.P.Measured.chars g.P.Measured.lines (in_order n.left) n.item (in_order n.right) c.args.n c.find-found.result _ refl refl refl refl c.find-found.ensures.found)
 
 pub returns-clause-found : goal.returns-clause-found
 returns-clause-found g t c =
@@ -27,12 +27,14 @@ returns-clause-found g t c =
     let k = c.args.n - c.total-before.result - c.size_of-size.result in
     let sum_is : sum_by size (in_order n.left) + size n.item + k ≡ c.args.n = omega (arith, c.total-before.ensures, c.size_of-size.ensures) in
     let index_is : c.count-index.result + 1 + c.find-found-2.result.index ≡ length (in_order n.left) + 1 + c.find-found-2.result.index = omega (arith, c.count-index.ensures) in
+    let chars_is : c.chars-chars_before.result + c.chars.result + c.find-found-2.result.chars_before
+    ≡ sum_by g.P.Measured.chars (in_order n.left) + g.P.Measured.chars n.item + c.find-found-2.result.chars_before = omega (arith, c.chars-chars_before.ensures, c.chars.ensures) in
     let lines_is : c.lines-lines_before.result + c.lines.result + c.find-found-2.result.lines_before
     ≡ sum_by g.P.Measured.lines (in_order n.left) + g.P.Measured.lines n.item + c.find-found-2.result.lines_before = omega (arith, c.lines-lines_before.ensures, c.lines.ensures) in
-    rw (ap in_order tree_is) (in_back size g.P.Measured.lines (in_order n.left) n.item (in_order n.right) c.args.n k c.find-found-2.result _ index_is refl sum_is lines_is c.find-found-2.ensures.found)
+    rw (ap in_order tree_is) (found_after size g.P.Measured.chars g.P.Measured.lines (in_order n.left) n.item (in_order n.right) c.args.n k c.find-found-2.result _ index_is refl sum_is chars_is lines_is c.find-found-2.ensures.found)
 
-pub overflow_add-result-6 : goal.overflow_add-result-6
-overflow_add-result-6 g t c =
+pub overflow_add-result-8 : goal.overflow_add-result-8
+overflow_add-result-8 g t c =
     let n = c.deref-node.result.now in
     let tree_is = sym c.self.view_is ∙ ap tree_of c.in-Some.is ∙ ap tree_of_node (sym c.deref-node.ensures) in
     omega (arith, nodes_low n.right c.find-found-2.result.index, c.find-found-2.ensures.visits, ap height tree_is)
@@ -57,3 +59,9 @@ overflow_add-result-5 g t c = grind (arith, common_steps)
 
 pub returns-then-n-before-clause-visits : goal.returns-then-n-before-clause-visits
 returns-then-n-before-clause-visits g t c = grind (arith, common_steps)
+
+pub overflow_add-result-6 : goal.overflow_add-result-6
+overflow_add-result-6 g t c = grind (arith, common_steps)
+
+pub overflow_add-result-7 : goal.overflow_add-result-7
+overflow_add-result-7 g t c = grind (arith, common_steps)

@@ -1,0 +1,66 @@
+-- Memory is wanted only where there is a text to keep.
+use Rattle.std.proofs.Common.{◌≡◌, ℕ, ◌+◌, ◌-◌, ◌<◌, ◌≤◌, List, [], ◌++◌, length, map, take, drop, get_or, refl, sym, ap, ◌∙◌, inl, inr, Result, Ok, Err, arith}
+use Rattle.std.specs.Result.{OnErr}
+use Rattle.std.proofs.Math.Seq.{take-nil}
+use Rattle.std.proofs.lemmas.Bool.{cases_lt}
+use Rattle.std.proofs.lemmas.List.{length-append, length-drop, nil_from_length}
+use Rattle.lines.specs.Engine.{rules_of}
+use Rattle.lines.specs.Layouts.{Layout, Rules}
+use Rattle.lines.specs.declared.engine.Engine.{Engine}
+use Rattle.session.specs.Kept.{pars_of, text_of, layouts_of}
+use Rattle.session.specs.Sessions.{State, IsWholeLayout}
+
+-- what holds anyway holds of an error, and what holds of an error holds where there is one
+pub on_err : {A E P : Type 0} (r : Result A E) → P → OnErr r P
+on_err (Ok x) p = tt
+on_err (Err e) p = p
+
+pub of_err : {A E P : Type 0} (r : Result A E) (e : E) → OnErr r P → r ≡ Err e → P
+of_err (Ok x) e p is = absurd (cc is)
+of_err (Err x) e p is = p
+
+-- a text without characters has no paragraphs
+pub none_kept : (engine : Engine) (width : ℕ) (kept : List Layout) → IsWholeLayout (record { engine = engine; width = width; kept = kept }) → length (text_of kept) ≡ 0 → kept ≡ []
+none_kept engine width kept whole none = whole.kept ∙ ap (layouts_of (rules_of engine) width) (nil_from_length (text_of kept) none)
+
+pub none_laid : (rules : Rules) (width : ℕ) (text : List ℕ) (kept : List Layout) → kept ≡ layouts_of rules width text → length text ≡ 0 → length kept ≡ 0
+none_laid rules width text kept laid none = ap length (laid ∙ ap (layouts_of rules width) (nil_from_length text none))
+
+-- parts of a paragraph's text, of none where no paragraph is
+no_part : (kept : List Layout) (i p : ℕ) → kept ≡ [] → length (take p (get_or (pars_of kept) i [])) ≡ 0
+no_part kept i p none = ap (λ (ks : List Layout). length (take p (get_or (pars_of ks) i []))) none ∙ ap length (take-nil p)
+
+no_rest : (kept : List Layout) (i q : ℕ) → kept ≡ [] → length (drop q (get_or (pars_of kept) i [])) ≡ 0
+no_rest kept i q none =
+    length-drop q (get_or (pars_of kept) i []) ∙ ap (λ (ks : List Layout). length (get_or (pars_of ks) i []) - q) none ∙ omega arith
+
+module _ (engine : Engine) (width : ℕ) (kept : List Layout) (whole : IsWholeLayout (record { engine = engine; width = width; kept = kept }))
+    (front piece back : List ℕ) (i j p q : ℕ) (front_is : front ≡ take p (get_or (pars_of kept) i [])) (back_is : back ≡ drop q (get_or (pars_of kept) j [])) where
+  none_joined : length (text_of kept) + length piece ≤ 0 → length (front ++ (piece ++ back)) ≡ 0
+  none_joined nothing =
+      let none : kept ≡ [] = none_kept engine width kept whole (omega (arith, nothing)) in
+      omega (
+        arith,
+        nothing,
+        ap length front_is ∙ no_part kept i p none,
+        ap length back_is ∙ no_rest kept j q none,
+        length-append front (piece ++ back),
+        length-append piece back,
+      )
+
+  -- where parts of it and a piece are laid out, some of them has characters
+  pub some_joined : 0 < length (front ++ (piece ++ back)) → 0 < length (text_of kept) + length piece
+  some_joined some = elim (cases_lt 0 (length (text_of kept) + length piece)) [
+    | inl more ↦ more
+    | inr nothing ↦ absurd (omega (arith, some, none_joined nothing))
+  ]
+
+  -- and where paragraphs give way to others
+  pub some_put : (rules : Rules) (first last : ℕ) (new : List Layout) → last ≤ length kept → new ≡ layouts_of rules width (front ++ (piece ++ back))
+      → 0 < last - first + length new → 0 < length (text_of kept) + length piece
+  some_put rules first last new within laid some = elim (cases_lt 0 (length (text_of kept) + length piece)) [
+    | inl more ↦ more
+    | inr nothing ↦
+        let none : kept ≡ [] = none_kept engine width kept whole (omega (arith, nothing)) in
+        absurd (omega (arith, some, within, ap length none, none_laid rules width (front ++ (piece ++ back)) new laid (none_joined nothing)))
+  ]

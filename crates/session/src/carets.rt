@@ -1,0 +1,70 @@
+//! Where a caret stands before a character, as the character is shown.
+ghost use Rattle.std.specs.Prelude.{◌≡◌, ◌^◌, ◌<◌, slice_index};
+ghost use Rattle.lines.specs.Order.{is_odd};
+ghost use Rattle.session.specs.Carets.{caret_in, line_end};
+
+use crate::places::Place;
+use lines::VisualLine;
+
+/// Where a caret stands.
+#[derive(Clone, Copy, Debug, PartialEq, Eq)]
+pub struct Caret {
+    /// The line, counted from 0 through the whole text.
+    pub line: usize,
+    /// How many columns are left of it, from the left edge of the line's shown part on.
+    pub column: usize,
+    /// The level of the character after L1; the base level where none is shown there.
+    pub level: u8,
+}
+
+// At the end of a line, in the direction of its paragraph.
+fn line_end(line: &VisualLine<'_>, n: usize) -> Caret
+    ensures { result ≡ line_end n line.now }
+{
+    let level = line.base();
+    Caret {
+        line: n,
+        column: if is_odd(level) {
+            0
+        } else {
+            line.columns() as usize
+        },
+        level,
+    }
+}
+
+fn is_odd(level: u8) -> bool
+    ensures { result ≡ is_odd level }
+{
+    level % 2 == 1
+}
+
+// The visual position of a character of a line, counted from the line's start.
+fn visual(line: &VisualLine<'_>, k: usize) -> usize
+    ensures value { result ≡ slice_index line.now.ltov k }
+    ensures fits { result < 2 ^ 32 }
+{
+    match line.ltov().get(k) {
+        Some(place) => *place as usize,
+        None => 0,
+    }
+}
+
+/// Before the character at a place of a line: at its left edge where its level is even, and else at its
+/// right edge. Where the character is not shown, at the end of the line.
+pub fn caret_in(line: &VisualLine<'_>, place: Place) -> Caret
+    ensures { result ≡ caret_in line.now place }
+{
+    let k = place.offset;
+    match line.levels().get(k) {
+        Some(level) => {
+            let left = visual(line, k);
+            Caret {
+                line: place.line,
+                column: line.columns_left(if is_odd(*level) { left + 1 } else { left }),
+                level: *level,
+            }
+        }
+        None => line_end(line, place.line),
+    }
+}
