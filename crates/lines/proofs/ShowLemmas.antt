@@ -15,9 +15,9 @@ use Rattle.lines.specs.Kept.{AreStarts, IsSound, line_in, lines_by, lines_in}
 use Rattle.lines.specs.Layouts.{AreWithin as LinesAreWithin}
 use Rattle.lines.specs.Mirroring.{visual_chars}
 use Rattle.lines.specs.Order.{ltov_of, vtol_of}
-use Rattle.lines.specs.Showing.{end_of, line_showing, nothing_shown, AreShown, IsPlaced, IsShown}
+use Rattle.lines.specs.Showing.{line_showing, nothing_shown, AreShown, IsPlaced, IsShown}
 use Rattle.lines.specs.Spaces.{line_levels}
-use Rattle.lines.specs.Visual.{Line, lines_from}
+use Rattle.lines.specs.Visual.{Line, end_of, lines_from}
 use Rattle.lines.specs.declared.options.Options.{Options}
 use Rattle.lines.specs.declared.places.Place.{Place}
 use Rattle.lines.specs.declared.fill.Shown.{Shown}

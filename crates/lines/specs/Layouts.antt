@@ -47,7 +47,7 @@ layout_of rules width text = record {
 
 -- its lines as they are shown
 abbrev pub visuals : Layout → List Visual
-visuals layout = map (λ nth. visual_of layout.base layout.text nth.0 nth.1) (enumerate_from 0 layout.lines)
+visuals layout = map (λ nth. visual_of layout.base layout.text layout.lines nth.0 nth.1) (enumerate_from 0 layout.lines)
 
 -- lines alone, and how many characters their paragraph has
 pub record Filled : Type 0 where

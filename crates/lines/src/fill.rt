@@ -17,7 +17,7 @@ use crate::bytes::WriteFault;
 use crate::extents::Extents;
 use crate::options::Options;
 use crate::print::Print;
-use crate::showing::show_each;
+use crate::showing::{end_of, show_each};
 use crate::visual_line::VisualLine;
 use device::Sink;
 use std::alloc::Global;
@@ -205,13 +205,16 @@ impl Fill {
     /// A line of the paragraph of this text and base level, counted from 0.
     pub(crate) fn line<'a>(&'a self, text: &'a [char], base: u8, n: usize) -> Option<VisualLine<'a>>
         requires { Layouts.AreWithin (length text.now) self.now.lines }
-        ensures { result ≡ option_map (visual_of base text.now n) (slice_get self.now.lines n) }
+        ensures { result
+            ≡ option_map (visual_of base text.now self.now.lines n) (slice_get self.now.lines n) }
     {
         let part = self.part(n)?;
         let start = part.start as usize;
+        let end = end_of(self.starts(), n, text.len());
         Some(VisualLine {
             is_first: n == 0,
             base,
+            len: end.saturating_sub(start),
             text: &text[start..start + part.levels.len()],
             columns: part.columns,
             levels: part.levels,

@@ -26,7 +26,7 @@ pub use engine::{Engine, PARAGRAPH_LIMIT};
 pub use extents::{Extents, Room};
 pub use fill::Fill;
 pub use laid::Laid;
-pub use laws::{lines_are_few, paragraphs_print_their_lines};
+pub use laws::{lines_are_few, lines_have_all_characters, paragraphs_print_their_lines};
 pub use options::Options;
 pub use order::{groups_stand_together, maps_are_inverse, others_stay};
 pub use print::{Print, PrintFault};

@@ -15,8 +15,8 @@ ghost use Rattle.lines.specs.Layouts;
 ghost use Rattle.lines.specs.Lists.{held_lines, AreSound};
 ghost use Rattle.lines.specs.Mirroring.{visual_chars};
 ghost use Rattle.lines.specs.Order.{is_odd, ltov_of, vtol_of};
-ghost use Rattle.lines.specs.Showing.{end_of, AreShown, IsShown};
-ghost use Rattle.lines.specs.Visual.{lines_from};
+ghost use Rattle.lines.specs.Showing.{AreShown, IsShown};
+ghost use Rattle.lines.specs.Visual.{end_of, lines_from};
 ghost use Rattle.lines.specs.declared.places.Place.{Place};
 ghost use Rattle.lines.specs.declared.engine.TheConstants.{PARAGRAPH_LIMIT};
 
@@ -174,12 +174,11 @@ pub(crate) fn show_each(
     }
 }
 
-// Where a line ends: where the next one starts, the last one with the paragraph.
-fn end_of(starts: &[u32], k: usize, len: usize) -> usize
-    requires starts { AreStarts len starts.now }
-    requires k { k < length starts.now }
+/// Where a line ends: where the next one starts, the last one with the paragraph.
+pub(crate) fn end_of(starts: &[u32], k: usize, len: usize) -> usize
+    requires { k < length starts.now }
     ensures end { result ≡ end_of len starts.now k }
-    ensures within { (slice_index starts.now k < result) × (result ≤ len) }
+    ensures within { AreStarts len starts.now → (slice_index starts.now k < result) × (result ≤ len) }
 {
     if k + 1 < starts.len() {
         starts[k + 1] as usize

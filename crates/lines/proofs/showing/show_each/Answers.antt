@@ -16,7 +16,7 @@ show_line-requires-clause-shown c =
     let within = shown_within n c.requires.shown.0 c.args.starts.now c.args.shown.now c.loop-k.k c.end_of-end.result _ nothing_shown
     c.requires.starts c.loop-k-test.true end_is c.requires.shown.1 refl in
     let line : length (slice_range c.args.text.now start c.end_of-end.result) ≡ c.end_of-end.result - start =
-    length_range c.args.text.now start c.end_of-end.result (omega (arith, c.end_of-end.ensures.within.0)) c.end_of-end.ensures.within.1 in
+    length_range c.args.text.now start c.end_of-end.result (omega (arith, (c.end_of-end.ensures.within c.requires.starts).0)) (c.end_of-end.ensures.within c.requires.starts).1 in
     omega (arith, within, line)
 
 pub loop-k-preserved : goal.loop-k-preserved
