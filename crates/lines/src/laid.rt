@@ -7,6 +7,7 @@ use crate::bytes::WriteFault;
 use crate::extents::{Extents, Room, look_up};
 use crate::fill::Fill;
 use crate::options::Options;
+use crate::paragraph::{LentRules, Text};
 use crate::print::Print;
 use crate::visual_line::VisualLine;
 use breaks::{Mark, paragraphs_end_at_must};
@@ -189,16 +190,14 @@ impl Laid {
         let mut written = room.written;
         let properties = &mut room.properties[..text.len()];
         look_up(tables, text, properties);
-        self.lines.reflow(
-            tables,
-            text,
+        let text = Text {
+            rules: LentRules { tables, options },
+            characters: text,
             properties,
-            options,
-            self.base,
-            &self.levels,
-            extents,
-            &mut written,
-        );
+            base: self.base,
+        };
+        self.lines
+            .reflow(&text, &self.levels, extents, &mut written);
         room.written = written;
     }
 

@@ -13,6 +13,7 @@ mod laws;
 mod mirror;
 mod options;
 mod order;
+mod paragraph;
 mod places;
 mod print;
 mod room;
