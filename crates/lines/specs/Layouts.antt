@@ -60,7 +60,7 @@ fill_of rules width text = record { lines = lines_of rules width text; len = len
 abbrev pub start_of : Line → ℕ
 start_of line = line.start
 
--- the shown part of each line stands in front of the n-th character
+-- the shown part of each line stands before the n-th character
 abbrev pub AreWithin : ℕ → List Line → Type 0
 AreWithin n lines = All (λ line. line.start + length line.levels ≤ n) lines
 

@@ -218,7 +218,7 @@ impl Fill {
         })
     }
 
-    /// Writes all lines of the paragraph of this text and base level behind so many bytes, and says how
+    /// Writes all lines of the paragraph of this text and base level after so many bytes, and says how
     /// many are written then.
     pub(crate) fn write_behind<W: Sink>(
         &self,

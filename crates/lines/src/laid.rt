@@ -87,7 +87,7 @@ impl Laid {
         &self.levels
     }
 
-    /// The mark of the position behind each character.
+    /// The mark of the position after each character.
     pub fn marks(&self) -> &[Mark]
         ensures { result.now ≡ self.now.marks }
     {
@@ -129,7 +129,7 @@ impl Laid {
         self.lines.line(&self.text, self.base, n)
     }
 
-    /// Writes the paragraph's lines, and no more behind a failure of the sink. It takes no memory.
+    /// Writes the paragraph's lines, and no more after a failure of the sink. It takes no memory.
     pub fn write<W: Sink>(
         &self,
         writer: &mut W,
@@ -146,7 +146,7 @@ impl Laid {
         Ok(())
     }
 
-    /// Writes them behind `done` bytes that the sink passed before, and says how many bytes that makes;
+    /// Writes them after `done` bytes that the sink passed before, and says how many bytes that makes;
     /// a fault counts these too.
     pub fn write_behind<W: Sink>(
         &self,
@@ -227,7 +227,7 @@ impl Laid {
         paragraphs_end_at_must();
     }
 
-    /// Whether a grapheme cluster ends behind each character (UAX #29).
+    /// Whether a grapheme cluster ends after each character (UAX #29).
     pub fn cluster_ends(
         &self,
         alloc: std::alloc::Global,

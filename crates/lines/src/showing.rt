@@ -27,7 +27,7 @@ use crate::mirror::visual_chars;
 use crate::order::{identity, order};
 use crate::paragraph::{Paragraph, Spans, Text};
 use crate::places::Place;
-use crate::room::make_room;
+use crate::room::reserve;
 use crate::spaces::reset_levels;
 use std::alloc::AllocError;
 use ucd::Properties;
@@ -85,7 +85,7 @@ fn copy(levels: &[u8], list: &mut Vec<u8>) -> Result<(), AllocError>
     ensures { OnOk result (list.new.items ≡ levels.now) }
 {
     list.clear();
-    make_room(list, levels.len())?;
+    reserve(list, levels.len())?;
     list.extend_from_slice(levels)
 }
 
@@ -93,7 +93,7 @@ fn copy(levels: &[u8], list: &mut Vec<u8>) -> Result<(), AllocError>
 fn make_numbers(list: &mut Vec<u32>, len: usize) -> Result<(), AllocError>
     ensures { OnOk result (length list.new.items ≡ len) }
 {
-    make_room(list, len)?;
+    reserve(list, len)?;
     list.resize(len, 0)
 }
 
@@ -101,7 +101,7 @@ fn make_numbers(list: &mut Vec<u32>, len: usize) -> Result<(), AllocError>
 fn make_characters(list: &mut Vec<char>, len: usize) -> Result<(), AllocError>
     ensures { OnOk result (length list.new.items ≡ len) }
 {
-    make_room(list, len)?;
+    reserve(list, len)?;
     list.resize(len, '\0')
 }
 
@@ -116,7 +116,7 @@ pub(crate) fn take_shown(
     ensures { OnOk result (shown.new.items ≡ shown_from (length places.now) places.now starts.now) }
 {
     shown.clear();
-    make_room(shown, starts.len())?;
+    reserve(shown, starts.len())?;
     let mut k = 0;
     while k < starts.len() {
         let start = starts[k] as usize;

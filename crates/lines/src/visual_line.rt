@@ -151,7 +151,7 @@ impl<'a> VisualLine<'a> {
         0
     }
 
-    /// Writes the line, and no more behind a failure of the sink. It takes no memory.
+    /// Writes the line, and no more after a failure of the sink. It takes no memory.
     pub fn write<W: Sink>(
         &self,
         writer: &mut W,
@@ -168,7 +168,7 @@ impl<'a> VisualLine<'a> {
         Ok(())
     }
 
-    /// Writes it behind `done` bytes that the sink passed before, and says how many bytes that makes; a
+    /// Writes it after `done` bytes that the sink passed before, and says how many bytes that makes; a
     /// fault counts these too.
     pub fn write_behind<W: Sink>(
         &self,

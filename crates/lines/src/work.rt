@@ -22,7 +22,7 @@ use crate::filling::line_starts;
 use crate::laid::Laid;
 use crate::paragraph::{LentRules, Paragraph, Text};
 use crate::places::{Place, take_places};
-use crate::room::make_room;
+use crate::room::reserve;
 use crate::showing::{show_lines, take_shown};
 use bidi::Resolver;
 use breaks::{Mark, Tailoring, marks_into};
@@ -58,8 +58,8 @@ impl LayoutLists {
     }
 }
 
-/// Lists that live for one paragraph, used again for the next: so a paragraph for which they have room
-/// takes memory for what is kept of it alone.
+/// Lists that live for one paragraph, used again for the next: so a paragraph that fits into them takes
+/// memory for what is kept of it alone.
 #[derive(Debug)]
 pub(crate) struct Work {
     properties: Vec<Properties>,
@@ -125,7 +125,7 @@ impl Work {
     {
         let base = self.resolve(rules, text, &mut kept.levels, &mut counts.analysed)?;
         let properties = self.properties.as_slice();
-        make_room(&mut kept.marks, text.len())?;
+        reserve(&mut kept.marks, text.len())?;
         let whole_numbers = rules.options.whole_numbers;
         marks_into(
             rules.tables,
@@ -169,7 +169,7 @@ impl Work {
     {
         raise(analysed, text.len());
         take_properties(rules.tables, text, &mut self.properties)?;
-        make_room(levels, text.len())?;
+        reserve(levels, text.len())?;
         let base = rules.options.base;
         self.resolver
             .resolve(rules.tables, text, &self.properties, base, levels)

@@ -21,7 +21,8 @@ returns c =
     let parts = taken_shown (length c.args.paragraph.now.text.characters.now) (length c.args.places.now) c.args.places.now c.args.lists.now.starts.items c.deref.result.now c.requires.places
     c.deref.ensures.value c.in_ok-take_shown.ensures in
     let count = ap length parts ∙ length-shown_from (length c.args.paragraph.now.text.characters.now) c.args.places.now c.args.lists.now.starts.items in
-    let shown = shown_as c.args.paragraph.now.text.rules.tables.now c.args.paragraph.now.text.rules.options c.args.paragraph.now.text.base c.args.paragraph.now.text.characters.now c.args.paragraph.now.levels.now c.deref_mut.result.now c.args.lists.now.starts.items c.deref-2.result.now
+    let shown = shown_as c.args.paragraph.now.text.rules.tables.now c.args.paragraph.now.text.rules.options c.args.paragraph.now.text.base
+    c.args.paragraph.now.text.characters.now c.args.paragraph.now.levels.now c.deref_mut.result.now c.args.lists.now.starts.items c.deref-2.result.now
     c.take_shown.new.shown.items c.deref-3.result.now (c.deref_mut.ensures.value ∙ c.in_ok-copy.ensures) c.deref-2.ensures.value c.deref-3.ensures.value c.show_each.ensures.shown in
     record {
       sound = rw (l, t, v, h) (sound _ _ _ _ _ _ _ _ _ _ _ c.requires.starts count (omega (arith, ap length c.in_ok-copy.ensures))

@@ -19,7 +19,8 @@ invariant_of-self c =
     let t = with_items_is c.self.inside.ltov c.show_each.new.ltov (omega arith) in
     let v = with_items_is c.self.inside.vtol c.show_each.new.vtol (omega arith) in
     let h = with_items_is c.self.inside.chars c.show_each.new.chars (omega arith) in
-    let shown = shown_as c.args.text.now.rules.tables.now c.args.text.now.rules.options c.args.text.now.base c.args.text.now.characters.now c.args.levels.now c.deref_mut.result.now c.args.extents.now.starts c.deref.result.now
+    let shown = shown_as c.args.text.now.rules.tables.now c.args.text.now.rules.options c.args.text.now.base
+    c.args.text.now.characters.now c.args.levels.now c.deref_mut.result.now c.args.extents.now.starts c.deref.result.now
     c.args.extents.now.shown c.deref-2.result.now (c.deref_mut.ensures.value ∙ c.copy_from_slice.ensures.items) (c.deref.ensures.value ∙ starts) (c.deref-2.ensures.value ∙ parts)
     c.show_each.ensures.shown in
     let count : length c.args.extents.now.shown ≡ length c.args.extents.now.starts =
@@ -39,7 +40,8 @@ returns-clause-lines c places is =
     let t = with_items_is c.self.inside.ltov c.show_each.new.ltov (omega arith) in
     let v = with_items_is c.self.inside.vtol c.show_each.new.vtol (omega arith) in
     let h = with_items_is c.self.inside.chars c.show_each.new.chars (omega arith) in
-    let shown = shown_as c.args.text.now.rules.tables.now c.args.text.now.rules.options c.args.text.now.base c.args.text.now.characters.now c.args.levels.now c.deref_mut.result.now c.args.extents.now.starts c.deref.result.now
+    let shown = shown_as c.args.text.now.rules.tables.now c.args.text.now.rules.options c.args.text.now.base
+    c.args.text.now.characters.now c.args.levels.now c.deref_mut.result.now c.args.extents.now.starts c.deref.result.now
     c.args.extents.now.shown c.deref-2.result.now (c.deref_mut.ensures.value ∙ c.copy_from_slice.ensures.items) (c.deref.ensures.value ∙ starts) (c.deref-2.ensures.value ∙ parts)
     c.show_each.ensures.shown in
     rw (l, t, v, h, starts, parts) (all_shown _ _ _ _ _ _ _ _ _ _ _ _ is shown)
@@ -53,7 +55,8 @@ returns-clause-within c =
     let t = with_items_is c.self.inside.ltov c.show_each.new.ltov (omega arith) in
     let v = with_items_is c.self.inside.vtol c.show_each.new.vtol (omega arith) in
     let h = with_items_is c.self.inside.chars c.show_each.new.chars (omega arith) in
-    let shown = shown_as c.args.text.now.rules.tables.now c.args.text.now.rules.options c.args.text.now.base c.args.text.now.characters.now c.args.levels.now c.deref_mut.result.now c.args.extents.now.starts c.deref.result.now
+    let shown = shown_as c.args.text.now.rules.tables.now c.args.text.now.rules.options c.args.text.now.base
+    c.args.text.now.characters.now c.args.levels.now c.deref_mut.result.now c.args.extents.now.starts c.deref.result.now
     c.args.extents.now.shown c.deref-2.result.now (c.deref_mut.ensures.value ∙ c.copy_from_slice.ensures.items) (c.deref.ensures.value ∙ starts) (c.deref-2.ensures.value ∙ parts)
     c.show_each.ensures.shown in
     let count : length c.args.extents.now.shown ≡ length c.args.extents.now.starts =
