@@ -123,7 +123,8 @@ impl Laid {
     /// A line, counted from 0.
     pub fn line(&self, n: usize) -> Option<VisualLine<'_>>
         ensures line { result
-            ≡ option_map (visual_of self.now.base self.now.text self.now.lines n) (slice_get self.now.lines n) }
+            ≡ option_map (visual_of self.now.base self.now.text self.now.lines n)
+            (slice_get self.now.lines n) }
         ensures nth { result ≡ slice_get (visuals self.now) n }
     {
         self.lines.line(&self.text, self.base, n)

@@ -15,8 +15,8 @@ pub fn lines_are_few()
         → length (lines_of rules width text) ≤ length text }
 {}
 
-/// The lines of a paragraph have all its characters, with those of their ends that are not shown: their lengths
-/// sum up to its own, by whatever rules and at whatever width. A law, which takes no time.
+/// The lines of a paragraph have all its characters, with those of their ends that are not shown: their
+/// lengths sum up to its own, by whatever rules and at whatever width. A law, which takes no time.
 pub fn lines_have_all_characters()
     ensures { (rules : Rules) (width : ℕ) (text : List ℕ)
         → sum_by (λ line. line.len) (visuals (layout_of rules width text)) ≡ length text }
