@@ -1,5 +1,6 @@
--- Characters beside which no rule on grapheme clusters joins any: a cluster ends behind each of them.
-use Rattle.std.proofs.Common.{◌≡◌, ℕ, zero, suc, ◌+◌, ◌<◌, ◌≤◌, nat_le, Bool, true, false, not, ◌&&◌, ◌||◌, List, [], ◌∷◌, length, map, replicate, unwrap_or, Option, Some, None, refl, sym, ap, ◌∙◌, inl, inr, arith}
+-- Characters beside which no rule on grapheme clusters joins any: a cluster ends after each of them.
+use Rattle.std.proofs.Common.{◌≡◌, ℕ, zero, suc, ◌+◌, ◌<◌, ◌≤◌, nat_le, Bool, true, false, not, ◌&&◌, ◌||◌, List, []}
+use Rattle.std.proofs.Common.{◌∷◌, length, map, replicate, unwrap_or, Option, Some, None, refl, sym, ap, ◌∙◌, inl, inr, arith}
 use Rattle.std.specs.List.{list_all}
 use Rattle.std.proofs.lemmas.Simd.{splat_is_map}
 use Rattle.std.proofs.lemmas.Bool.{and_parts, cases_lt}
@@ -12,7 +13,7 @@ use Rattle.ucd_breaks.specs.declared.GraphemeClusterBreak.TheVariants.{Control, 
 use Rattle.ucd_derived.specs.IndicConjunctBreak.{indic_conjunct_break}
 use Rattle.ucd_derived.specs.IndicConjunctBreakRows.{indic_conjunct_break_rows}
 use Rattle.unicode_segmentation.specs.Grapheme.{break_by_pair, ends_in_half_flag, ends_in_linker, is_consonant, is_grapheme_break, is_regional, is_zwj}
-use Rattle.lines.specs.Clusters.{cluster_ends, ends_behind, is_alone, lies_in}
+use Rattle.lines.specs.Clusters.{cluster_ends, ends_after, is_alone, lies_in}
 
 abbrev stands_apart : GraphemeClusterBreak → Bool
 stands_apart Control = true
@@ -84,7 +85,7 @@ latin_is_apart c lies =
     let to = is_within c 255 parts.1 in
     elim (cases_lt c 144) [
       | inl front ↦ one_of is_apart 32 112 c latin from (omega (arith, front))
-      | inr behind ↦ one_of is_apart 144 112 c more_latin behind (omega (arith, to))
+      | inr after ↦ one_of is_apart 144 112 c more_latin after (omega (arith, to))
     ]
 
 alone_is_apart : (c : ℕ) → is_alone c ≡ true → is_apart c ≡ true
@@ -140,7 +141,7 @@ breaks_between c d before after one other =
     let conjunct = none_joined (ends_in_linker (map indic_conjunct_break (c ∷ before))) _ (not_consonant _ d_parts.1) in
     rw (conjunct, no_joiner _ c_parts.0, no_flag _ c_parts.0) (parts_of (break_by_pair true (grapheme_cluster_break c) (grapheme_cluster_break d)) (by_pair _ _ c_parts.0 d_parts.0))
 
-ends_apart : (before text : List ℕ) → list_all is_alone text ≡ true → ends_behind before text ≡ map (λ _. true) text
+ends_apart : (before text : List ℕ) → list_all is_alone text ≡ true → ends_after before text ≡ map (λ _. true) text
 ends_apart before [] all = refl
 ends_apart before (c ∷ []) all = unfold is_grapheme_break in refl
 ends_apart before (c ∷ d ∷ text) all =
@@ -148,7 +149,7 @@ ends_apart before (c ∷ d ∷ text) all =
     let next = and_parts (is_alone d) (list_all is_alone text) parts.1 in
     rw (breaks_between c d before text (alone_is_apart c parts.0) (alone_is_apart d next.0)) (ap (λ ends. true ∷ ends) (ends_apart (c ∷ before) (d ∷ text) parts.1))
 
--- a cluster ends behind each character of such a text
+-- a cluster ends after each character of such a text
 pub ends_alone : (text : List ℕ) → list_all is_alone text ≡ true → replicate (length text) true ≡ cluster_ends text
 unfolding cluster_ends
 ends_alone text all = splat_is_map text (length text) true refl ∙ sym (ends_apart [] text all)

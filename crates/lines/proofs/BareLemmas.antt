@@ -1,5 +1,6 @@
 -- Places without their clusters: what filling and showing read of them but clusters.
-use Rattle.std.proofs.Common.{◌≡◌, ℕ, zero, suc, ◌+◌, ◌-◌, ◌<◌, nat_le, Bool, true, false, ◌&&◌, List, [], ◌∷◌, ◌++◌, length, map, take, drop, reverse, set, get_or, Some, unwrap_or, slice_range, refl, sym, ap, ap₂, ◌∙◌, arith}
+use Rattle.std.proofs.Common.{◌≡◌, ℕ, zero, suc, ◌+◌, ◌-◌, ◌<◌, nat_le, Bool, true, false, ◌&&◌, List, [], ◌∷◌, ◌++◌}
+use Rattle.std.proofs.Common.{length, map, take, drop, reverse, set, get_or, Some, unwrap_or, slice_range, refl, sym, ap, ap₂, ◌∙◌, arith}
 use Rattle.std.proofs.Math.Seq.{set-append_seam, get_or-append_seam}
 use Rattle.std.proofs.lemmas.List.{length-map, take-map, drop-map, reverse-append, take_more, drop_more, length-take-le, append_assoc}
 use Rattle.std.specs.List.{fold, prefix_len, suffix_len}

@@ -9,13 +9,13 @@ use Rattle.std.specs.Prelude.{encode_utf8, encode_utf8_all}
 use Rattle.std.specs.Str.{chars, IsUtf8}
 use Rattle.unicode_segmentation.specs.Grapheme.{graphemes, is_grapheme_break}
 use Rattle.unicode_segmentation.specs.Segments.{Rule, cut, prepend, segments}
-use Rattle.lines.specs.Clusters.{cluster_ends, ends_behind, ends_of}
+use Rattle.lines.specs.Clusters.{cluster_ends, ends_after, ends_of}
 
 -- the ends of a cluster, of its characters
 abbrev ends_of_piece : List ℕ → List Bool
 ends_of_piece piece = replicate (length piece - 1) false ++ true ∷ []
 
--- a character in front of pieces: one of its own, or the front of the first
+-- a character before pieces: one of its own, or the front of the first
 abbrev attach : Bool → ℕ → List (List ℕ) → List (List ℕ)
 attach is_break c pieces = cond is_break ((c ∷ []) ∷ pieces) (prepend (c ∷ []) pieces)
 
@@ -30,7 +30,7 @@ cut_begins : (rule : Rule) (before : List ℕ) (c : ℕ) (cs after : List ℕ)
 unfolding cut
 cut_begins rule before c cs after = attach_begins (rule (c ∷ before) (cs ++ after)) c (cut rule (c ∷ before) cs after)
 
--- one more character in front has an end behind it where it is a piece of its own
+-- one more character before them has an end after it where it is a piece of its own
 ends_attach : (b : Bool) (c d : ℕ) (p : List ℕ) (ps : List (List ℕ))
     → flat_map ends_of_piece (attach b c ((d ∷ p) ∷ ps)) ≡ b ∷ flat_map ends_of_piece ((d ∷ p) ∷ ps)
 ends_attach true c d p ps = refl
@@ -38,7 +38,7 @@ ends_attach false c d p ps =
     let more : length (c ∷ (d ∷ p)) - 1 ≡ suc (length (d ∷ p) - 1) = omega arith in
     ap (λ n. (replicate n false ++ true ∷ []) ++ flat_map ends_of_piece ps) more
 
-ends_of_cut : (before cs : List ℕ) → flat_map ends_of_piece (cut (is_grapheme_break true) before cs []) ≡ ends_behind before cs
+ends_of_cut : (before cs : List ℕ) → flat_map ends_of_piece (cut (is_grapheme_break true) before cs []) ≡ ends_after before cs
 unfolding cut
 ends_of_cut before [] = refl
 ends_of_cut before (c ∷ []) = unfold is_grapheme_break in refl
@@ -93,11 +93,11 @@ spelled char items text bytes same e u =
     let all = flat_map-map encode_utf8 char items in
     sym (chars_from_encodes text bytes u (sym (e ∙ sym all ∙ ap (flat_map encode_utf8) same ∙ bytes_of_each text)))
 
--- each character has an end, or none, behind it
-length_ends_behind : (before text : List ℕ) → length (ends_behind before text) ≡ length text
-length_ends_behind before [] = refl
-length_ends_behind before (c ∷ text) = ap suc (length_ends_behind (c ∷ before) text)
+-- each character has an end, or none, after it
+length_ends_after : (before text : List ℕ) → length (ends_after before text) ≡ length text
+length_ends_after before [] = refl
+length_ends_after before (c ∷ text) = ap suc (length_ends_after (c ∷ before) text)
 
 pub length-cluster_ends : (text : List ℕ) → length (cluster_ends text) ≡ length text
 unfolding cluster_ends
-length-cluster_ends text = length_ends_behind [] text
+length-cluster_ends text = length_ends_after [] text

@@ -30,7 +30,8 @@ module _ (line : Visual) where
   IsLeft column k = covering line column ≡ least (λ place. nat_lt column (columns_left line (place + 1))) k (length line.vtol - k)
 
   module _ (column k : ℕ) (within : k < length line.vtol) (so_far : IsLeft column k) where
-    one_more : covering line column ≡ (if nat_lt column (columns_left line (k + 1)) then Some k else least (λ place. nat_lt column (columns_left line (place + 1))) (k + 1) (length line.vtol - (k + 1)))
+    one_more : covering line column
+        ≡ (if nat_lt column (columns_left line (k + 1)) then Some k else least (λ place. nat_lt column (columns_left line (place + 1))) (k + 1) (length line.vtol - (k + 1)))
     one_more =
         let e : length line.vtol - k ≡ suc (length line.vtol - (k + 1)) = omega (arith, within) in
         let n : suc k ≡ k + 1 = omega arith in

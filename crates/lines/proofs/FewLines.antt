@@ -41,4 +41,9 @@ pub few_lines : (rules : Rules) (width : ℕ) (text : List ℕ) → length (line
 few_lines rules width text =
     let ps = places_of rules.tables rules.options.whole_numbers text in
     let ss = line_starts_of rules.options.nobreak width ps in
-    omega (arith, length-lines_from rules.tables rules.options (base_of rules text) text (levels_of rules.tables text rules.options.base) ps ss, few-line_starts rules.options.nobreak width ps, few-places_of rules.tables rules.options.whole_numbers text)
+    omega (
+      arith,
+      length-lines_from rules.tables rules.options (base_of rules text) text (levels_of rules.tables text rules.options.base) ps ss,
+      few-line_starts rules.options.nobreak width ps,
+      few-places_of rules.tables rules.options.whole_numbers text,
+    )

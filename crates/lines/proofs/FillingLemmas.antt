@@ -1,5 +1,6 @@
 -- What the walk along a line finds: sums of columns, and the positions at which the line may end.
-use Rattle.std.proofs.Common.{take-take, length-append, get_or, subst, ◌≡◌, ℕ, zero, suc, ◌+◌, ◌-◌, ◌*◌, ◌<◌, ◌≤◌, Bool, true, false, ◌&&◌, ◌||◌, Option, Some, unwrap_or, List, [], ◌∷◌, ◌++◌, length, take, drop, if◌then◌else◌, refl, sym, ap, ◌∙◌, inl, inr, arith}
+use Rattle.std.proofs.Common.{take-take, length-append, get_or, subst, ◌≡◌, ℕ, zero, suc, ◌+◌, ◌-◌, ◌*◌, ◌<◌, ◌≤◌, Bool, true, false, ◌&&◌, ◌||◌}
+use Rattle.std.proofs.Common.{Option, Some, unwrap_or, List, [], ◌∷◌, ◌++◌, length, take, drop, if◌then◌else◌, refl, sym, ap, ◌∙◌, inl, inr, arith}
 use Rattle.std.proofs.Math.ListN.{get_or-append}
 use Rattle.std.proofs.Math.Seq.{get_or-append_seam}
 use Rattle.std.proofs.lemmas.Bool.{and_right, cond-true, cond-false, cases_Bool, cases_eq, cases_lt, lt-leb, le-leb, leb-false, both_ways}
@@ -12,7 +13,7 @@ use Rattle.bidi.proofs.LeastLemmas.{least_found, least_none}
 use Rattle.bidi.proofs.PairLemmas.{greatest_found}
 use Rattle.lines.specs.Filling.{cluster_ends_at, columns, first_end, fits_to, may_end, must_end, nothing, place_at, line_end, line_len, shown, starts, stop}
 use Rattle.lines.specs.Kept.{AreStarts}
-use Rattle.lines.specs.Sums.{sums_behind, AreSumsOf}
+use Rattle.lines.specs.Sums.{sums_after, AreSumsOf}
 use Rattle.lines.specs.declared.filling.Sums.{Sums}
 use Rattle.lines.specs.declared.places.Place.{Place}
 
@@ -51,9 +52,9 @@ trailing_none rest k within counts =
     suffix_len-take_no trails rest (suc k) nothing (omega arith) (omega (arith, within)) (subst (λ j. trails (place_at rest j) ≡ false) (sym e) counts)
 
 -- a character at the end of a line counts for nothing there, or else all is shown
-pub shown_behind : (rest : List Place) (k : ℕ) → k < length rest
+pub shown_after : (rest : List Place) (k : ℕ) → k < length rest
     → columns (shown (take (suc k) rest)) ≡ (if (place_at rest k).is_trailing then columns (shown (take k rest)) else columns (take (suc k) rest))
-shown_behind rest k within =
+shown_after rest k within =
     let s : ℕ = suffix_len trails (take k rest) in
     elim (cases_Bool (trails (place_at rest k))) [
       | inl trailing ↦
@@ -71,23 +72,23 @@ shown_behind rest k within =
           ∙ sym (cond-false (trails (place_at rest k)) (columns (shown (take k rest))) (columns (take (suc k) rest)) counts)
     ]
 
-pub columns_behind : (rest : List Place) (k : ℕ) → k < length rest → columns (take (suc k) rest) ≡ columns (take k rest) + (place_at rest k).columns
-columns_behind rest k within =
+pub columns_after : (rest : List Place) (k : ℕ) → k < length rest → columns (take (suc k) rest) ≡ columns (take k rest) + (place_at rest k).columns
+columns_after rest k within =
     let e : suc k ≡ k + 1 = omega arith in
     ap (λ n. columns (take n rest)) e ∙ sum_by_more (λ p. p.columns) rest k nothing within
 
 -- sums with one more character
-pub sums_more : (rest : List Place) (k : ℕ) (sums : Sums) → k < length rest → AreSumsOf (take k rest) sums → AreSumsOf (take (suc k) rest) (sums_behind sums (place_at rest k))
+pub sums_more : (rest : List Place) (k : ℕ) (sums : Sums) → k < length rest → AreSumsOf (take k rest) sums → AreSumsOf (take (suc k) rest) (sums_after sums (place_at rest k))
 sums_more rest k sums within so_far = record {
-  columns_are = ap (λ n. n + (place_at rest k).columns) so_far.columns_are ∙ sym (columns_behind rest k within);
+  columns_are = ap (λ n. n + (place_at rest k).columns) so_far.columns_are ∙ sym (columns_after rest k within);
   shown_are = elim (cases_Bool (trails (place_at rest k))) [
     | inl trailing ↦ cond-true (trails (place_at rest k)) sums.shown (sums.columns + (place_at rest k).columns) trailing
         ∙ so_far.shown_are ∙ sym (cond-true (trails (place_at rest k)) (columns (shown (take k rest))) (columns (take (suc k) rest)) trailing)
-        ∙ sym (shown_behind rest k within)
+        ∙ sym (shown_after rest k within)
     | inr counts ↦ cond-false (trails (place_at rest k)) sums.shown (sums.columns + (place_at rest k).columns) counts
-        ∙ ap (λ n. n + (place_at rest k).columns) so_far.columns_are ∙ sym (columns_behind rest k within)
+        ∙ ap (λ n. n + (place_at rest k).columns) so_far.columns_are ∙ sym (columns_after rest k within)
         ∙ sym (cond-false (trails (place_at rest k)) (columns (shown (take k rest))) (columns (take (suc k) rest)) counts)
-        ∙ sym (shown_behind rest k within)
+        ∙ sym (shown_after rest k within)
   ];
 }
 
@@ -99,17 +100,17 @@ shown_most rest n within = sum_by-take-le (λ p. p.columns) (take n rest) (lengt
 shown_grows : (rest : List Place) (k : ℕ) → k < length rest → columns (shown (take k rest)) ≤ columns (shown (take (suc k) rest))
 shown_grows rest k within =
     elim (cases_Bool (trails (place_at rest k))) [
-      | inl trailing ↦ omega (arith, shown_behind rest k within, cond-true (trails (place_at rest k)) (columns (shown (take k rest))) (columns (take (suc k) rest)) trailing)
+      | inl trailing ↦ omega (arith, shown_after rest k within, cond-true (trails (place_at rest k)) (columns (shown (take k rest))) (columns (take (suc k) rest)) trailing)
       | inr counts ↦ omega (
         arith,
-        shown_behind rest k within,
+        shown_after rest k within,
         cond-false (trails (place_at rest k)) (columns (shown (take k rest))) (columns (take (suc k) rest)) counts,
         shown_most rest k (omega (arith, within)),
-        columns_behind rest k within,
+        columns_after rest k within,
       )
     ]
 
--- behind a position up to which the line does not fit, it fits nowhere
+-- after a position up to which the line does not fit, it fits nowhere
 pub misfits : (width : ℕ) (rest : List Place) (k j : ℕ) → k ≤ j → j < length rest → fits_to width rest k ≡ false → fits_to width rest j ≡ false
 misfits width rest k zero above within here = let e : k ≡ 0 = omega (arith, above) in subst (λ j. fits_to width rest j ≡ false) e here
 misfits width rest k (suc j) above within here =
@@ -139,7 +140,7 @@ first_end_none rest fails =
 
 -- ---- what the walk keeps
 
--- of the characters in front of k, which all fit and behind none of which a line must end
+-- of the characters before k, which all fit and after none of which a line must end
 pub record IsWalked (width : ℕ) (rest : List Place) (k : ℕ) (sums : Sums) (break cluster : Option ℕ) : Type 0 where
   pub within : k ≤ length rest
   pub sums_are : AreSumsOf (take k rest) sums
@@ -157,7 +158,7 @@ greatest_more test fit k best here so_far =
       | inr f ↦ cond-false (test k) (Some k) best f ∙ so_far ∙ sym (cond-false (test k && fit k) (Some k) (greatest (λ j. test j && fit j) k) (ap (λ b. b && fit k) f))
     ]
 
--- what is found stands within the range, and not in front of numbers that fail
+-- what is found stands within the range, and not before numbers that fail
 pub least_within : (p : ℕ → Bool) (low count n d k : ℕ) → low + count ≡ n → k ≤ d → d < n → ((m : ℕ) → low ≤ m → m < k → p m ≡ false)
     → (k ≤ unwrap_or (least p low count) d) × (unwrap_or (least p low count) d < n)
 least_within p low zero n d k e above below fails = (above, below)
@@ -165,9 +166,9 @@ least_within p low (suc count) n d k e above below fails =
     elim (cases_Bool (p low)) [
       | inl passed ↦ elim (cases_lt low k) [
         | inl before ↦ absurd (both_ways (p low) (fails low (omega arith) before) passed)
-        | inr behind ↦
+        | inr after ↦
             let found : unwrap_or (least p low (suc count)) d ≡ low = ap (λ o. unwrap_or o d) (cond-true (p low) (Some low) (least p (suc low) count) passed) in
-            (omega (arith, found, behind), omega (arith, found, e))
+            (omega (arith, found, after), omega (arith, found, e))
       ]
       | inr failed ↦
           let skipped : unwrap_or (least p low (suc count)) d ≡ unwrap_or (least p (suc low) count) d = ap (λ o. unwrap_or o d) (cond-false (p low) (Some low) (least p (suc low) count) failed) in
@@ -175,14 +176,14 @@ least_within p low (suc count) n d k e above below fails =
           (omega (arith, skipped, rest.0), omega (arith, skipped, rest.1))
     ]
 
--- the stop stands at k or behind it
+-- the stop stands at k or after it
 pub stop_from : (rest : List Place) (k : ℕ) → k < length rest → ((j : ℕ) → j < k → must_end rest j ≡ false) → (k ≤ stop rest) × (stop rest < length rest)
 stop_from rest k within fails =
     least_within (must_end rest) 0 (length rest) (length rest) (length rest - 1) k (omega arith) (omega (arith, within)) (omega (arith, within)) (λ m from below. fails m below)
 
 -- a step of the walk
 pub walk_more : (width : ℕ) (rest : List Place) (k : ℕ) (sums next : Sums) (break cluster : Option ℕ) → k < length rest → IsWalked width rest k sums break cluster
-    → next ≡ sums_behind sums (place_at rest k) → next.columns ≤ sums.columns + 255 → next.shown ≤ width → must_end rest k ≡ false
+    → next ≡ sums_after sums (place_at rest k) → next.columns ≤ sums.columns + 255 → next.shown ≤ width → must_end rest k ≡ false
     → IsWalked width rest (k + 1) next (if may_end rest k then Some k else break) (if cluster_ends_at rest k then Some k else cluster)
 walk_more width rest k sums next break cluster within walked e most fitting must =
     let sums_are : AreSumsOf (take (suc k) rest) next = subst (λ (s : Sums). AreSumsOf (take (suc k) rest) s) (sym e) (sums_more rest k sums within walked.sums_are) in
@@ -202,7 +203,7 @@ walk_more width rest k sums next break cluster within walked e most fitting must
 
 -- the walk ends where a line must
 pub walk_stops : (width : ℕ) (rest : List Place) (test : ℕ → Bool) (k : ℕ) (sums next : Sums) (best : Option ℕ) → k < length rest
-    → AreSumsOf (take k rest) sums → ((j : ℕ) → j < k → must_end rest j ≡ false) → next ≡ sums_behind sums (place_at rest k) → next.shown ≤ width → must_end rest k ≡ true
+    → AreSumsOf (take k rest) sums → ((j : ℕ) → j < k → must_end rest j ≡ false) → next ≡ sums_after sums (place_at rest k) → next.shown ≤ width → must_end rest k ≡ true
     → best ≡ greatest (λ j. test j && fits_to width rest j) k
     → (if test k then Some k else best) ≡ greatest (λ j. test j && fits_to width rest j) (suc (stop rest))
 walk_stops width rest test k sums next best within are no_must e fitting must so_far =
@@ -221,7 +222,7 @@ walk_ends width rest test k some e no_must =
 
 -- the walk ends where the line does not fit, nor from there on
 pub walk_misfits : (width : ℕ) (rest : List Place) (test : ℕ → Bool) (k : ℕ) (sums next : Sums) → k < length rest
-    → AreSumsOf (take k rest) sums → ((j : ℕ) → j < k → must_end rest j ≡ false) → next ≡ sums_behind sums (place_at rest k) → width < next.shown
+    → AreSumsOf (take k rest) sums → ((j : ℕ) → j < k → must_end rest j ≡ false) → next ≡ sums_after sums (place_at rest k) → width < next.shown
     → greatest (λ j. test j && fits_to width rest j) k ≡ greatest (λ j. test j && fits_to width rest j) (suc (stop rest))
 walk_misfits width rest test k sums next within are no_must e above =
     let stops = stop_from rest k within no_must in
@@ -232,7 +233,7 @@ walk_misfits width rest test k sums next within are no_must e above =
 
 -- ---- lines one after another
 
--- behind the characters that are left of a line, the next one starts
+-- after the characters that are left of a line, the next one starts
 pub starts_skip : (nobreak : Bool) (width place left : ℕ) (rest : List Place) → left ≤ length rest
     → starts nobreak width place left rest ≡ starts nobreak width (place + left) 0 (drop left rest)
 starts_skip nobreak width place zero rest within = ap (λ n. starts nobreak width n 0 rest) (omega arith)
@@ -271,7 +272,7 @@ pub record IsShownTo (rest : List Place) (k len columns_shown columns_all : ℕ)
 
 -- ---- where lines start
 
--- one start more, in front of all that is left
+-- one start more, before all that is left
 pub starts_more : (n m : ℕ) (starts : List ℕ) → AreStarts n starts → n < m → AreStarts m (starts ++ n ∷ [])
 starts_more n m starts are order =
     let size : length (starts ++ n ∷ []) ≡ length starts + 1 = length-append starts (n ∷ []) in

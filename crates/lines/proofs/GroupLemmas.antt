@@ -1,5 +1,6 @@
 -- Marks and their bases in the visual order of a line, and the walk that reverses them.
-use Rattle.std.proofs.Common.{◌≡◌, ℕ, zero, suc, ◌+◌, ◌-◌, ◌<◌, ◌≤◌, ◌==◌, Bool, true, false, ◌&&◌, ◌||◌, not, List, [], ◌∷◌, ◌++◌, length, get_or, take, drop, reverse, refl, sym, ap, ap₂, ◌∙◌, inl, inr, arith, add-one, append_assoc, length-append}
+use Rattle.std.proofs.Common.{◌≡◌, ℕ, zero, suc, ◌+◌, ◌-◌, ◌<◌, ◌≤◌, ◌==◌, Bool, true, false, ◌&&◌, ◌||◌, not, List, [], ◌∷◌}
+use Rattle.std.proofs.Common.{◌++◌, length, get_or, take, drop, reverse, refl, sym, ap, ap₂, ◌∙◌, inl, inr, arith, add-one, append_assoc, length-append}
 use Rattle.std.proofs.lemmas.Bool.{and_from, and_left, and_parts, both_ways, cases_Bool, cases_eq, cases_lt, cond-true, cond-false, eq-eqb, eqb-true, or_right}
 use Rattle.std.proofs.lemmas.List.{append-nil, drop-drop, drop_all, get_or-drop, length-drop, length-reverse, length-take-le, reverse-append, take_all}
 use Rattle.std.proofs.Math.Seq.{drop-append_seam, get_or-append_seam, take-add, take-append_seam}
@@ -29,7 +30,7 @@ adjacent_at n xs x y k p a within here =
       | inl e ↦ (omega (arith, e, fits), ap (λ m. get_or xs (suc m) 0) e ∙ next)
       | inr ne ↦ elim (cases_lt k j) [
         | inl before ↦ absurd (p.apart k j before (omega (arith, fits)) (here ∙ sym there))
-        | inr behind ↦ absurd (p.apart j k (omega (arith, behind, ne)) within (there ∙ sym here))
+        | inr after ↦ absurd (p.apart j k (omega (arith, after, ne)) within (there ∙ sym here))
       ]
     ]
 
@@ -41,7 +42,7 @@ rest_within levels xs start is k below =
     let at : get_or xs k 0 ≡ get_or order (start + k) 0 = ap (λ (zs : List ℕ). get_or zs k 0) is ∙ get_or-drop start order k 0 in
     omega (arith, at, p.within (start + k) (omega (arith, below, ap length is, length-drop start order, p.sizes)))
 
--- a mark at the same, odd level as the character in front of it stands directly before this one
+-- a mark at the same, odd level as the character before it stands directly left of this one
 pub mark_stands : (classes : List BidiClass) (levels : List ℕ) (k i : ℕ) → k < length levels → get_or (order_of levels) k 0 ≡ suc i
     → precedes_mark classes levels i ≡ true → (suc k < length levels) × (get_or (order_of levels) (suc k) 0 ≡ i)
 mark_stands classes levels k i within here some =
@@ -126,7 +127,7 @@ module _ (classes : List BidiClass) (levels : List ℕ) where
 
 -- ---- lists
 
--- an interval that passes, with the item behind it, in front of the rest
+-- an interval that passes, with the item after it, before the rest
 passed : (test : ℕ → Bool) (run xs : List ℕ) (n : ℕ) → n < length xs → ((k : ℕ) → k < n → test (get_or xs k 0) ≡ true) → test (get_or xs n 0) ≡ false
     → reverse_with_next test run xs ≡ reverse (take (suc n) xs) ++ run ++ reverse_with_next test [] (drop (suc n) xs)
 passed test run [] n within passes stops = absurd (omega (arith, within))
@@ -195,7 +196,7 @@ module _ (classes : List BidiClass) (levels : List ℕ) (start : ℕ) (xs : List
 
 -- ---- the walk
 
--- what is known at a place: what stands in front of it is done, and what is left is as it was
+-- what is known at a place: what stands before it is done, and what is left is as it was
 pub record Grouped (test : ℕ → Bool) (old current : List ℕ) (start : ℕ) : Type 0 where
   pub sizes : length current ≡ length old
   pub rest : drop start current ≡ drop start old
@@ -208,15 +209,15 @@ pub Grouped-next : (test : ℕ → Bool) (old current ys new : List ℕ) (start 
     → Grouped test old new (start + n)
 Grouped-next test old current ys new start n w within is sizes rest done =
     let front : length (take start current) ≡ start = length-take-le start current within in
-    let behind : drop start new ≡ ys = ap (drop start) is ∙ ap (λ k. drop k (take start current ++ ys)) (sym front) ∙ drop-append_seam (take start current) ys in
+    let after : drop start new ≡ ys = ap (drop start) is ∙ ap (λ k. drop k (take start current ++ ys)) (sym front) ∙ drop-append_seam (take start current) ys in
     let before : take start new ≡ take start current = ap (take start) is ∙ ap (λ k. take k (take start current ++ ys)) (sym front) ∙ take-append_seam (take start current) ys in
     let left : drop (start + n) new ≡ drop (start + n) old =
-    sym (drop-drop n start new) ∙ ap (drop n) behind ∙ rest ∙ ap (drop n) w.rest ∙ drop-drop n start old in
+    sym (drop-drop n start new) ∙ ap (drop n) after ∙ rest ∙ ap (drop n) w.rest ∙ drop-drop n start old in
     record {
       sizes = ap length is ∙ length-append (take start current) ys ∙ omega (arith, front, sizes, length-drop start current, within, w.sizes);
       rest = left;
       done =
-          ap (λ zs. zs ++ reverse_with_next test [] (drop (start + n) old)) (take-add start n new ∙ ap₂ (λ (a b : List ℕ). a ++ take n b) before behind)
+          ap (λ zs. zs ++ reverse_with_next test [] (drop (start + n) old)) (take-add start n new ∙ ap₂ (λ (a b : List ℕ). a ++ take n b) before after)
           ∙ append_assoc (take start current) (take n ys) (reverse_with_next test [] (drop (start + n) old))
           ∙ ap (λ zs. take start current ++ (take n ys ++ reverse_with_next test [] zs)) (sym (drop-drop n start old) ∙ ap (drop n) (sym w.rest))
           ∙ ap (λ zs. take start current ++ zs) (sym done ∙ ap (reverse_with_next test []) w.rest)

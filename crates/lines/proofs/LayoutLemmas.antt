@@ -19,7 +19,8 @@ laid_out_by rules same width text laid e paragraph is =
 pub lines_by : (rules same : Rules) (width : ℕ) (text : List ℕ) (fill : Filled) → same ≡ rules → fill ≡ fill_of rules width text → AreLinesOf same text fill
 lines_by rules same width text fill e is = rw (e, is) (record { width = width; from_scratch = refl })
 
-pub all_lines_by : {E : Type 0} (rules same : Rules) (width : ℕ) (text : List ℕ) (result : Result Filled E) → same ≡ rules → IfOk result (λ fill. fill ≡ fill_of rules width text) → IfOk result (AreLinesOf same text)
+pub all_lines_by : {E : Type 0} (rules same : Rules) (width : ℕ) (text : List ℕ) (result : Result Filled E)
+    → same ≡ rules → IfOk result (λ fill. fill ≡ fill_of rules width text) → IfOk result (AreLinesOf same text)
 all_lines_by rules same width text (Ok fill) e is = lines_by rules same width text fill e is
 all_lines_by rules same width text (Err error) e is = tt
 

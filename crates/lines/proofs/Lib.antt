@@ -8,6 +8,7 @@ mod FewLines
 mod GroupLemmas
 pub mod FillingLemmas
 mod InverseLemmas
+mod LengthLemmas
 pub mod KeptLemmas
 pub mod LayoutLemmas
 mod LevelLemmas

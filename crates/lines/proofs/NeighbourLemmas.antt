@@ -1,5 +1,6 @@
 -- In L2's order two neighbours of a line that are at the same, odd level stand next to one another, the second one first.
-use Rattle.std.proofs.Common.{◌≡◌, ℕ, zero, suc, ◌+◌, ◌-◌, ◌%◌, ◌/◌, ◌<◌, ◌≤◌, ◌==◌, max, Bool, true, false, not, List, [], ◌∷◌, ◌++◌, length, get_or, Option, Some, None, refl, sym, ap, subst, ◌∙◌, inl, inr, arith, append_assoc, zero-add}
+use Rattle.std.proofs.Common.{◌≡◌, ℕ, zero, suc, ◌+◌, ◌-◌, ◌%◌, ◌/◌, ◌<◌, ◌≤◌, ◌==◌, max, Bool, true, false, not, List, []}
+use Rattle.std.proofs.Common.{◌∷◌, ◌++◌, length, get_or, Option, Some, None, refl, sym, ap, subst, ◌∙◌, inl, inr, arith, append_assoc, zero-add}
 use Rattle.std.specs.List.{fold, list_any, range_with_len}
 use Rattle.std.proofs.lemmas.Bool.{and_from, and_parts, both_ways, cases_Bool, cases_eq, cases_lt, cond-true, cond-false, eq-eqb, eqb-true, le-leb, lt-leb, or_left, or_right}
 use Rattle.std.proofs.lemmas.List.{get_or_past}
@@ -12,8 +13,8 @@ pub record Adjacent (x y : ℕ) (xs : List ℕ) : Type 0 where
   pub back : List ℕ
   pub is : xs ≡ front ++ x ∷ y ∷ back
 
-behind : (ys xs : List ℕ) (x y : ℕ) → Adjacent x y xs → Adjacent x y (ys ++ xs)
-behind ys xs x y a = record {
+after : (ys xs : List ℕ) (x y : ℕ) → Adjacent x y xs → Adjacent x y (ys ++ xs)
+after ys xs x y a = record {
   front = ys ++ a.front;
   back = a.back;
   is = ap (λ zs. ys ++ zs) a.is ∙ sym (append_assoc ys a.front (x ∷ y ∷ a.back));
@@ -47,7 +48,7 @@ turned test run (f ∷ front) back x y px py =
     elim (cases_Bool (test f)) [
       | inl passed ↦ subst (λ (zs : List ℕ). Adjacent y x zs) (sym (cond-true (test f) on off passed)) (turned test (f ∷ run) front back x y px py)
       | inr failed ↦ subst (λ (zs : List ℕ). Adjacent y x zs) (sym (cond-false (test f) on off failed))
-          (behind run (f ∷ reverse_runs test [] rest) y x (behind (f ∷ []) (reverse_runs test [] rest) y x (turned test [] front back x y px py)))
+          (after run (f ∷ reverse_runs test [] rest) y x (after (f ∷ []) (reverse_runs test [] rest) y x (turned test [] front back x y px py)))
     ]
 
 kept : (test : ℕ → Bool) (run front back : List ℕ) (x y : ℕ) → test x ≡ false → test y ≡ false
@@ -64,7 +65,7 @@ kept test run (f ∷ front) back x y px py =
     elim (cases_Bool (test f)) [
       | inl passed ↦ subst (λ (zs : List ℕ). Adjacent x y zs) (sym (cond-true (test f) on off passed)) (kept test (f ∷ run) front back x y px py)
       | inr failed ↦ subst (λ (zs : List ℕ). Adjacent x y zs) (sym (cond-false (test f) on off failed))
-          (behind run (f ∷ reverse_runs test [] rest) x y (behind (f ∷ []) (reverse_runs test [] rest) x y (kept test [] front back x y px py)))
+          (after run (f ∷ reverse_runs test [] rest) x y (after (f ∷ []) (reverse_runs test [] rest) x y (kept test [] front back x y px py)))
     ]
 
 pass_turns : (test : ℕ → Bool) (xs : List ℕ) (x y : ℕ) → Adjacent x y xs → test x ≡ true → test y ≡ true → Adjacent y x (reverse_runs test [] xs)
@@ -112,7 +113,7 @@ range_pair a zero (suc (suc n)) h =
 range_pair a (suc i) (suc n) h =
     let e : a + 1 + i ≡ a + suc i = omega arith in
     subst (λ (k : ℕ). Adjacent k (suc k) (range_with_len a (suc n))) e
-    (behind (a ∷ []) (range_with_len (a + 1) n) (a + 1 + i) (suc (a + 1 + i)) (range_pair (a + 1) i n (omega (arith, h))))
+    (after (a ∷ []) (range_with_len (a + 1) n) (a + 1 + i) (suc (a + 1 + i)) (range_pair (a + 1) i n (omega (arith, h))))
 
 module _ (levels : List ℕ) (i : ℕ) (same : get_or levels (suc i) 0 ≡ get_or levels i 0) (within : suc i < length levels) where
   level : ℕ

@@ -1,5 +1,6 @@
 -- Lists with their intervals reversed.
-use Rattle.std.proofs.Common.{◌≡◌, ℕ, zero, suc, ◌+◌, ◌-◌, ◌<◌, ◌≤◌, ◌==◌, Bool, true, false, List, [], ◌∷◌, ◌++◌, length, get_or, map, take, drop, reverse, Option, Some, None, sym, ap, subst, ◌∙◌, inl, inr, arith, add-one, append_assoc}
+use Rattle.std.proofs.Common.{◌≡◌, ℕ, zero, suc, ◌+◌, ◌-◌, ◌<◌, ◌≤◌, ◌==◌, Bool, true, false, List, [], ◌∷◌, ◌++◌, length}
+use Rattle.std.proofs.Common.{get_or, map, take, drop, reverse, Option, Some, None, sym, ap, subst, ◌∙◌, inl, inr, arith, add-one, append_assoc}
 use Rattle.std.specs.List.{position_or_len, prefix_len, range_with_len}
 use Rattle.std.specs.List.Sorted.{IsPermutation}
 use Rattle.std.proofs.lemmas.Bool.{cases_Bool, cond-true, cond-false}
@@ -21,7 +22,7 @@ range_more a (suc n) =
     let last : a + 1 + n ≡ a + suc n = omega arith in
     ap (range_with_len a) e ∙ ap (λ ks. a ∷ ks) (range_more (a + 1) n) ∙ ap (λ k. a ∷ (range_with_len (a + 1) n ++ k ∷ [])) last
 
--- the first interval of a list, behind what is reversed already of it, and the item behind it
+-- the first interval of a list, after what is reversed already of it, and the item after it
 split : (test : ℕ → Bool) (run xs : List ℕ) (n : ℕ) → n ≤ length xs → ((k : ℕ) → k < n → test (get_or xs k 0) ≡ true)
     → (n < length xs → test (get_or xs n 0) ≡ false)
     → reverse_runs test run xs ≡ reverse (take n xs) ++ run ++ take 1 (drop n xs) ++ reverse_runs test [] (drop (suc n) xs)
@@ -43,13 +44,13 @@ first test xs n found =
     (λ h. rw found (prefix_len_stops test xs 0 (rw (← found) h)))
     ∙ ap (λ zs. zs ++ take 1 (drop n xs) ++ reverse_runs test [] (drop (suc n) xs)) (append-nil (reverse (take n xs)))
 
--- what a walk over a list knows at a place: the intervals in front of it are reversed, and what is left is as it was
+-- what a walk over a list knows at a place: the intervals before it are reversed, and what is left is as it was
 pub record Reversed (test : ℕ → Bool) (old current : List ℕ) (start : ℕ) : Type 0 where
   pub sizes : length current ≡ length old
   pub rest : drop start current ≡ drop start old
   pub done : take start current ++ reverse_runs test [] (drop start old) ≡ reverse_runs test [] old
 
--- past the interval that begins there, which may be empty, and the item behind it
+-- past the interval that begins there, which may be empty, and the item after it
 pub Reversed-next : (test : ℕ → Bool) (old current ys : List ℕ) (start n k : ℕ) → Reversed test old current start → start < length current
     → n ≡ prefix_len test (drop start current) → k ≡ n → ys ≡ reverse (take k (drop start current))
     → Reversed test old (put_mid start k current ys) (start + (n + 1))
@@ -60,12 +61,12 @@ Reversed-next test old current ys start n k w within found e is =
     let part : length (take k xs) ≡ k = length-take-le k xs (omega arith) in
     let size : length ys ≡ k = ap length is ∙ length-reverse (take k xs) ∙ part in
     let place : start + (n + 1) ≡ start + n + 1 = omega arith in
-    let behind : drop (start + n) new ≡ drop n xs =
+    let after : drop (start + n) new ≡ drop n xs =
     drop-put_mid start k current ys (start + n) (omega arith) (omega arith) size ∙ sym (drop-drop n start current) in
     let front : take (start + (n + 1)) new ≡ take start current ++ (reverse (take n xs) ++ take 1 (drop n xs)) =
     ap (λ m. take m new) place ∙ take-add (start + n) 1 new
     ∙ ap (λ zs. zs ++ take 1 (drop (start + n) new)) (take-put_mid start k current ys (start + n) (omega arith) (omega arith))
-    ∙ ap (λ zs. take start current ++ ys ++ take 1 zs) behind
+    ∙ ap (λ zs. take start current ++ ys ++ take 1 zs) after
     ∙ ap (λ zs. take start current ++ zs ++ take 1 (drop n xs)) (is ∙ ap (λ m. reverse (take m xs)) e)
     ∙ append_assoc (take start current) (reverse (take n xs)) (take 1 (drop n xs)) in
     let left : (list : List ℕ) → drop (suc n) (drop start list) ≡ drop (start + (n + 1)) list =
@@ -156,7 +157,7 @@ pub order_of_permutes : (levels : List ℕ) → IsPermutation (places levels) (o
 unfolding order_of
 order_of_permutes levels = by_permutes levels (lowest_odd levels)
 
--- reversing intervals together with what stands behind them moves items alone
+-- reversing intervals together with what stands after them moves items alone
 pub with_next_permutes : (test : ℕ → Bool) (run xs : List ℕ) → IsPermutation (run ++ xs) (reverse_with_next test run xs)
 with_next_permutes test run [] = subst (λ (ys : List ℕ). IsPermutation ys run) (sym (append-nil run)) (IsPermutation-refl run)
 with_next_permutes test run (x ∷ xs) =

@@ -26,43 +26,45 @@ slice_get_numbered f k (x ∷ xs) zero = let same : k ≡ k + 0 = omega arith in
 slice_get_numbered f k (x ∷ xs) (suc i) = let same : k + 1 + i ≡ k + suc i = omega arith in slice_get_numbered f (k + 1) xs i ∙ ap (λ n. option_map (f n) (slice_get xs i)) same
 
 -- the n-th line as it is shown
-pub visual_at : (layout : Layout) (n : ℕ) → option_map (visual_of layout.base layout.text n) (slice_get layout.lines n) ≡ slice_get (visuals layout) n
+pub visual_at : (layout : Layout) (n : ℕ) → option_map (visual_of layout.base layout.text layout.lines n) (slice_get layout.lines n) ≡ slice_get (visuals layout) n
 visual_at layout n =
     let same : n ≡ 0 + n = omega arith in
-    ap (λ k. option_map (visual_of layout.base layout.text k) (slice_get layout.lines n)) same ∙ sym (slice_get_numbered (visual_of layout.base layout.text) 0 layout.lines n)
+    ap (λ k. option_map (visual_of layout.base layout.text layout.lines k) (slice_get layout.lines n)) same
+    ∙ sym (slice_get_numbered (visual_of layout.base layout.text layout.lines) 0 layout.lines n)
 
 -- the bytes of a paragraph are those of its lines as they are shown
 pub layout_by_lines : (width : ℕ) (print : Print) (layout : Layout) → layout_bytes width print layout ≡ flat_map (line_bytes width print) (visuals layout)
 layout_by_lines width print layout =
-    sym (flat_map-map (line_bytes width print) (λ (nth : ℕ × Line). visual_of layout.base layout.text nth.0 nth.1) (enumerate_from 0 layout.lines))
+    sym (flat_map-map (line_bytes width print) (λ (nth : ℕ × Line). visual_of layout.base layout.text layout.lines nth.0 nth.1) (enumerate_from 0 layout.lines))
 
 module _ (width : ℕ) (print : Print) (base : ℕ) (text : List ℕ) where
-  abbrev pub bytes_at : ℕ × Line → List ℕ
-  bytes_at nth = line_bytes width print (visual_of base text nth.0 nth.1)
+  -- of some lines the bytes of one, with its number
+  abbrev pub bytes_at : List Line → ℕ × Line → List ℕ
+  bytes_at lines nth = line_bytes width print (visual_of base text lines nth.0 nth.1)
 
   -- the bytes of each line
   abbrev pub pieces : List Line → List (List ℕ)
-  pieces lines = map bytes_at (enumerate_from 0 lines)
+  pieces lines = map (bytes_at lines) (enumerate_from 0 lines)
 
-  joined : (xs : List (ℕ × Line)) → concat (map bytes_at xs) ≡ flat_map bytes_at xs
-  joined [] = refl
-  joined (x ∷ xs) = ap (λ more. bytes_at x ++ more) (joined xs)
+  joined : (lines : List Line) (xs : List (ℕ × Line)) → concat (map (bytes_at lines) xs) ≡ flat_map (bytes_at lines) xs
+  joined lines [] = refl
+  joined lines (x ∷ xs) = ap (λ more. bytes_at lines x ++ more) (joined lines xs)
 
   pub pieces_whole : (lines : List Line) → concat (pieces lines) ≡ lines_bytes width print base text lines
-  pieces_whole lines = joined (enumerate_from 0 lines)
+  pieces_whole lines = joined lines (enumerate_from 0 lines)
 
   pub length-pieces : (lines : List Line) → length (pieces lines) ≡ length lines
-  length-pieces lines = length-map (enumerate_from 0 lines) bytes_at ∙ length-enumerate_from 0 lines
+  length-pieces lines = length-map (enumerate_from 0 lines) (bytes_at lines) ∙ length-enumerate_from 0 lines
 
   pub piece_within : (lines : List Line) (k : ℕ) → k < length lines → k < length (pieces lines)
   piece_within lines k within = rw (length-pieces lines) within
 
-  piece_of : (lines : List Line) (k : ℕ) (line : Line) → k < length lines → slice_get lines k ≡ Some line → get_or (pieces lines) k [] ≡ bytes_at (k, line)
+  piece_of : (lines : List Line) (k : ℕ) (line : Line) → k < length lines → slice_get lines k ≡ Some line → get_or (pieces lines) k [] ≡ bytes_at lines (k, line)
   piece_of lines k line within got =
-      get_or-map bytes_at (enumerate_from 0 lines) k (0, line) [] (rw (length-enumerate_from 0 lines) within) ∙ ap bytes_at (line_with lines k line within got)
+      get_or-map (bytes_at lines) (enumerate_from 0 lines) k (0, line) [] (rw (length-enumerate_from 0 lines) within) ∙ ap (bytes_at lines) (line_with lines k line within got)
 
   -- those of the k-th
-  pub piece_at : (lines : List Line) (k : ℕ) (visual : Visual) → k < length lines → Some visual ≡ option_map (visual_of base text k) (slice_get lines k)
+  pub piece_at : (lines : List Line) (k : ℕ) (visual : Visual) → k < length lines → Some visual ≡ option_map (visual_of base text lines k) (slice_get lines k)
       → line_bytes width print visual ≡ get_or (pieces lines) k []
   piece_at lines k visual within shown = go (slice_get lines k) refl
     where
@@ -71,8 +73,8 @@ module _ (width : ℕ) (print : Print) (base : ℕ) (text : List ℕ) where
           let bad : Some visual ≡ None = rw none at shown in
           cc
       go (Some line) got =
-          let same : Some visual ≡ Some (visual_of base text k line) = rw got at shown in
-          let is : visual ≡ visual_of base text k line = cc in
+          let same : Some visual ≡ Some (visual_of base text lines k line) = rw got at shown in
+          let is : visual ≡ visual_of base text lines k line = cc in
           ap (line_bytes width print) is ∙ sym (piece_of lines k line within got)
 
   -- all of them

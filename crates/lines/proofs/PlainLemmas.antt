@@ -108,6 +108,6 @@ pub classes_are : (t : Tables) (line : List ℕ) → map class_in (map (properti
 classes_are t [] = refl
 classes_are t (c ∷ line) = ap (λ cs. class_of t c ∷ cs) (classes_are t line)
 
--- a part that was written in front of what was there
+-- a part that was written before what was there
 pub front_written : {X : Type 0} (new old : List X) (n : ℕ) → length new ≡ n → take n (new ++ drop n old) ≡ new
 front_written new old n size = ap (λ k. take k (new ++ drop n old)) (sym size) ∙ take-append_seam new (drop n old)

@@ -1,5 +1,6 @@
 -- What is written of one line after the other makes up the lines of the paragraph.
-use Rattle.std.proofs.Common.{◌≡◌, ℕ, zero, suc, ◌+◌, ◌-◌, ◌<◌, ◌≤◌, List, [], ◌∷◌, ◌++◌, length, map, take, drop, get_or, refl, sym, ap, ap₂, subst, ◌∙◌, take-take, drop-drop, below_more, length-append, arith, inl, inr}
+use Rattle.std.proofs.Common.{◌≡◌, ℕ, zero, suc, ◌+◌, ◌-◌, ◌<◌, ◌≤◌, List, [], ◌∷◌, ◌++◌, length, map, take}
+use Rattle.std.proofs.Common.{drop, get_or, refl, sym, ap, ap₂, subst, ◌∙◌, take-take, drop-drop, below_more, length-append, arith, inl, inr}
 use borrow.Rule.Slice.PartMut.{put_mid}
 use Rattle.std.proofs.lemmas.Bool.{cases_eq, cases_lt}
 use Rattle.std.proofs.lemmas.List.{length-drop, length-take, length-take-le, take_more}
@@ -15,9 +16,9 @@ use Rattle.lines.specs.Kept.{AreStarts, IsSound, line_in, lines_by, lines_in}
 use Rattle.lines.specs.Layouts.{AreWithin as LinesAreWithin}
 use Rattle.lines.specs.Mirroring.{visual_chars}
 use Rattle.lines.specs.Order.{ltov_of, vtol_of}
-use Rattle.lines.specs.Showing.{end_of, line_showing, nothing_shown, AreShown, IsPlaced, IsShown}
+use Rattle.lines.specs.Showing.{line_showing, nothing_shown, AreShown, IsPlaced, IsShown}
 use Rattle.lines.specs.Spaces.{line_levels}
-use Rattle.lines.specs.Visual.{Line, lines_from}
+use Rattle.lines.specs.Visual.{Line, end_of, lines_from}
 use Rattle.lines.specs.declared.options.Options.{Options}
 use Rattle.lines.specs.declared.places.Place.{Place}
 use Rattle.lines.specs.declared.fill.Shown.{Shown}

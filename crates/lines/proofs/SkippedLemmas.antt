@@ -11,7 +11,7 @@ use Rattle.lines.specs.Bytes.{direction_line, line_bytes, numbers_line, visual_l
 use Rattle.lines.specs.Clusters.{cluster_ends}
 use Rattle.lines.specs.Filling.{line_starts_of}
 use Rattle.lines.specs.Layouts.{IsParagraph, Rules, base_of, lines_of}
-use Rattle.lines.specs.Pages.{lines_bytes, paragraph_bytes}
+use Rattle.lines.specs.Pages.{paragraph_bytes}
 use Rattle.lines.specs.Places.{places, places_of}
 use Rattle.lines.specs.Printing.{skips_lines}
 use Rattle.lines.specs.Visual.{Line, Visual, lines_from, visual_of}
@@ -45,25 +45,25 @@ module _ (width : ℕ) (print : Print) (skips : skips_lines print ≡ true) wher
       (if print.basedir && visual.is_first then direction_line visual.base else [])
       (numbers_line visual.ltov) (numbers_line visual.vtol) (numbers_line visual.levels) skips
 
-  module _ (base : ℕ) (text : List ℕ) where
+  module _ (base : ℕ) (text : List ℕ) (all : List Line) where
     abbrev bytes_at : ℕ × Line → List ℕ
-    bytes_at nth = line_bytes width print (visual_of base text nth.0 nth.1)
+    bytes_at nth = line_bytes width print (visual_of base text all nth.0 nth.1)
 
     first_is : (line : Line) → bytes_at (0, line) ≡ (if print.basedir then direction_line base else [])
-    first_is line = line_is (visual_of base text 0 line) ∙ on_first print.basedir (direction_line base)
+    first_is line = line_is (visual_of base text all 0 line) ∙ on_first print.basedir (direction_line base)
 
     other_is : (k : ℕ) (line : Line) → 0 < k → bytes_at (k, line) ≡ []
-    other_is k line behind =
-        let second : (k == 0) ≡ false = grind (arith, nat_tests, behind) in
-        line_is (visual_of base text k line)
+    other_is k line after =
+        let second : (k == 0) ≡ false = grind (arith, nat_tests, after) in
+        line_is (visual_of base text all k line)
         ∙ ap (λ first. if print.basedir && first then direction_line base else []) second ∙ on_others print.basedir (direction_line base)
 
     others_are : (k : ℕ) (lines : List Line) → 0 < k → flat_map bytes_at (enumerate_from k lines) ≡ []
-    others_are k [] behind = refl
-    others_are k (line ∷ lines) behind =
-        ap (λ front. front ++ flat_map bytes_at (enumerate_from (k + 1) lines)) (other_is k line behind) ∙ others_are (k + 1) lines (omega arith)
+    others_are k [] after = refl
+    others_are k (line ∷ lines) after =
+        ap (λ front. front ++ flat_map bytes_at (enumerate_from (k + 1) lines)) (other_is k line after) ∙ others_are (k + 1) lines (omega arith)
 
-    all_are : (lines : List Line) → 0 < length lines → lines_bytes width print base text lines ≡ (if print.basedir then direction_line base else [])
+    all_are : (lines : List Line) → 0 < length lines → flat_map bytes_at (enumerate_from 0 lines) ≡ (if print.basedir then direction_line base else [])
     all_are [] some = absurd (omega (arith, some))
     all_are (line ∷ lines) some =
         ap (λ rest. bytes_at (0, line) ++ rest) (others_are 1 lines (omega arith)) ∙ append-nil (bytes_at (0, line)) ∙ first_is line
@@ -82,7 +82,8 @@ unfolding line_starts_of
 some_starts nobreak width [] some = some
 some_starts nobreak width (p ∷ ps) some = omega arith
 
-some_from : (tables : Tables) (options : Options) (base : ℕ) (text levels : List ℕ) (ps : List Place) (starts : List ℕ) → 0 < length starts → 0 < length (lines_from tables options base text levels ps starts)
+some_from : (tables : Tables) (options : Options) (base : ℕ) (text levels : List ℕ) (ps : List Place) (starts : List ℕ)
+    → 0 < length starts → 0 < length (lines_from tables options base text levels ps starts)
 some_from tables options base text levels ps [] some = some
 some_from tables options base text levels ps (s ∷ []) some = omega arith
 some_from tables options base text levels ps (s ∷ t ∷ starts) some = omega arith
@@ -91,7 +92,8 @@ pub some_text : (rules : Rules) (text : List ℕ) → IsParagraph rules text →
 some_text rules [] paragraph = let bad = paragraph.whole in cc
 some_text rules (x ∷ text) paragraph = omega arith
 
-some_lines : (rules : Rules) (width : ℕ) (text : List ℕ) → IsParagraph rules text → length (marks_of rules.tables rules.options.whole_numbers text) ≡ length text → 0 < length (lines_of rules width text)
+some_lines : (rules : Rules) (width : ℕ) (text : List ℕ) → IsParagraph rules text
+    → length (marks_of rules.tables rules.options.whole_numbers text) ≡ length text → 0 < length (lines_of rules width text)
 unfolding places_of
 some_lines rules width text paragraph marks =
     let ps : List Place = places_of rules.tables rules.options.whole_numbers text in
@@ -104,4 +106,4 @@ pub direction_only : (rules : Rules) (width : ℕ) (print : Print) (text : List 
     → length (marks_of rules.tables rules.options.whole_numbers text) ≡ length text
     → (if print.basedir then direction_line (base_of rules text) else []) ≡ paragraph_bytes rules width print text
 direction_only rules width print text skips paragraph marks =
-    sym (all_are width print skips (base_of rules text) text (lines_of rules width text) (some_lines rules width text paragraph marks))
+    sym (all_are width print skips (base_of rules text) text (lines_of rules width text) (lines_of rules width text) (some_lines rules width text paragraph marks))

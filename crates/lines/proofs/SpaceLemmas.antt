@@ -1,5 +1,6 @@
 -- A walk over a line from its end, which sets the levels that L1 names.
-use Rattle.std.proofs.Common.{suc, refl, ap₂, ◌≡◌, ℕ, ◌+◌, ◌<◌, ◌≤◌, Bool, true, ◌&&◌, ◌||◌, if◌then◌else◌, List, [], ◌∷◌, ◌++◌, length, get_or, map, set, take, drop, sym, ap, subst, ◌∙◌, inl, inr, arith, append_assoc}
+use Rattle.std.proofs.Common.{suc, refl, ap₂, ◌≡◌, ℕ, ◌+◌, ◌<◌, ◌≤◌, Bool, true, ◌&&◌, ◌||◌, if◌then◌else◌, List, [], ◌∷◌}
+use Rattle.std.proofs.Common.{◌++◌, length, get_or, map, set, take, drop, sym, ap, subst, ◌∙◌, inl, inr, arith, append_assoc}
 use Rattle.std.proofs.lemmas.Bool.{cases_Bool, cond-true, cond-false}
 use Rattle.std.proofs.lemmas.List.{append-nil, drop_all, drop_more, length-map, length-take-le, get_or-map, take_all, take_more}
 use Rattle.std.proofs.Math.Seq.{set-append_seam}
@@ -9,7 +10,7 @@ use Rattle.ucd.specs.declared.properties.Properties.{Properties}
 use Rattle.bidi.specs.Classes.{class_in}
 use Rattle.lines.specs.Spaces.{ends_segment, is_blank, is_reset, line_levels}
 
--- what the walk knows at a place: the levels from there on are set, and whether a blank in front of it is reset
+-- what the walk knows at a place: the levels from there on are set, and whether a blank before it is reset
 pub record Walked (base : ℕ) (classes : List BidiClass) (old current : List ℕ) (resets : Bool) (at : ℕ) : Type 0 where
   pub within : at ≤ length classes
   pub blank : resets ≡ is_reset (drop at classes)
@@ -31,7 +32,7 @@ pub Walked-end : (base : ℕ) (classes : List BidiClass) (old current : List ℕ
     → at ≡ 0 → current ≡ line_levels base classes old
 Walked-end base classes old current resets at w first = w.done ∙ ap (λ n. take n old ++ line_levels base (drop n classes) (drop n old)) first
 
--- at a place of which the one behind it is known
+-- at a place of which the one after it is known
 next : (base : ℕ) (classes : List BidiClass) (old current : List ℕ) (resets after : Bool) (k : ℕ) (written : List ℕ)
     → Walked base classes old current resets (k + 1) → length classes ≡ length old
     → after ≡ (ends_segment (get_or classes k L) || (is_blank (get_or classes k L) && resets))

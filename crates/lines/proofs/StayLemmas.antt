@@ -1,5 +1,6 @@
 -- A paragraph of one line has this line at each width that it fits.
-use Rattle.std.proofs.Common.{◌≡◌, ◌∙◌, ℕ, zero, suc, ◌+◌, ◌-◌, ◌<◌, ◌≤◌, Bool, true, false, ◌&&◌, ◌||◌, Option, Some, None, unwrap_or, List, [], ◌∷◌, length, get_or, take, drop, refl, sym, ap, subst, inl, inr, arith}
+use Rattle.std.proofs.Common.{◌≡◌, ◌∙◌, ℕ, zero, suc, ◌+◌, ◌-◌, ◌<◌, ◌≤◌, Bool, true, false, ◌&&◌, ◌||◌, Option, Some}
+use Rattle.std.proofs.Common.{None, unwrap_or, List, [], ◌∷◌, length, get_or, take, drop, refl, sym, ap, subst, inl, inr, arith}
 use Rattle.std.specs.List.{slice_get, slice_range}
 use Rattle.std.proofs.lemmas.Bool.{and_from, cases_Bool, cond-true, cond-false, le-leb, leb-true, both_ways}
 use Rattle.std.proofs.lemmas.List.{take_all}
@@ -12,7 +13,8 @@ use Rattle.breaks.specs.Marks.{marks_of}
 use Rattle.breaks.specs.declared.mark.Mark.{Mark}
 use Rattle.breaks.specs.declared.mark.Mark.TheVariants.{Never, May, Must}
 use Rattle.lines.specs.Clusters.{cluster_ends}
-use Rattle.lines.specs.Filling.{by_break, by_cluster, cluster_ends_at, columns, first_end, fits, fits_to, is_break, is_must, line_end, line_len, line_starts_of, may_end, must_end, or_else, place_at, shown, starts, stop}
+use Rattle.lines.specs.Filling.{by_break, by_cluster, cluster_ends_at, columns, first_end, fits, fits_to, is_break, is_must, line_end}
+use Rattle.lines.specs.Filling.{line_len, line_starts_of, may_end, must_end, or_else, place_at, shown, starts, stop}
 use Rattle.lines.specs.Layouts.{IsLaidOut, Layout, Rules, base_of, is_line_within, lines_of}
 use Rattle.lines.specs.Places.{place, places, places_of}
 use Rattle.lines.specs.Visual.{lines_from}
@@ -62,7 +64,7 @@ either_low (Some k) b first last one two three = one k refl
 either_low None (Some k) first last one two three = two k refl
 either_low None None first last one two three = three
 
--- no line goes on behind a position at which it must end
+-- no line goes on after a position at which it must end
 end_low : (width : ℕ) (rest : List Place) → 0 < length rest → line_end width rest ≤ stop rest
 end_low width rest some =
     either_low (by_break width rest) (by_cluster width rest) (first_end rest) (stop rest)

@@ -1,5 +1,6 @@
 -- A base and its marks stand next to one another in the visual order of a line.
-use Rattle.std.proofs.Common.{◌≡◌, ℕ, zero, suc, ◌+◌, ◌-◌, ◌<◌, ◌≤◌, ◌==◌, Bool, true, false, ◌&&◌, ◌||◌, not, List, [], ◌∷◌, ◌++◌, length, get_or, take, drop, reverse, refl, sym, ap, subst, ◌∙◌, inl, inr, arith, append_assoc}
+use Rattle.std.proofs.Common.{◌≡◌, ℕ, zero, suc, ◌+◌, ◌-◌, ◌<◌, ◌≤◌, ◌==◌, Bool, true, false, ◌&&◌, ◌||◌, not, List, []}
+use Rattle.std.proofs.Common.{◌∷◌, ◌++◌, length, get_or, take, drop, reverse, refl, sym, ap, subst, ◌∙◌, inl, inr, arith, append_assoc}
 use Rattle.std.proofs.lemmas.Bool.{and_from, and_left, and_parts, both_ways, cases_Bool, cases_lt, cond-true, cond-false, eq-eqb, eqb-true, or_left, or_right}
 use Rattle.std.proofs.lemmas.List.{append-nil, get_or-append-add, get_or-drop, get_or-reverse, get_or-take, get_or_past, length-drop, length-reverse, length-take-le, take-append-drop}
 use Rattle.std.proofs.lemmas.List.Sorted.{length_permutation}
@@ -126,7 +127,7 @@ module _ (classes : List BidiClass) (levels : List ℕ) (base n : ℕ) (is : IsG
       let place : start + suc k ≡ suc (start + k) = omega arith in
       (omega (arith, beside.0), ap (λ m. get_or (order_of levels) m 0) place ∙ beside.1)
 
-  -- what stands in front of it is no mark that has a base
+  -- what stands left of it is no mark that has a base
   front_free : (at z : ℕ) → suc at ≡ start → get_or (order_of levels) at 0 ≡ z → has_base classes levels z ≡ false
   front_free at zero e here = refl
   front_free at (suc i) e here =
@@ -143,10 +144,10 @@ module _ (classes : List BidiClass) (levels : List ℕ) (base n : ℕ) (is : IsG
             let beside = mark_stands classes levels at i (omega (arith, e, first.0)) here some in
             let place : suc at ≡ start + 0 = omega (arith, e) in
             let last : i ≡ base + (n - 0) = sym beside.1 ∙ ap (λ m. get_or (order_of levels) m 0) place ∙ first.1 in
-            let behind : suc i ≡ base + n + 1 = omega (arith, last) in
+            let after : suc i ≡ base + n + 1 = omega (arith, last) in
             let end : i ≡ base + n = omega (arith, last) in
-            absurd (is.whole (ap (is_mark_at classes) (sym behind) ∙ mark.0)
-            (ap (λ m. get_or levels m 0) (sym behind) ∙ level ∙ ap (λ m. get_or levels m 0) end ∙ is.same n (omega arith)))
+            absurd (is.whole (ap (is_mark_at classes) (sym after) ∙ mark.0)
+            (ap (λ m. get_or levels m 0) (sym after) ∙ level ∙ ap (λ m. get_or levels m 0) end ∙ is.same n (omega arith)))
       ]
 
   front_len : length (take start (order_of levels)) ≡ start
@@ -218,7 +219,7 @@ first_stays test [] fails = refl
 first_stays test (x ∷ xs) fails =
     ap (λ (zs : List ℕ). get_or zs 0 0) (cond-false (test x) (reverse_with_next test (x ∷ []) xs) (x ∷ reverse_with_next test [] xs) fails)
 
--- what stands in front of such a character is no mark that has a base
+-- what stands left of such a character is no mark that has a base
 before_alone : (classes : List BidiClass) (levels : List ℕ) (k z : ℕ) → suc k < length levels → IsAlone classes levels (get_or (order_of levels) (suc k) 0)
     → get_or (order_of levels) k 0 ≡ z → has_base classes levels z ≡ false
 before_alone classes levels k zero within alone here = refl

@@ -105,7 +105,8 @@ pub starts_within : (rules : Rules) (width : ℕ) (text : List ℕ) → AreStart
 unfolding line_starts_of places_of
 starts_within rules width text =
     let ps : List Place = places_of rules.tables rules.options.whole_numbers text in
-    let rise = rise_to 0 (length ps) (length text) (line_starts_of rules.options.nobreak width ps) (length-places rules.tables text (marks_of rules.tables rules.options.whole_numbers text) (cluster_ends text))
+    let rise = rise_to 0 (length ps) (length text) (line_starts_of rules.options.nobreak width ps)
+    (length-places rules.tables text (marks_of rules.tables rules.options.whole_numbers text) (cluster_ends text))
     (starts_rise rules.options.nobreak width 0 0 (length ps) ps (omega arith)) in
     record {
       below = λ k h. rise_below 0 (length text) (line_starts_of rules.options.nobreak width ps) k rise h;

@@ -1,5 +1,6 @@
--- One part written behind another, and lists of parts.
-use Rattle.std.proofs.Common.{◌≡◌, ℕ, zero, suc, ◌+◌, ◌-◌, ◌<◌, ◌≤◌, ◌==◌, false, min, List, [], ◌∷◌, ◌++◌, length, map, get_or, take, drop, replicate, Option, Some, None, Result, Ok, Err, IfOk, IfErr, IsErrAnd, encode_utf8, encode_utf8_all, if◌then◌else◌, refl, sym, ap, ◌∙◌, arith}
+-- One part written after another, and lists of parts.
+use Rattle.std.proofs.Common.{◌≡◌, ℕ, zero, suc, ◌+◌, ◌-◌, ◌<◌, ◌≤◌, ◌==◌, false, min, List, [], ◌∷◌, ◌++◌, length, map, get_or, take}
+use Rattle.std.proofs.Common.{drop, replicate, Option, Some, None, Result, Ok, Err, IfOk, IfErr, IsErrAnd, encode_utf8, encode_utf8_all, if◌then◌else◌, refl, sym, ap, ◌∙◌, arith}
 use Rattle.std.specs.Io.KnownBytes.{Appends}
 use Rattle.std.specs.List.{concat, join_with_byte}
 use Rattle.std.proofs.lemmas.List.{append_assoc, append-nil, length-append, length-map, take-append-le, get_or-map, take_more, take-append-drop, take-map, take-replicate, replicate-append-replicate}
@@ -103,7 +104,7 @@ pub same_fault : {T : Type 0} (r : Result T WriteFault) (fault : WriteFault) (Q 
 same_fault (Ok x) fault Q is holds = tt
 same_fault (Err y) fault Q is holds = rw is holds
 
--- one part more in a piece, behind what stands in front of the piece
+-- one part more in a piece, after what stands before the piece
 pub part-more : (front piece part : List ℕ) {new whole : List ℕ} → new ≡ piece ++ part → front ++ piece ≡ whole → front ++ new ≡ whole ++ part
 part-more front piece part new_is piece_is =
     ap (λ xs. front ++ xs) new_is ∙ sym (append_assoc front piece part) ∙ ap (λ xs. xs ++ part) piece_is
@@ -132,13 +133,13 @@ abbrev pub spaced : List (List ℕ) → List (List ℕ)
 spaced [] = []
 spaced (x ∷ xs) = x ∷ map (λ (y : List ℕ). 32 ∷ y) xs
 
-spaced-behind : (x : List ℕ) (xs : List (List ℕ)) → x ++ concat (map (λ (y : List ℕ). 32 ∷ y) xs) ≡ join_with_byte 32 (x ∷ xs)
-spaced-behind x [] = append-nil x
-spaced-behind x (y ∷ xs) = ap (λ more. x ++ (32 ∷ more)) (spaced-behind y xs)
+spaced-after : (x : List ℕ) (xs : List (List ℕ)) → x ++ concat (map (λ (y : List ℕ). 32 ∷ y) xs) ≡ join_with_byte 32 (x ∷ xs)
+spaced-after x [] = append-nil x
+spaced-after x (y ∷ xs) = ap (λ more. x ++ (32 ∷ more)) (spaced-after y xs)
 
 pub spaced-whole : (xs : List (List ℕ)) → concat (spaced xs) ≡ join_with_byte 32 xs
 spaced-whole [] = refl
-spaced-whole (x ∷ xs) = spaced-behind x xs
+spaced-whole (x ∷ xs) = spaced-after x xs
 
 pub length-spaced : (xs : List (List ℕ)) → length (spaced xs) ≡ length xs
 length-spaced [] = refl
@@ -148,8 +149,8 @@ pub spaced-at : (xs : List (List ℕ)) (k : ℕ) → k < length xs → (if k == 
 spaced-at [] k short = absurd (omega arith)
 spaced-at (x ∷ xs) zero short = refl
 spaced-at (x ∷ xs) (suc k) short =
-    let behind : (suc k == 0) ≡ false = grind (arith, nat_tests) in
-    rw behind (sym (get_or-map (λ (y : List ℕ). 32 ∷ y) xs k [] [] (omega (arith, short))))
+    let after : (suc k == 0) ≡ false = grind (arith, nat_tests) in
+    rw after (sym (get_or-map (λ (y : List ℕ). 32 ∷ y) xs k [] [] (omega (arith, short))))
 
 pub spaced-within : (xs : List (List ℕ)) (k : ℕ) → k < length xs → k < length (spaced xs)
 spaced-within xs k within = rw (length-spaced xs) within
@@ -162,7 +163,7 @@ take-spaced (x ∷ xs) (suc k) = ap (λ more. x ∷ more) (sym (take-map (λ (y 
 joined-front : (xs : List (List ℕ)) (k : ℕ) → join_with_byte 32 (take k xs) ≡ concat (take k (spaced xs))
 joined-front xs k = sym (spaced-whole (take k xs)) ∙ ap concat (take-spaced xs k)
 
--- a row with one item more, and its rest behind the first ones
+-- a row with one item more, and its rest after the first ones
 pub joined-more : (xs : List (List ℕ)) (k : ℕ) (x : List ℕ) → k < length xs → x ≡ get_or xs k []
     → join_with_byte 32 (take (k + 1) xs) ≡ join_with_byte 32 (take k xs) ++ ((if k == 0 then [] else 32 ∷ []) ++ x)
 joined-more xs k x within is =
@@ -196,6 +197,6 @@ all_spaces count left some within part =
     ap spaces sum ∙ spaces-add (count - (left - some)) (left - some)
     ∙ ap (λ xs. xs ++ spaces (left - some)) (more_spaces count left some within part)
 
--- a part in front of which nothing stands is all of it
+-- a part before which nothing stands is all of it
 pub stopped-whole : {xs : List ℕ} {old new : Device} {w : ℕ} → StoppedIn xs 0 old new w → StoppedAt w xs old new
 stopped-whole {w = w} stopped = let all : w ≡ w - 0 = omega arith in rw all stopped.stopped

@@ -14,7 +14,7 @@ direction_line base = if is_odd base then codes "RTL\n" else codes "LTR\n"
 abbrev pub numbers_line : List ℕ → List ℕ
 numbers_line numbers = join_with_byte 32 (map decimal numbers) ++ codes "\n"
 
--- the spaces in front of a line that is shorter than the width, where the paragraph is from right to left
+-- the spaces before a line that is shorter than the width, where the paragraph is from right to left
 abbrev pub padding : ℕ → Print → Visual → List ℕ
 padding width print visual =
     if is_odd visual.base && print.padded then replicate (width - visual.columns) 32 else []

@@ -27,7 +27,7 @@ abbrev pub is_break : Mark → Bool
 is_break Never = false
 is_break mark = true
 
--- the place at an index, and nothing behind the last
+-- the place at an index, and nothing after the last
 abbrev pub nothing : Place
 nothing = record { columns = 0; is_trailing = false; mark = Never; ends_cluster = false }
 
@@ -39,9 +39,9 @@ abbrev pub or_else : Option ℕ → Option ℕ → Option ℕ
 or_else (Some k) other = Some k
 or_else None other = other
 
--- A line begins at the first of these characters, and others follow. Positions are named by the character that they lie behind.
+-- A line begins at the first of these characters, and others follow. Positions are named by the character that they lie after.
 module _ (rest : List Place) where
-  -- a line must end behind a character, or may; a cluster ends there
+  -- a line must end after a character, or may; a cluster ends there
   abbrev pub must_end : ℕ → Bool
   must_end k = is_must (place_at rest k).mark
 
@@ -78,7 +78,7 @@ line_end width rest = unwrap_or (or_else (by_break width rest) (by_cluster width
 abbrev pub line_len : Bool → ℕ → List Place → ℕ
 line_len nobreak width rest = suc (if nobreak then stop rest else line_end width rest)
 
--- where lines start: at a character in front of which so many of the line before are left as none
+-- where lines start, from a place on, where the first `left` characters of the rest belong to an earlier line
 abbrev pub starts : Bool → ℕ → ℕ → ℕ → List Place → List ℕ
 starts nobreak width place left [] = []
 starts nobreak width place zero (p ∷ rest) = place ∷ starts nobreak width (suc place) (line_len nobreak width (p ∷ rest) - 1) rest

@@ -4,7 +4,7 @@ use Rattle.ucd.specs.declared.bidi_class.BidiClass.{BidiClass}
 use Rattle.lines.specs.Order.{has_base, is_mark_at, is_odd, vtol_of}
 
 module _ (classes : List BidiClass) (levels : List ℕ) where
-  -- a character at an odd level that is no mark, and all n marks behind it that are at this level
+  -- a character at an odd level that is no mark, and all n marks after it that are at this level
   pub record IsGroup (base n : ℕ) : Type 0 where
     pub plain : is_mark_at classes base ≡ false
     pub odd : is_odd (slice_index levels base) ≡ true
@@ -29,7 +29,7 @@ module _ (classes : List BidiClass) (levels : List ℕ) where
   is_bound place next =
       (next + 1 == place) && (is_mark_at classes place && (is_odd (slice_index levels next) && (slice_index levels place == slice_index levels next)))
 
-  -- each of the first n places of a list is bound to the next one, and the place behind them is not
+  -- each of the first n places of a list is bound to the next one, and the place after them is not
   pub record AreBound (items : List ℕ) (n : ℕ) : Type 0 where
     pub within : n < length items
     pub bound : (k : ℕ) → k < n → is_bound (slice_index items k) (slice_index items (k + 1)) ≡ true

@@ -32,7 +32,7 @@ pub record IsSound (starts : List ℕ) (shown : List Shown) (levels ltov vtol ch
   pub places : All (λ line. AreWithin (length line.levels) line.vtol) (lines_in starts shown levels ltov vtol chars)
   pub within : (k : ℕ) → k < length starts → slice_index starts k + (slice_index_or shown k (record { len = 0; columns = 0 })).len ≤ length levels
 
--- each line starts in front of the next one and of the end
+-- each line starts before the next one and before the end
 pub record AreStarts (n : ℕ) (starts : List ℕ) : Type 0 where
   pub below : (k : ℕ) → k < length starts → slice_index starts k < n
   pub rising : (k : ℕ) → k + 1 < length starts → slice_index starts k < slice_index starts (k + 1)

@@ -47,7 +47,7 @@ layout_of rules width text = record {
 
 -- its lines as they are shown
 abbrev pub visuals : Layout → List Visual
-visuals layout = map (λ nth. visual_of layout.base layout.text nth.0 nth.1) (enumerate_from 0 layout.lines)
+visuals layout = map (λ nth. visual_of layout.base layout.text layout.lines nth.0 nth.1) (enumerate_from 0 layout.lines)
 
 -- lines alone, and how many characters their paragraph has
 pub record Filled : Type 0 where
@@ -60,7 +60,7 @@ fill_of rules width text = record { lines = lines_of rules width text; len = len
 abbrev pub start_of : Line → ℕ
 start_of line = line.start
 
--- the shown part of each line stands in front of the n-th character
+-- the shown part of each line stands before the n-th character
 abbrev pub AreWithin : ℕ → List Line → Type 0
 AreWithin n lines = All (λ line. line.start + length line.levels ≤ n) lines
 

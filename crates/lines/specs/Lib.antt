@@ -15,6 +15,7 @@ pub mod Lists
 pub mod Mirroring
 pub mod Order
 pub mod Pages
+pub mod Paragraphs
 pub mod Parts
 pub mod Places
 pub mod Printing

@@ -48,7 +48,7 @@ module _ (levels : List ℕ) where
 unfoldable pub order_of : List ℕ → List ℕ
 order_of levels = order_by levels (lowest_odd levels)
 
--- a list with each maximal interval of items that pass a test reversed together with the item behind it; `run` is the interval under
+-- a list with each maximal interval of items that pass a test reversed together with the item after it; `run` is the interval under
 -- way, reversed
 abbrev pub reverse_with_next : (ℕ → Bool) → List ℕ → List ℕ → List ℕ
 reverse_with_next test run [] = run
@@ -60,16 +60,16 @@ is_mark_at classes i = is_mark (class_at classes i)
 
 -- and by the levels of its shown part
 module _ (classes : List BidiClass) (levels : List ℕ) where
-  -- the character behind this one is a mark, and both are at the same, odd level
+  -- the character after this one is a mark, and both are at the same, odd level
   abbrev pub precedes_mark : ℕ → Bool
   precedes_mark i = is_mark_at classes (suc i) && (is_odd (slice_index levels i) && (slice_index levels (suc i) == slice_index levels i))
 
-  -- A mark has a base if the character in front of it is at the same, odd level, and is no mark, or has a base too.
+  -- A mark has a base if the character before it is at the same, odd level, and is no mark, or has a base too.
   abbrev pub has_base : ℕ → Bool
   has_base zero = false
   has_base (suc i) = precedes_mark i && (not (is_mark_at classes i) || has_base i)
 
--- Of each visual position, the place in the line. In L2's order marks that have a base stand in front of it, the last one first; with the
+-- Of each visual position, the place in the line. In L2's order marks that have a base stand left of it, the last one first; with the
 -- option this is reversed.
 unfoldable pub vtol_of : Bool → List BidiClass → List ℕ → List ℕ
 vtol_of reordernsm classes levels = if reordernsm then reverse_with_next (has_base classes levels) [] (order_of levels) else order_of levels

@@ -9,12 +9,12 @@ use Rattle.lines.specs.declared.print.Print.{Print}
 -- the bytes of a paragraph's lines, in order
 abbrev pub lines_bytes : ℕ → Print → ℕ → List ℕ → List Line → List ℕ
 lines_bytes width print base text lines =
-    flat_map (λ nth. line_bytes width print (visual_of base text nth.0 nth.1)) (enumerate_from 0 lines)
+    flat_map (λ nth. line_bytes width print (visual_of base text lines nth.0 nth.1)) (enumerate_from 0 lines)
 
 -- what is printed of a paragraph that is laid out: the bytes of its lines, in order
 abbrev pub layout_bytes : ℕ → Print → Layout → List ℕ
 layout_bytes width print layout =
-    flat_map (λ nth. line_bytes width print (visual_of layout.base layout.text nth.0 nth.1)) (enumerate_from 0 layout.lines)
+    flat_map (λ nth. line_bytes width print (visual_of layout.base layout.text layout.lines nth.0 nth.1)) (enumerate_from 0 layout.lines)
 
 module _ (rules : Rules) (width : ℕ) (print : Print) where
   -- what is printed of a paragraph that is laid out from scratch

@@ -1,4 +1,4 @@
--- What filling reads of each character of a paragraph: its columns, and what stands behind it.
+-- What filling reads of each character of a paragraph: its columns, and what stands after it.
 use Rattle.std.specs.Prelude.{ℕ, Bool, false, List, [], ◌∷◌, unwrap_or}
 use Rattle.ucd.specs.Tables.{line_class_of, is_mark_in}
 use Rattle.ucd.specs.declared.line_class.LineClass.TheVariants.{BK, CR, LF, NL, SP}
@@ -19,7 +19,7 @@ columns_of c = unwrap_or (char_width false c) 0
 abbrev pub is_trailing_in : Tables → ℕ → Bool
 is_trailing_in t c = is_one_of (SP ∷ BK ∷ CR ∷ LF ∷ NL ∷ []) (resolved (line_class_of t c) (is_mark_in t c))
 
--- a character, with the mark behind it, and whether a grapheme cluster ends behind it
+-- a character, with the mark after it, and whether a grapheme cluster ends after it
 abbrev pub place : Tables → ℕ → Mark → Bool → Place
 place t c mark ends_cluster =
     record { columns = columns_of c; is_trailing = is_trailing_in t c; mark = mark; ends_cluster = ends_cluster }

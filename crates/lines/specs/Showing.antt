@@ -1,5 +1,5 @@
 -- What is written of the lines of a paragraph, each at the place of its characters.
-use Rattle.std.specs.Prelude.{◌≡◌, ℕ, zero, suc, ◌+◌, ◌<◌, ◌≤◌, List, [], ◌∷◌, length, map, take, slice_index, slice_index_or, slice_range}
+use Rattle.std.specs.Prelude.{◌≡◌, ℕ, ◌+◌, ◌<◌, ◌≤◌, List, length, map, take, slice_index, slice_index_or, slice_range}
 use Rattle.ucd.specs.Tables.{class_of}
 use Rattle.ucd.specs.declared.tables.Tables.{Tables}
 use Rattle.bidi.specs.Runs.{AreWithin}
@@ -7,16 +7,9 @@ use Rattle.lines.specs.Kept.{line_in}
 use Rattle.lines.specs.Mirroring.{visual_chars}
 use Rattle.lines.specs.Order.{ltov_of, vtol_of}
 use Rattle.lines.specs.Spaces.{line_levels}
-use Rattle.lines.specs.Visual.{Line}
+use Rattle.lines.specs.Visual.{Line, end_of}
 use Rattle.lines.specs.declared.options.Options.{Options}
 use Rattle.lines.specs.declared.fill.Shown.{Shown}
-
--- where a line ends, of a paragraph of n characters
-abbrev pub end_of : ℕ → List ℕ → ℕ → ℕ
-end_of n [] k = n
-end_of n (s ∷ []) k = n
-end_of n (s ∷ t ∷ starts) zero = t
-end_of n (s ∷ t ∷ starts) (suc k) = end_of n (t ∷ starts) k
 
 -- what is written of one line, of which `part` is shown
 pub record IsShown (tables : Tables) (options : Options) (base : ℕ) (line old : List ℕ) (part : Shown) (levels ltov vtol chars : List ℕ) : Type 0 where

@@ -16,7 +16,7 @@ abbrev pub is_blank : BidiClass → Bool
 is_blank WS = true
 is_blank class = is_initiator class || is_pdi class || is_removed class
 
--- A line's first character has the paragraph level if it is a separator, or if it is blank, and only blanks stand behind it up to
+-- A line's first character has the paragraph level if it is a separator, or if it is blank, and only blanks stand after it up to
 -- the next separator or the line's end.
 abbrev pub is_reset : List BidiClass → Bool
 is_reset [] = true

@@ -5,8 +5,8 @@ use Rattle.lines.specs.declared.filling.Sums.{Sums}
 use Rattle.lines.specs.declared.places.Place.{Place}
 
 -- the sums of a piece with one more character
-abbrev pub sums_behind : Sums → Place → Sums
-sums_behind sums p = record {
+abbrev pub sums_after : Sums → Place → Sums
+sums_after sums p = record {
   columns = sums.columns + p.columns;
   shown = if p.is_trailing then sums.shown else sums.columns + p.columns;
 }

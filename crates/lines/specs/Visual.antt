@@ -1,5 +1,5 @@
 -- The lines of a paragraph as they are shown: the order, the levels and the characters of each line's shown part.
-use Rattle.std.specs.Prelude.{ℕ, ◌+◌, ◌==◌, Bool, List, [], ◌∷◌, length, map, take, slice_range}
+use Rattle.std.specs.Prelude.{ℕ, zero, suc, ◌+◌, ◌-◌, ◌==◌, Bool, List, [], ◌∷◌, length, map, take, slice_range}
 use Rattle.ucd.specs.Tables.{class_of}
 use Rattle.ucd.specs.declared.tables.Tables.{Tables}
 use Rattle.lines.specs.Filling.{columns, shown}
@@ -45,10 +45,19 @@ module _ (tables : Tables) (options : Options) (base : ℕ) (text levels : List 
   lines_from (s ∷ []) = line_between s (length text) ∷ []
   lines_from (s ∷ t ∷ starts) = line_between s t ∷ lines_from (t ∷ starts)
 
--- a line with what it has of its paragraph: whether it is the first, the base level, and the characters of its shown part in logical order
+-- where a line ends, of a paragraph of n characters, by where its lines start
+abbrev pub end_of : ℕ → List ℕ → ℕ → ℕ
+end_of n [] k = n
+end_of n (s ∷ []) k = n
+end_of n (s ∷ t ∷ starts) zero = t
+end_of n (s ∷ t ∷ starts) (suc k) = end_of n (t ∷ starts) k
+
+-- A line with what it has of its paragraph: whether it is the first, the base level, how many characters it has, those that are not shown
+-- among them, and the characters of its shown part in logical order.
 pub record Visual : Type 0 where
   pub is_first : Bool
   pub base : ℕ
+  pub len : ℕ
   pub text : List ℕ
   pub columns : ℕ
   pub levels : List ℕ
@@ -56,10 +65,12 @@ pub record Visual : Type 0 where
   pub vtol : List ℕ
   pub chars : List ℕ
 
-abbrev pub visual_of : ℕ → List ℕ → ℕ → Line → Visual
-visual_of base text n line = record {
+-- the n-th line of a paragraph with these lines
+abbrev pub visual_of : ℕ → List ℕ → List Line → ℕ → Line → Visual
+visual_of base text lines n line = record {
   is_first = n == 0;
   base = base;
+  len = end_of (length text) (map (λ other. other.start) lines) n - line.start;
   text = slice_range text line.start (line.start + length line.levels);
   columns = line.columns;
   levels = line.levels;

@@ -1,13 +1,13 @@
--- Writing some bytes behind others of which they are a part, with one count for all of them.
+-- Writing some bytes after others of which they are a part, with one count for all of them.
 use Rattle.std.specs.Prelude.{◌≡◌, ℕ, ◌+◌, ◌-◌, ◌≤◌, List, length}
 use Rattle.device.specs.Device.{Device, Wrote, StoppedAt}
 
--- the part was written behind so many bytes, which makes n
+-- the part was written after so many bytes, which makes n
 pub record PassedOn (part : List ℕ) (done : ℕ) (old new : Device) (n : ℕ) : Type 0 where
   pub count : n ≡ done + length part
   pub wrote : Wrote part old new
 
--- the sink failed within the part, behind so many bytes of all
+-- the sink failed within the part, after so many bytes of all
 pub record StoppedIn (part : List ℕ) (done : ℕ) (old new : Device) (written : ℕ) : Type 0 where
   pub behind : done ≤ written
   pub stopped : StoppedAt (written - done) part old new

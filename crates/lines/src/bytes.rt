@@ -1,4 +1,4 @@
-//! The bytes of a line, passed to a sink as they are made. Each function writes a part of them behind
+//! The bytes of a line, passed to a sink as they are made. Each function writes a part of them after
 //! `done` bytes, and answers how many are written then.
 ghost use Rattle.std.specs.Prelude.{◌≡◌, [], ◌∷◌, ◌++◌, ◌≤◌, ◌&&◌, IfOk, IfErr, if◌then◌else◌};
 ghost use Rattle.std.specs.Prelude.{◌+◌, ◌*◌, ◌<◌, take, codes};
@@ -21,7 +21,7 @@ pub struct WriteFault {
     pub written: u64,
 }
 
-// Spaces in front of a line.
+// Spaces before a line.
 const SPACES: [u8; 64] = [b' '; 64];
 
 fn write_part<W: Sink>(writer: &mut W, done: u64, part: &[u8]) -> Result<u64, WriteFault>
@@ -41,7 +41,7 @@ fn write_part<W: Sink>(writer: &mut W, done: u64, part: &[u8]) -> Result<u64, Wr
 }
 
 // How many characters are written at a time.
-const PIECE: usize = 64;
+const CHARACTERS_AT_ONCE: usize = 64;
 
 fn write_chars<W: Sink>(writer: &mut W, done: u64, chars: &[char]) -> Result<u64, WriteFault>
     requires { done ≤ (W.state writer.old).passed }
@@ -51,11 +51,11 @@ fn write_chars<W: Sink>(writer: &mut W, done: u64, chars: &[char]) -> Result<u64
         (W.state writer.old) (W.state writer.new) fault.written) }
     ensures counted { IfOk result (λ n. n ≤ (W.state writer.new).passed) }
 {
-    let mut buffer = [0; 4 * PIECE];
+    let mut buffer = [0; 4 * CHARACTERS_AT_ONCE];
     let mut written = done;
     let mut at = 0;
     while at < chars.len() {
-        let end = chars.len().min(at + PIECE);
+        let end = chars.len().min(at + CHARACTERS_AT_ONCE);
         let len = encode(&chars[at..end], &mut buffer);
         written = write_part(writer, written, &buffer[..len])?;
         at = end;
@@ -71,13 +71,13 @@ fn encode(piece: &[char], buffer: &mut [u8]) -> usize
 {
     let mut len = 0;
     for c in piece {
-        len = encode_behind(*c, buffer, len);
+        len = encode_at(*c, buffer, len);
     }
     len
 }
 
 // Puts the bytes of a character to a place of a buffer, and says where they end.
-fn encode_behind(c: char, buffer: &mut [u8], at: usize) -> usize
+fn encode_at(c: char, buffer: &mut [u8], at: usize) -> usize
     requires { at + 4 ≤ length buffer.old }
     ensures within { result ≤ at + 4 }
     ensures bytes { take result buffer.new ≡ take at buffer.old ++ encode_utf8 c }
@@ -89,7 +89,7 @@ fn encode_behind(c: char, buffer: &mut [u8], at: usize) -> usize
 // Puts a byte to a place of a buffer, and says where it ends.
 fn put(buffer: &mut [u8], at: usize, byte: u8) -> usize
     requires { at < length buffer.old }
-    ensures behind { result ≡ at + 1 }
+    ensures end { result ≡ at + 1 }
     ensures bytes { take result buffer.new ≡ take at buffer.old ++ byte ∷ [] }
 {
     buffer[at] = byte;
@@ -113,7 +113,7 @@ fn write_places<W: Sink>(
         (W.state writer.old) (W.state writer.new) fault.written) }
     ensures counted { IfOk result (λ n. n ≤ (W.state writer.new).passed) }
 {
-    let mut buffer = [0; 4 * PIECE];
+    let mut buffer = [0; 4 * CHARACTERS_AT_ONCE];
     let mut written = done;
     let mut at = 0;
     while at < places.len() {
@@ -124,8 +124,8 @@ fn write_places<W: Sink>(
     Ok(written)
 }
 
-// Puts the bytes of the characters at the places from `from` on to the front of a buffer, as many as it has
-// room for, and says which place is next, and how many bytes they are.
+// Puts the bytes of the characters at the places from `from` on to the front of a buffer, as many as fit
+// into it, and says which place is next, and how many bytes they are.
 fn encode_places(text: &[char], places: &[u32], from: usize, buffer: &mut [u8]) -> (usize, usize)
     requires within { AreWithin (length text.now) places.now }
     requires some { (from < length places.now) × (4 ≤ length buffer.old) }
@@ -139,7 +139,7 @@ fn encode_places(text: &[char], places: &[u32], from: usize, buffer: &mut [u8]) 
     let mut len = 0;
     while next < places.len() && len + 4 <= buffer.len() {
         let place = places[next] as usize;
-        len = encode_behind(text[place], buffer, len);
+        len = encode_at(text[place], buffer, len);
         next += 1;
     }
     (next, len)
@@ -164,9 +164,9 @@ fn write_spaces<W: Sink>(writer: &mut W, done: u64, count: usize) -> Result<u64,
 }
 
 // How many bytes of a row of numbers are written at a time.
-const ROW_PIECE: usize = 512;
+const ROW_BYTES_AT_ONCE: usize = 512;
 
-// How many bytes a number has at most, with the space in front of it.
+// How many bytes a number has at most, with the space before it.
 const NUMBER_LEN: usize = 41;
 
 fn write_row<W: Sink, I: Integer>(
@@ -182,7 +182,7 @@ fn write_row<W: Sink, I: Integer>(
         (W.state writer.old) (W.state writer.new) fault.written) }
     ensures counted { IfOk result (λ n. n ≤ (W.state writer.new).passed) }
 {
-    let mut buffer = [0; ROW_PIECE];
+    let mut buffer = [0; ROW_BYTES_AT_ONCE];
     let mut written = done;
     let mut at = 0;
     while at < numbers.len() {
@@ -193,8 +193,8 @@ fn write_row<W: Sink, I: Integer>(
     Ok(written)
 }
 
-// Puts the numbers of a row from `from` on to the front of a buffer, as many as it has room for, and says
-// which one is next, and how many bytes they are.
+// Puts the numbers of a row from `from` on to the front of a buffer, as many as fit into it, and says which
+// one is next, and how many bytes they are.
 fn encode_row<I: Integer>(numbers: &[I], from: usize, buffer: &mut [u8]) -> (usize, usize)
     requires { (from < length numbers.now) × (41 ≤ length buffer.old) }
     ensures next { (from < result.0) × (result.0 ≤ length numbers.now) }
@@ -211,7 +211,7 @@ fn encode_row<I: Integer>(numbers: &[I], from: usize, buffer: &mut [u8]) -> (usi
     (next, len)
 }
 
-// Puts a number to a place of a buffer, behind a space where it isn't the first of its row, and says where
+// Puts a number to a place of a buffer, after a space where it isn't the first of its row, and says where
 // it ends.
 fn encode_number<I: Integer>(number: I, is_first: bool, buffer: &mut [u8], at: usize) -> usize
     requires { at + 41 ≤ length buffer.old }
@@ -234,19 +234,19 @@ fn put_few(buffer: &mut [u8], at: usize, bytes: &[u8]) -> usize
     match bytes {
         [first] => put(buffer, at, *first),
         [first, second] => {
-            let behind = put(buffer, at, *first);
-            put(buffer, behind, *second)
+            let end = put(buffer, at, *first);
+            put(buffer, end, *second)
         }
         [first, second, third] => {
-            let behind = put(buffer, at, *first);
-            let behind = put(buffer, behind, *second);
-            put(buffer, behind, *third)
+            let end = put(buffer, at, *first);
+            let end = put(buffer, end, *second);
+            put(buffer, end, *third)
         }
         [first, second, third, fourth] => {
-            let behind = put(buffer, at, *first);
-            let behind = put(buffer, behind, *second);
-            let behind = put(buffer, behind, *third);
-            put(buffer, behind, *fourth)
+            let end = put(buffer, at, *first);
+            let end = put(buffer, end, *second);
+            let end = put(buffer, end, *third);
+            put(buffer, end, *fourth)
         }
         more => put_all(buffer, at, more),
     }
@@ -311,7 +311,7 @@ fn write_shown_chars<W: Sink>(
     }
 }
 
-// How many spaces stand in front of a line.
+// How many spaces stand before a line.
 fn padding(line: &VisualLine<'_>, width: u16, print: &Print) -> usize
     ensures { replicate result 32 ≡ padding width print.now line.now }
 {

@@ -9,7 +9,7 @@ use crate::places::Place;
 use std::alloc::{AllocError, Global};
 use unicode_segmentation::UnicodeSegmentation;
 
-/// Whether a cluster ends behind each character of a paragraph.
+/// Whether a cluster ends after each character of a paragraph.
 pub fn cluster_ends(alloc: Global, text: &[char]) -> Result<Vec<bool>, AllocError>
     ensures ends { IfOk result (λ ends. ends.items ≡ cluster_ends text.now) }
     ensures len { IfOk result (λ ends. length ends.items ≡ length text.now) }
@@ -25,7 +25,7 @@ pub fn cluster_ends(alloc: Global, text: &[char]) -> Result<Vec<bool>, AllocErro
     Ok(ends)
 }
 
-/// Marks the places of a paragraph behind which a cluster ends.
+/// Marks the places of a paragraph after which a cluster ends.
 pub fn mark_clusters(alloc: Global, text: &[char], places: &mut [Place]) -> Result<(), AllocError>
     requires { length places.old ≡ length text.now }
     ensures { OnOk result (places.new ≡ with_ends places.old (cluster_ends text.now)) }
@@ -66,7 +66,7 @@ fn put_ends(places: &mut [Place], ends: &[bool])
     }
 }
 
-// Adds the ends of one cluster: none but behind its last character.
+// Adds the ends of one cluster: none but after its last character.
 fn push_ends(ends: &mut Vec<bool>, cluster: &str) -> Result<(), AllocError>
     ensures { OnOk result (ends.new.items ≡ ends.old.items ++ ends_of cluster.now) }
 {

@@ -17,6 +17,7 @@ use crate::extents::{Extents, Room};
 use crate::fill::{Fill, Lists};
 use crate::laid::Laid;
 use crate::options::Options;
+use crate::paragraph::LentRules;
 use crate::print::{Print, PrintFault};
 use crate::work::{LayoutLists, Parts, Work};
 use bidi::{base_level, first_cut, is_cut};
@@ -181,8 +182,7 @@ impl Engine {
         ensures at_most { FillsAtMost (length laid.now.text) self.old self.new }
         ensures rules { SameRules self.old self.new }
     {
-        let text = laid.text();
-        self.fill(alloc, text, laid.base(), laid.levels(), laid.marks(), width)
+        self.fill(alloc, laid, width)
     }
 
     /// Writes the lines of one paragraph at a width in columns, which is not 0, and keeps nothing of them.
@@ -293,8 +293,11 @@ impl Engine {
         let work = self.work.get_or_insert_with(|| Work::new(alloc));
         let kept = self.kept.get_or_insert_with(|| LayoutLists::new(alloc));
         let counts = &mut self.counts;
-        let Ok(base) = work.lay_out(alloc, &self.tables, self.options, text, width, kept, counts)
-        else {
+        let rules = LentRules {
+            tables: &self.tables,
+            options: self.options,
+        };
+        let Ok(base) = work.lay_out(alloc, &rules, text, width, kept, counts) else {
             return Err(PrintFault::Memory);
         };
         write_lists(alloc, &mut kept.lines, text, base, writer, width, print)
@@ -358,15 +361,11 @@ impl Engine {
         let work = self.work.get_or_insert_with(|| Work::new(alloc));
         let mut kept = LayoutLists::new(alloc);
         let counts = &mut self.counts;
-        let base = work.lay_out(
-            alloc,
-            &self.tables,
-            self.options,
-            text,
-            width,
-            &mut kept,
-            counts,
-        )?;
+        let rules = LentRules {
+            tables: &self.tables,
+            options: self.options,
+        };
+        let base = work.lay_out(alloc, &rules, text, width, &mut kept, counts)?;
         Ok(Parts {
             base,
             levels: kept.levels,
@@ -394,52 +393,28 @@ impl Engine {
     {
         let work = self.work.get_or_insert_with(|| Work::new(alloc));
         let counts = &mut self.counts;
-        work.extents(
-            alloc,
-            &self.tables,
-            self.options,
-            text,
-            marks,
-            width,
-            counts,
-        )
+        let rules = LentRules {
+            tables: &self.tables,
+            options: self.options,
+        };
+        work.extents(alloc, &rules, text, marks, width, counts)
     }
 
-    // The lines of a paragraph, of which all else is known.
-    fn fill(
-        &mut self,
-        alloc: Global,
-        text: &[char],
-        base: u8,
-        levels: &[u8],
-        marks: &[Mark],
-        width: u16,
-    ) -> Result<Fill, AllocError>
-        requires base { base ≡ base_of (rules_of self.old) text.now }
-        requires levels { levels.now
-            ≡ levels_of (rules_of self.old).tables text.now (rules_of self.old).options.base }
-        requires len { length levels.now ≡ length text.now }
-        requires marks { marks.now ≡ marks_of (rules_of self.old).tables
-            (rules_of self.old).options.whole_numbers text.now }
-        requires within { length text.now ≤ PARAGRAPH_LIMIT }
-        ensures lines { IfOk result (λ fill. fill ≡ fill_of (rules_of self.old) width text.now) }
-        ensures within { IfOk result (λ fill. AreWithin (length text.now) fill.lines) }
-        ensures counts { OnOk result (Fills (length text.now) self.old self.new) }
-        ensures at_most { FillsAtMost (length text.now) self.old self.new }
+    // The lines of a paragraph that is laid out, at another width.
+    fn fill(&mut self, alloc: Global, laid: &Laid, width: u16) -> Result<Fill, AllocError>
+        requires { IsLaidOut (rules_of self.old) laid.now }
+        ensures lines { IfOk result (λ fill. fill ≡ fill_of (rules_of self.old) width laid.now.text) }
+        ensures within { IfOk result (λ fill. AreWithin (length laid.now.text) fill.lines) }
+        ensures counts { OnOk result (Fills (length laid.now.text) self.old self.new) }
+        ensures at_most { FillsAtMost (length laid.now.text) self.old self.new }
         ensures rules { SameRules self.old self.new }
     {
         let work = self.work.get_or_insert_with(|| Work::new(alloc));
-        work.fill(
-            alloc,
-            &self.tables,
-            self.options,
-            text,
-            base,
-            levels,
-            marks,
-            width,
-            &mut self.counts,
-        )
+        let rules = LentRules {
+            tables: &self.tables,
+            options: self.options,
+        };
+        work.fill(alloc, &rules, laid, width, &mut self.counts)
     }
 }
 

@@ -2,12 +2,12 @@
 //! and what is written of all of them.
 ghost use Rattle.std.specs.Prelude.{◌≡◌, ◌+◌, ◌≤◌, List, length, map, option_map, slice_get};
 ghost use Rattle.std.specs.Prelude.{IfErr, IfOk, IfSome};
-ghost use Rattle.ucd.specs.Properties.{properties_of};
 ghost use Rattle.bidi.specs.Runs.{AreWithin};
 ghost use Rattle.lines.specs.Engine.{counted};
 ghost use Rattle.lines.specs.Extents.{extents_in, shown_from};
 ghost use Rattle.lines.specs.Kept.{AreStarts, line_in};
 ghost use Rattle.lines.specs.Layouts;
+ghost use Rattle.lines.specs.Paragraphs.{IsLookedUp};
 ghost use Rattle.lines.specs.Parts.{line_of};
 ghost use Rattle.lines.specs.Visual.{lines_from};
 ghost use Rattle.lines.specs.declared.places.Place.{Place};
@@ -15,14 +15,13 @@ ghost use Rattle.lines.specs.declared.engine.TheConstants.{PARAGRAPH_LIMIT};
 
 use crate::bytes::WriteFault;
 use crate::extents::Extents;
-use crate::options::Options;
+use crate::paragraph::{Spans, Text};
 use crate::print::Print;
-use crate::showing::show_each;
+use crate::showing::{end_of, show_each};
 use crate::visual_line::VisualLine;
 use device::Sink;
 use std::alloc::Global;
 use std::marker::Model;
-use ucd::{Properties, Tables};
 
 /// How much of a line is shown.
 #[derive(Clone, Copy, Debug)]
@@ -101,43 +100,38 @@ impl Fill {
     /// Their extents are exchanged for those of the old lines.
     pub(crate) fn reflow(
         &mut self,
-        tables: &Tables,
-        text: &[char],
-        properties: &[Properties],
-        options: Options,
-        base: u8,
+        text: &Text<'_>,
         levels: &[u8],
         extents: &mut Extents,
         written: &mut u64,
     )
-        requires len { self.old.len ≡ length text.now }
-        requires properties { properties.now ≡ map (properties_of tables.now) text.now }
-        requires text { length text.now ≤ PARAGRAPH_LIMIT }
-        requires levels { length levels.now ≡ length text.now }
-        requires starts { AreStarts (length text.now) extents.old.starts }
-        requires shown { (places : List Place)
-            × (extents.old.shown ≡ shown_from (length text.now) places extents.old.starts) }
+        requires text { IsLookedUp text.now }
+        requires len { self.old.len ≡ length text.now.characters.now }
+        requires limit { length text.now.characters.now ≤ PARAGRAPH_LIMIT }
+        requires levels { length levels.now ≡ length text.now.characters.now }
+        requires starts { AreStarts (length text.now.characters.now) extents.old.starts }
+        requires shown { (places : List Place) × (extents.old.shown
+            ≡ shown_from (length text.now.characters.now) places extents.old.starts) }
         ensures lines { (places : List Place)
-            → extents.old.shown ≡ shown_from (length text.now) places extents.old.starts
-            → self.new.lines ≡ lines_from tables.now options base text.now levels.now places
-            extents.old.starts }
-        ensures len { self.new.len ≡ length text.now }
-        ensures within { Layouts.AreWithin (length text.now) self.new.lines }
+            → extents.old.shown ≡ shown_from (length text.now.characters.now) places extents.old.starts
+            → self.new.lines ≡ lines_from text.now.rules.tables.now text.now.rules.options text.now.base
+            text.now.characters.now levels.now places extents.old.starts }
+        ensures len { self.new.len ≡ length text.now.characters.now }
+        ensures within { Layouts.AreWithin (length text.now.characters.now) self.new.lines }
         ensures extents { extents.new ≡ extents_in self.old.lines }
-        ensures counts { written.new ≡ counted written.old (length text.now) }
+        ensures counts { written.new ≡ counted written.old (length text.now.characters.now) }
         ensures least { written.old ≤ written.new }
     {
         std::mem::swap(&mut self.starts, &mut extents.starts);
         std::mem::swap(&mut self.shown, &mut extents.shown);
         self.levels.copy_from_slice(levels);
+        let spans = Spans {
+            starts: &self.starts,
+            shown: &self.shown,
+        };
         show_each(
-            tables,
             text,
-            properties,
-            options,
-            base,
-            &self.starts,
-            &self.shown,
+            &spans,
             &mut self.levels,
             &mut self.ltov,
             &mut self.vtol,
@@ -205,13 +199,16 @@ impl Fill {
     /// A line of the paragraph of this text and base level, counted from 0.
     pub(crate) fn line<'a>(&'a self, text: &'a [char], base: u8, n: usize) -> Option<VisualLine<'a>>
         requires { Layouts.AreWithin (length text.now) self.now.lines }
-        ensures { result ≡ option_map (visual_of base text.now n) (slice_get self.now.lines n) }
+        ensures { result
+            ≡ option_map (visual_of base text.now self.now.lines n) (slice_get self.now.lines n) }
     {
         let part = self.part(n)?;
         let start = part.start as usize;
+        let end = end_of(self.starts(), n, text.len());
         Some(VisualLine {
             is_first: n == 0,
             base,
+            len: end.saturating_sub(start),
             text: &text[start..start + part.levels.len()],
             columns: part.columns,
             levels: part.levels,
@@ -221,7 +218,7 @@ impl Fill {
         })
     }
 
-    /// Writes all lines of the paragraph of this text and base level behind so many bytes, and says how
+    /// Writes all lines of the paragraph of this text and base level after so many bytes, and says how
     /// many are written then.
     pub(crate) fn write_behind<W: Sink>(
         &self,

@@ -7,7 +7,7 @@ ghost use Rattle.lines.specs.Engine.{counted};
 ghost use Rattle.lines.specs.Filling.{by_break, by_cluster, first_end, line_end};
 ghost use Rattle.lines.specs.Filling.{is_break, is_must, line_len, line_starts_of, stop};
 ghost use Rattle.lines.specs.Kept.{AreStarts};
-ghost use Rattle.lines.specs.Sums.{sums_behind};
+ghost use Rattle.lines.specs.Sums.{sums_after};
 ghost use Rattle.lines.specs.declared.places.Place.{Place};
 ghost use Rattle.lines.specs.declared.engine.TheConstants.{PARAGRAPH_LIMIT};
 
@@ -112,14 +112,14 @@ fn is_break(mark: Mark) -> bool
     mark != Mark::Never
 }
 
-// Whether a line may end behind a character, or a cluster ends there.
+// Whether a line may end after a character, or a cluster ends there.
 fn is_candidate(place: &Place) -> bool
     ensures { result ≡ is_break place.now.mark || place.now.ends_cluster }
 {
     is_break(place.mark) || place.ends_cluster
 }
 
-// The first character behind which a line must end.
+// The first character after which a line must end.
 fn first_must(rest: &[Place]) -> usize
     requires { 0 < length rest.now }
     ensures end { result ≡ stop rest.now }
@@ -133,7 +133,7 @@ fn first_must(rest: &[Place]) -> usize
     rest.len() - 1
 }
 
-// The first character behind which a line may end, or a cluster ends.
+// The first character after which a line may end, or a cluster ends.
 fn first_end(rest: &[Place]) -> usize
     requires { 0 < length rest.now }
     ensures end { result ≡ first_end rest.now }
@@ -160,8 +160,8 @@ fn line_end(rest: &[Place], width: u16) -> usize
     }
 }
 
-// The last characters, up to the first behind which a line must end, up to which a line fits: of
-// those behind which it may end, and of those behind which a cluster ends.
+// The last characters, up to the first after which a line must end, up to which a line fits: of
+// those after which it may end, and of those after which a cluster ends.
 fn fitting_ends(rest: &[Place], width: u16) -> (Option<usize>, Option<usize>)
     requires { (0 < length rest.now) × (length rest.now ≤ PARAGRAPH_LIMIT) }
     ensures by_break { result.0 ≡ by_break width rest.now }
@@ -176,7 +176,7 @@ fn fitting_ends(rest: &[Place], width: u16) -> (Option<usize>, Option<usize>)
     let mut k = 0;
     while k < rest.len() {
         let place = rest[k];
-        sums = sums.behind(place);
+        sums = sums.after(place);
         if sums.shown > width as usize {
             return (by_break, by_cluster);
         }
@@ -199,9 +199,9 @@ struct Sums {
 
 impl Sums {
     // Those of the piece with one more character.
-    fn behind(self, place: Place) -> Sums
+    fn after(self, place: Place) -> Sums
         requires { self.columns < 2 ^ 40 }
-        ensures sums { result ≡ sums_behind self place }
+        ensures sums { result ≡ sums_after self place }
         ensures most { result.columns ≤ self.columns + 255 }
     {
         let columns = self.columns + place.columns as usize;

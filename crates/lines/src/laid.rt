@@ -7,6 +7,7 @@ use crate::bytes::WriteFault;
 use crate::extents::{Extents, Room, look_up};
 use crate::fill::Fill;
 use crate::options::Options;
+use crate::paragraph::{LentRules, Text};
 use crate::print::Print;
 use crate::visual_line::VisualLine;
 use breaks::{Mark, paragraphs_end_at_must};
@@ -86,7 +87,7 @@ impl Laid {
         &self.levels
     }
 
-    /// The mark of the position behind each character.
+    /// The mark of the position after each character.
     pub fn marks(&self) -> &[Mark]
         ensures { result.now ≡ self.now.marks }
     {
@@ -122,13 +123,14 @@ impl Laid {
     /// A line, counted from 0.
     pub fn line(&self, n: usize) -> Option<VisualLine<'_>>
         ensures line { result
-            ≡ option_map (visual_of self.now.base self.now.text n) (slice_get self.now.lines n) }
+            ≡ option_map (visual_of self.now.base self.now.text self.now.lines n)
+            (slice_get self.now.lines n) }
         ensures nth { result ≡ slice_get (visuals self.now) n }
     {
         self.lines.line(&self.text, self.base, n)
     }
 
-    /// Writes the paragraph's lines, and no more behind a failure of the sink. It takes no memory.
+    /// Writes the paragraph's lines, and no more after a failure of the sink. It takes no memory.
     pub fn write<W: Sink>(
         &self,
         writer: &mut W,
@@ -145,7 +147,7 @@ impl Laid {
         Ok(())
     }
 
-    /// Writes them behind `done` bytes that the sink passed before, and says how many bytes that makes;
+    /// Writes them after `done` bytes that the sink passed before, and says how many bytes that makes;
     /// a fault counts these too.
     pub fn write_behind<W: Sink>(
         &self,
@@ -189,16 +191,14 @@ impl Laid {
         let mut written = room.written;
         let properties = &mut room.properties[..text.len()];
         look_up(tables, text, properties);
-        self.lines.reflow(
-            tables,
-            text,
+        let text = Text {
+            rules: LentRules { tables, options },
+            characters: text,
             properties,
-            options,
-            self.base,
-            &self.levels,
-            extents,
-            &mut written,
-        );
+            base: self.base,
+        };
+        self.lines
+            .reflow(&text, &self.levels, extents, &mut written);
         room.written = written;
     }
 
@@ -228,7 +228,7 @@ impl Laid {
         paragraphs_end_at_must();
     }
 
-    /// Whether a grapheme cluster ends behind each character (UAX #29).
+    /// Whether a grapheme cluster ends after each character (UAX #29).
     pub fn cluster_ends(
         &self,
         alloc: std::alloc::Global,

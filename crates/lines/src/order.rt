@@ -80,7 +80,7 @@ fn arrange(line: &[Properties], levels: &[u8], reordernsm: bool, vtol: &mut [u32
     }
 }
 
-// Reverses each base at an odd level with the marks that L2 put in front of it.
+// Reverses each base at an odd level with the marks that L2 put left of it.
 fn reverse_groups(line: &[Properties], levels: &[u8], vtol: &mut [u32])
     requires line { length levels.now ≤ length line.now }
     requires vtol { vtol.old ≡ order_of levels.now }
@@ -111,7 +111,7 @@ fn reverse_group(line: &[Properties], levels: &[u8], items: &mut [u32]) -> usize
     len + 1
 }
 
-// How many places of marks stand there in front of the character that they follow.
+// How many places of marks stand there left of the character that they follow.
 fn bound_len(line: &[Properties], levels: &[u8], items: &[u32]) -> usize
     requires line { length levels.now ≤ length line.now }
     requires items { AreWithin (length levels.now) items.now }

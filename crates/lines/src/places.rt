@@ -23,14 +23,14 @@ pub struct Place {
     pub columns: u8,
     /// Whether it counts for nothing at the end of a line.
     pub is_trailing: bool,
-    /// What a line does behind it.
+    /// What a line does after it.
     pub mark: Mark,
-    /// Whether a grapheme cluster ends behind it.
+    /// Whether a grapheme cluster ends after it.
     pub ends_cluster: bool,
 }
 
 impl Place {
-    // A character, of which it isn't known whether a cluster ends behind it.
+    // A character, of which it isn't known whether a cluster ends after it.
     fn of(properties: Properties, c: char, mark: Mark) -> Place
         ensures { (t : Tables) → properties ≡ properties_of t c → result ≡ place t c mark false }
     {

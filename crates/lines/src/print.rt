@@ -9,7 +9,7 @@ use thiserror::Error;
 pub struct Print {
     /// The line itself, in visual order.
     pub visual: bool,
-    /// `LTR` or `RTL`, by the base level, behind the first line of each paragraph.
+    /// `LTR` or `RTL`, by the base level, after the first line of each paragraph.
     pub basedir: bool,
     /// Of each logical position the visual one.
     pub ltov: bool,

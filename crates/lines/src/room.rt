@@ -3,8 +3,8 @@ ghost use Rattle.std.specs.Prelude.{◌≡◌};
 
 use std::alloc::AllocError;
 
-/// Sees to it that a list has room for so many items, and for no more where it is new.
-pub fn make_room<T>(list: &mut Vec<T>, len: usize) -> Result<(), AllocError>
+/// Sees to it that a list can hold so many items without memory, and no more where it is new.
+pub fn reserve<T>(list: &mut Vec<T>, len: usize) -> Result<(), AllocError>
     ensures { list.new.items ≡ list.old.items }
 {
     list.reserve_exact(len.saturating_sub(list.len()))

@@ -15,60 +15,62 @@ ghost use Rattle.lines.specs.Layouts;
 ghost use Rattle.lines.specs.Lists.{held_lines, AreSound};
 ghost use Rattle.lines.specs.Mirroring.{visual_chars};
 ghost use Rattle.lines.specs.Order.{is_odd, ltov_of, vtol_of};
-ghost use Rattle.lines.specs.Showing.{end_of, AreShown, IsShown};
-ghost use Rattle.lines.specs.Visual.{lines_from};
+ghost use Rattle.lines.specs.Paragraphs.{IsLookedUp};
+ghost use Rattle.lines.specs.Showing.{AreShown, IsShown};
+ghost use Rattle.lines.specs.Visual.{end_of, lines_from};
 ghost use Rattle.lines.specs.declared.places.Place.{Place};
 ghost use Rattle.lines.specs.declared.engine.TheConstants.{PARAGRAPH_LIMIT};
 
 use crate::counts::raise;
 use crate::fill::{Lists, Shown};
 use crate::mirror::visual_chars;
-use crate::options::Options;
 use crate::order::{identity, order};
+use crate::paragraph::{Paragraph, Spans, Text};
 use crate::places::Place;
-use crate::room::make_room;
+use crate::room::reserve;
 use crate::spaces::reset_levels;
 use std::alloc::AllocError;
-use ucd::{Properties, Tables};
+use ucd::Properties;
 
 /// The lines of a paragraph, put into lists of which the first says where they start: L1 on each line, and L2
 /// and L4 on its shown part.
 pub(crate) fn show_lines(
-    tables: &Tables,
-    text: &[char],
-    properties: &[Properties],
-    options: Options,
-    base: u8,
-    levels: &[u8],
+    paragraph: &Paragraph<'_>,
     places: &[Place],
     lists: &mut Lists,
     written: &mut u64,
 ) -> Result<(), AllocError>
-    requires properties { properties.now ≡ map (properties_of tables.now) text.now }
-    requires text { (length text.now ≡ length places.now) × (length text.now ≤ PARAGRAPH_LIMIT) }
-    requires levels { length levels.now ≡ length text.now }
-    requires starts { AreStarts (length text.now) lists.old.starts.items }
+    requires text { IsLookedUp paragraph.now.text }
+    requires places { length paragraph.now.text.characters.now ≡ length places.now }
+    requires limit { length paragraph.now.text.characters.now ≤ PARAGRAPH_LIMIT }
+    requires levels { length paragraph.now.levels.now ≡ length paragraph.now.text.characters.now }
+    requires starts { AreStarts (length paragraph.now.text.characters.now) lists.old.starts.items }
     ensures sound { OnOk result (AreSound lists.new) }
     ensures lines { OnOk result (held_lines lists.new
-        ≡ lines_from tables.now options base text.now levels.now places.now lists.old.starts.items) }
-    ensures within { OnOk result (Layouts.AreWithin (length text.now) (held_lines lists.new)) }
-    ensures lines_len { OnOk result (length lists.new.levels.items ≡ length text.now) }
-    ensures counts { OnOk result (written.new ≡ counted written.old (length text.now)) }
-    ensures at_most { RisesBy (length text.now) written.old written.new }
+        ≡ lines_from paragraph.now.text.rules.tables.now paragraph.now.text.rules.options
+        paragraph.now.text.base paragraph.now.text.characters.now paragraph.now.levels.now places.now
+        lists.old.starts.items) }
+    ensures within { OnOk result
+        (Layouts.AreWithin (length paragraph.now.text.characters.now) (held_lines lists.new)) }
+    ensures lines_len { OnOk result
+        (length lists.new.levels.items ≡ length paragraph.now.text.characters.now) }
+    ensures counts { OnOk result
+        (written.new ≡ counted written.old (length paragraph.now.text.characters.now)) }
+    ensures at_most { RisesBy (length paragraph.now.text.characters.now) written.old written.new }
 {
+    let len = paragraph.text.characters.len();
     take_shown(places, &lists.starts, &mut lists.shown)?;
-    copy(levels, &mut lists.levels)?;
-    make_numbers(&mut lists.ltov, text.len())?;
-    make_numbers(&mut lists.vtol, text.len())?;
-    make_characters(&mut lists.chars, text.len())?;
+    copy(paragraph.levels, &mut lists.levels)?;
+    make_numbers(&mut lists.ltov, len)?;
+    make_numbers(&mut lists.vtol, len)?;
+    make_characters(&mut lists.chars, len)?;
+    let spans = Spans {
+        starts: &lists.starts,
+        shown: &lists.shown,
+    };
     show_each(
-        tables,
-        text,
-        properties,
-        options,
-        base,
-        &lists.starts,
-        &lists.shown,
+        &paragraph.text,
+        &spans,
         &mut lists.levels,
         &mut lists.ltov,
         &mut lists.vtol,
@@ -83,7 +85,7 @@ fn copy(levels: &[u8], list: &mut Vec<u8>) -> Result<(), AllocError>
     ensures { OnOk result (list.new.items ≡ levels.now) }
 {
     list.clear();
-    make_room(list, levels.len())?;
+    reserve(list, levels.len())?;
     list.extend_from_slice(levels)
 }
 
@@ -91,7 +93,7 @@ fn copy(levels: &[u8], list: &mut Vec<u8>) -> Result<(), AllocError>
 fn make_numbers(list: &mut Vec<u32>, len: usize) -> Result<(), AllocError>
     ensures { OnOk result (length list.new.items ≡ len) }
 {
-    make_room(list, len)?;
+    reserve(list, len)?;
     list.resize(len, 0)
 }
 
@@ -99,7 +101,7 @@ fn make_numbers(list: &mut Vec<u32>, len: usize) -> Result<(), AllocError>
 fn make_characters(list: &mut Vec<char>, len: usize) -> Result<(), AllocError>
     ensures { OnOk result (length list.new.items ≡ len) }
 {
-    make_room(list, len)?;
+    reserve(list, len)?;
     list.resize(len, '\0')
 }
 
@@ -114,7 +116,7 @@ pub(crate) fn take_shown(
     ensures { OnOk result (shown.new.items ≡ shown_from (length places.now) places.now starts.now) }
 {
     shown.clear();
-    make_room(shown, starts.len())?;
+    reserve(shown, starts.len())?;
     let mut k = 0;
     while k < starts.len() {
         let start = starts[k] as usize;
@@ -127,43 +129,46 @@ pub(crate) fn take_shown(
 
 /// Writes what belongs to each line to its place, over the levels before L1. Counts the characters.
 pub(crate) fn show_each(
-    tables: &Tables,
-    text: &[char],
-    properties: &[Properties],
-    options: Options,
-    base: u8,
-    starts: &[u32],
-    shown: &[Shown],
+    text: &Text<'_>,
+    spans: &Spans<'_>,
     levels: &mut [u8],
     ltov: &mut [u32],
     vtol: &mut [u32],
     chars: &mut [char],
     written: &mut u64,
 )
-    requires properties { properties.now ≡ map (properties_of tables.now) text.now }
-    requires text { length text.now ≤ PARAGRAPH_LIMIT }
-    requires starts { AreStarts (length text.now) starts.now }
-    requires shown { (places : List Place) × (shown.now ≡ shown_from (length text.now) places starts.now) }
-    requires levels { length levels.old ≡ length text.now }
-    requires ltov { length ltov.old ≡ length text.now }
-    requires vtol { length vtol.old ≡ length text.now }
-    requires chars { length chars.old ≡ length text.now }
-    ensures shown { AreShown tables.now options base text.now levels.old starts.now (length starts.now)
-        shown.now levels.new ltov.new vtol.new chars.new }
-    ensures counts { written.new ≡ counted written.old (length text.now) }
+    requires text { IsLookedUp text.now }
+    requires limit { length text.now.characters.now ≤ PARAGRAPH_LIMIT }
+    requires starts { AreStarts (length text.now.characters.now) spans.now.starts.now }
+    requires shown { (places : List Place) × (spans.now.shown.now
+        ≡ shown_from (length text.now.characters.now) places spans.now.starts.now) }
+    requires levels { length levels.old ≡ length text.now.characters.now }
+    requires ltov { length ltov.old ≡ length text.now.characters.now }
+    requires vtol { length vtol.old ≡ length text.now.characters.now }
+    requires chars { length chars.old ≡ length text.now.characters.now }
+    ensures shown { AreShown text.now.rules.tables.now text.now.rules.options text.now.base
+        text.now.characters.now levels.old spans.now.starts.now (length spans.now.starts.now)
+        spans.now.shown.now levels.new ltov.new vtol.new chars.new }
+    ensures counts { written.new ≡ counted written.old (length text.now.characters.now) }
     ensures least { written.old ≤ written.new }
 {
-    raise(written, text.len());
+    let characters = text.characters;
+    let properties = text.properties;
+    let starts = spans.starts;
+    let shown = spans.shown;
+    raise(written, characters.len());
     let mut k = 0;
     while k < starts.len() {
         let start = starts[k] as usize;
-        let end = end_of(starts, k, text.len());
+        let end = end_of(starts, k, characters.len());
+        let line = Text {
+            rules: text.rules,
+            characters: &characters[start..end],
+            properties: &properties[start..end],
+            base: text.base,
+        };
         show_line(
-            tables,
-            &text[start..end],
-            &properties[start..end],
-            options,
-            base,
+            &line,
             shown[k],
             &mut levels[start..end],
             &mut ltov[start..end],
@@ -174,12 +179,11 @@ pub(crate) fn show_each(
     }
 }
 
-// Where a line ends: where the next one starts, the last one with the paragraph.
-fn end_of(starts: &[u32], k: usize, len: usize) -> usize
-    requires starts { AreStarts len starts.now }
-    requires k { k < length starts.now }
+/// Where a line ends: where the next one starts, the last one with the paragraph.
+pub(crate) fn end_of(starts: &[u32], k: usize, len: usize) -> usize
+    requires { k < length starts.now }
     ensures end { result ≡ end_of len starts.now k }
-    ensures within { (slice_index starts.now k < result) × (result ≤ len) }
+    ensures within { AreStarts len starts.now → (slice_index starts.now k < result) × (result ≤ len) }
 {
     if k + 1 < starts.len() {
         starts[k + 1] as usize
@@ -190,34 +194,27 @@ fn end_of(starts: &[u32], k: usize, len: usize) -> usize
 
 // Writes the levels of a line after L1, and what belongs to its shown part.
 fn show_line(
-    tables: &Tables,
-    line: &[char],
-    properties: &[Properties],
-    options: Options,
-    base: u8,
+    line: &Text<'_>,
     shown: Shown,
     levels: &mut [u8],
     ltov: &mut [u32],
     vtol: &mut [u32],
     chars: &mut [char],
 )
-    requires properties { properties.now ≡ map (properties_of tables.now) line.now }
-    requires line { length line.now ≤ PARAGRAPH_LIMIT }
-    requires shown { shown.len ≤ length line.now }
-    requires levels { length levels.old ≡ length line.now }
-    requires ltov { length ltov.old ≡ length line.now }
-    requires vtol { length vtol.old ≡ length line.now }
-    requires chars { length chars.old ≡ length line.now }
-    ensures { IsShown tables.now options base line.now levels.old shown
-        levels.new ltov.new vtol.new chars.new }
+    requires line { IsLookedUp line.now }
+    requires limit { length line.now.characters.now ≤ PARAGRAPH_LIMIT }
+    requires shown { shown.len ≤ length line.now.characters.now }
+    requires levels { length levels.old ≡ length line.now.characters.now }
+    requires ltov { length ltov.old ≡ length line.now.characters.now }
+    requires vtol { length vtol.old ≡ length line.now.characters.now }
+    requires chars { length chars.old ≡ length line.now.characters.now }
+    ensures { IsShown line.now.rules.tables.now line.now.rules.options line.now.base
+        line.now.characters.now levels.old shown levels.new ltov.new vtol.new chars.new }
 {
-    let is_flat = reset_line(properties, base, levels);
+    let is_flat = reset_line(line.properties, line.base, levels);
     let n = shown.len as usize;
     show_part(
-        tables,
-        &line[..n],
-        properties,
-        options,
+        line,
         &levels[..n],
         is_flat,
         &mut ltov[..n],
@@ -284,36 +281,45 @@ fn show_plain(part: &[char], ltov: &mut [u32], vtol: &mut [u32], chars: &mut [ch
     chars.copy_from_slice(part);
 }
 
-// Writes what belongs to the shown part of a line: its order, and its characters in visual order.
+// Writes what belongs to the shown part of a line, which is as long as these levels: its order, and its
+// characters in visual order.
 fn show_part(
-    tables: &Tables,
-    part: &[char],
-    line: &[Properties],
-    options: Options,
+    line: &Text<'_>,
     levels: &[u8],
     is_flat: bool,
     ltov: &mut [u32],
     vtol: &mut [u32],
     chars: &mut [char],
 )
-    requires levels { (length levels.now ≡ length part.now) × (length part.now ≤ PARAGRAPH_LIMIT) }
-    requires line { length levels.now ≤ length line.now }
-    requires properties { take (length part.now) line.now ≡ map (properties_of tables.now) part.now }
+    requires line { IsLookedUp line.now }
+    requires limit { length line.now.characters.now ≤ PARAGRAPH_LIMIT }
+    requires levels { length levels.now ≤ length line.now.characters.now }
     requires flat { is_flat ≡ true → (k : ℕ) → slice_index levels.now k ≡ 0 }
-    requires ltov { length ltov.old ≡ length part.now }
-    requires vtol { length vtol.old ≡ length part.now }
-    requires chars { length chars.old ≡ length part.now }
-    ensures ltov { ltov.new ≡ ltov_of options.reordernsm (map class_in line.now) levels.now }
-    ensures vtol { vtol.new ≡ vtol_of options.reordernsm (map class_in line.now) levels.now }
-    ensures chars { chars.new ≡ visual_chars tables.now levels.now part.now
-        (vtol_of options.reordernsm (map class_in line.now) levels.now) }
+    requires ltov { length ltov.old ≡ length levels.now }
+    requires vtol { length vtol.old ≡ length levels.now }
+    requires chars { length chars.old ≡ length levels.now }
+    ensures ltov { ltov.new ≡ ltov_of line.now.rules.options.reordernsm
+        (map class_in line.now.properties.now) levels.now }
+    ensures vtol { vtol.new ≡ vtol_of line.now.rules.options.reordernsm
+        (map class_in line.now.properties.now) levels.now }
+    ensures chars { chars.new ≡ visual_chars line.now.rules.tables.now levels.now
+        (take (length levels.now) line.now.characters.now)
+        (vtol_of line.now.rules.options.reordernsm (map class_in line.now.properties.now) levels.now) }
     ensures within { AreWithin (length levels.now) vtol.new }
 {
+    let part = &line.characters[..levels.len()];
     if is_plain(levels, is_flat) {
         show_plain(part, ltov, vtol, chars);
     } else {
-        order(line, levels, options.reordernsm, vtol, ltov);
-        visual_chars(tables, part, &line[..part.len()], levels, vtol, chars);
+        order(
+            line.properties,
+            levels,
+            line.rules.options.reordernsm,
+            vtol,
+            ltov,
+        );
+        let properties = &line.properties[..levels.len()];
+        visual_chars(line.rules.tables, part, properties, levels, vtol, chars);
     }
 }
 

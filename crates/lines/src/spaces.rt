@@ -1,4 +1,4 @@
-//! The levels of one line after separators and the blanks in front of them, or at the line's end, take the
+//! The levels of one line after separators and the blanks before them, or at the line's end, take the
 //! paragraph level (UAX #9, L1).
 ghost use Rattle.std.specs.Prelude.{◌≡◌, ◌&&◌, ◌||◌, map, length};
 ghost use Rattle.bidi.specs.Classes.{class_in};
@@ -12,7 +12,7 @@ pub fn reset_levels(line: &[Properties], base: u8, levels: &mut [u8])
     requires { length line.now ≡ length levels.old }
     ensures { levels.new ≡ line_levels base (map class_in line.now) levels.old }
 {
-    // Whether a blank in front of this place takes the paragraph level.
+    // Whether a blank before this place takes the paragraph level.
     let mut resets = true;
     let mut at = line.len();
     while at > 0 {
@@ -24,17 +24,17 @@ pub fn reset_levels(line: &[Properties], base: u8, levels: &mut [u8])
     }
 }
 
-// Whether a character takes the paragraph level: a separator does, and a blank does if what stands behind it
+// Whether a character takes the paragraph level: a separator does, and a blank does if what stands after it
 // does, or if nothing stands there.
-fn is_reset(class: BidiClass, behind: bool) -> bool
-    ensures { result ≡ (ends_segment class || (is_blank class && behind)) }
+fn is_reset(class: BidiClass, after: bool) -> bool
+    ensures { result ≡ (ends_segment class || (is_blank class && after)) }
 {
     match class {
         BidiClass::S | BidiClass::B => true,
-        BidiClass::WS => behind,
-        BidiClass::LRI | BidiClass::RLI | BidiClass::FSI | BidiClass::PDI => behind,
-        BidiClass::LRE | BidiClass::RLE | BidiClass::LRO | BidiClass::RLO => behind,
-        BidiClass::PDF | BidiClass::BN => behind,
+        BidiClass::WS => after,
+        BidiClass::LRI | BidiClass::RLI | BidiClass::FSI | BidiClass::PDI => after,
+        BidiClass::LRE | BidiClass::RLE | BidiClass::LRO | BidiClass::RLO => after,
+        BidiClass::PDF | BidiClass::BN => after,
         _ => false,
     }
 }

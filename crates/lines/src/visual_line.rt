@@ -16,12 +16,13 @@ use device::Sink;
 use std::marker::Model;
 use unicode_width::UnicodeWidthChar;
 
-/// A line as it is shown. All but `is_first` and `base` speak of its shown part, which is the line without
-/// the spaces and separators at its end; positions count from its start.
+/// A line as it is shown. All but `is_first`, `base` and `len` speak of its shown part, which is the line
+/// without the spaces and separators at its end; positions count from its start.
 #[derive(Debug, Drop)]
 pub struct VisualLine<'a> {
     pub(crate) is_first: bool,
     pub(crate) base: u8,
+    pub(crate) len: usize,
     pub(crate) text: &'a [char],
     pub(crate) columns: u32,
     pub(crate) levels: &'a [u8],
@@ -40,6 +41,7 @@ impl<'a> Model for VisualLine<'a> {
     ghost view = { λ l. record {
       is_first = l.is_first;
       base = l.base;
+      len = l.len;
       text = l.text.now;
       columns = l.columns;
       levels = l.levels.now;
@@ -65,6 +67,13 @@ impl<'a> VisualLine<'a> {
         ensures { result ≡ self.now.base }
     {
         self.base
+    }
+
+    /// How many characters the line has, those of its end that are not shown among them.
+    pub fn len(&self) -> usize
+        ensures { result ≡ self.now.len }
+    {
+        self.len
     }
 
     /// The characters in visual order, mirrored.
@@ -142,7 +151,7 @@ impl<'a> VisualLine<'a> {
         0
     }
 
-    /// Writes the line, and no more behind a failure of the sink. It takes no memory.
+    /// Writes the line, and no more after a failure of the sink. It takes no memory.
     pub fn write<W: Sink>(
         &self,
         writer: &mut W,
@@ -159,7 +168,7 @@ impl<'a> VisualLine<'a> {
         Ok(())
     }
 
-    /// Writes it behind `done` bytes that the sink passed before, and says how many bytes that makes; a
+    /// Writes it after `done` bytes that the sink passed before, and says how many bytes that makes; a
     /// fault counts these too.
     pub fn write_behind<W: Sink>(
         &self,

@@ -11,17 +11,18 @@ ghost use Rattle.lines.specs.Extents.{shown_from};
 ghost use Rattle.lines.specs.Filling.{line_starts_of};
 ghost use Rattle.lines.specs.Layouts.{AreWithin, base_of, lines_of};
 ghost use Rattle.lines.specs.Lists.{held_lines, AreSound};
+ghost use Rattle.lines.specs.Paragraphs.{IsLookedUp, lines_at, rules_in};
 ghost use Rattle.lines.specs.Places.{places_of};
-ghost use Rattle.lines.specs.Visual.{lines_from};
 ghost use Rattle.lines.specs.declared.engine.TheConstants.{PARAGRAPH_LIMIT};
 
 use crate::counts::{Counts, raise};
 use crate::extents::Extents;
 use crate::fill::{Fill, Lists};
 use crate::filling::line_starts;
-use crate::options::Options;
+use crate::laid::Laid;
+use crate::paragraph::{LentRules, Paragraph, Text};
 use crate::places::{Place, take_places};
-use crate::room::make_room;
+use crate::room::reserve;
 use crate::showing::{show_lines, take_shown};
 use bidi::Resolver;
 use breaks::{Mark, Tailoring, marks_into};
@@ -57,8 +58,8 @@ impl LayoutLists {
     }
 }
 
-/// Lists that live for one paragraph, used again for the next: so a paragraph for which they have room
-/// takes memory for what is kept of it alone.
+/// Lists that live for one paragraph, used again for the next: so a paragraph that fits into them takes
+/// memory for what is kept of it alone.
 #[derive(Debug)]
 pub(crate) struct Work {
     properties: Vec<Properties>,
@@ -83,8 +84,9 @@ impl Work {
     ghost use Rattle.lines.specs.Counts.{FillsAll, FillsSome, FindsAll, FindsSome, LaysOutAll, LaysOutSome};
     ghost use Rattle.lines.specs.Engine.{counted};
     ghost use Rattle.lines.specs.Extents.{extents_of};
-    ghost use Rattle.lines.specs.Layouts.{AreWithin, base_of, fill_of, layout_of};
+    ghost use Rattle.lines.specs.Layouts.{AreWithin, IsLaidOut, base_of, fill_of, layout_of};
     ghost use Rattle.lines.specs.Lists.{held_lines, AreSound};
+    ghost use Rattle.lines.specs.Paragraphs.{rules_in};
 
     /// Empty lists, which take no memory.
     pub(crate) fn new(alloc: Global) -> Work {
@@ -99,22 +101,21 @@ impl Work {
     pub(crate) fn lay_out(
         &mut self,
         alloc: Global,
-        tables: &Tables,
-        options: Options,
+        rules: &LentRules<'_>,
         text: &[char],
         width: u16,
         kept: &mut LayoutLists,
         counts: &mut Counts,
     ) -> Result<u8, AllocError>
         requires { length text.now ≤ PARAGRAPH_LIMIT }
-        ensures base { IfOk result (λ base. base ≡ (layout_of
-            (record { tables = tables.now; options = options }) width text.now).base) }
-        ensures levels { OnOk result (kept.new.levels.items ≡ (layout_of
-            (record { tables = tables.now; options = options }) width text.now).levels) }
-        ensures marks { OnOk result (kept.new.marks.items ≡ (layout_of
-            (record { tables = tables.now; options = options }) width text.now).marks) }
-        ensures lines { OnOk result (held_lines kept.new.lines ≡ (layout_of
-            (record { tables = tables.now; options = options }) width text.now).lines) }
+        ensures base { IfOk result (λ base.
+            base ≡ (layout_of (rules_in rules.now) width text.now).base) }
+        ensures levels { OnOk result
+            (kept.new.levels.items ≡ (layout_of (rules_in rules.now) width text.now).levels) }
+        ensures marks { OnOk result
+            (kept.new.marks.items ≡ (layout_of (rules_in rules.now) width text.now).marks) }
+        ensures lines { OnOk result
+            (held_lines kept.new.lines ≡ (layout_of (rules_in rules.now) width text.now).lines) }
         ensures len { OnOk result (length kept.new.levels.items ≡ length text.now) }
         ensures sound { OnOk result (AreSound kept.new.lines) }
         ensures within { OnOk result (AreWithin (length text.now) (held_lines kept.new.lines)) }
@@ -122,38 +123,29 @@ impl Work {
         ensures counts { OnOk result (LaysOutAll (length text.now) counts.old counts.new) }
         ensures at_most { LaysOutSome (length text.now) counts.old counts.new }
     {
-        let base = self.resolve(
-            tables,
-            options,
-            text,
-            &mut kept.levels,
-            &mut counts.analysed,
-        )?;
+        let base = self.resolve(rules, text, &mut kept.levels, &mut counts.analysed)?;
         let properties = self.properties.as_slice();
-        make_room(&mut kept.marks, text.len())?;
-        let whole_numbers = options.whole_numbers;
+        reserve(&mut kept.marks, text.len())?;
+        let whole_numbers = rules.options.whole_numbers;
         marks_into(
-            tables,
+            rules.tables,
             text,
             properties,
             Tailoring { whole_numbers },
             &mut kept.marks,
         )?;
+        let paragraph = Paragraph {
+            text: Text {
+                rules: *rules,
+                characters: text,
+                properties,
+                base,
+            },
+            levels: &kept.levels,
+            marks: &kept.marks,
+        };
         let places = &mut self.places;
-        put_lines(
-            alloc,
-            tables,
-            options,
-            text,
-            properties,
-            places,
-            base,
-            &kept.levels,
-            &kept.marks,
-            width,
-            &mut kept.lines,
-            counts,
-        )?;
+        put_lines(alloc, &paragraph, places, width, &mut kept.lines, counts)?;
         Ok(base)
     }
 
@@ -161,48 +153,47 @@ impl Work {
     // is looked up for it, and stays. Counts the characters.
     fn resolve(
         &mut self,
-        tables: &Tables,
-        options: Options,
+        rules: &LentRules<'_>,
         text: &[char],
         levels: &mut Vec<u8>,
         analysed: &mut u64,
     ) -> Result<u8, AllocError>
-        ensures base { IfOk result (λ base.
-            base ≡ base_of (record { tables = tables.now; options = options }) text.now) }
-        ensures levels { OnOk result (levels.new.items ≡ levels_of tables.now text.now options.base) }
+        ensures base { IfOk result (λ base. base ≡ base_of (rules_in rules.now) text.now) }
+        ensures levels { OnOk result
+            (levels.new.items ≡ levels_of rules.now.tables.now text.now rules.now.options.base) }
         ensures len { OnOk result (length levels.new.items ≡ length text.now) }
         ensures properties { OnOk result
-            (self.new.properties.items ≡ map (properties_of tables.now) text.now) }
+            (self.new.properties.items ≡ map (properties_of rules.now.tables.now) text.now) }
         ensures counts { analysed.new ≡ counted analysed.old (length text.now) }
         ensures least { analysed.old ≤ analysed.new }
     {
         raise(analysed, text.len());
-        take_properties(tables, text, &mut self.properties)?;
-        make_room(levels, text.len())?;
+        take_properties(rules.tables, text, &mut self.properties)?;
+        reserve(levels, text.len())?;
+        let base = rules.options.base;
         self.resolver
-            .resolve(tables, text, &self.properties, options.base, levels)
+            .resolve(rules.tables, text, &self.properties, base, levels)
     }
 
     /// The extents of the lines of a paragraph whose marks are known.
     pub(crate) fn extents(
         &mut self,
         alloc: Global,
-        tables: &Tables,
-        options: Options,
+        rules: &LentRules<'_>,
         text: &[char],
         marks: &[Mark],
         width: u16,
         counts: &mut Counts,
     ) -> Result<Extents, AllocError>
-        requires marks { marks.now ≡ marks_of tables.now options.whole_numbers text.now }
+        requires marks { marks.now ≡ marks_of rules.now.tables.now rules.now.options.whole_numbers text.now }
         requires within { length text.now ≤ PARAGRAPH_LIMIT }
-        ensures extents { IfOk result (λ extents. extents
-            ≡ extents_of (record { tables = tables.now; options = options }) width text.now) }
+        ensures extents { IfOk result (λ extents. extents ≡ extents_of (rules_in rules.now) width text.now) }
         ensures counts { OnOk result (FindsAll (length text.now) counts.old counts.new) }
         ensures at_most { FindsSome (length text.now) counts.old counts.new }
     {
+        let tables = rules.tables;
         take_properties(tables, text, &mut self.properties)?;
-        let whole_numbers = options.whole_numbers;
+        let whole_numbers = rules.options.whole_numbers;
         let places = &mut self.places;
         take_places(tables, text, &self.properties, whole_numbers, marks, places)?;
         extents_of_places(
@@ -210,44 +201,41 @@ impl Work {
             text,
             places,
             width,
-            options.nobreak,
+            rules.options.nobreak,
             &mut counts.filled,
         )
     }
 
-    /// The lines of a paragraph that is laid out.
+    /// The lines of a paragraph that is laid out, at another width.
     pub(crate) fn fill(
         &mut self,
         alloc: Global,
-        tables: &Tables,
-        options: Options,
-        text: &[char],
-        base: u8,
-        levels: &[u8],
-        marks: &[Mark],
+        rules: &LentRules<'_>,
+        laid: &Laid,
         width: u16,
         counts: &mut Counts,
     ) -> Result<Fill, AllocError>
-        requires base { base
-            ≡ base_of (record { tables = tables.now; options = options }) text.now }
-        requires levels { levels.now ≡ levels_of tables.now text.now options.base }
-        requires len { length levels.now ≡ length text.now }
-        requires marks { marks.now ≡ marks_of tables.now options.whole_numbers text.now }
-        requires within { length text.now ≤ PARAGRAPH_LIMIT }
-        ensures lines { IfOk result (λ fill. fill
-            ≡ fill_of (record { tables = tables.now; options = options }) width text.now) }
-        ensures within { IfOk result (λ fill. AreWithin (length text.now) fill.lines) }
-        ensures counts { OnOk result (FillsAll (length text.now) counts.old counts.new) }
-        ensures at_most { FillsSome (length text.now) counts.old counts.new }
+        requires { IsLaidOut (rules_in rules.now) laid.now }
+        ensures lines { IfOk result (λ fill. fill ≡ fill_of (rules_in rules.now) width laid.now.text) }
+        ensures within { IfOk result (λ fill. AreWithin (length laid.now.text) fill.lines) }
+        ensures counts { OnOk result (FillsAll (length laid.now.text) counts.old counts.new) }
+        ensures at_most { FillsSome (length laid.now.text) counts.old counts.new }
     {
-        take_properties(tables, text, &mut self.properties)?;
-        let properties = self.properties.as_slice();
+        let text = laid.text();
+        take_properties(rules.tables, text, &mut self.properties)?;
+        let paragraph = Paragraph {
+            text: Text {
+                rules: *rules,
+                characters: text,
+                properties: self.properties.as_slice(),
+                base: laid.base(),
+            },
+            levels: laid.levels(),
+            marks: laid.marks(),
+        };
         let places = &mut self.places;
         let mut lists = Lists::new(alloc);
-        put_lines(
-            alloc, tables, options, text, properties, places, base, levels, marks, width,
-            &mut lists, counts,
-        )?;
+        put_lines(alloc, &paragraph, places, width, &mut lists, counts)?;
         Ok(Fill::of(lists))
     }
 }
@@ -293,89 +281,83 @@ fn extents_of_places(
     Ok(Extents { starts, shown })
 }
 
-// Puts the lines of a paragraph, of which all else is known, into some lists.
+// Puts the lines of a paragraph into some lists.
 fn put_lines(
     alloc: Global,
-    tables: &Tables,
-    options: Options,
-    text: &[char],
-    properties: &[Properties],
+    paragraph: &Paragraph<'_>,
     places: &mut Vec<Place>,
-    base: u8,
-    levels: &[u8],
-    marks: &[Mark],
     width: u16,
     lists: &mut Lists,
     counts: &mut Counts,
 ) -> Result<(), AllocError>
-    requires properties { properties.now ≡ map (properties_of tables.now) text.now }
-    requires base { base
-        ≡ base_of (record { tables = tables.now; options = options }) text.now }
-    requires levels { levels.now ≡ levels_of tables.now text.now options.base }
-    requires len { length levels.now ≡ length text.now }
-    requires marks { marks.now ≡ marks_of tables.now options.whole_numbers text.now }
-    requires within { length text.now ≤ PARAGRAPH_LIMIT }
+    requires text { IsLookedUp paragraph.now.text }
+    requires base { paragraph.now.text.base
+        ≡ base_of (rules_in paragraph.now.text.rules) paragraph.now.text.characters.now }
+    requires levels { paragraph.now.levels.now ≡ levels_of paragraph.now.text.rules.tables.now
+        paragraph.now.text.characters.now paragraph.now.text.rules.options.base }
+    requires len { length paragraph.now.levels.now ≡ length paragraph.now.text.characters.now }
+    requires marks { paragraph.now.marks.now ≡ marks_of paragraph.now.text.rules.tables.now
+        paragraph.now.text.rules.options.whole_numbers paragraph.now.text.characters.now }
+    requires within { length paragraph.now.text.characters.now ≤ PARAGRAPH_LIMIT }
     ensures lines { OnOk result (held_lines lists.new
-        ≡ lines_of (record { tables = tables.now; options = options }) width text.now) }
+        ≡ lines_of (rules_in paragraph.now.text.rules) width paragraph.now.text.characters.now) }
     ensures sound { OnOk result (AreSound lists.new) }
-    ensures within { OnOk result (AreWithin (length text.now) (held_lines lists.new)) }
-    ensures lines_len { OnOk result (length lists.new.levels.items ≡ length text.now) }
-    ensures counts { OnOk result (FillsAll (length text.now) counts.old counts.new) }
-    ensures at_most { FillsSome (length text.now) counts.old counts.new }
+    ensures within { OnOk result
+        (AreWithin (length paragraph.now.text.characters.now) (held_lines lists.new)) }
+    ensures lines_len { OnOk result
+        (length lists.new.levels.items ≡ length paragraph.now.text.characters.now) }
+    ensures counts { OnOk result
+        (FillsAll (length paragraph.now.text.characters.now) counts.old counts.new) }
+    ensures at_most { FillsSome (length paragraph.now.text.characters.now) counts.old counts.new }
 {
-    let whole_numbers = options.whole_numbers;
-    take_places(tables, text, properties, whole_numbers, marks, places)?;
-    put_lines_of_places(
-        alloc, tables, options, text, properties, places, base, levels, width, lists, counts,
-    )
+    let text = &paragraph.text;
+    take_places(
+        text.rules.tables,
+        text.characters,
+        text.properties,
+        text.rules.options.whole_numbers,
+        paragraph.marks,
+        places,
+    )?;
+    put_lines_of_places(alloc, paragraph, places, width, lists, counts)
 }
 
 // Puts them there by their places, of which it isn't known where clusters end.
 fn put_lines_of_places(
     alloc: Global,
-    tables: &Tables,
-    options: Options,
-    text: &[char],
-    properties: &[Properties],
+    paragraph: &Paragraph<'_>,
     places: &mut [Place],
-    base: u8,
-    levels: &[u8],
     width: u16,
     lists: &mut Lists,
     counts: &mut Counts,
 ) -> Result<(), AllocError>
-    requires properties { properties.now ≡ map (properties_of tables.now) text.now }
-    requires places { with_ends places.old (cluster_ends text.now)
-        ≡ places_of tables.now options.whole_numbers text.now }
-    requires len { (length places.old ≡ length text.now) × (length levels.now ≡ length text.now) }
-    requires within { length text.now ≤ PARAGRAPH_LIMIT }
-    ensures lines { OnOk result (held_lines lists.new ≡ lines_from tables.now options base text.now
-        levels.now (places_of tables.now options.whole_numbers text.now)
-        (line_starts_of options.nobreak width (places_of tables.now options.whole_numbers text.now))) }
+    requires text { IsLookedUp paragraph.now.text }
+    requires places { with_ends places.old (cluster_ends paragraph.now.text.characters.now)
+        ≡ places_of paragraph.now.text.rules.tables.now
+        paragraph.now.text.rules.options.whole_numbers paragraph.now.text.characters.now }
+    requires places_len { length places.old ≡ length paragraph.now.text.characters.now }
+    requires levels_len { length paragraph.now.levels.now ≡ length paragraph.now.text.characters.now }
+    requires within { length paragraph.now.text.characters.now ≤ PARAGRAPH_LIMIT }
+    ensures lines { OnOk result (held_lines lists.new
+        ≡ lines_at paragraph.now.text paragraph.now.levels.now width) }
     ensures sound { OnOk result (AreSound lists.new) }
-    ensures within { OnOk result (AreWithin (length text.now) (held_lines lists.new)) }
-    ensures lines_len { OnOk result (length lists.new.levels.items ≡ length text.now) }
-    ensures counts { OnOk result (FillsAll (length text.now) counts.old counts.new) }
-    ensures at_most { FillsSome (length text.now) counts.old counts.new }
+    ensures within { OnOk result
+        (AreWithin (length paragraph.now.text.characters.now) (held_lines lists.new)) }
+    ensures lines_len { OnOk result
+        (length lists.new.levels.items ≡ length paragraph.now.text.characters.now) }
+    ensures counts { OnOk result
+        (FillsAll (length paragraph.now.text.characters.now) counts.old counts.new) }
+    ensures at_most { FillsSome (length paragraph.now.text.characters.now) counts.old counts.new }
 {
+    let text = &paragraph.text;
     line_starts(
         alloc,
-        text,
+        text.characters,
         places,
         width,
-        options.nobreak,
+        text.rules.options.nobreak,
         &mut lists.starts,
         &mut counts.filled,
     )?;
-    show_lines(
-        tables,
-        text,
-        properties,
-        options,
-        base,
-        levels,
-        places,
-        lists,
-        &mut counts.written,
-    )
+    show_lines(paragraph, places, lists, &mut counts.written)
 }

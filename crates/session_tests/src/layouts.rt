@@ -313,8 +313,10 @@ fn parts_of_a_paragraph(rt: HostRuntime) -> Result<(), Fail> {
     Ok(())
 }
 
-// A line: its characters and levels, and of each logical position the visual one and back.
+// A line: how many characters it has, of its shown part the characters and levels, and of each logical
+// position the visual one and back.
 struct Row {
+    len: usize,
     chars: &'static [char],
     levels: &'static [u8],
     ltov: &'static [u32],
@@ -325,12 +327,14 @@ struct Row {
 // at its end; the bracket is mirrored on the second.
 static SHOWN: [Row; 2] = [
     Row {
+        len: 3,
         chars: &['1', '\u{5D0}'],
         levels: &[1, 2],
         ltov: &[1, 0],
         vtol: &[1, 0],
     },
     Row {
+        len: 2,
         chars: &['\u{5D1}', ')'],
         levels: &[1, 1],
         ltov: &[1, 0],
@@ -339,7 +343,8 @@ static SHOWN: [Row; 2] = [
 ];
 
 fn is_shown(line: &VisualLine<'_>, row: &Row) -> bool {
-    (line.chars() == row.chars)
+    (line.len() == row.len)
+        & (line.chars() == row.chars)
         & (line.levels() == row.levels)
         & (line.ltov() == row.ltov)
         & (line.vtol() == row.vtol)

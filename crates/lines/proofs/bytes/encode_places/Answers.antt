@@ -25,12 +25,13 @@ loop-next-preserved c =
     record {
       above = omega (arith, now.above);
       within = omega (arith, c.loop-next-test.true);
-      len = omega (arith, c.encode_behind-len.ensures.within, c.if-len-buffer.true, c.encode_behind-len.auto.buffer);
-      few = omega (arith, now.above, now.few, c.encode_behind-len.ensures.within);
-      bytes_are = part-more (encode_utf8_all (take c.args.from chars)) (take c.loop-next.len c.loop-next.buffer) (encode_utf8 c.index-text-place.result) c.encode_behind-len.ensures.bytes now.bytes_are ∙ sym more;
+      len = omega (arith, c.encode_at-len.ensures.within, c.if-len-buffer.true, c.encode_at-len.auto.buffer);
+      few = omega (arith, now.above, now.few, c.encode_at-len.ensures.within);
+      bytes_are = part-more (encode_utf8_all (take c.args.from chars)) (take c.loop-next.len c.loop-next.buffer) (encode_utf8 c.index-text-place.result)
+          c.encode_at-len.ensures.bytes now.bytes_are ∙ sym more;
     }
 
--- there was room for one
+-- one fitted
 pub returns-else-len-buffer-clause-next : goal.returns-else-len-buffer-clause-next
 returns-else-len-buffer-clause-next c =
     let now = c.loop-next.invariant in

@@ -26,7 +26,7 @@ loop-next-preserved g c =
           ∙ sym (more text c.args.numbers.now next c.index-numbers-next.result c.loop-next-test.true c.index-numbers-next.is);
     }
 
--- there was room for one
+-- one fitted
 pub returns-else-len-buffer-clause-next : goal.returns-else-len-buffer-clause-next
 returns-else-len-buffer-clause-next g c =
     let now = c.loop-next.invariant in

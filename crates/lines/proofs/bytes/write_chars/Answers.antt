@@ -11,7 +11,8 @@ loop-at-preserved g c =
     let «end» = c.min-end.result in
     record {
       within = omega (arith, c.min-end.ensures);
-      passed = rw (encoded-part chars at «end» (omega (arith, c.min-end.ensures, c.loop-at-test.true)), ← c.encode-len.ensures.bytes) (passed-append c.loop-at.invariant.passed c.in_ok-written.ensures.ok);
+      passed = rw (encoded-part chars at «end» (omega (arith, c.min-end.ensures, c.loop-at-test.true)), ← c.encode-len.ensures.bytes)
+          (passed-append c.loop-at.invariant.passed c.in_ok-written.ensures.ok);
       counted = c.in_ok-written.ensures.counted;
     }
 

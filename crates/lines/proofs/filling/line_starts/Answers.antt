@@ -37,9 +37,9 @@ loop-start-preserved c =
     let fits = c.in_ok-len.ensures.within in
     let sizes = c.loop-start.auto.places in
     let line = starts_line nobreak width start rest (omega (arith, left, size, sizes, c.loop-start-test.true)) (omega (arith, n, left, size, sizes, fits.1)) in
-    let behind : drop (line_len nobreak width rest) rest ≡ drop (start + len) known = ap (λ k. drop k rest) (sym n) ∙ drop-drop len start known in
+    let after : drop (line_len nobreak width rest) rest ≡ drop (start + len) known = ap (λ k. drop k rest) (sym n) ∙ drop-drop len start known in
     let next : starts nobreak width (start + line_len nobreak width rest) 0 (drop (line_len nobreak width rest) rest) ≡ starts nobreak width (start + len) 0 (drop (start + len) known) =
-    ap (λ k. starts nobreak width (start + k) 0 (drop (line_len nobreak width rest) rest)) (sym n) ∙ ap (starts nobreak width (start + len) 0) behind in
+    ap (λ k. starts nobreak width (start + k) 0 (drop (line_len nobreak width rest) rest)) (sym n) ∙ ap (starts nobreak width (start + len) 0) after in
     record {
       alike = c.in_ok-len.ensures.alike ∙ w.alike;
       known_is = c.in_ok-len.ensures.known;

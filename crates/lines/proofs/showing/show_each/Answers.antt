@@ -6,17 +6,19 @@ use Rattle.lines.proofs.ShowLemmas.{length_range, length-shown_from, show_more, 
 use Rattle.lines.proofs.showing.show_each.Goals as goal
 
 pub bounds-shown-k : goal.bounds-shown-k
-bounds-shown-k c = omega (arith, ap length c.requires.shown.1, length-shown_from (length c.args.text.now) c.requires.shown.0 c.args.starts.now, c.loop-k-test.true)
+bounds-shown-k c =
+    omega (arith, ap length c.requires.shown.1, length-shown_from (length c.args.text.now.characters.now) c.requires.shown.0 c.args.spans.now.starts.now, c.loop-k-test.true)
 
 pub show_line-requires-clause-shown : goal.show_line-requires-clause-shown
 show_line-requires-clause-shown c =
-    let n = length c.args.text.now in
-    let start = get_or c.args.starts.now c.loop-k.k 0 in
-    let end_is = c.end_of-end.ensures.end in
-    let within = shown_within n c.requires.shown.0 c.args.starts.now c.args.shown.now c.loop-k.k c.end_of-end.result _ nothing_shown
-    c.requires.starts c.loop-k-test.true end_is c.requires.shown.1 refl in
-    let line : length (slice_range c.args.text.now start c.end_of-end.result) ≡ c.end_of-end.result - start =
-    length_range c.args.text.now start c.end_of-end.result (omega (arith, c.end_of-end.ensures.within.0)) c.end_of-end.ensures.within.1 in
+    let text = c.args.text.now.characters.now in
+    let starts = c.args.spans.now.starts.now in
+    let start = get_or starts c.loop-k.k 0 in
+    let ends = c.end_of-end.ensures.within c.requires.starts in
+    let within = shown_within (length text) c.requires.shown.0 starts c.args.spans.now.shown.now c.loop-k.k c.end_of-end.result _ nothing_shown
+    c.requires.starts c.loop-k-test.true c.end_of-end.ensures.end c.requires.shown.1 refl in
+    let line : length (slice_range text start c.end_of-end.result) ≡ c.end_of-end.result - start =
+    length_range text start c.end_of-end.result (omega (arith, ends.0)) ends.1 in
     omega (arith, within, line)
 
 pub loop-k-preserved : goal.loop-k-preserved
@@ -24,9 +26,10 @@ loop-k-preserved c =
     show_more _ _ _ _ _ _ _ _ _ _ _ _ _ _ _ _ _ _ c.requires.starts c.loop-k-test.true c.end_of-end.ensures.end c.loop-k.invariant c.show_line.ensures
     (omega arith) (omega arith) (omega arith) (omega arith) refl
 
-pub show_line-requires-clause-properties : goal.show_line-requires-clause-properties
-show_line-requires-clause-properties c =
-    let f = properties_of c.args.tables.now in
-    let start = get_or c.args.starts.now c.loop-k.k 0 in
+pub show_line-requires-clause-line : goal.show_line-requires-clause-line
+show_line-requires-clause-line c =
+    let text = c.args.text.now in
+    let f = properties_of text.rules.tables.now in
+    let start = get_or c.args.spans.now.starts.now c.loop-k.k 0 in
     let len = c.end_of-end.result - start in
-    ap (λ ps. take len (drop start ps)) c.requires.properties ∙ ap (take len) (drop-map f start c.args.text.now) ∙ take-map f len (drop start c.args.text.now)
+    ap (λ ps. take len (drop start ps)) c.requires.text ∙ ap (take len) (drop-map f start text.characters.now) ∙ take-map f len (drop start text.characters.now)

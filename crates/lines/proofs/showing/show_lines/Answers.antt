@@ -8,7 +8,7 @@ pub show_each-requires-clause-shown : goal.show_each-requires-clause-shown
 show_each-requires-clause-shown c = (
   c.args.places.now,
   c.deref-3.ensures.value
-      ∙ taken_shown (length c.args.text.now) (length c.args.places.now) c.args.places.now c.deref-2.result.now c.deref.result.now c.requires.text.0
+      ∙ taken_shown (length c.args.paragraph.now.text.characters.now) (length c.args.places.now) c.args.places.now c.deref-2.result.now c.deref.result.now c.requires.places
       (c.deref.ensures.value ∙ sym c.deref-2.ensures.value) c.in_ok-take_shown.ensures,
 )
 
@@ -18,10 +18,11 @@ returns c =
     let t = with_items_is c.make_numbers.new.list c.show_each.new.ltov (omega arith) in
     let v = with_items_is c.make_numbers-2.new.list c.show_each.new.vtol (omega arith) in
     let h = with_items_is c.make_characters.new.list c.show_each.new.chars (omega arith) in
-    let parts = taken_shown (length c.args.text.now) (length c.args.places.now) c.args.places.now c.args.lists.now.starts.items c.deref.result.now c.requires.text.0
+    let parts = taken_shown (length c.args.paragraph.now.text.characters.now) (length c.args.places.now) c.args.places.now c.args.lists.now.starts.items c.deref.result.now c.requires.places
     c.deref.ensures.value c.in_ok-take_shown.ensures in
-    let count = ap length parts ∙ length-shown_from (length c.args.text.now) c.args.places.now c.args.lists.now.starts.items in
-    let shown = shown_as c.args.tables.now c.args.options c.args.base c.args.text.now c.args.levels.now c.deref_mut.result.now c.args.lists.now.starts.items c.deref-2.result.now
+    let count = ap length parts ∙ length-shown_from (length c.args.paragraph.now.text.characters.now) c.args.places.now c.args.lists.now.starts.items in
+    let shown = shown_as c.args.paragraph.now.text.rules.tables.now c.args.paragraph.now.text.rules.options c.args.paragraph.now.text.base
+    c.args.paragraph.now.text.characters.now c.args.paragraph.now.levels.now c.deref_mut.result.now c.args.lists.now.starts.items c.deref-2.result.now
     c.take_shown.new.shown.items c.deref-3.result.now (c.deref_mut.ensures.value ∙ c.in_ok-copy.ensures) c.deref-2.ensures.value c.deref-3.ensures.value c.show_each.ensures.shown in
     record {
       sound = rw (l, t, v, h) (sound _ _ _ _ _ _ _ _ _ _ _ c.requires.starts count (omega (arith, ap length c.in_ok-copy.ensures))

@@ -1,5 +1,7 @@
-use Rattle.std.proofs.Common.{◌≡◌, length, map, ap, subst, sym, ◌∙◌}
+use Rattle.std.proofs.Common.{◌≡◌, length, map, take, ap, subst, sym, ◌∙◌, arith}
 use Rattle.std.specs.List.{range_with_len}
+use Rattle.std.proofs.lemmas.List.{length-take-le, take-map}
+use Rattle.ucd.specs.Properties.{properties_of}
 use Rattle.bidi.specs.Classes.{class_in}
 use Rattle.bidi.specs.Runs.{AreWithin}
 use Rattle.lines.proofs.PlainLemmas.{plain_chars, plain_ltov, plain_vtol, plain_within}
@@ -7,17 +9,39 @@ use Rattle.lines.proofs.showing.show_part.Goals as goal
 
 pub returns-then-is_plain-clause-ltov : goal.returns-then-is_plain-clause-ltov
 returns-then-is_plain-clause-ltov c =
-    c.show_plain.ensures.ltov ∙ ap (range_with_len 0) (sym c.requires.levels.0) ∙ plain_ltov c.args.options.reordernsm (map class_in c.args.line.now) c.args.levels.now (c.is_plain.ensures c.if-is_plain.true)
+    let line = c.args.line.now in
+    let levels = c.args.levels.now in
+    let len : length (take (length levels) line.characters.now) ≡ length levels = length-take-le (length levels) line.characters.now (omega (arith, c.requires.levels)) in
+    c.show_plain.ensures.ltov ∙ ap (range_with_len 0) len
+    ∙ plain_ltov line.rules.options.reordernsm (map class_in line.properties.now) levels (c.is_plain.ensures c.if-is_plain.true)
 
 pub returns-then-is_plain-clause-vtol : goal.returns-then-is_plain-clause-vtol
 returns-then-is_plain-clause-vtol c =
-    c.show_plain.ensures.vtol ∙ ap (range_with_len 0) (sym c.requires.levels.0) ∙ plain_vtol c.args.options.reordernsm (map class_in c.args.line.now) c.args.levels.now (c.is_plain.ensures c.if-is_plain.true)
+    let line = c.args.line.now in
+    let levels = c.args.levels.now in
+    let len : length (take (length levels) line.characters.now) ≡ length levels = length-take-le (length levels) line.characters.now (omega (arith, c.requires.levels)) in
+    c.show_plain.ensures.vtol ∙ ap (range_with_len 0) len
+    ∙ plain_vtol line.rules.options.reordernsm (map class_in line.properties.now) levels (c.is_plain.ensures c.if-is_plain.true)
 
 pub returns-then-is_plain-clause-chars : goal.returns-then-is_plain-clause-chars
 returns-then-is_plain-clause-chars c =
-    c.show_plain.ensures.chars ∙ plain_chars c.args.tables.now c.args.options.reordernsm (map class_in c.args.line.now) c.args.levels.now c.args.part.now c.requires.levels.0 (c.is_plain.ensures c.if-is_plain.true)
+    let line = c.args.line.now in
+    let levels = c.args.levels.now in
+    let part = take (length levels) line.characters.now in
+    let len : length part ≡ length levels = length-take-le (length levels) line.characters.now (omega (arith, c.requires.levels)) in
+    c.show_plain.ensures.chars
+    ∙ plain_chars line.rules.tables.now line.rules.options.reordernsm (map class_in line.properties.now) levels part (sym len) (c.is_plain.ensures c.if-is_plain.true)
 
 pub returns-then-is_plain-clause-within : goal.returns-then-is_plain-clause-within
 returns-then-is_plain-clause-within c =
-    let is : range_with_len 0 (length c.args.levels.now) ≡ c.show_plain.new.vtol = ap (range_with_len 0) c.requires.levels.0 ∙ sym c.show_plain.ensures.vtol in
-    subst (AreWithin (length c.args.levels.now)) is (plain_within (length c.args.levels.now))
+    let line = c.args.line.now in
+    let levels = c.args.levels.now in
+    let len : length (take (length levels) line.characters.now) ≡ length levels = length-take-le (length levels) line.characters.now (omega (arith, c.requires.levels)) in
+    let is : range_with_len 0 (length levels) ≡ c.show_plain.new.vtol = ap (range_with_len 0) (sym len) ∙ sym c.show_plain.ensures.vtol in
+    subst (AreWithin (length levels)) is (plain_within (length levels))
+
+pub visual_chars-requires-clause-properties : goal.visual_chars-requires-clause-properties
+visual_chars-requires-clause-properties c =
+    let line = c.args.line.now in
+    let n = length c.args.levels.now in
+    ap (take n) c.requires.line ∙ take-map (properties_of line.rules.tables.now) n line.characters.now

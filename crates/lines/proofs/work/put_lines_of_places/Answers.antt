@@ -3,6 +3,7 @@ use Rattle.lines.specs.Bare.{bare, AreAlike}
 use Rattle.lines.specs.Clusters.{cluster_ends}
 use Rattle.lines.specs.Filling.{line_starts_of}
 use Rattle.lines.specs.Lists.{held_lines}
+use Rattle.lines.specs.Paragraphs.{lines_at}
 use Rattle.lines.specs.Places.{places_of}
 use Rattle.lines.specs.Visual.{Line, lines_from}
 use Rattle.lines.proofs.BareLemmas.{same_lines, with_alike}
@@ -12,16 +13,19 @@ use Rattle.lines.proofs.work.put_lines_of_places.Goals as goal
 -- what the places lack is found where it is asked for
 pub returns-clause-lines : goal.returns-clause-lines
 returns-clause-lines c =
-    let tables = c.args.tables.now in
-    let text = c.args.text.now in
+    let text = c.args.paragraph.now.text in
+    let levels = c.args.paragraph.now.levels.now in
+    let tables = text.rules.tables.now in
+    let options = text.rules.options in
+    let chars = text.characters.now in
     let old = c.args.places.now in
     let new = c.line_starts.new.places in
-    let whole = places_of tables c.args.options.whole_numbers text in
+    let whole = places_of tables options.whole_numbers chars in
     let starts = c.line_starts.new.starts.items in
     let alike : AreAlike new whole =
-    c.in_ok-line_starts.ensures.alike ∙ sym (with_alike old (cluster_ends text) (length-cluster_ends text ∙ sym c.requires.len.0)) ∙ ap (map bare) c.requires.places in
-    let starts_are : starts ≡ line_starts_of c.args.options.nobreak c.args.width whole =
-    c.in_ok-line_starts.ensures.lines ∙ ap (line_starts_of c.args.options.nobreak c.args.width) c.requires.places in
-    let lines : lines_from tables c.args.options c.args.base text c.args.levels.now new starts ≡ lines_from tables c.args.options c.args.base text c.args.levels.now whole (line_starts_of c.args.options.nobreak c.args.width whole) =
-    same_lines tables c.args.options c.args.base text c.args.levels.now new whole starts alike ∙ ap (lines_from tables c.args.options c.args.base text c.args.levels.now whole) starts_are in
+    c.in_ok-line_starts.ensures.alike ∙ sym (with_alike old (cluster_ends chars) (length-cluster_ends chars ∙ sym c.requires.places_len)) ∙ ap (map bare) c.requires.places in
+    let starts_are : starts ≡ line_starts_of options.nobreak c.args.width whole =
+    c.in_ok-line_starts.ensures.lines ∙ ap (line_starts_of options.nobreak c.args.width) c.requires.places in
+    let lines : lines_from tables options text.base chars levels new starts ≡ lines_at text levels c.args.width =
+    same_lines tables options text.base chars levels new whole starts alike ∙ ap (lines_from tables options text.base chars levels whole) starts_are in
     subst (λ (ls : List Line). OnOk c.show_lines.result (held_lines c.show_lines.new.lists ≡ ls)) lines c.show_lines.ensures.lines

@@ -1,13 +1,11 @@
-use Rattle.std.proofs.Common.{◌≡◌, ◌∙◌, IfOk, ap, subst, sym}
-use Rattle.bidi.specs.Levels.{levels_of}
+use Rattle.std.proofs.Common.{◌≡◌, IfOk, ap, subst, sym}
 use Rattle.lines.specs.Engine.{rules_of}
-use Rattle.lines.specs.Layouts.{fill_of, Rules, State}
+use Rattle.lines.specs.Layouts.{fill_of, IsLaidOut, Rules}
 use Rattle.lines.proofs.engine.Engine.fill.Goals as goal
 
-pub fill-requires-clause-levels : goal.fill-requires-clause-levels
-fill-requires-clause-levels c =
-    c.requires.levels ∙ sym (ap (λ (s : State). levels_of (rules_of s).tables c.args.text.now (rules_of s).options.base) c.self.view_is)
+pub fill-requires : goal.fill-requires
+fill-requires c = subst (λ (rules : Rules). IsLaidOut rules c.args.laid.now) (sym (ap rules_of c.self.view_is)) c.requires
 
 pub returns-clause-lines : goal.returns-clause-lines
 returns-clause-lines c =
-    subst (λ (rules : Rules). IfOk c.fill.result (λ fill. fill ≡ fill_of rules c.args.width c.args.text.now)) (ap rules_of c.self.view_is) c.fill.ensures.lines
+    subst (λ (rules : Rules). IfOk c.fill.result (λ fill. fill ≡ fill_of rules c.args.width c.args.laid.now.text)) (ap rules_of c.self.view_is) c.fill.ensures.lines

@@ -14,32 +14,34 @@ pub invariant_of-self : goal.invariant_of-self
 invariant_of-self c =
     let starts : c.swap.new.x.items ≡ c.args.extents.now.starts = ap (λ (v : Vec ℕ Global). v.items) c.swap.ensures.x_after ∙ ap (λ (s : Spans). s.starts) c.extents.view_is in
     let parts : c.swap-2.new.x.items ≡ c.args.extents.now.shown = ap (λ (v : Vec Shown Global). v.items) c.swap-2.ensures.x_after ∙ ap (λ (s : Spans). s.shown) c.extents.view_is in
-    let len : length c.self.inside.levels.items ≡ length c.args.text.now = ap (λ (f : Filled). f.len) c.self.view_is ∙ c.requires.len in
+    let len : length c.self.inside.levels.items ≡ length c.args.text.now.characters.now = ap (λ (f : Filled). f.len) c.self.view_is ∙ c.requires.len in
     let l = with_items_is c.copy_from_slice.new.self c.show_each.new.levels (omega arith) in
     let t = with_items_is c.self.inside.ltov c.show_each.new.ltov (omega arith) in
     let v = with_items_is c.self.inside.vtol c.show_each.new.vtol (omega arith) in
     let h = with_items_is c.self.inside.chars c.show_each.new.chars (omega arith) in
-    let shown = shown_as c.args.tables.now c.args.options c.args.base c.args.text.now c.args.levels.now c.deref_mut.result.now c.args.extents.now.starts c.deref.result.now
+    let shown = shown_as c.args.text.now.rules.tables.now c.args.text.now.rules.options c.args.text.now.base
+    c.args.text.now.characters.now c.args.levels.now c.deref_mut.result.now c.args.extents.now.starts c.deref.result.now
     c.args.extents.now.shown c.deref-2.result.now (c.deref_mut.ensures.value ∙ c.copy_from_slice.ensures.items) (c.deref.ensures.value ∙ starts) (c.deref-2.ensures.value ∙ parts)
     c.show_each.ensures.shown in
     let count : length c.args.extents.now.shown ≡ length c.args.extents.now.starts =
-    ap length c.requires.shown.1 ∙ length-shown_from (length c.args.text.now) c.requires.shown.0 c.args.extents.now.starts in
-    let levels_len : length c.show_each.new.levels ≡ length c.args.text.now = omega (arith, len) in
-    let ltov_len : length c.show_each.new.ltov ≡ length c.args.text.now = omega (arith, len, c.self.invariant.ltov_len) in
-    let vtol_len : length c.show_each.new.vtol ≡ length c.args.text.now = omega (arith, len, c.self.invariant.vtol_len) in
-    let chars_len : length c.show_each.new.chars ≡ length c.args.text.now = omega (arith, len, c.self.invariant.chars_len) in
+    ap length c.requires.shown.1 ∙ length-shown_from (length c.args.text.now.characters.now) c.requires.shown.0 c.args.extents.now.starts in
+    let levels_len : length c.show_each.new.levels ≡ length c.args.text.now.characters.now = omega (arith, len) in
+    let ltov_len : length c.show_each.new.ltov ≡ length c.args.text.now.characters.now = omega (arith, len, c.self.invariant.ltov_len) in
+    let vtol_len : length c.show_each.new.vtol ≡ length c.args.text.now.characters.now = omega (arith, len, c.self.invariant.vtol_len) in
+    let chars_len : length c.show_each.new.chars ≡ length c.args.text.now.characters.now = omega (arith, len, c.self.invariant.chars_len) in
     rw (l, t, v, h, starts, parts) (sound _ _ _ _ _ _ _ _ _ _ _ c.requires.starts count levels_len ltov_len vtol_len chars_len shown)
 
 pub returns-clause-lines : goal.returns-clause-lines
 returns-clause-lines c places is =
     let starts : c.swap.new.x.items ≡ c.args.extents.now.starts = ap (λ (v : Vec ℕ Global). v.items) c.swap.ensures.x_after ∙ ap (λ (s : Spans). s.starts) c.extents.view_is in
     let parts : c.swap-2.new.x.items ≡ c.args.extents.now.shown = ap (λ (v : Vec Shown Global). v.items) c.swap-2.ensures.x_after ∙ ap (λ (s : Spans). s.shown) c.extents.view_is in
-    let len : length c.self.inside.levels.items ≡ length c.args.text.now = ap (λ (f : Filled). f.len) c.self.view_is ∙ c.requires.len in
+    let len : length c.self.inside.levels.items ≡ length c.args.text.now.characters.now = ap (λ (f : Filled). f.len) c.self.view_is ∙ c.requires.len in
     let l = with_items_is c.copy_from_slice.new.self c.show_each.new.levels (omega arith) in
     let t = with_items_is c.self.inside.ltov c.show_each.new.ltov (omega arith) in
     let v = with_items_is c.self.inside.vtol c.show_each.new.vtol (omega arith) in
     let h = with_items_is c.self.inside.chars c.show_each.new.chars (omega arith) in
-    let shown = shown_as c.args.tables.now c.args.options c.args.base c.args.text.now c.args.levels.now c.deref_mut.result.now c.args.extents.now.starts c.deref.result.now
+    let shown = shown_as c.args.text.now.rules.tables.now c.args.text.now.rules.options c.args.text.now.base
+    c.args.text.now.characters.now c.args.levels.now c.deref_mut.result.now c.args.extents.now.starts c.deref.result.now
     c.args.extents.now.shown c.deref-2.result.now (c.deref_mut.ensures.value ∙ c.copy_from_slice.ensures.items) (c.deref.ensures.value ∙ starts) (c.deref-2.ensures.value ∙ parts)
     c.show_each.ensures.shown in
     rw (l, t, v, h, starts, parts) (all_shown _ _ _ _ _ _ _ _ _ _ _ _ is shown)
@@ -48,20 +50,21 @@ pub returns-clause-within : goal.returns-clause-within
 returns-clause-within c =
     let starts : c.swap.new.x.items ≡ c.args.extents.now.starts = ap (λ (v : Vec ℕ Global). v.items) c.swap.ensures.x_after ∙ ap (λ (s : Spans). s.starts) c.extents.view_is in
     let parts : c.swap-2.new.x.items ≡ c.args.extents.now.shown = ap (λ (v : Vec Shown Global). v.items) c.swap-2.ensures.x_after ∙ ap (λ (s : Spans). s.shown) c.extents.view_is in
-    let len : length c.self.inside.levels.items ≡ length c.args.text.now = ap (λ (f : Filled). f.len) c.self.view_is ∙ c.requires.len in
+    let len : length c.self.inside.levels.items ≡ length c.args.text.now.characters.now = ap (λ (f : Filled). f.len) c.self.view_is ∙ c.requires.len in
     let l = with_items_is c.copy_from_slice.new.self c.show_each.new.levels (omega arith) in
     let t = with_items_is c.self.inside.ltov c.show_each.new.ltov (omega arith) in
     let v = with_items_is c.self.inside.vtol c.show_each.new.vtol (omega arith) in
     let h = with_items_is c.self.inside.chars c.show_each.new.chars (omega arith) in
-    let shown = shown_as c.args.tables.now c.args.options c.args.base c.args.text.now c.args.levels.now c.deref_mut.result.now c.args.extents.now.starts c.deref.result.now
+    let shown = shown_as c.args.text.now.rules.tables.now c.args.text.now.rules.options c.args.text.now.base
+    c.args.text.now.characters.now c.args.levels.now c.deref_mut.result.now c.args.extents.now.starts c.deref.result.now
     c.args.extents.now.shown c.deref-2.result.now (c.deref_mut.ensures.value ∙ c.copy_from_slice.ensures.items) (c.deref.ensures.value ∙ starts) (c.deref-2.ensures.value ∙ parts)
     c.show_each.ensures.shown in
     let count : length c.args.extents.now.shown ≡ length c.args.extents.now.starts =
-    ap length c.requires.shown.1 ∙ length-shown_from (length c.args.text.now) c.requires.shown.0 c.args.extents.now.starts in
-    let levels_len : length c.show_each.new.levels ≡ length c.args.text.now = omega (arith, len) in
-    let ltov_len : length c.show_each.new.ltov ≡ length c.args.text.now = omega (arith, len, c.self.invariant.ltov_len) in
-    let vtol_len : length c.show_each.new.vtol ≡ length c.args.text.now = omega (arith, len, c.self.invariant.vtol_len) in
-    let chars_len : length c.show_each.new.chars ≡ length c.args.text.now = omega (arith, len, c.self.invariant.chars_len) in
+    ap length c.requires.shown.1 ∙ length-shown_from (length c.args.text.now.characters.now) c.requires.shown.0 c.args.extents.now.starts in
+    let levels_len : length c.show_each.new.levels ≡ length c.args.text.now.characters.now = omega (arith, len) in
+    let ltov_len : length c.show_each.new.ltov ≡ length c.args.text.now.characters.now = omega (arith, len, c.self.invariant.ltov_len) in
+    let vtol_len : length c.show_each.new.vtol ≡ length c.args.text.now.characters.now = omega (arith, len, c.self.invariant.vtol_len) in
+    let chars_len : length c.show_each.new.chars ≡ length c.args.text.now.characters.now = omega (arith, len, c.self.invariant.chars_len) in
     rw (l, t, v, h, starts, parts) (all_within _ _ _ _ _ _ _ _ _ _ _ c.requires.starts count levels_len shown)
 
 -- what is handed out is of the old lines

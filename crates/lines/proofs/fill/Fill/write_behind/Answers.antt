@@ -15,7 +15,8 @@ loop-n-preserved g c =
     let within : n < length lines = omega (arith, count, c.loop-n-test.true) in
     let next = piece_at c.args.width c.args.print.now c.args.base c.args.text.now lines n _ within c.in-Some.ensures in
     record {
-      passed = pieces-more (pieces c.args.width c.args.print.now c.args.base c.args.text.now lines) n (piece_within c.args.width c.args.print.now c.args.base c.args.text.now lines n within) next c.loop-n.invariant.passed c.in_ok-written.ensures.ok;
+      passed = pieces-more (pieces c.args.width c.args.print.now c.args.base c.args.text.now lines) n
+          (piece_within c.args.width c.args.print.now c.args.base c.args.text.now lines n within) next c.loop-n.invariant.passed c.in_ok-written.ensures.ok;
       counted = c.in_ok-written.ensures.counted;
     }
 
@@ -26,7 +27,8 @@ returns-in_err-written-clause-err g c =
     let count : length c.starts-n-end.result.now ≡ length lines = ap length c.starts-n-end.ensures ∙ length-map lines start_of in
     let within : n < length lines = omega (arith, count, c.loop-n-test.true) in
     let next = piece_at c.args.width c.args.print.now c.args.base c.args.text.now lines n _ within c.in-Some.ensures in
-    let stopped = pieces-stopped (pieces c.args.width c.args.print.now c.args.base c.args.text.now lines) n (piece_within c.args.width c.args.print.now c.args.base c.args.text.now lines n within) next c.loop-n.invariant.passed c.in_err-written.ensures.err in
+    let stopped = pieces-stopped (pieces c.args.width c.args.print.now c.args.base c.args.text.now lines) n
+    (piece_within c.args.width c.args.print.now c.args.base c.args.text.now lines n within) next c.loop-n.invariant.passed c.in_err-written.ensures.err in
     same_fault _ _ (λ w. StoppedIn _ _ _ _ w) c.from_residual.ensures.1
     (rw (sym (pieces_whole c.args.width c.args.print.now c.args.base c.args.text.now lines)) stopped)
 

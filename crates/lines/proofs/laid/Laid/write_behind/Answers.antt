@@ -15,4 +15,6 @@ returns-clause-err g c =
     let l = c.self.inside in
     let same : lines_bytes c.args.width c.args.print.now l.base c.deref.result.now l.lines.lines ≡ layout_bytes c.args.width c.args.print.now c.args.self.now =
     ap (λ xs. lines_bytes c.args.width c.args.print.now l.base xs l.lines.lines) c.deref.ensures.value ∙ ap (layout_bytes c.args.width c.args.print.now) c.self.view_is in
-    subst (λ bytes. IfErr c.write_behind.result (λ fault. StoppedIn bytes c.args.done (g.W.Sink.state c.args.writer.now) (g.W.Sink.state c.write_behind.new.writer) fault.written)) same c.write_behind.ensures.err
+    subst (λ bytes. IfErr c.write_behind.result
+    (λ fault. StoppedIn bytes c.args.done (g.W.Sink.state c.args.writer.now) (g.W.Sink.state c.write_behind.new.writer) fault.written))
+    same c.write_behind.ensures.err

@@ -11,7 +11,7 @@ returns-then-column-columns c =
     let value = c.columns_at-columns.ensures.value ∙ ap₂ (λ (cs ps : List ℕ). columns_of (get_or cs (get_or ps c.loop-k.k 0) 0)) text vtol in
     let within : c.loop-k.k < length c.args.self.now.vtol = omega (arith, c.loop-k-test.true, ap length vtol) in
     let next = left_more c.args.self.now c.loop-k.k within in
-    covers c.args.self.now c.args.column c.loop-k.k within c.loop-k.invariant.behind (omega (arith, c.if-column-columns.true, c.loop-k.invariant.left, value, next))
+    covers c.args.self.now c.args.column c.loop-k.k within c.loop-k.invariant.passed (omega (arith, c.if-column-columns.true, c.loop-k.invariant.left, value, next))
 
 pub loop-k-preserved : goal.loop-k-preserved
 loop-k-preserved c =
@@ -23,10 +23,10 @@ loop-k-preserved c =
     record {
       left = omega (arith, c.loop-k.invariant.left, value, next);
       few = omega (arith, c.loop-k.invariant.few, c.columns_at-columns.ensures.few);
-      behind = covers_not c.args.self.now c.args.column c.loop-k.k within c.loop-k.invariant.behind (omega (arith, c.if-column-columns.false, c.loop-k.invariant.left, value, next));
+      passed = covers_not c.args.self.now c.args.column c.loop-k.k within c.loop-k.invariant.passed (omega (arith, c.if-column-columns.false, c.loop-k.invariant.left, value, next));
     }
 
 pub returns : goal.returns
 returns c =
     let vtol = ap (λ (v : Visual). v.vtol) c.self.view_is in
-    covers_none c.args.self.now c.args.column c.loop-k.k (omega (arith, c.loop-k-test.false, ap length vtol)) c.loop-k.invariant.behind
+    covers_none c.args.self.now c.args.column c.loop-k.k (omega (arith, c.loop-k-test.false, ap length vtol)) c.loop-k.invariant.passed

@@ -7,5 +7,5 @@ abbrev pub invariant-loop-k : goal.invariant-loop-k
 invariant-loop-k l = record {
   left : l.columns ≡ columns_left l.self l.k;
   few : l.columns ≤ 3 * l.k;
-  behind : IsLeft l.self l.column l.k;
+  passed : IsLeft l.self l.column l.k;
 }

@@ -2,14 +2,14 @@ use Rattle.lines.specs.Writing.{StoppedIn}
 use Rattle.lines.proofs.WriteLemmas.{last_passed, last_stopped, passed-append, stopped-before, stopped-behind, same_fault}
 use Rattle.lines.proofs.visual_line.VisualLine.write_behind.Goals as goal
 
--- behind the line itself
+-- after the line itself
 pub returns-in_err-direction-clause-err : goal.returns-in_err-direction-clause-err
 returns-in_err-direction-clause-err g c =
     let stopped = stopped-behind c.in_ok-shown.ensures.ok c.in_err-direction.ensures.err in
     same_fault _ _ (λ n. StoppedIn _ c.args.done _ _ n) c.from_residual-in_err-direction.ensures.1
     (stopped-before _ (stopped-before _ (stopped-before _ stopped)))
 
--- and behind the direction
+-- and after the direction
 pub returns-in_err-ltov-clause-err : goal.returns-in_err-ltov-clause-err
 returns-in_err-ltov-clause-err g c =
     let done = passed-append c.in_ok-shown.ensures.ok c.in_ok-direction.ensures.ok in
