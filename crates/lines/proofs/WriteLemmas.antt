@@ -33,12 +33,12 @@ module _ {old mid : Device} {xs : List ℕ} {done n : ℕ} (first : PassedOn xs 
   }
 
   -- a front of another
-  pub stopped-behind : {w : ℕ} → StoppedIn ys n mid new w → StoppedIn (xs ++ ys) done old new w
-  stopped-behind {w = w} second =
-      let count : w - done ≡ length xs + (w - n) = omega (arith, first.count, second.behind) in
+  pub stopped-after : {w : ℕ} → StoppedIn ys n mid new w → StoppedIn (xs ++ ys) done old new w
+  stopped-after {w = w} second =
+      let count : w - done ≡ length xs + (w - n) = omega (arith, first.count, second.after) in
       let front : take (w - done) (xs ++ ys) ≡ xs ++ take (w - n) ys = ap (λ k. take k (xs ++ ys)) count ∙ take-append-add xs ys (w - n) in
       record {
-        behind = omega (arith, first.count, second.behind);
+        after = omega (arith, first.count, second.after);
         stopped = (
           omega (arith, count, second.stopped.0, length-append xs ys),
           rw front (Took-append old mid new xs (take (w - n) ys) first.wrote.0 second.stopped.1),
@@ -52,7 +52,7 @@ module _ {old mid : Device} {xs : List ℕ} {done n : ℕ} (first : PassedOn xs 
 -- a front of a part is one of what begins with it
 pub stopped-before : {old new : Device} {xs : List ℕ} {done w : ℕ} (ys : List ℕ) → StoppedIn xs done old new w → StoppedIn (xs ++ ys) done old new w
 stopped-before {old = old} {new = new} {xs = xs} {done = done} {w = w} ys stopped = record {
-  behind = stopped.behind;
+  after = stopped.after;
   stopped = (
     omega (arith, stopped.stopped.0, length-append xs ys),
     rw (take-append-le (w - done) xs ys (omega (arith, stopped.stopped.0))) stopped.stopped.1,
@@ -68,7 +68,7 @@ module _ {old mid : Device} {xs : List ℕ} {done n : ℕ} (first : PassedOn xs 
 
   pub last_stopped : (r : Result ℕ WriteFault) → IfErr r (λ fault. StoppedIn ys n mid new fault.written) → IfErr r (λ fault. StoppedIn (xs ++ ys) done old new fault.written)
   last_stopped (Ok m) second = tt
-  last_stopped (Err fault) second = stopped-behind first second
+  last_stopped (Err fault) second = stopped-after first second
 
 -- one list more
 concat-more : (xs : List (List ℕ)) (k : ℕ) → k < length xs → concat (take (suc k) xs) ≡ concat (take k xs) ++ get_or xs k []
@@ -96,7 +96,7 @@ module _ (xs : List (List ℕ)) (k : ℕ) {x : List ℕ} (within : k < length xs
   pub pieces-stopped : {w : ℕ} → StoppedIn x n mid new w → StoppedIn (concat xs) done old new w
   pieces-stopped next =
       rw (concat-parts xs (k + 1) ∙ ap (λ ys. ys ++ concat (drop (k + 1) xs)) (concat-next xs k x within x_is))
-      (stopped-before (concat (drop (k + 1) xs)) (stopped-behind front next))
+      (stopped-before (concat (drop (k + 1) xs)) (stopped-after front next))
 
 -- the error of a part is that of the whole
 pub same_fault : {T : Type 0} (r : Result T WriteFault) (fault : WriteFault) (Q : ℕ → Type 0) → IsErrAnd r (λ y. y ≡ fault) → Q fault.written

@@ -9,5 +9,5 @@ pub record PassedOn (part : List ℕ) (done : ℕ) (old new : Device) (n : ℕ) 
 
 -- the sink failed within the part, after so many bytes of all
 pub record StoppedIn (part : List ℕ) (done : ℕ) (old new : Device) (written : ℕ) : Type 0 where
-  pub behind : done ≤ written
+  pub after : done ≤ written
   pub stopped : StoppedAt (written - done) part old new

@@ -437,7 +437,7 @@ fn write_lists<W: Sink>(
         (W.state writer.old) (W.state writer.new)) }
 {
     let fill = Fill::of(std::mem::replace(lists, Lists::new(alloc)));
-    let written = fill.write_behind(text, base, writer, 0, width, print);
+    let written = fill.write_after(text, base, writer, 0, width, print);
     *lists = fill.into_lists();
     match written {
         Ok(_) => Ok(()),

@@ -220,7 +220,7 @@ impl Fill {
 
     /// Writes all lines of the paragraph of this text and base level after so many bytes, and says how
     /// many are written then.
-    pub(crate) fn write_behind<W: Sink>(
+    pub(crate) fn write_after<W: Sink>(
         &self,
         text: &[char],
         base: u8,
@@ -244,7 +244,7 @@ impl Fill {
             let Some(line) = self.line(text, base, n) else {
                 unreachable!()
             };
-            written = line.write_behind(writer, written, width, print)?;
+            written = line.write_after(writer, written, width, print)?;
         }
         Ok(written)
     }

@@ -143,13 +143,13 @@ impl Laid {
             StoppedAt fault.written (layout_bytes width print.now self.now)
             (W.state writer.old) (W.state writer.new)) }
     {
-        self.write_behind(writer, 0, width, print)?;
+        self.write_after(writer, 0, width, print)?;
         Ok(())
     }
 
     /// Writes them after `done` bytes that the sink passed before, and says how many bytes that makes;
     /// a fault counts these too.
-    pub fn write_behind<W: Sink>(
+    pub fn write_after<W: Sink>(
         &self,
         writer: &mut W,
         done: u64,
@@ -164,7 +164,7 @@ impl Laid {
         ensures counted { IfOk result (λ n. n ≤ (W.state writer.new).passed) }
     {
         self.lines
-            .write_behind(&self.text, self.base, writer, done, width, print)
+            .write_after(&self.text, self.base, writer, done, width, print)
     }
 
     // Writes the lines at another width over those that it has, by their extents.

@@ -22,7 +22,7 @@ mod spaces;
 mod visual_line;
 mod work;
 
-pub use bytes::WriteFault;
+pub use bytes::{WriteFault, write_chars};
 pub use engine::{Engine, PARAGRAPH_LIMIT};
 pub use extents::{Extents, Room};
 pub use fill::Fill;

@@ -1,5 +1,5 @@
 //! One line of a paragraph as it is shown, which borrows from the paragraph.
-ghost use Rattle.std.specs.Prelude.{◌≡◌, ◌<◌, ◌≤◌, true, length, slice_index, OnOk, IfOk, IfErr};
+ghost use Rattle.std.specs.Prelude.{◌≡◌, ◌^◌, ◌<◌, ◌≤◌, true, length, slice_index, OnOk, IfOk, IfErr};
 ghost use Rattle.device.specs.Device.{Wrote, StoppedAt};
 ghost use Rattle.bidi.specs.Runs.{AreWithin};
 ghost use Rattle.lines.specs.Bytes.{line_bytes, padding};
@@ -114,7 +114,8 @@ impl<'a> VisualLine<'a> {
     /// How many columns are left of a visual position, or of the line's end where it has no such position.
     /// They are those of the characters in the text, and not of their mirrors.
     pub fn columns_left(&self, place: usize) -> usize
-        ensures { result ≡ columns_left self.now place }
+        ensures value { result ≡ columns_left self.now place }
+        ensures fits { result < 2 ^ 63 }
     {
         let mut columns = 0;
         for k in 0..place.min(self.vtol.len()) {
@@ -164,13 +165,13 @@ impl<'a> VisualLine<'a> {
             StoppedAt fault.written (line_bytes width print.now self.now)
             (W.state writer.old) (W.state writer.new)) }
     {
-        self.write_behind(writer, 0, width, print)?;
+        self.write_after(writer, 0, width, print)?;
         Ok(())
     }
 
     /// Writes it after `done` bytes that the sink passed before, and says how many bytes that makes; a
     /// fault counts these too.
-    pub fn write_behind<W: Sink>(
+    pub fn write_after<W: Sink>(
         &self,
         writer: &mut W,
         done: u64,

@@ -10,9 +10,9 @@ use Rattle.lines.specs.Layouts.{visuals}
 use Rattle.session.specs.Kept.{lines_in}
 use Rattle.session.proofs.EdgeLemmas.{chars_of, lines_of, length-lines, length-visuals, item_read}
 
-pub slice_get_behind : {A : Type 0} (xs ys : List A) (i : ℕ) → slice_get (xs ++ ys) (length xs + i) ≡ slice_get ys i
-slice_get_behind [] ys i = rw zero-add refl
-slice_get_behind (x ∷ xs) ys i = rw suc-add (slice_get_behind xs ys i)
+pub slice_get_after : {A : Type 0} (xs ys : List A) (i : ℕ) → slice_get (xs ++ ys) (length xs + i) ≡ slice_get ys i
+slice_get_after [] ys i = rw zero-add refl
+slice_get_after (x ∷ xs) ys i = rw suc-add (slice_get_after xs ys i)
 
 pub slice_get_left : {A : Type 0} (xs ys : List A) (i : ℕ) → i < length xs → slice_get (xs ++ ys) i ≡ slice_get xs i
 slice_get_left [] ys i within = absurd (omega arith)
@@ -26,7 +26,7 @@ line_read kept n found f l read =
     let whole : lines_in kept ≡ lines_in f.before ++ (visuals f.item ++ lines_in f.after) = ap lines_in f.place ∙ flat_map-append visuals f.before (f.item ∷ f.after) in
     let place : n ≡ length (lines_in f.before) + found.rest = sym f.rest ∙ ap (λ m. m + found.rest) (sym (length-lines f.before)) in
     let within : found.rest < length (visuals f.item) = omega (arith, f.within, length-visuals f.item) in
-    ap₂ slice_get whole place ∙ slice_get_behind (lines_in f.before) (visuals f.item ++ lines_in f.after) found.rest
+    ap₂ slice_get whole place ∙ slice_get_after (lines_in f.before) (visuals f.item ++ lines_in f.after) found.rest
     ∙ slice_get_left (visuals f.item) (lines_in f.after) found.rest within
     ∙ ap (λ x. slice_get (visuals x) found.rest) (sym item)
 

@@ -28,7 +28,7 @@ use Rattle.session.proofs.RefusalLemmas.{allowed-length}
 use Rattle.session.proofs.WidthLemmas.{all_each, each_laid_out}
 use Rattle.session.specs.declared.places.Place.{Place}
 use Rattle.session.proofs.EdgeLemmas.{chars_of, lines_of, front_is, item_read, length-lines, length-text, length-visuals, start_of-is, sum_next, sum_whole}
-use Rattle.session.proofs.LineLemmas.{slice_get_behind, slice_get_left}
+use Rattle.session.proofs.LineLemmas.{slice_get_after, slice_get_left}
 
 -- ---- where lines begin
 
@@ -69,7 +69,7 @@ start_read kept n found f l read =
     let place : n ≡ length (lines_from 0 f.before) + found.rest = omega (arith, f.rest, length-lines_from 0 f.before, length-lines f.before) in
     let within : found.rest < length (starts_at before f.item) = omega (arith, f.within, length-map f.item.lines (λ line. before + line.start)) in
     ap₂ slice_get (starts_whole lines_of kept n found f) place
-    ∙ slice_get_behind (lines_from 0 f.before) (starts_at before f.item ++ lines_from (before + chars_of f.item) f.after) found.rest
+    ∙ slice_get_after (lines_from 0 f.before) (starts_at before f.item ++ lines_from (before + chars_of f.item) f.after) found.rest
     ∙ slice_get_left (starts_at before f.item) (lines_from (before + chars_of f.item) f.after) found.rest within
     ∙ start_at before f.item.lines found.rest f.within
     ∙ ap₂ (λ (m : ℕ) (x : Layout). Some (m + get_or (map begins x.lines) found.rest 0)) (sym f.chars_before) (sym item)
@@ -347,9 +347,9 @@ last_below pos starts k below = elim (cases_lt k (length starts)) [
 ]
 
 -- after the last character
-pub place_behind : (kept : List Layout) (pos : ℕ) → All IsLined kept → pos + 1 ≡ length (text_of kept) → (last : Place) → last ≡ place_in kept pos
+pub place_after : (kept : List Layout) (pos : ℕ) → All IsLined kept → pos + 1 ≡ length (text_of kept) → (last : Place) → last ≡ place_in kept pos
     → let here : Place = record { paragraph = last.paragraph; line = last.line; offset = last.offset + 1 } in here ≡ place_in kept (length (text_of kept))
-place_behind kept pos lined is last last-is =
+place_after kept pos lined is last last-is =
     let lines : All (λ s. s < pos + 1) (line_starts kept) = λ k d within. omega (arith, is, lines_below 0 kept lined k d within) in
     let pars : All (λ s. s < pos + 1) (paragraph_starts kept) = λ k d within. omega (arith, is, paragraphs_below 0 kept lined k d within) in
     let here = all_up_to pos (line_starts kept) lines in

@@ -19,8 +19,8 @@ use Rattle.lines.specs.Pages.{layout_bytes}
 use Rattle.lines.specs.declared.print.Print.{Print}
 use Rattle.session.specs.Kept.{lines_in}
 use Rattle.session.specs.Printing.{lines_page, PrintsNot}
-use Rattle.session.specs.declared.printing.LinesFault.{LinesFault}
-use Rattle.session.specs.declared.printing.LinesFault.TheVariants.{Write}
+use Rattle.session.specs.declared.printing.RangeFault.{RangeFault}
+use Rattle.session.specs.declared.printing.RangeFault.TheVariants.{Write}
 use Rattle.lines.specs.declared.bytes.WriteFault.{WriteFault}
 use Rattle.session.specs.Sessions.{State, IsWholeLayout, cuts_at, page_at, text_at}
 
@@ -156,6 +156,6 @@ lines_page_all state print count is law =
     ap (flat_map (line_bytes state.width print)) (take_all (0 + count - 0) (lines_in state.kept) (omega (arith, is))) ∙ sym law
 
 -- the sink's fault
-pub fault_of_sink : (state : State) (first count : ℕ) (untouched : Type 0) (stopped : ℕ → Type 0) (fault : LinesFault) (of_sink : WriteFault) → fault ≡ Write of_sink
+pub fault_of_sink : (state : State) (first count : ℕ) (untouched : Type 0) (stopped : ℕ → Type 0) (fault : RangeFault) (of_sink : WriteFault) → fault ≡ Write of_sink
     → PrintsNot state first count untouched stopped fault → stopped of_sink.written
 fault_of_sink state first count untouched stopped fault of_sink is h = (subst (PrintsNot state first count untouched stopped) is h).1

@@ -1,16 +1,16 @@
 -- A paragraph's part of a text.
-use Rattle.std.proofs.Common.{◌≡◌, ℕ, ◌+◌, ◌-◌, ◌<◌, ◌≤◌, List, ◌∷◌, ◌++◌, length, drop, take, sum_by, nat_lt, Bool, true, false, Option, Some, None, is_none, if◌then◌else◌, refl, sym, ap, ap₂, ◌∙◌, arith}
+use Rattle.std.proofs.Common.{◌≡◌, ℕ, zero, suc, ◌+◌, ◌-◌, ◌<◌, ◌≤◌, List, [], ◌∷◌, ◌++◌, length, drop, take, sum_by, unwrap_or, nat_lt, Bool, true, false, Option, Some, None, is_none, if◌then◌else◌, refl, sym, ap, ap₂, ◌∙◌, arith}
 use Rattle.std.specs.List.{All, slice_get, slice_range}
 use Rattle.std.specs.Option.{option_map}
 use Rattle.std.proofs.lemmas.Bool.{cond-true, cond-false, le-ltb, lt-ltb}
-use Rattle.std.proofs.lemmas.List.{drop-append-le, length-drop, take_at}
-use Rattle.std.proofs.Math.Seq.{drop-append-add}
+use Rattle.std.proofs.lemmas.List.{drop-append-le, drop-drop, length-drop, length-take, take_at}
+use Rattle.std.proofs.Math.Seq.{drop-append-add, take-add}
 use Rattle.lines.specs.Layouts.{Layout}
 use Rattle.store.specs.Finding.{Finds}
 use Rattle.store.specs.declared.found.Found.{Found}
 use Rattle.session.specs.Kept.{pars_of, text_of}
 use Rattle.session.specs.Places.{IsLined}
-use Rattle.session.specs.Reading.{paragraph_end, text_part}
+use Rattle.session.specs.Reading.{paragraph_end, text_part, utf8_len, utf8_part}
 use Rattle.session.specs.Touched.{start_of}
 use Rattle.session.proofs.EdgeLemmas.{chars_of, lines_of, item_read, length-text, start_of-is, sum_next}
 use Rattle.session.proofs.PlaceLemmas.{count_paragraphs, text_append}
@@ -47,3 +47,54 @@ none_part kept pos count = go (nat_lt (length (text_of kept)) (pos + count)) (ta
 pub same_none : {A B : Type 0} (f : A → B) (o : Option A) → is_none o ≡ is_none (option_map f o)
 same_none f None = refl
 same_none f (Some x) = refl
+
+-- ---- a part after the ones that were read
+
+-- a front of a front is a front
+front_is : {A : Type 0} (a b : ℕ) (zs : List A) → take a (take b zs) ≡ take (length (take a (take b zs))) zs
+front_is zero b zs = refl
+front_is (suc a) zero zs = refl
+front_is (suc a) (suc b) [] = refl
+front_is (suc a) (suc b) (z ∷ zs) = ap (λ ys. z ∷ ys) (front_is a b zs)
+
+module _ (kept : List Layout) (pos at stop : ℕ) (begun : pos ≤ at) (more : at ≤ stop) (within : stop ≤ length (text_of kept)) (part : List ℕ)
+    (read : Some part ≡ text_part kept at (stop - at)) where
+  part_is : part ≡ take (stop - at) (slice_range (text_of kept) at (paragraph_end kept at))
+  part_is = ap (λ o. unwrap_or o part) (read ∙ part_within kept at (stop - at) (omega (arith, more, within)))
+
+  pub part_few : length part ≤ stop - at
+  part_few = omega (arith, ap length part_is, length-take (stop - at) (slice_range (text_of kept) at (paragraph_end kept at)))
+
+  part_front : part ≡ take (length part) (drop at (text_of kept))
+  part_front =
+      let is = part_is in
+      is ∙ front_is (stop - at) (paragraph_end kept at - at) (drop at (text_of kept)) ∙ ap (λ (cs : List ℕ). take (length cs) (drop at (text_of kept))) (sym is)
+
+  pub part_more : slice_range (text_of kept) pos (at + length part) ≡ slice_range (text_of kept) pos at ++ part
+  part_more =
+      let sizes : at + length part - pos ≡ (at - pos) + length part = omega (arith, begun) in
+      let place : pos + (at - pos) ≡ at = omega (arith, begun) in
+      ap (λ n. take n (drop pos (text_of kept))) sizes ∙ take-add (at - pos) (length part) (drop pos (text_of kept))
+      ∙ ap (λ cs. take (at - pos) (drop pos (text_of kept)) ++ cs)
+      (ap (take (length part)) (drop-drop (at - pos) pos (text_of kept) ∙ ap (λ n. drop n (text_of kept)) place) ∙ sym part_front)
+
+-- no part is missing where the text has all
+pub part_there : (kept : List Layout) (at count : ℕ) → at + count ≤ length (text_of kept) → None ≡ text_part kept at count → ⊥
+part_there kept at count within none = let wrong = none ∙ part_within kept at count within in cc wrong
+
+-- what was read up to a place is a front of all
+pub all_parts : (kept : List Layout) (pos at stop : ℕ) → pos ≤ at → at ≤ stop
+    → slice_range (text_of kept) pos stop ≡ slice_range (text_of kept) pos at ++ take (stop - at) (drop at (text_of kept))
+all_parts kept pos at stop begun more =
+    let sizes : stop - pos ≡ (at - pos) + (stop - at) = omega (arith, begun, more) in
+    let place : pos + (at - pos) ≡ at = omega (arith, begun) in
+    ap (λ n. take n (drop pos (text_of kept))) sizes ∙ take-add (at - pos) (stop - at) (drop pos (text_of kept))
+    ∙ ap (λ cs. take (at - pos) (drop pos (text_of kept)) ++ cs)
+    (ap (take (stop - at)) (drop-drop (at - pos) pos (text_of kept) ∙ ap (λ n. drop n (text_of kept)) place))
+
+-- the bytes of a paragraph's part that is not too long fit
+pub len_past : (kept : List Layout) (pos count : ℕ) → length (text_of kept) < pos + count → utf8_len kept pos count ≡ None
+len_past kept pos count past = cond-true (nat_lt (length (text_of kept)) (pos + count)) None _ (lt-ltb (length (text_of kept)) (pos + count) past)
+
+pub len_within : (kept : List Layout) (pos count : ℕ) → pos + count ≤ length (text_of kept) → utf8_len kept pos count ≡ Some (length (utf8_part kept pos count))
+len_within kept pos count within = cond-false (nat_lt (length (text_of kept)) (pos + count)) None _ (le-ltb (length (text_of kept)) (pos + count) within)

@@ -19,13 +19,13 @@ take-both zero n xs = rw zero-add refl
 take-both (suc m) n [] = rw suc-add (sym (take_all n [] (omega arith)))
 take-both (suc m) n (x ∷ xs) = rw suc-add (ap (λ ys. x ∷ ys) (take-both m n xs))
 
-start_of-behind : (pars : List (List ℕ)) (first n : ℕ) → start_of pars (first + n) ≡ start_of pars first + length (concat (take n (drop first pars)))
-start_of-behind pars first n =
+start_of-after : (pars : List (List ℕ)) (first n : ℕ) → start_of pars (first + n) ≡ start_of pars first + length (concat (take n (drop first pars)))
+start_of-after pars first n =
     ap (λ ps. length (concat ps)) (take-both first n pars) ∙ ap length (concat-append (take first pars) (take n (drop first pars)))
     ∙ length-append (concat (take first pars)) (concat (take n (drop first pars)))
 
-drop_behind : (left rest : List ℕ) (n : ℕ) → drop (length left + n) (left ++ rest) ≡ drop n rest
-drop_behind left rest n = sym (drop-drop n (length left) (left ++ rest)) ∙ ap (drop n) (drop_at left rest (length left) refl)
+drop_after : (left rest : List ℕ) (n : ℕ) → drop (length left + n) (left ++ rest) ≡ drop n rest
+drop_after left rest n = sym (drop-drop n (length left) (left ++ rest)) ∙ ap (drop n) (drop_at left rest (length left) refl)
 
 module _ (pars : List (List ℕ)) (first last pos to : ℕ) (some : first < last) (within : last ≤ length pars) where
   -- the first of the paragraphs, before the others
@@ -59,12 +59,12 @@ module _ (pars : List (List ℕ)) (first last pos to : ℕ) (some : first < last
       let others = take i (drop first pars) in
       let place : first + i ≡ last - 1 = omega arith in
       let next : last - 1 + 1 ≡ last = omega arith in
-      let after : start_of pars (last - 1) ≡ start_of pars first + length (concat others) = ap (start_of pars) (sym place) ∙ start_of-behind pars first i in
+      let after : start_of pars (last - 1) ≡ start_of pars first + length (concat others) = ap (start_of pars) (sym place) ∙ start_of-after pars first i in
       let size : start_of pars last ≡ start_of pars (last - 1) + length q = ap (start_of pars) (sym next) ∙ start_of-more pars (last - 1) [] (omega arith) in
       let whole : concat (slice_range pars first last) ≡ concat others ++ q = ap concat last_is ∙ concat-append others (q ∷ []) ∙ ap (λ t. concat others ++ t) (append-nil q) in
       let from : to - start_of pars first ≡ length (concat others) + (to - start_of pars (last - 1)) = omega arith in
       let left : to - start_of pars (last - 1) ≡ length q - (start_of pars last - to) = omega arith in
-      ap₂ drop from whole ∙ drop_behind (concat others) q (to - start_of pars (last - 1)) ∙ ap (λ n. drop n q) left
+      ap₂ drop from whole ∙ drop_after (concat others) q (to - start_of pars (last - 1)) ∙ ap (λ n. drop n q) left
 
 -- where there are no paragraphs
 no_slice : (pars : List (List ℕ)) (first last : ℕ) → length pars ≡ 0 → concat (slice_range pars first last) ≡ []

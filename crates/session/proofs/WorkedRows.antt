@@ -24,11 +24,11 @@ in-nothing : (first_touched [] (insertion 0 (120 ∷ [])) ≡ 0) × (touched_cou
 in-nothing = (refl, refl, refl)
 
 -- changes that are refused change nothing
-abbrev behind_newline : ℕ → ℕ → Bool
-behind_newline before after = before == 10
+abbrev after_newline : ℕ → ℕ → Bool
+after_newline before after = before == 10
 
 abbrev four_changes : List Edit
 four_changes = SetWidth 0 ∷ SetWidth 5 ∷ Delete 2 2 ∷ Delete 0 1 ∷ []
 
-after-four : after_all behind_newline (record { text = 97 ∷ 10 ∷ 98 ∷ []; width = 80 }) four_changes ≡ record { text = 10 ∷ 98 ∷ []; width = 5 }
+after-four : after_all after_newline (record { text = 97 ∷ 10 ∷ 98 ∷ []; width = 80 }) four_changes ≡ record { text = 10 ∷ 98 ∷ []; width = 5 }
 after-four = refl

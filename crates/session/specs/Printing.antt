@@ -5,8 +5,8 @@ use Rattle.lines.specs.Bytes.{line_bytes}
 use Rattle.lines.specs.declared.print.Print.{Print}
 use Rattle.session.specs.Kept.{lines_in}
 use Rattle.session.specs.Sessions.{State}
-use Rattle.session.specs.declared.printing.LinesFault.{LinesFault}
-use Rattle.session.specs.declared.printing.LinesFault.TheVariants.{OutOfRange, Write}
+use Rattle.session.specs.declared.printing.RangeFault.{RangeFault}
+use Rattle.session.specs.declared.printing.RangeFault.TheVariants.{OutOfRange, Write}
 
 -- what is printed of so many lines, from one on
 abbrev pub lines_page : State → ℕ → ℕ → Print → List ℕ
@@ -16,7 +16,10 @@ lines_page state first count print = flat_map (line_bytes state.width print) (sl
 abbrev pub HasLines : State → ℕ → ℕ → Type 0
 HasLines state first count = first + count ≤ length (lines_in state.kept)
 
--- Where there are not so many, nothing is touched; else the sink failed after so many bytes.
-abbrev pub PrintsNot : State → ℕ → ℕ → Type 0 → (ℕ → Type 0) → LinesFault → Type 0
-PrintsNot state first count untouched stopped OutOfRange = (length (lines_in state.kept) < first + count) × untouched
-PrintsNot state first count untouched stopped (Write fault) = (first + count ≤ length (lines_in state.kept)) × stopped fault.written
+-- A range of so many that reaches past the end is not written, and nothing is touched; else the sink failed after so many bytes.
+abbrev pub WritesNot : ℕ → ℕ → ℕ → Type 0 → (ℕ → Type 0) → RangeFault → Type 0
+WritesNot size first count untouched stopped OutOfRange = (size < first + count) × untouched
+WritesNot size first count untouched stopped (Write fault) = (first + count ≤ size) × stopped fault.written
+
+abbrev pub PrintsNot : State → ℕ → ℕ → Type 0 → (ℕ → Type 0) → RangeFault → Type 0
+PrintsNot state = WritesNot (length (lines_in state.kept))

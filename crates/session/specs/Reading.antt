@@ -1,5 +1,5 @@
--- The characters of a text, a paragraph's part at a time.
-use Rattle.std.specs.Prelude.{ℕ, ◌+◌, nat_lt, List, length, take, Option, Some, None, if◌then◌else◌}
+-- The characters of a text: a paragraph's part at a time, and as bytes.
+use Rattle.std.specs.Prelude.{ℕ, ◌+◌, nat_lt, List, length, take, encode_utf8_all, Option, Some, None, if◌then◌else◌}
 use Rattle.std.specs.List.{slice_range}
 use Rattle.lines.specs.Layouts.{Layout}
 use Rattle.session.specs.Kept.{pars_of, text_of}
@@ -15,3 +15,11 @@ abbrev pub text_part : List Layout → ℕ → ℕ → Option (List ℕ)
 text_part kept pos count =
     if nat_lt (length (text_of kept)) (pos + count) then None
     else Some (take count (slice_range (text_of kept) pos (paragraph_end kept pos)))
+
+-- so many characters from there on as UTF-8
+abbrev pub utf8_part : List Layout → ℕ → ℕ → List ℕ
+utf8_part kept pos count = encode_utf8_all (slice_range (text_of kept) pos (pos + count))
+
+-- how many bytes these are, where the text has them all
+abbrev pub utf8_len : List Layout → ℕ → ℕ → Option ℕ
+utf8_len kept pos count = if nat_lt (length (text_of kept)) (pos + count) then None else Some (length (utf8_part kept pos count))

@@ -19,7 +19,8 @@ pub struct Caret {
 
 // At the end of a line, in the direction of its paragraph.
 fn line_end(line: &VisualLine<'_>, n: usize) -> Caret
-    ensures { result ≡ line_end n line.now }
+    ensures caret { result ≡ line_end n line.now }
+    ensures fits { result.column < 2 ^ 63 }
 {
     let level = line.base();
     Caret {
@@ -53,7 +54,8 @@ fn visual(line: &VisualLine<'_>, k: usize) -> usize
 /// Before the character at a place of a line: at its left edge where its level is even, and else at its
 /// right edge. Where the character is not shown, at the end of the line.
 pub fn caret_in(line: &VisualLine<'_>, place: Place) -> Caret
-    ensures { result ≡ caret_in line.now place }
+    ensures caret { result ≡ caret_in line.now place }
+    ensures fits { result.column < 2 ^ 63 }
 {
     let k = place.offset;
     match line.levels().get(k) {

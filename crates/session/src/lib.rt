@@ -25,5 +25,5 @@ pub use hits::Hit;
 pub use kept::Kept;
 pub use laws::texts_are_laid_out_in_parts;
 pub use places::Place;
-pub use printing::LinesFault;
+pub use printing::RangeFault;
 pub use session::Session;

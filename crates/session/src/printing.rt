@@ -12,10 +12,10 @@ use lines::{Laid, Print, WriteFault};
 use store::{Measured, ParagraphStore};
 use thiserror::Error;
 
-/// Why lines are not written, or not all of them.
+/// Why lines or characters are not written, or not all of them.
 #[derive(Clone, Copy, Debug, PartialEq, Eq, Error)]
-pub enum LinesFault {
-    /// They reach past the last line, and nothing was written.
+pub enum RangeFault {
+    /// They reach past the last one, and nothing was written.
     #[error("out of range")]
     OutOfRange,
     /// The sink failed.
@@ -51,7 +51,7 @@ fn write_part<W: Sink>(
         let Some(line) = laid.line(from + n) else {
             unreachable!()
         };
-        written = line.write_behind(writer, written, width, print)?;
+        written = line.write_after(writer, written, width, print)?;
     }
     Ok(written)
 }

@@ -1,11 +1,16 @@
-//! The characters of a text, a paragraph's part at a time.
-ghost use Rattle.std.specs.Prelude.{◌≡◌, ◌+◌, ◌<◌, ◌≤◌, All, length, option_map, IfSome};
+//! The characters of a text: a paragraph's part at a time, and as bytes.
+ghost use Rattle.std.specs.Prelude.{◌≡◌, ◌+◌, ◌*◌, ◌<◌, ◌≤◌, All, length, option_map};
+ghost use Rattle.std.specs.Prelude.{encode_utf8_all, IfOk, IfErr, IfSome};
+ghost use Rattle.lines.specs.Writing.{PassedOn, StoppedIn};
 ghost use Rattle.session.specs.Kept.{text_of};
 ghost use Rattle.session.specs.Places.{IsLined};
-ghost use Rattle.session.specs.Reading.{text_part};
+ghost use Rattle.session.specs.Reading.{text_part, utf8_len, utf8_part};
+ghost use Rattle.session.specs.declared.edits.TheConstants.{TEXT_LIMIT};
 
 use crate::edge::{back, front};
 use crate::kept::Kept;
+use device::Sink;
+use lines::{WriteFault, write_chars};
 use store::ParagraphStore;
 
 /// Of `count` characters from `pos` on those that stand in the paragraph of the first, where the text has
@@ -27,4 +32,70 @@ pub fn text_part<S: ParagraphStore<Kept>>(store: &S, pos: usize, count: usize) -
         Some(kept) => Some(front(back(kept.laid().text(), found.rest), count)),
         None => unreachable!(),
     }
+}
+
+// How many bytes of UTF-8 some characters are.
+fn bytes_of(chars: &[char]) -> usize
+    requires { length chars.now ≤ TEXT_LIMIT }
+    ensures { result ≡ length (encode_utf8_all chars.now) }
+{
+    let mut bytes = 0;
+    for c in chars {
+        bytes += c.len_utf8();
+    }
+    bytes
+}
+
+/// How many bytes of UTF-8 `count` characters from `pos` on are, where the text has them all.
+pub fn utf8_len<S: ParagraphStore<Kept>>(store: &S, pos: usize, count: usize) -> Option<usize>
+    requires lined { All IsLined (S.items store.now) }
+    requires few { length (text_of (S.items store.now)) ≤ TEXT_LIMIT }
+    ensures { result ≡ utf8_len (S.items store.now) pos count }
+{
+    let len = store.total_chars();
+    if pos > len || count > len - pos {
+        return None;
+    }
+    let end = pos + count;
+    let (mut at, mut bytes) = (pos, 0);
+    while at < end {
+        let Some(part) = text_part(store, at, end - at) else {
+            unreachable!()
+        };
+        bytes += bytes_of(part);
+        at += part.len();
+    }
+    Some(bytes)
+}
+
+/// Writes them after so many bytes, and no more after a failure of the sink. Says how many bytes are written
+/// then.
+pub fn write_text<S: ParagraphStore<Kept>, W: Sink>(
+    store: &S,
+    pos: usize,
+    count: usize,
+    writer: &mut W,
+    done: u64,
+) -> Result<u64, WriteFault>
+    requires lined { All IsLined (S.items store.now) }
+    requires within { pos + count ≤ length (text_of (S.items store.now)) }
+    requires done { done ≤ (W.state writer.old).passed }
+    ensures ok { IfOk result (λ n. PassedOn (utf8_part (S.items store.now) pos count) done
+        (W.state writer.old) (W.state writer.new) n) }
+    ensures err { IfErr result (λ fault. StoppedIn (utf8_part (S.items store.now) pos count) done
+        (W.state writer.old) (W.state writer.new) fault.written) }
+    ensures counted { IfOk result (λ n. n ≤ (W.state writer.new).passed) }
+{
+    // Shows that the number of characters fits.
+    let _chars = store.total_chars();
+    let end = pos + count;
+    let (mut at, mut written) = (pos, done);
+    while at < end {
+        let Some(part) = text_part(store, at, end - at) else {
+            unreachable!()
+        };
+        written = write_chars(writer, written, part)?;
+        at += part.len();
+    }
+    Ok(written)
 }

@@ -1,6 +1,6 @@
 //! A session that keeps the layout of a text under inserts, deletes and width changes, over any store of
 //! paragraphs.
-ghost use Rattle.std.specs.Prelude.{◌≡◌, ◌+◌, ◌<◌, ◌≤◌, nat_le, nat_lt, length};
+ghost use Rattle.std.specs.Prelude.{◌≡◌, ◌+◌, ◌^◌, ◌<◌, ◌≤◌, nat_le, nat_lt, length};
 ghost use Rattle.std.specs.Prelude.{is_none, option_map, slice_get};
 ghost use Rattle.std.specs.Prelude.{IfOk, IfErr, IfSome, IsErrOf, OnOk, OnErr};
 ghost use Rattle.std.specs.List.{flat_map};
@@ -16,8 +16,8 @@ ghost use Rattle.session.specs.Clusters.{cluster_at};
 ghost use Rattle.session.specs.Hits.{hit_at};
 ghost use Rattle.session.specs.Kept.{lines_in};
 ghost use Rattle.session.specs.Places.{line_starts, place_at};
-ghost use Rattle.session.specs.Printing.{lines_page, HasLines, PrintsNot};
-ghost use Rattle.session.specs.Reading.{text_part};
+ghost use Rattle.session.specs.Printing.{lines_page, HasLines, PrintsNot, WritesNot};
+ghost use Rattle.session.specs.Reading.{text_part, utf8_len, utf8_part};
 ghost use Rattle.session.specs.Runs.{StopsAt, WorksAtMost};
 ghost use Rattle.session.specs.Sessions.{cuts_at, held_at, page_at, text_at, IsWholeLayout};
 ghost use Rattle.session.specs.Sessions.{Edits, EditsNot, Opens, OpensNot, Refills, RefillsNot};
@@ -31,8 +31,8 @@ use crate::hits::{Hit, hit_in};
 use crate::joined::lay_out_joined;
 use crate::kept::Kept;
 use crate::places::{Place, line_start, place_of};
-use crate::printing::{LinesFault, write_lines};
-use crate::reading::text_part;
+use crate::printing::{RangeFault, write_lines};
+use crate::reading::{text_part, utf8_len, write_text};
 use crate::width::change_width;
 use bidi::paragraphs_are_pieces;
 use device::Sink;
@@ -190,6 +190,7 @@ impl<S: ParagraphStore<Kept>> Session<S> {
     pub fn caret(&self, pos: usize) -> Option<Caret>
         ensures caret { result ≡ caret_at (rules_of self.now.engine) self.now.kept pos }
         ensures none { is_none result ≡ nat_lt (length (text_at self.now)) pos }
+        ensures fits { IfSome result (λ caret. caret.column < 2 ^ 63) }
     {
         let place = self.place(pos)?;
         match self.line(place.line) {
@@ -238,6 +239,69 @@ impl<S: ParagraphStore<Kept>> Session<S> {
         paragraphs_are_pieces();
         Laid::lines_begin_in_order();
         text_part(&self.store, pos, count)
+    }
+
+    /// How many bytes of UTF-8 `count` characters from `pos` on are, where the text has them all. It takes
+    /// time that grows with them, and no memory.
+    pub fn utf8_len(&self, pos: usize, count: usize) -> Option<usize>
+        ensures { result ≡ utf8_len self.now.kept pos count }
+    {
+        // The laws by which no paragraph is empty.
+        paragraphs_are_pieces();
+        Laid::lines_begin_in_order();
+        utf8_len(&self.store, pos, count)
+    }
+
+    /// Writes `count` characters from `pos` on as UTF-8. Where the text doesn't have them all, nothing is
+    /// written. It takes no memory.
+    pub fn write_text<W: Sink>(
+        &self,
+        writer: &mut W,
+        pos: usize,
+        count: usize,
+    ) -> Result<(), RangeFault>
+        ensures within { OnOk result (pos + count ≤ length (text_at self.now)) }
+        ensures ok { OnOk result (Wrote (utf8_part self.now.kept pos count)
+            (W.state writer.old) (W.state writer.new)) }
+        ensures err { IfErr result (WritesNot (length (text_at self.now)) pos count
+            (W.state writer.new ≡ W.state writer.old)
+            (λ written. StoppedAt written (utf8_part self.now.kept pos count)
+            (W.state writer.old) (W.state writer.new))) }
+    {
+        self.write_text_after(writer, 0, pos, count)?;
+        Ok(())
+    }
+
+    /// Writes them after `done` bytes that the sink passed before, and says how many bytes that makes; a
+    /// fault counts these too.
+    pub fn write_text_after<W: Sink>(
+        &self,
+        writer: &mut W,
+        done: u64,
+        pos: usize,
+        count: usize,
+    ) -> Result<u64, RangeFault>
+        requires { done ≤ (W.state writer.old).passed }
+        ensures within { OnOk result (pos + count ≤ length (text_at self.now)) }
+        ensures ok { IfOk result (λ n. PassedOn (utf8_part self.now.kept pos count) done
+            (W.state writer.old) (W.state writer.new) n) }
+        ensures err { IfErr result (WritesNot (length (text_at self.now)) pos count
+            (W.state writer.new ≡ W.state writer.old)
+            (λ written. StoppedIn (utf8_part self.now.kept pos count) done
+            (W.state writer.old) (W.state writer.new) written)) }
+        ensures counted { IfOk result (λ n. n ≤ (W.state writer.new).passed) }
+    {
+        let chars = self.store.total_chars();
+        if pos > chars || count > chars - pos {
+            return Err(RangeFault::OutOfRange);
+        }
+        // The laws by which no paragraph is empty.
+        paragraphs_are_pieces();
+        Laid::lines_begin_in_order();
+        match write_text(&self.store, pos, count, writer, done) {
+            Ok(written) => Ok(written),
+            Err(fault) => Err(RangeFault::Write(fault)),
+        }
     }
 
     /// How many characters the text has.
@@ -334,14 +398,14 @@ impl<S: ParagraphStore<Kept>> Session<S> {
         self.prints_its_lines();
         match self.print_lines(writer, 0, self.line_count(), print) {
             Ok(()) => Ok(()),
-            Err(LinesFault::Write(fault)) => Err(fault),
-            Err(LinesFault::OutOfRange) => unreachable!(),
+            Err(RangeFault::Write(fault)) => Err(fault),
+            Err(RangeFault::OutOfRange) => unreachable!(),
         }
     }
 
     /// Writes them after `done` bytes that the sink passed before, and says how many bytes that makes; a
     /// fault counts these too.
-    pub fn print_behind<W: Sink>(
+    pub fn print_after<W: Sink>(
         &self,
         writer: &mut W,
         done: u64,
@@ -355,10 +419,10 @@ impl<S: ParagraphStore<Kept>> Session<S> {
         ensures counted { IfOk result (λ n. n ≤ (W.state writer.new).passed) }
     {
         self.prints_its_lines();
-        match self.print_lines_behind(writer, done, 0, self.line_count(), print) {
+        match self.print_lines_after(writer, done, 0, self.line_count(), print) {
             Ok(written) => Ok(written),
-            Err(LinesFault::Write(fault)) => Err(fault),
-            Err(LinesFault::OutOfRange) => unreachable!(),
+            Err(RangeFault::Write(fault)) => Err(fault),
+            Err(RangeFault::OutOfRange) => unreachable!(),
         }
     }
 
@@ -370,7 +434,7 @@ impl<S: ParagraphStore<Kept>> Session<S> {
         first: usize,
         count: usize,
         print: &Print,
-    ) -> Result<(), LinesFault>
+    ) -> Result<(), RangeFault>
         ensures within { OnOk result (HasLines self.now first count) }
         ensures ok { OnOk result (Wrote (lines_page self.now first count print.now)
             (W.state writer.old) (W.state writer.new)) }
@@ -379,20 +443,20 @@ impl<S: ParagraphStore<Kept>> Session<S> {
             (λ written. StoppedAt written (lines_page self.now first count print.now)
             (W.state writer.old) (W.state writer.new))) }
     {
-        self.print_lines_behind(writer, 0, first, count, print)?;
+        self.print_lines_after(writer, 0, first, count, print)?;
         Ok(())
     }
 
     /// Writes them after `done` bytes that the sink passed before, and says how many bytes that makes; a
     /// fault counts these too.
-    pub fn print_lines_behind<W: Sink>(
+    pub fn print_lines_after<W: Sink>(
         &self,
         writer: &mut W,
         done: u64,
         first: usize,
         count: usize,
         print: &Print,
-    ) -> Result<u64, LinesFault>
+    ) -> Result<u64, RangeFault>
         requires { done ≤ (W.state writer.old).passed }
         ensures within { OnOk result (HasLines self.now first count) }
         ensures ok { IfOk result (λ n. PassedOn (lines_page self.now first count print.now) done
@@ -405,11 +469,11 @@ impl<S: ParagraphStore<Kept>> Session<S> {
     {
         let lines = self.store.total_lines();
         if first > lines || count > lines - first {
-            return Err(LinesFault::OutOfRange);
+            return Err(RangeFault::OutOfRange);
         }
         match write_lines(&self.store, first, count, writer, done, self.width, print) {
             Ok(written) => Ok(written),
-            Err(fault) => Err(LinesFault::Write(fault)),
+            Err(fault) => Err(RangeFault::Write(fault)),
         }
     }
 

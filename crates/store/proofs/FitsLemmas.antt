@@ -31,8 +31,8 @@ module _ {P : Type 0} (chars lines : P → ℕ) where
       f
 
   -- without some of the first items
-  pub fits_behind : (xs ys : List P) (n : ℕ) → Fits chars lines (xs ++ ys) → Fits chars lines (drop n xs ++ ys)
-  fits_behind xs ys n f =
+  pub fits_after : (xs ys : List P) (n : ℕ) → Fits chars lines (xs ++ ys) → Fits chars lines (drop n xs ++ ys)
+  fits_after xs ys n f =
       fits_less (xs ++ ys) (drop n xs ++ ys)
       (omega (arith, length-append xs ys, length-append (drop n xs) ys, length-drop n xs))
       (omega (arith, sum_by-append chars xs ys, sum_by-append chars (drop n xs) ys, sum_by-take-drop chars xs n))

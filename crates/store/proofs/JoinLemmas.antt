@@ -31,15 +31,15 @@ module _ {P : Type 0} (chars lines : P → ℕ) where
       fit_around (l ++ x ∷ in_order first) (in_order second ++ y ∷ r) m (subst (Fits chars lines) (lifted l r x y m inner first second e) f)
 
   -- around the root of a tree before
-  pub fit_in_front : (r : List P) (y m : P) (left outer inner : Tree P) → left ≡ Fork outer m inner → Fits chars lines (in_order left ++ y ∷ r)
+  pub fit_before : (r : List P) (y m : P) (left outer inner : Tree P) → left ≡ Fork outer m inner → Fits chars lines (in_order left ++ y ∷ r)
       → FitAround (in_order outer) m (in_order inner ++ y ∷ r)
-  fit_in_front r y m left outer inner e f =
+  fit_before r y m left outer inner e f =
       fit_around (in_order outer) (in_order inner ++ y ∷ r) m
       (subst (Fits chars lines) (ap (λ t. in_order t ++ y ∷ r) e ∙ append_assoc (in_order outer) (m ∷ in_order inner) (y ∷ r)) f)
 
   -- around the root of a tree after
-  pub fit_behind : (l : List P) (x m : P) (right inner outer : Tree P) → right ≡ Fork inner m outer → Fits chars lines (l ++ x ∷ in_order right)
+  pub fit_after : (l : List P) (x m : P) (right inner outer : Tree P) → right ≡ Fork inner m outer → Fits chars lines (l ++ x ∷ in_order right)
       → FitAround (l ++ x ∷ in_order inner) m (in_order outer)
-  fit_behind l x m right inner outer e f =
+  fit_after l x m right inner outer e f =
       fit_around (l ++ x ∷ in_order inner) (in_order outer) m
       (subst (Fits chars lines) (ap (λ t. l ++ x ∷ in_order t) e ∙ sym (append_assoc l (x ∷ in_order inner) (m ∷ in_order outer))) f)

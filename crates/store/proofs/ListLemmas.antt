@@ -180,6 +180,6 @@ pub length_both : {A : Type 0} (items spares all : List A) → items ++ reverse 
 length_both items spares all e = omega (arith, ap length e, length-append items (reverse spares), length-reverse spares)
 
 -- a list has room for what was moved out of it
-pub room_behind : {A : Type 0} (items spares all now : List A) (len cap room : ℕ) → items ++ reverse spares ≡ all → now ≡ items → len ≡ length all
+pub room_after : {A : Type 0} (items spares all now : List A) (len cap room : ℕ) → items ++ reverse spares ≡ all → now ≡ items → len ≡ length all
     → len ≤ cap → room ≡ cap → length now + length spares ≤ room
-room_behind items spares all now len cap room e now_is len_is within room_is = omega (arith, length_both items spares all e, ap length now_is)
+room_after items spares all now len cap room e now_is len_is within room_is = omega (arith, length_both items spares all e, ap length now_is)

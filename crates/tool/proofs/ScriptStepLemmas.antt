@@ -10,7 +10,7 @@ use Rattle.std.proofs.lemmas.List.Folds.{list_all-append}
 use Rattle.std.proofs.lemmas.List.Splits.{slice_split_at, slice_split_none}
 use Rattle.device.specs.Device.{Device, Fails, Gives, Wrote, greatest}
 use Rattle.lines.specs.Layouts.{Rules}
-use Rattle.lines.specs.declared.print.Print.{Print}
+use Rattle.tool.specs.declared.script.ScriptOptions.{ScriptOptions}
 use Rattle.session.specs.Changes.{Held}
 use Rattle.session.specs.Sessions.{State, held_at}
 use Rattle.tool.specs.Reading.{EndsIn, EndsLine, FailsAt, FailsIn, FailsLine, GoesOn, GrowsNot, IsAt, NoEnd, ObeysLine, Steps, Takes}
@@ -53,17 +53,17 @@ long_line : (p : List ℕ) (ps : List (List ℕ)) → LINE_LIMIT < length p → 
 long_line p [] long = ([], ap (λ (b : Bool). if b then p ∷ [] else []) (some_bytes p long))
 long_line p (q ∷ ps) long = (lines_among AtEnd (q ∷ ps), refl)
 
-long_is_bad : (p : List ℕ) → LINE_LIMIT < length p → is_good p ≡ false
-long_is_bad p long = rw (over p long) refl
+long_is_bad : (queries : Bool) (p : List ℕ) → LINE_LIMIT < length p → is_good queries p ≡ false
+long_is_bad queries p long = rw (over p long) refl
 
-module _ (rules : Rules) (print : Print) (start : State) (reader_old reader writer_old writer : Device) where
+module _ (rules : Rules) (options : ScriptOptions) (start : State) (reader_old reader writer_old writer : Device) where
   abbrev before : Held
   before = held_at start
 
   module _ (now : State) (reading : Reading) where
     -- ---- a piece is read
-    pub at_read : (reader_new : Device) (n : ℕ) (buffer : List ℕ) → IsAt rules print start reader_old reader writer_old writer now reading [] → Gives reader reader_new n buffer → n ≤ length buffer → n ≤ PIECE
-        → IsAt rules print start reader_old reader_new writer_old writer now reading (take n buffer)
+    pub at_read : (reader_new : Device) (n : ℕ) (buffer : List ℕ) → IsAt rules options start reader_old reader writer_old writer now reading [] → Gives reader reader_new n buffer → n ≤ length buffer → n ≤ PIECE
+        → IsAt rules options start reader_old reader_new writer_old writer now reading (take n buffer)
     at_read reader_new n buffer at gives within small =
         let piece = take n buffer in
         let len : length piece ≡ n = length-take-le n buffer within in
@@ -86,10 +86,10 @@ module _ (rules : Rules) (print : Print) (start : State) (reader_old reader writ
           short = at.short;
         }
 
-    module _ (waiting : List ℕ) (at : IsAt rules print start reader_old reader writer_old writer now reading waiting) where
+    module _ (waiting : List ℕ) (at : IsAt rules options start reader_old reader writer_old writer now reading waiting) where
       -- ---- of what waits, a part is taken
       pub at_more : (n : ℕ) (state : State) (new : Reading) (writer_new : Device) → GoesOn waiting n now state reading new writer writer_new
-          → IsAt rules print start reader_old reader writer_old writer_new state new []
+          → IsAt rules options start reader_old reader writer_old writer_new state new []
       at_more n state new writer_new more = record {
         bytes = at.bytes;
         done = at.done;
@@ -100,39 +100,39 @@ module _ (rules : Rules) (print : Print) (start : State) (reader_old reader writ
         good = at.good;
         none = subst NoEnd (sym more.grows.line) (All-append (λ b. is_line_end b ≡ false) reading.line.items waiting at.none more.none);
         size = omega (arith, at.size, ap length more.grows.line, length-append reading.line.items waiting);
-        wrote = subst (Wrote (answers rules print before at.done) writer_old) (sym more.writer) at.wrote;
+        wrote = subst (Wrote (answers rules options before at.done) writer_old) (sym more.writer) at.wrote;
         held_is = ap held_at more.state ∙ at.held_is;
-        works = subst (λ (s : State). LinesWork rules before at.done start.engine s.engine) (sym more.state) at.works;
+        works = subst (λ (s : State). LinesWork rules options.queries before at.done start.engine s.engine) (sym more.state) at.works;
         lines = more.grows.lines ∙ at.lines;
         written = more.grows.written ∙ at.written;
         ahead = omega (arith, at.ahead, ap length more.grows.line, length-append reading.line.items waiting);
         short = more.grows.short;
       }
 
-      module _ (line : List ℕ) (state : State) (new : Reading) (writer_new : Device) (obeys : ObeysLine rules print line (held_at now) (held_at state) reading new writer writer_new) where
-        next_answer : answer_line rules print (held_at now) (request_of_line line) ≡ answers rules print (after_lines rules before at.done) (line ∷ [])
-        next_answer = ap (λ h. answer_line rules print h (request_of_line line)) at.held_is ∙ sym (append-nil (answer_line rules print (after_lines rules before at.done) (request_of_line line)))
+      module _ (line : List ℕ) (state : State) (new : Reading) (writer_new : Device) (obeys : ObeysLine rules options line (held_at now) (held_at state) reading new writer writer_new) where
+        next_answer : answer_line rules options.print (held_at now) (request_of_line options.queries line) ≡ answers rules options (after_lines rules options.queries before at.done) (line ∷ [])
+        next_answer = ap (λ h. answer_line rules options.print h (request_of_line options.queries line)) at.held_is ∙ sym (append-nil (answer_line rules options.print (after_lines rules options.queries before at.done) (request_of_line options.queries line)))
 
-        answers_are : answers rules print before (at.done ++ line ∷ []) ≡ answers rules print before at.done ++ answer_line rules print (held_at now) (request_of_line line)
-        answers_are = answers_more rules print before at.done (line ∷ []) ∙ ap (λ t. answers rules print before at.done ++ t) (sym next_answer)
+        answers_are : answers rules options before (at.done ++ line ∷ []) ≡ answers rules options before at.done ++ answer_line rules options.print (held_at now) (request_of_line options.queries line)
+        answers_are = answers_more rules options before at.done (line ∷ []) ∙ ap (λ t. answers rules options before at.done ++ t) (sym next_answer)
 
-        pub obeyed_good : list_all is_good (at.done ++ line ∷ []) ≡ true
-        obeyed_good = list_all-append is_good at.done (line ∷ []) ∙ ap (λ (b : Bool). b && (is_good line && true)) at.good ∙ ap (λ (b : Bool). b && true) obeys.good
+        pub obeyed_good : list_all (is_good options.queries) (at.done ++ line ∷ []) ≡ true
+        obeyed_good = list_all-append (is_good options.queries) at.done (line ∷ []) ∙ ap (λ (b : Bool). b && (is_good options.queries line && true)) at.good ∙ ap (λ (b : Bool). b && true) obeys.good
 
-        pub obeyed_wrote : Wrote (answers rules print before (at.done ++ line ∷ [])) writer_old writer_new
-        obeyed_wrote = subst (λ t. Wrote t writer_old writer_new) (sym answers_are) (Wrote-append writer_old writer writer_new (answers rules print before at.done) (answer_line rules print (held_at now) (request_of_line line)) at.wrote obeys.wrote.wrote)
+        pub obeyed_wrote : Wrote (answers rules options before (at.done ++ line ∷ [])) writer_old writer_new
+        obeyed_wrote = subst (λ t. Wrote t writer_old writer_new) (sym answers_are) (Wrote-append writer_old writer writer_new (answers rules options before at.done) (answer_line rules options.print (held_at now) (request_of_line options.queries line)) at.wrote obeys.wrote.wrote)
 
-        pub obeyed_held : held_at state ≡ after_lines rules before (at.done ++ line ∷ [])
-        obeyed_held = obeys.held ∙ ap (λ h. after_line rules h (request_of_line line)) at.held_is ∙ sym (after_more rules print before at.done (line ∷ []))
+        pub obeyed_held : held_at state ≡ after_lines rules options.queries before (at.done ++ line ∷ [])
+        obeyed_held = obeys.held ∙ ap (λ h. after_line rules h (request_of_line options.queries line)) at.held_is ∙ sym (after_more rules options before at.done (line ∷ []))
 
-        pub obeyed_works : LineWorks rules (held_at now) line now.engine state.engine → LinesWork rules before (at.done ++ line ∷ []) start.engine state.engine
-        obeyed_works works = lines_work_more rules before (held_at now) at.done line start.engine now.engine state.engine at.held_is at.works works
+        pub obeyed_works : LineWorks rules options.queries (held_at now) line now.engine state.engine → LinesWork rules options.queries before (at.done ++ line ∷ []) start.engine state.engine
+        obeyed_works works = lines_work_more rules options.queries before (held_at now) at.done line start.engine now.engine state.engine at.held_is at.works works
 
-        pub obeyed_written : new.written ≡ length (answers rules print before (at.done ++ line ∷ []))
-        obeyed_written = omega (arith, obeys.wrote.count, at.written, ap length answers_are, length-append (answers rules print before at.done) (answer_line rules print (held_at now) (request_of_line line)))
+        pub obeyed_written : new.written ≡ length (answers rules options before (at.done ++ line ∷ []))
+        obeyed_written = omega (arith, obeys.wrote.count, at.written, ap length answers_are, length-append (answers rules options before at.done) (answer_line rules options.print (held_at now) (request_of_line options.queries line)))
 
-      pub at_line : (n : ℕ) (state : State) (new : Reading) (writer_new : Device) (taken : EndsLine rules print waiting n now state reading new writer writer_new)
-          → IsAt rules print start reader_old reader writer_old writer_new state new taken.after
+      pub at_line : (n : ℕ) (state : State) (new : Reading) (writer_new : Device) (taken : EndsLine rules options waiting n now state reading new writer writer_new)
+          → IsAt rules options start reader_old reader writer_old writer_new state new taken.after
       at_line n state new writer_new taken =
           let line = reading.line.items ++ taken.front in
           let obeys = taken.obeys in
@@ -159,17 +159,17 @@ module _ (rules : Rules) (print : Print) (start : State) (reader_old reader writ
             short = omega (arith, ap length obeys.empty);
           }
 
-      pub at_taken : (n : ℕ) (state : State) (new : Reading) (writer_new : Device) → Takes rules print waiting n now state reading new writer writer_new
-          → IsAt rules print start reader_old reader writer_old writer_new state new (drop n waiting)
+      pub at_taken : (n : ℕ) (state : State) (new : Reading) (writer_new : Device) → Takes rules options waiting n now state reading new writer writer_new
+          → IsAt rules options start reader_old reader writer_old writer_new state new (drop n waiting)
       at_taken n state new writer_new (inl more) =
-          subst (IsAt rules print start reader_old reader writer_old writer_new state new) (sym (ap (λ k. drop k waiting) more.all ∙ drop_all (length waiting) waiting (omega arith))) (at_more n state new writer_new more)
+          subst (IsAt rules options start reader_old reader writer_old writer_new state new) (sym (ap (λ k. drop k waiting) more.all ∙ drop_all (length waiting) waiting (omega arith))) (at_more n state new writer_new more)
       at_taken n state new writer_new (inr taken) =
           let place : drop n waiting ≡ taken.after =
           ap (λ k. drop k waiting) taken.taken ∙ ap (drop (length taken.front + 1)) taken.ends.whole ∙ drop-append-add taken.front (10 ∷ taken.after) 1 in
-          subst (IsAt rules print start reader_old reader writer_old writer_new state new) (sym place) (at_line n state new writer_new taken)
+          subst (IsAt rules options start reader_old reader writer_old writer_new state new) (sym place) (at_line n state new writer_new taken)
 
       -- ---- the run ends within it
-      ahead_now : (state : State) (writer_new : Device) → IsDone rules print start state reader_old writer_old reader writer_new at.done
+      ahead_now : (state : State) (writer_new : Device) → IsDone rules options start state reader_old writer_old reader writer_new at.done
       ahead_now state writer_new = record { ahead = omega (arith, at.passed, at.size, at.ahead) }
 
       abbrev rest : List ℕ
@@ -182,26 +182,26 @@ module _ (rules : Rules) (print : Print) (start : State) (reader_old reader writ
       lines_are p ps parts = ap (lines_among AtEnd) (at.parts rest ∙ ap (λ t. at.done ++ t) parts) ∙ lines_after AtEnd at.done p ps
 
       -- for want of memory
-      pub ends_memory : IsScriptRun rules print start now reader_old reader writer_old writer (Err f.Memory)
+      pub ends_memory : IsScriptRun rules options start now reader_old reader writer_old writer (Err f.Memory)
       ends_memory =
           let some = parts_some (reading.line.items ++ (waiting ++ rest)) in
           let others = lines_among AtEnd (some.0 ∷ some.1) in
-          ends_short rules print start now reader_old writer_old reader writer AtEnd (at.bytes ++ rest) at.done others gave (lines_are some.0 some.1 some.2) at.good (ahead_now now writer) at.wrote at.held_is
-          (lines_work_front rules before at.done (take 1 (good_lines others)) start.engine now.engine at.works)
+          ends_short rules options start now reader_old writer_old reader writer AtEnd (at.bytes ++ rest) at.done others gave (lines_are some.0 some.1 some.2) at.good (ahead_now now writer) at.wrote at.held_is
+          (lines_work_front rules options.queries before at.done (take 1 (good_lines options.queries others)) start.engine now.engine at.works)
 
       -- at a line that is ended
-      ends_ended : (state : State) (writer_new : Device) (fault : RunFault) → FailsLine rules print waiting now state reading writer writer_new fault
-          → IsScriptRun rules print start state reader_old reader writer_old writer_new (Err fault)
+      ends_ended : (state : State) (writer_new : Device) (fault : RunFault) → FailsLine rules options waiting now state reading writer writer_new fault
+          → IsScriptRun rules options start state reader_old reader writer_old writer_new (Err fault)
       ends_ended state writer_new fault failed =
           let line = reading.line.items ++ failed.front in
           let some = parts_some (failed.after ++ rest) in
           let parts : slice_split is_line_end (reading.line.items ++ (waiting ++ rest)) ≡ line ∷ (some.0 ∷ some.1) = ended_first reading.line.items waiting failed.front failed.after rest at.none failed.ends ∙ ap (λ t. line ∷ t) some.2 in
-          ends_line rules print start state reader_old writer_old reader writer_new AtEnd (at.bytes ++ rest) at.done line (lines_among AtEnd (some.0 ∷ some.1)) now reading.lines reading.written writer fault
+          ends_line rules options start state reader_old writer_old reader writer_new AtEnd (at.bytes ++ rest) at.done line (lines_among AtEnd (some.0 ∷ some.1)) now reading.lines reading.written writer fault
           gave (lines_are line (some.0 ∷ some.1) parts) at.good at.held_is at.lines at.written at.wrote at.works failed.fails failed.works (ahead_now state writer_new)
 
       -- at one that is too long, wherever it ends
       ends_long : (n : ℕ) (front after : List ℕ) → waiting ≡ front ++ after → NoEnd front → LINE_LIMIT < length (reading.line.items ++ front) → n ≡ reading.lines + 1
-          → IsScriptRun rules print start now reader_old reader writer_old writer (Err (f.BadLine n))
+          → IsScriptRun rules options start now reader_old reader writer_old writer (Err (f.BadLine n))
       ends_long n front after whole none long number =
           let line = reading.line.items ++ front in
           let some = parts_some (after ++ rest) in
@@ -212,12 +212,12 @@ module _ (rules : Rules) (print : Print) (start : State) (reader_old reader writ
           ap (slice_split is_line_end) place ∙ first_part line (after ++ rest) some.0 some.1 (All-append (λ b. is_line_end b ≡ false) reading.line.items front at.none none) some.2 in
           let more : LINE_LIMIT < length first = omega (arith, long, length-append line some.0) in
           let is_line = long_line first some.1 more in
-          let bad : is_good first ≡ false = long_is_bad first more in
-          ends_line rules print start now reader_old writer_old reader writer AtEnd (at.bytes ++ rest) at.done first is_line.0 now reading.lines reading.written writer (f.BadLine n)
+          let bad : is_good options.queries first ≡ false = long_is_bad options.queries first more in
+          ends_line rules options start now reader_old writer_old reader writer AtEnd (at.bytes ++ rest) at.done first is_line.0 now reading.lines reading.written writer (f.BadLine n)
           gave (lines_are first some.1 parts ∙ ap (λ t. at.done ++ t) is_line.1) at.good at.held_is at.lines at.written at.wrote at.works (bad, number, refl, refl) (works_none rules _ now.engine now.engine refl) (ahead_now now writer)
 
       ends_unkept : (front after : List ℕ) → waiting ≡ front ++ after → NoEnd front → (fault : RunFault) → GrowsNot front reading fault
-          → IsScriptRun rules print start now reader_old reader writer_old writer (Err fault)
+          → IsScriptRun rules options start now reader_old reader writer_old writer (Err fault)
       ends_unkept front after whole none (f.BadLine n) (long, number) = ends_long n front after whole none long number
       ends_unkept front after whole none f.Memory fails = ends_memory
       ends_unkept front after whole none f.Read fails = absurd fails
@@ -226,14 +226,14 @@ module _ (rules : Rules) (print : Print) (start : State) (reader_old reader writ
       ends_unkept front after whole none f.ParagraphTooLong fails = absurd fails
       ends_unkept front after whole none f.TextTooLong fails = absurd fails
 
-      pub ends_in : (state : State) (writer_new : Device) (fault : RunFault) → FailsIn rules print waiting now state reading writer writer_new fault → IsScriptRun rules print start state reader_old reader writer_old writer_new (Err fault)
+      pub ends_in : (state : State) (writer_new : Device) (fault : RunFault) → FailsIn rules options waiting now state reading writer writer_new fault → IsScriptRun rules options start state reader_old reader writer_old writer_new (Err fault)
       ends_in state writer_new fault (inl failed) = ends_ended state writer_new fault failed
       ends_in state writer_new fault (inr not) =
-          subst (λ (s : State). IsScriptRun rules print start s reader_old reader writer_old writer_new (Err fault)) (sym not.state)
-          (subst (λ w. IsScriptRun rules print start now reader_old reader writer_old w (Err fault)) (sym not.writer) (ends_unkept not.front not.after not.whole not.none fault not.grows))
+          subst (λ (s : State). IsScriptRun rules options start s reader_old reader writer_old writer_new (Err fault)) (sym not.state)
+          (subst (λ w. IsScriptRun rules options start now reader_old reader writer_old w (Err fault)) (sym not.writer) (ends_unkept not.front not.after not.whole not.none fault not.grows))
 
     -- ---- nothing waits
-    module _ (at : IsAt rules print start reader_old reader writer_old writer now reading []) where
+    module _ (at : IsAt rules options start reader_old reader writer_old writer now reading []) where
       all_parts : slice_split is_line_end at.bytes ≡ at.done ++ reading.line.items ∷ []
       all_parts =
           ap (slice_split is_line_end) (sym (append-nil at.bytes)) ∙ at.parts [] ∙ ap (λ t. at.done ++ slice_split is_line_end t) (append-nil reading.line.items)
@@ -243,10 +243,10 @@ module _ (rules : Rules) (print : Print) (start : State) (reader_old reader writ
       all_lines ending = ap (lines_among ending) all_parts ∙ lines_after ending at.done reading.line.items []
 
       -- a read failed
-      pub ends_read : (reader_new : Device) → Fails reader reader_new → IsScriptRun rules print start now reader_old reader_new writer_old writer (Err f.Read)
+      pub ends_read : (reader_new : Device) → Fails reader reader_new → IsScriptRun rules options start now reader_old reader_new writer_old writer (Err f.Read)
       ends_read reader_new fails =
           let short : nat_lt LINE_LIMIT (length reading.line.items) ≡ false = grind (arith, nat_tests, at.short) in
-          ends_at_failure rules print start now reader_old writer_old reader_new writer at.bytes at.done (
+          ends_at_failure rules options start now reader_old writer_old reader_new writer at.bytes at.done (
             Consumes-kept reader_old.bytes reader.bytes reader_new.bytes at.bytes at.read fails.bytes,
             fails.passed ∙ at.passed,
             record { failures = fails.failures ∙ ap (λ n. min (n + 1) greatest) at.failures; last = fails.failed_at ∙ sym fails.passed },
@@ -259,10 +259,10 @@ module _ (rules : Rules) (print : Print) (start : State) (reader_old reader writ
         gave_all : Gave reader_old reader AtEnd at.bytes
         gave_all = (had_all reader_old.bytes reader.bytes at.bytes at.read finished, at.failures)
 
-        pub ends_empty : length reading.line.items ≡ 0 → IsScriptRun rules print start now reader_old reader writer_old writer (Ok tt)
+        pub ends_empty : length reading.line.items ≡ 0 → IsScriptRun rules options start now reader_old reader writer_old writer (Ok tt)
         ends_empty empty =
             let none : nat_lt 0 (length reading.line.items) ≡ false = grind (arith, nat_tests, empty) in
-            ends_whole rules print start now reader_old writer_old reader writer at.bytes at.done gave_all
+            ends_whole rules options start now reader_old writer_old reader writer at.bytes at.done gave_all
             (all_lines AtEnd ∙ ap (λ (b : Bool). at.done ++ (if b then reading.line.items ∷ [] else [])) none ∙ append-nil at.done) at.good finished at.passed
             (record { done_is = ahead_now [] at now writer; wrote = at.wrote; held = at.held_is; works = at.works })
 
@@ -272,11 +272,11 @@ module _ (rules : Rules) (print : Print) (start : State) (reader_old reader writ
               let is_some : nat_lt 0 (length reading.line.items) ≡ true = grind (arith, nat_tests, some) in
               all_lines AtEnd ∙ ap (λ (b : Bool). at.done ++ (if b then reading.line.items ∷ [] else [])) is_some
 
-          pub ends_last : (state : State) (new : Reading) (writer_new : Device) → ObeysLine rules print reading.line.items (held_at now) (held_at state) reading new writer writer_new
-              → LineWorks rules (held_at now) reading.line.items now.engine state.engine → IsScriptRun rules print start state reader_old reader writer_old writer_new (Ok tt)
+          pub ends_last : (state : State) (new : Reading) (writer_new : Device) → ObeysLine rules options reading.line.items (held_at now) (held_at state) reading new writer writer_new
+              → LineWorks rules options.queries (held_at now) reading.line.items now.engine state.engine → IsScriptRun rules options start state reader_old reader writer_old writer_new (Ok tt)
           ends_last state new writer_new obeys works =
               let line = reading.line.items in
-              ends_whole rules print start state reader_old writer_old reader writer_new at.bytes (at.done ++ line ∷ []) gave_all last_line (obeyed_good [] at line state new writer_new obeys) finished at.passed
+              ends_whole rules options start state reader_old writer_old reader writer_new at.bytes (at.done ++ line ∷ []) gave_all last_line (obeyed_good [] at line state new writer_new obeys) finished at.passed
               (record {
                 done_is = record { ahead = omega (arith, at.passed, at.size, with_ends_more at.done line) };
                 wrote = obeyed_wrote [] at line state new writer_new obeys;
@@ -284,10 +284,10 @@ module _ (rules : Rules) (print : Print) (start : State) (reader_old reader writ
                 works = obeyed_works [] at line state new writer_new obeys works;
               })
 
-          pub ends_last_not : (state : State) (writer_new : Device) (fault : RunFault) → FailsAt rules print reading.line.items reading.lines reading.written (held_at now) (held_at state) writer writer_new fault
-              → LineWorks rules (held_at now) reading.line.items now.engine state.engine → IsScriptRun rules print start state reader_old reader writer_old writer_new (Err fault)
+          pub ends_last_not : (state : State) (writer_new : Device) (fault : RunFault) → FailsAt rules options reading.line.items reading.lines reading.written (held_at now) (held_at state) writer writer_new fault
+              → LineWorks rules options.queries (held_at now) reading.line.items now.engine state.engine → IsScriptRun rules options start state reader_old reader writer_old writer_new (Err fault)
           ends_last_not state writer_new fault fails works =
-              ends_line rules print start state reader_old writer_old reader writer_new AtEnd at.bytes at.done reading.line.items [] now reading.lines reading.written writer fault gave_all last_line at.good at.held_is at.lines at.written at.wrote at.works fails works
+              ends_line rules options start state reader_old writer_old reader writer_new AtEnd at.bytes at.done reading.line.items [] now reading.lines reading.written writer fault gave_all last_line at.good at.held_is at.lines at.written at.wrote at.works fails works
               (ahead_now [] at state writer_new)
 
 nothing_read : (known : Option (List ℕ)) → Consumes known known []
@@ -295,8 +295,8 @@ nothing_read None = tt
 nothing_read (Some xs) = refl
 
 -- the run begins
-pub at_start : (rules : Rules) (print : Print) (start : State) (reader writer : Device) (reading : Reading) → reading.line.items ≡ [] → reading.lines ≡ 0 → reading.written ≡ 0 → IsAt rules print start reader reader writer writer start reading []
-at_start rules print start reader writer reading line lines written = record {
+pub at_start : (rules : Rules) (options : ScriptOptions) (start : State) (reader writer : Device) (reading : Reading) → reading.line.items ≡ [] → reading.lines ≡ 0 → reading.written ≡ 0 → IsAt rules options start reader reader writer writer start reading []
+at_start rules options start reader writer reading line lines written = record {
   bytes = [];
   done = [];
   read = nothing_read reader.bytes;
@@ -320,7 +320,7 @@ done_short : (done : List (List ℕ)) → length done ≤ length (with_ends done
 done_short [] = omega arith
 done_short (l ∷ done) = omega (arith, done_short done, length-append (l ++ 10 ∷ []) (with_ends done), length-append l (10 ∷ []))
 
-module _ (rules : Rules) (print : Print) (start : State) (reader_old reader writer_old writer : Device) (now : State) (reading : Reading) (waiting : List ℕ) (at : IsAt rules print start reader_old reader writer_old writer now reading waiting) where
+module _ (rules : Rules) (options : ScriptOptions) (start : State) (reader_old reader writer_old writer : Device) (now : State) (reading : Reading) (waiting : List ℕ) (at : IsAt rules options start reader_old reader writer_old writer now reading waiting) where
   pub lines_fit : reader.passed ≤ greatest → 0 < length reading.line.items + length waiting → reading.lines < greatest
   lines_fit counted some = omega (arith, counted, some, at.passed, at.size, at.lines, done_short at.done)
 
@@ -328,60 +328,60 @@ module _ (rules : Rules) (print : Print) (start : State) (reader_old reader writ
   written_fits = omega (arith, at.written, at.wrote.0.passed)
 
 -- the last line was obeyed, or failed
-pub ends_finish : (rules : Rules) (print : Print) (start : State) (reader_old reader writer_old writer : Device) (now state : State) (reading new : Reading) (writer_new : Device) → IsAt rules print start reader_old reader writer_old writer now reading []
-    → IsAtEnd reader.bytes → 0 < length reading.line.items → (r : Result (Unit {0}) RunFault) → OnOk r (ObeysLine rules print reading.line.items (held_at now) (held_at state) reading new writer writer_new)
-    → IfErr r (FailsAt rules print reading.line.items reading.lines reading.written (held_at now) (held_at state) writer writer_new)
-    → LineWorks rules (held_at now) reading.line.items now.engine state.engine → IsScriptRun rules print start state reader_old reader writer_old writer_new r
-ends_finish rules print start reader_old reader writer_old writer now state reading new writer_new at finished some (Ok tt) obeys fails works =
-    ends_last rules print start reader_old reader writer_old writer now reading at finished some state new writer_new obeys works
-ends_finish rules print start reader_old reader writer_old writer now state reading new writer_new at finished some (Err fault) obeys fails works =
-    ends_last_not rules print start reader_old reader writer_old writer now reading at finished some state writer_new fault fails works
+pub ends_finish : (rules : Rules) (options : ScriptOptions) (start : State) (reader_old reader writer_old writer : Device) (now state : State) (reading new : Reading) (writer_new : Device) → IsAt rules options start reader_old reader writer_old writer now reading []
+    → IsAtEnd reader.bytes → 0 < length reading.line.items → (r : Result (Unit {0}) RunFault) → OnOk r (ObeysLine rules options reading.line.items (held_at now) (held_at state) reading new writer writer_new)
+    → IfErr r (FailsAt rules options reading.line.items reading.lines reading.written (held_at now) (held_at state) writer writer_new)
+    → LineWorks rules options.queries (held_at now) reading.line.items now.engine state.engine → IsScriptRun rules options start state reader_old reader writer_old writer_new r
+ends_finish rules options start reader_old reader writer_old writer now state reading new writer_new at finished some (Ok tt) obeys fails works =
+    ends_last rules options start reader_old reader writer_old writer now reading at finished some state new writer_new obeys works
+ends_finish rules options start reader_old reader writer_old writer now state reading new writer_new at finished some (Err fault) obeys fails works =
+    ends_last_not rules options start reader_old reader writer_old writer now reading at finished some state writer_new fault fails works
 
 -- ---- a part of a piece, under the rules that the run began with
-module _ (rules held_rules : Rules) (print : Print) (start : State) (reader_old reader writer_old writer writer_new : Device) (now state : State) (reading new : Reading) (piece part : List ℕ) (n at : ℕ)
-    (same : held_rules ≡ rules) (part_is : part ≡ drop at piece) (stands : IsAt rules print start reader_old reader writer_old writer now reading (drop at piece)) where
-  pub took_part : Takes held_rules print part n now state reading new writer writer_new → IsAt rules print start reader_old reader writer_old writer_new state new (drop (at + n) piece)
+module _ (rules held_rules : Rules) (options : ScriptOptions) (start : State) (reader_old reader writer_old writer writer_new : Device) (now state : State) (reading new : Reading) (piece part : List ℕ) (n at : ℕ)
+    (same : held_rules ≡ rules) (part_is : part ≡ drop at piece) (stands : IsAt rules options start reader_old reader writer_old writer now reading (drop at piece)) where
+  pub took_part : Takes held_rules options part n now state reading new writer writer_new → IsAt rules options start reader_old reader writer_old writer_new state new (drop (at + n) piece)
   took_part takes =
-      let taken : Takes rules print (drop at piece) n now state reading new writer writer_new =
-      subst (λ (p : List ℕ). Takes rules print p n now state reading new writer writer_new) part_is (subst (λ (r : Rules). Takes r print part n now state reading new writer writer_new) same takes) in
-      subst (IsAt rules print start reader_old reader writer_old writer_new state new) (drop-drop n at piece)
-      (at_taken rules print start reader_old reader writer_old writer now reading (drop at piece) stands n state new writer_new taken)
+      let taken : Takes rules options (drop at piece) n now state reading new writer writer_new =
+      subst (λ (p : List ℕ). Takes rules options p n now state reading new writer writer_new) part_is (subst (λ (r : Rules). Takes r options part n now state reading new writer writer_new) same takes) in
+      subst (IsAt rules options start reader_old reader writer_old writer_new state new) (drop-drop n at piece)
+      (at_taken rules options start reader_old reader writer_old writer now reading (drop at piece) stands n state new writer_new taken)
 
-  pub failed_part : (fault : RunFault) → FailsIn held_rules print part now state reading writer writer_new fault → IsScriptRun rules print start state reader_old reader writer_old writer_new (Err fault)
+  pub failed_part : (fault : RunFault) → FailsIn held_rules options part now state reading writer writer_new fault → IsScriptRun rules options start state reader_old reader writer_old writer_new (Err fault)
   failed_part fault fails =
-      let failed : FailsIn rules print (drop at piece) now state reading writer writer_new fault =
-      subst (λ (p : List ℕ). FailsIn rules print p now state reading writer writer_new fault) part_is (subst (λ (r : Rules). FailsIn r print part now state reading writer writer_new fault) same fails) in
-      ends_in rules print start reader_old reader writer_old writer now reading (drop at piece) stands state writer_new fault failed
+      let failed : FailsIn rules options (drop at piece) now state reading writer writer_new fault =
+      subst (λ (p : List ℕ). FailsIn rules options p now state reading writer writer_new fault) part_is (subst (λ (r : Rules). FailsIn r options part now state reading writer writer_new fault) same fails) in
+      ends_in rules options start reader_old reader writer_old writer now reading (drop at piece) stands state writer_new fault failed
 
 -- of the first n of a list that is longer, some are taken
-pub takes_some : (rules : Rules) (print : Print) (piece : List ℕ) (n : ℕ) (now state : State) (reading new : Reading) (writer writer_new : Device) → 0 < length piece → Takes rules print piece n now state reading new writer writer_new → (0 < n) × (n ≤ length piece)
-takes_some rules print piece n now state reading new writer writer_new some (inl more) = (omega (arith, some, more.all), omega (arith, more.all))
-takes_some rules print piece n now state reading new writer writer_new some (inr ended) =
+pub takes_some : (rules : Rules) (options : ScriptOptions) (piece : List ℕ) (n : ℕ) (now state : State) (reading new : Reading) (writer writer_new : Device) → 0 < length piece → Takes rules options piece n now state reading new writer writer_new → (0 < n) × (n ≤ length piece)
+takes_some rules options piece n now state reading new writer writer_new some (inl more) = (omega (arith, some, more.all), omega (arith, more.all))
+takes_some rules options piece n now state reading new writer writer_new some (inr ended) =
     (omega (arith, ended.taken), omega (arith, ended.taken, ap length ended.ends.whole, length-append ended.front (10 ∷ ended.after)))
 
 -- a read that gave nothing leaves the run where it stands
-pub at_none : (rules : Rules) (print : Print) (start : State) (reader_old reader writer_old writer : Device) (now : State) (reading : Reading) (reader_new : Device) (n : ℕ) (buffer : List ℕ)
-    → IsAt rules print start reader_old reader writer_old writer now reading [] → Gives reader reader_new n buffer → n ≡ 0 → IsAt rules print start reader_old reader_new writer_old writer now reading []
-at_none rules print start reader_old reader writer_old writer now reading reader_new n buffer at gives none =
-    subst (IsAt rules print start reader_old reader_new writer_old writer now reading) (ap (λ k. take k buffer) none)
-    (at_read rules print start reader_old reader writer_old writer now reading reader_new n buffer at gives (omega (arith, none)) (omega (arith, none)))
+pub at_none : (rules : Rules) (options : ScriptOptions) (start : State) (reader_old reader writer_old writer : Device) (now : State) (reading : Reading) (reader_new : Device) (n : ℕ) (buffer : List ℕ)
+    → IsAt rules options start reader_old reader writer_old writer now reading [] → Gives reader reader_new n buffer → n ≡ 0 → IsAt rules options start reader_old reader_new writer_old writer now reading []
+at_none rules options start reader_old reader writer_old writer now reading reader_new n buffer at gives none =
+    subst (IsAt rules options start reader_old reader_new writer_old writer now reading) (ap (λ k. take k buffer) none)
+    (at_read rules options start reader_old reader writer_old writer now reading reader_new n buffer at gives (omega (arith, none)) (omega (arith, none)))
 
 -- a step of a run under the rules that it began with
-module _ (rules held_rules : Rules) (print : Print) (start : State) (reader_old writer_old reader writer reader_new writer_new : Device) (now state : State) (reading new : Reading) (kept : held_rules ≡ rules)
-    (stands : IsAt rules print start reader_old reader writer_old writer now reading []) (result : Result Bool RunFault)
-    (steps : IsAt held_rules print start reader_old reader writer_old writer now reading [] → Steps held_rules print start reader_old writer_old reader_new writer_new state new result) where
-  stepped : Steps rules print start reader_old writer_old reader_new writer_new state new result
+module _ (rules held_rules : Rules) (options : ScriptOptions) (start : State) (reader_old writer_old reader writer reader_new writer_new : Device) (now state : State) (reading new : Reading) (kept : held_rules ≡ rules)
+    (stands : IsAt rules options start reader_old reader writer_old writer now reading []) (result : Result Bool RunFault)
+    (steps : IsAt held_rules options start reader_old reader writer_old writer now reading [] → Steps held_rules options start reader_old writer_old reader_new writer_new state new result) where
+  stepped : Steps rules options start reader_old writer_old reader_new writer_new state new result
   stepped =
-      subst (λ (r : Rules). Steps r print start reader_old writer_old reader_new writer_new state new result) kept
-      (steps (subst (λ (r : Rules). IsAt r print start reader_old reader writer_old writer now reading []) (sym kept) stands))
+      subst (λ (r : Rules). Steps r options start reader_old writer_old reader_new writer_new state new result) kept
+      (steps (subst (λ (r : Rules). IsAt r options start reader_old reader writer_old writer now reading []) (sym kept) stands))
 
-  pub script_stepped : (is : Result Bool RunFault) → result ≡ is → Steps rules print start reader_old writer_old reader_new writer_new state new is
-  script_stepped is same = subst (Steps rules print start reader_old writer_old reader_new writer_new state new) same stepped
+  pub script_stepped : (is : Result Bool RunFault) → result ≡ is → Steps rules options start reader_old writer_old reader_new writer_new state new is
+  script_stepped is same = subst (Steps rules options start reader_old writer_old reader_new writer_new state new) same stepped
 
 -- memory ran out before anything was read
-pub ends_at_once : (rules : Rules) (print : Print) (start : State) (reader writer : Device) → IsScriptRun rules print start start reader reader writer writer (Err f.Memory)
-ends_at_once rules print start reader writer =
+pub ends_at_once : (rules : Rules) (options : ScriptOptions) (start : State) (reader writer : Device) → IsScriptRun rules options start start reader reader writer writer (Err f.Memory)
+ends_at_once rules options start reader writer =
     let some = parts_some (unwrap_or reader.bytes []) in
-    ends_short rules print start start reader writer reader writer AtEnd (unwrap_or reader.bytes []) [] (lines_among AtEnd (some.0 ∷ some.1))
+    ends_short rules options start start reader writer reader writer AtEnd (unwrap_or reader.bytes []) [] (lines_among AtEnd (some.0 ∷ some.1))
     (had reader.bytes reader.bytes [] (nothing_read reader.bytes), refl) (ap (lines_among AtEnd) some.2) refl (record { ahead = omega arith }) (Took-nothing writer, refl) refl
     (works_none rules _ start.engine start.engine refl)

@@ -113,27 +113,27 @@ width_works width old new result small m r =
     }
 
 -- ---- lines, one after another
-module _ (rules : Rules) where
+module _ (rules : Rules) (queries : Bool) where
   work_more : (work : Held → Request → ℕ) (held : Held) (lines : List (List ℕ)) (line : List ℕ)
-      → work_of_lines rules work held (lines ++ line ∷ []) ≡ work_of_lines rules work held lines + work_of_line rules work (after_lines rules held lines) (request_of_line line)
+      → work_of_lines rules queries work held (lines ++ line ∷ []) ≡ work_of_lines rules queries work held lines + work_of_line rules queries work (after_lines rules queries held lines) (request_of_line queries line)
   work_more work held [] line = omega arith
-  work_more work held (first ∷ lines) line = omega (arith, work_more work (after_line rules held (request_of_line first)) lines line)
+  work_more work held (first ∷ lines) line = omega (arith, work_more work (after_line rules held (request_of_line queries first)) lines line)
 
-  work_front : (work : Held → Request → ℕ) (held : Held) (lines others : List (List ℕ)) → work_of_lines rules work held lines ≤ work_of_lines rules work held (lines ++ others)
+  work_front : (work : Held → Request → ℕ) (held : Held) (lines others : List (List ℕ)) → work_of_lines rules queries work held lines ≤ work_of_lines rules queries work held (lines ++ others)
   work_front work held [] others = omega arith
-  work_front work held (first ∷ lines) others = omega (arith, work_front work (after_line rules held (request_of_line first)) lines others)
+  work_front work held (first ∷ lines) others = omega (arith, work_front work (after_line rules held (request_of_line queries first)) lines others)
 
-  pub lines_work_front : (start : Held) (lines others : List (List ℕ)) (old new : Engine) → LinesWork rules start lines old new → LinesWork rules start (lines ++ others) old new
+  pub lines_work_front : (start : Held) (lines others : List (List ℕ)) (old new : Engine) → LinesWork rules queries start lines old new → LinesWork rules queries start (lines ++ others) old new
   lines_work_front start lines others old new works = record {
     analysed = within_rise _ _ _ _ (work_front (analysed_by rules) start lines others) works.analysed;
     filled = within_rise _ _ _ _ (work_front (filled_by rules) start lines others) works.filled;
     written = within_rise _ _ _ _ (work_front (filled_by rules) start lines others) works.written;
   }
 
-  pub lines_work_more : (start held : Held) (lines : List (List ℕ)) (line : List ℕ) (old now new : Engine) → held ≡ after_lines rules start lines
-      → LinesWork rules start lines old now → LineWorks rules held line now new → LinesWork rules start (lines ++ line ∷ []) old new
+  pub lines_work_more : (start held : Held) (lines : List (List ℕ)) (line : List ℕ) (old now new : Engine) → held ≡ after_lines rules queries start lines
+      → LinesWork rules queries start lines old now → LineWorks rules queries held line now new → LinesWork rules queries start (lines ++ line ∷ []) old new
   lines_work_more start held lines line old now new held_is before works =
-      let sum = λ (work : Held → Request → ℕ). work_more work start lines line ∙ ap (λ (h : Held). work_of_lines rules work start lines + work_of_line rules work h (request_of_line line)) (sym held_is) in
+      let sum = λ (work : Held → Request → ℕ). work_more work start lines line ∙ ap (λ (h : Held). work_of_lines rules queries work start lines + work_of_line rules queries work h (request_of_line queries line)) (sym held_is) in
       record {
         analysed = more_rise _ _ _ _ _ _ before.analysed works.analysed (sum (analysed_by rules));
         filled = more_rise _ _ _ _ _ _ before.filled works.filled (sum (filled_by rules));
@@ -141,15 +141,15 @@ module _ (rules : Rules) where
       }
 
   -- a line that is none asks for nothing
-  no_work : (work : Held → Request → ℕ) (held : Held) (request : Option Request) → is_some request ≡ false → work_of_line rules work held request ≡ 0
+  no_work : (work : Held → Request → ℕ) (held : Held) (request : Option Request) → is_some request ≡ false → work_of_line rules queries work held request ≡ 0
   no_work work held None bad = refl
   no_work work held (Some request) bad = absurd (true≢false bad)
 
-  pub lines_work_bad : (start held : Held) (lines : List (List ℕ)) (line : List ℕ) (old now new : Engine) → is_good line ≡ false
-      → LinesWork rules start lines old now → LineWorks rules held line now new → LinesWork rules start (lines ++ []) old new
+  pub lines_work_bad : (start held : Held) (lines : List (List ℕ)) (line : List ℕ) (old now new : Engine) → is_good queries line ≡ false
+      → LinesWork rules queries start lines old now → LineWorks rules queries held line now new → LinesWork rules queries start (lines ++ []) old new
   lines_work_bad start held lines line old now new bad before works =
       let sum = λ (work : Held → Request → ℕ).
-      ap (work_of_lines rules work start) (append-nil lines) ∙ sum_is (work_of_lines rules work start lines) (work_of_line rules work held (request_of_line line)) (no_work work held (request_of_line line) bad) in
+      ap (work_of_lines rules queries work start) (append-nil lines) ∙ sum_is (work_of_lines rules queries work start lines) (work_of_line rules queries work held (request_of_line queries line)) (no_work work held (request_of_line queries line) bad) in
       record {
         analysed = more_rise _ _ _ _ _ _ before.analysed works.analysed (sum (analysed_by rules));
         filled = more_rise _ _ _ _ _ _ before.filled works.filled (sum (filled_by rules));

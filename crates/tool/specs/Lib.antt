@@ -1,4 +1,5 @@
 pub mod Program
+pub mod Queries
 pub mod Reading
 pub mod Requests
 pub mod ScriptEnds

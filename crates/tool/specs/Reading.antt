@@ -21,6 +21,7 @@ use Rattle.text_run.specs.declared.text.TheConstants.{PIECE}
 use Rattle.tool.specs.declared.script.TheConstants.{LINE_LIMIT}
 use Rattle.text_run.specs.declared.faults.RunFault.TheVariants as f
 use Rattle.tool.specs.declared.script.Reading.{Reading}
+use Rattle.tool.specs.declared.script.ScriptOptions.{ScriptOptions}
 
 -- a change was made, and this is its damage; or it was refused, and all stays; which it does for want of memory too, but then
 -- there was no reason to refuse it
@@ -59,23 +60,23 @@ ObeysNot rules print request written held_old held_new old new f.Memory =
 ObeysNot rules print request written held_old held_new old new fault = ⊥
 
 -- a line was obeyed
-pub record ObeysLine (rules : Rules) (print : Print) (line : List ℕ) (held_old held_new : Held) (old new : Reading) (writer_old writer_new : Device) : Type 0 where
-  pub good : is_good line ≡ true
-  pub held : held_new ≡ after_line rules held_old (request_of_line line)
-  pub wrote : PassedOn (answer_line rules print held_old (request_of_line line)) old.written writer_old writer_new new.written
+pub record ObeysLine (rules : Rules) (options : ScriptOptions) (line : List ℕ) (held_old held_new : Held) (old new : Reading) (writer_old writer_new : Device) : Type 0 where
+  pub good : is_good options.queries line ≡ true
+  pub held : held_new ≡ after_line rules held_old (request_of_line options.queries line)
+  pub wrote : PassedOn (answer_line rules options.print held_old (request_of_line options.queries line)) old.written writer_old writer_new new.written
   pub lines : new.lines ≡ old.lines + 1
   pub empty : new.line.items ≡ []
 
 -- or it was not; memory is wanted only for what is UTF-8
-abbrev pub FailsAt : Rules → Print → List ℕ → ℕ → ℕ → Held → Held → Device → Device → RunFault → Type 0
-FailsAt rules print line lines written held_old held_new old new (f.BadLine n) =
-    (is_good line ≡ false) × (n ≡ lines + 1) × (held_new ≡ held_old) × (new ≡ old)
-FailsAt rules print line lines written held_old held_new old new (f.Write n) =
-    (is_good line ≡ true) × (held_new ≡ after_line rules held_old (request_of_line line))
-    × StoppedIn (answer_line rules print held_old (request_of_line line)) written old new n
-FailsAt rules print line lines written held_old held_new old new f.Memory =
+abbrev pub FailsAt : Rules → ScriptOptions → List ℕ → ℕ → ℕ → Held → Held → Device → Device → RunFault → Type 0
+FailsAt rules options line lines written held_old held_new old new (f.BadLine n) =
+    (is_good options.queries line ≡ false) × (n ≡ lines + 1) × (held_new ≡ held_old) × (new ≡ old)
+FailsAt rules options line lines written held_old held_new old new (f.Write n) =
+    (is_good options.queries line ≡ true) × (held_new ≡ after_line rules held_old (request_of_line options.queries line))
+    × StoppedIn (answer_line rules options.print held_old (request_of_line options.queries line)) written old new n
+FailsAt rules options line lines written held_old held_new old new f.Memory =
     (utf8_valid_len line ≡ length line) × (held_new ≡ held_old) × (new ≡ old)
-FailsAt rules print line lines written held_old held_new old new fault = ⊥
+FailsAt rules options line lines written held_old held_new old new fault = ⊥
 
 -- no line ends within some bytes
 abbrev pub NoEnd : List ℕ → Type 0
@@ -107,25 +108,25 @@ pub record GoesOn (piece : List ℕ) (n : ℕ) (state_old state_new : State) (ol
   pub state : state_new ≡ state_old
   pub writer : writer_new ≡ writer_old
 
-pub record EndsLine (rules : Rules) (print : Print) (piece : List ℕ) (n : ℕ) (state_old state_new : State) (old new : Reading) (writer_old writer_new : Device) : Type 0 where
+pub record EndsLine (rules : Rules) (options : ScriptOptions) (piece : List ℕ) (n : ℕ) (state_old state_new : State) (old new : Reading) (writer_old writer_new : Device) : Type 0 where
   pub front : List ℕ
   pub after : List ℕ
   pub ends : EndsIn piece front after
   pub taken : n ≡ length front + 1
-  pub obeys : ObeysLine rules print (old.line.items ++ front) (held_at state_old) (held_at state_new) old new writer_old writer_new
-  pub works : LineWorks rules (held_at state_old) (old.line.items ++ front) state_old.engine state_new.engine
+  pub obeys : ObeysLine rules options (old.line.items ++ front) (held_at state_old) (held_at state_new) old new writer_old writer_new
+  pub works : LineWorks rules options.queries (held_at state_old) (old.line.items ++ front) state_old.engine state_new.engine
 
-abbrev pub Takes : Rules → Print → List ℕ → ℕ → State → State → Reading → Reading → Device → Device → Type 0
-Takes rules print piece n state_old state_new old new writer_old writer_new =
-    GoesOn piece n state_old state_new old new writer_old writer_new ⊎ EndsLine rules print piece n state_old state_new old new writer_old writer_new
+abbrev pub Takes : Rules → ScriptOptions → List ℕ → ℕ → State → State → Reading → Reading → Device → Device → Type 0
+Takes rules options piece n state_old state_new old new writer_old writer_new =
+    GoesOn piece n state_old state_new old new writer_old writer_new ⊎ EndsLine rules options piece n state_old state_new old new writer_old writer_new
 
 -- a line that ends in a piece fails
-pub record FailsLine (rules : Rules) (print : Print) (piece : List ℕ) (state_old state_new : State) (reading : Reading) (old new : Device) (fault : RunFault) : Type 0 where
+pub record FailsLine (rules : Rules) (options : ScriptOptions) (piece : List ℕ) (state_old state_new : State) (reading : Reading) (old new : Device) (fault : RunFault) : Type 0 where
   pub front : List ℕ
   pub after : List ℕ
   pub ends : EndsIn piece front after
-  pub fails : FailsAt rules print (reading.line.items ++ front) reading.lines reading.written (held_at state_old) (held_at state_new) old new fault
-  pub works : LineWorks rules (held_at state_old) (reading.line.items ++ front) state_old.engine state_new.engine
+  pub fails : FailsAt rules options (reading.line.items ++ front) reading.lines reading.written (held_at state_old) (held_at state_new) old new fault
+  pub works : LineWorks rules options.queries (held_at state_old) (reading.line.items ++ front) state_old.engine state_new.engine
 
 -- or its beginning, up to the end of the piece or to its own, can't be kept
 pub record IsNotKept (piece : List ℕ) (state_old state_new : State) (reading : Reading) (old new : Device) (fault : RunFault) : Type 0 where
@@ -137,48 +138,48 @@ pub record IsNotKept (piece : List ℕ) (state_old state_new : State) (reading :
   pub state : state_new ≡ state_old
   pub writer : new ≡ old
 
-abbrev pub FailsIn : Rules → Print → List ℕ → State → State → Reading → Device → Device → RunFault → Type 0
-FailsIn rules print piece state_old state_new reading old new fault =
-    FailsLine rules print piece state_old state_new reading old new fault ⊎ IsNotKept piece state_old state_new reading old new fault
+abbrev pub FailsIn : Rules → ScriptOptions → List ℕ → State → State → Reading → Device → Device → RunFault → Type 0
+FailsIn rules options piece state_old state_new reading old new fault =
+    FailsLine rules options piece state_old state_new reading old new fault ⊎ IsNotKept piece state_old state_new reading old new fault
 
 -- Between two states of its devices and of its session a run has read some bytes and obeyed some lines. After these it holds the
 -- beginning of a line, and bytes that wait.
-pub record IsAt (rules : Rules) (print : Print) (start : State) (reader_old reader_new writer_old writer_new : Device) (now : State) (reading : Reading) (waiting : List ℕ) : Type 0 where
+pub record IsAt (rules : Rules) (options : ScriptOptions) (start : State) (reader_old reader_new writer_old writer_new : Device) (now : State) (reading : Reading) (waiting : List ℕ) : Type 0 where
   pub bytes : List ℕ
   pub done : List (List ℕ)
   pub read : Consumes reader_old.bytes reader_new.bytes bytes
   pub passed : reader_new.passed ≡ reader_old.passed + length bytes
   pub failures : reader_new.failures ≡ reader_old.failures
   pub parts : (more : List ℕ) → slice_split is_line_end (bytes ++ more) ≡ done ++ slice_split is_line_end (reading.line.items ++ (waiting ++ more))
-  pub good : list_all is_good done ≡ true
+  pub good : list_all (is_good options.queries) done ≡ true
   pub none : NoEnd reading.line.items
   pub size : length bytes ≡ length (with_ends done) + (length reading.line.items + length waiting)
-  pub wrote : Wrote (answers rules print (held_at start) done) writer_old writer_new
-  pub held_is : held_at now ≡ after_lines rules (held_at start) done
-  pub works : LinesWork rules (held_at start) done start.engine now.engine
+  pub wrote : Wrote (answers rules options (held_at start) done) writer_old writer_new
+  pub held_is : held_at now ≡ after_lines rules options.queries (held_at start) done
+  pub works : LinesWork rules options.queries (held_at start) done start.engine now.engine
   pub lines : reading.lines ≡ length done
-  pub written : reading.written ≡ length (answers rules print (held_at start) done)
+  pub written : reading.written ≡ length (answers rules options (held_at start) done)
   pub ahead : length reading.line.items + length waiting ≤ LINE_LIMIT + PIECE
   pub short : length reading.line.items ≤ LINE_LIMIT
 
 -- a run stands somewhere, and its counts fit
-abbrev pub CanFeed : Rules → Print → State → Reading → Device → List ℕ → Type 0
-CanFeed rules print now reading writer_new waiting =
+abbrev pub CanFeed : Rules → ScriptOptions → State → Reading → Device → List ℕ → Type 0
+CanFeed rules options now reading writer_new waiting =
     (start : State) × (reader_old : Device) × (writer_old : Device) × (reader_new : Device)
-    × IsAt rules print start reader_old reader_new writer_old writer_new now reading waiting × (reader_new.passed ≤ greatest)
+    × IsAt rules options start reader_old reader_new writer_old writer_new now reading waiting × (reader_new.passed ≤ greatest)
 
 -- a step goes on, or ends the run
-abbrev pub Steps : Rules → Print → State → Device → Device → Device → Device → State → Reading → Result Bool RunFault → Type 0
-Steps rules print start reader_old writer_old reader_new writer_new now reading (Ok true) =
-    IsAt rules print start reader_old reader_new writer_old writer_new now reading []
-Steps rules print start reader_old writer_old reader_new writer_new now reading (Ok false) =
-    IsScriptRun rules print start now reader_old reader_new writer_old writer_new (Ok tt)
-Steps rules print start reader_old writer_old reader_new writer_new now reading (Err fault) =
-    IsScriptRun rules print start now reader_old reader_new writer_old writer_new (Err fault)
+abbrev pub Steps : Rules → ScriptOptions → State → Device → Device → Device → Device → State → Reading → Result Bool RunFault → Type 0
+Steps rules options start reader_old writer_old reader_new writer_new now reading (Ok true) =
+    IsAt rules options start reader_old reader_new writer_old writer_new now reading []
+Steps rules options start reader_old writer_old reader_new writer_new now reading (Ok false) =
+    IsScriptRun rules options start now reader_old reader_new writer_old writer_new (Ok tt)
+Steps rules options start reader_old writer_old reader_new writer_new now reading (Err fault) =
+    IsScriptRun rules options start now reader_old reader_new writer_old writer_new (Err fault)
 
 -- the piece that was read was taken, or the run ends within it
-abbrev pub Feeds : Rules → Print → State → Device → Device → Device → Device → State → Reading → Result (Unit {0}) RunFault → Type 0
-Feeds rules print start reader_old writer_old reader_new writer_new now reading (Ok done) =
-    IsAt rules print start reader_old reader_new writer_old writer_new now reading []
-Feeds rules print start reader_old writer_old reader_new writer_new now reading (Err fault) =
-    IsScriptRun rules print start now reader_old reader_new writer_old writer_new (Err fault)
+abbrev pub Feeds : Rules → ScriptOptions → State → Device → Device → Device → Device → State → Reading → Result (Unit {0}) RunFault → Type 0
+Feeds rules options start reader_old writer_old reader_new writer_new now reading (Ok done) =
+    IsAt rules options start reader_old reader_new writer_old writer_new now reading []
+Feeds rules options start reader_old writer_old reader_new writer_new now reading (Err fault) =
+    IsScriptRun rules options start now reader_old reader_new writer_old writer_new (Err fault)

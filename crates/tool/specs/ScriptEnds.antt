@@ -2,7 +2,7 @@
 use Rattle.std.specs.Prelude.{◌≡◌, ℕ, ◌+◌, ◌≤◌, List, length, take, Option, Some, Result}
 use Rattle.device.specs.Device.{Device, StoppedAt, Wrote}
 use Rattle.lines.specs.Layouts.{Rules}
-use Rattle.lines.specs.declared.print.Print.{Print}
+use Rattle.tool.specs.declared.script.ScriptOptions.{ScriptOptions}
 use Rattle.session.specs.Changes.{Held}
 use Rattle.session.specs.Sessions.{State, held_at}
 use Rattle.text_run.specs.TextRun.{Gave, HasReadAll, fault_of}
@@ -15,11 +15,11 @@ use Rattle.tool.specs.Work.{LinesWork}
 
 -- What was written where the first k lines were answered: a write failed after n bytes, within the answer to the next line; where
 -- memory ran out, no byte of the next answer was written; and else these are all lines, and the end is as the input has it.
-abbrev pub Answered : Rules → Print → Held → List (List ℕ) → Option RunFault → ℕ → Device → Device → Option RunFault → Type 0
-Answered rules print held lines wrong k old new (Some (fault.Write n)) =
-    (length (answers rules print held (take k lines)) ≤ n) × StoppedAt n (answers rules print held (take (k + 1) lines)) old new
-Answered rules print held lines wrong k old new (Some fault.Memory) = Wrote (answers rules print held (take k lines)) old new
-Answered rules print held lines wrong k old new stop = (stop ≡ wrong) × (k ≡ length lines) × Wrote (answers rules print held lines) old new
+abbrev pub Answered : Rules → ScriptOptions → Held → List (List ℕ) → Option RunFault → ℕ → Device → Device → Option RunFault → Type 0
+Answered rules options held lines wrong k old new (Some (fault.Write n)) =
+    (length (answers rules options held (take k lines)) ≤ n) × StoppedAt n (answers rules options held (take (k + 1) lines)) old new
+Answered rules options held lines wrong k old new (Some fault.Memory) = Wrote (answers rules options held (take k lines)) old new
+Answered rules options held lines wrong k old new stop = (stop ≡ wrong) × (k ≡ length lines) × Wrote (answers rules options held lines) old new
 
 -- the lines that were obeyed: those that were answered, and the one whose answer a failed write ended
 abbrev pub obeyed_lines : List (List ℕ) → ℕ → Option RunFault → List (List ℕ)
@@ -28,17 +28,17 @@ obeyed_lines lines k stop = take k lines
 
 -- A run ended after the first k lines. No more lines than these were obeyed, but for the one whose answer was being written; so
 -- much was read ahead; and the session worked no more than these lines ask for, and the next one, at which the run ended.
-pub record EndsAfter (rules : Rules) (print : Print) (old new : State) (lines : List (List ℕ)) (wrong : Option RunFault) (k : ℕ) (reader_old reader_new writer_old writer_new : Device) (stop : Option RunFault) : Type 0 where
-  pub wrote : Answered rules print (held_at old) lines wrong k writer_old writer_new stop
-  pub held : held_at new ≡ after_lines rules (held_at old) (obeyed_lines lines k stop)
+pub record EndsAfter (rules : Rules) (options : ScriptOptions) (old new : State) (lines : List (List ℕ)) (wrong : Option RunFault) (k : ℕ) (reader_old reader_new writer_old writer_new : Device) (stop : Option RunFault) : Type 0 where
+  pub wrote : Answered rules options (held_at old) lines wrong k writer_old writer_new stop
+  pub held : held_at new ≡ after_lines rules options.queries (held_at old) (obeyed_lines lines k stop)
   pub ahead : reader_new.passed ≤ reader_old.passed + length (with_ends (take k lines)) + line_read_ahead
-  pub works : LinesWork rules (held_at old) (take (k + 1) lines) old.engine new.engine
+  pub works : LinesWork rules options.queries (held_at old) (take (k + 1) lines) old.engine new.engine
 
 -- The run of a script over a session: what the reader gave has lines, which are obeyed and answered one after another, up to the
 -- first that is none.
-abbrev pub IsScriptRun : Rules → Print → State → State → Device → Device → Device → Device → Result (Unit {0}) RunFault → Type 0
-IsScriptRun rules print old new reader_old reader_new writer_old writer_new result =
+abbrev pub IsScriptRun : Rules → ScriptOptions → State → State → Device → Device → Device → Device → Result (Unit {0}) RunFault → Type 0
+IsScriptRun rules options old new reader_old reader_new writer_old writer_new result =
     (ending : Ending) × (bytes : List ℕ) × Gave reader_old reader_new ending bytes
     × HasReadAll (fault_of result) reader_old reader_new bytes
     × (let lines = script_lines ending bytes in
-    (k : ℕ) × EndsAfter rules print old new (good_lines lines) (script_fault ending lines) k reader_old reader_new writer_old writer_new (fault_of result))
+    (k : ℕ) × EndsAfter rules options old new (good_lines options.queries lines) (script_fault options.queries ending lines) k reader_old reader_new writer_old writer_new (fault_of result))

@@ -11,12 +11,14 @@ use Rattle.session.specs.Kept.{layouts_of, lines_in, pars_of}
 use Rattle.session.specs.Touched.{first_touched, touched_count}
 use Rattle.session.specs.declared.edits.EditFault.{EditFault}
 use Rattle.session.specs.declared.edits.EditFault.TheVariants as refused
-use Rattle.tool.specs.Scripts.{Request, Insert, Delete, SetWidth, Show, request_of_line}
+use Rattle.tool.specs.Queries.{question_text}
+use Rattle.tool.specs.Scripts.{Request, Insert, Delete, SetWidth, Show, Ask, request_of_line}
 use Rattle.text_run.specs.declared.faults.RunFault.{RunFault}
 use Rattle.text_run.specs.declared.faults.RunFault.TheVariants as fault
 use Rattle.text_run.specs.declared.text.Ending.{Ending}
 use Rattle.text_run.specs.declared.text.Ending.TheVariants.{AtEnd, AtFailure}
 use Rattle.text_run.specs.declared.text.TheConstants.{PIECE}
+use Rattle.tool.specs.declared.script.ScriptOptions.{ScriptOptions}
 use Rattle.tool.specs.declared.script.TheConstants.{LINE_LIMIT}
 
 -- ---- one request
@@ -27,6 +29,7 @@ request_refusal rules held (Insert pos piece) = refusal (cut_by rules) held.text
 request_refusal rules held (Delete pos count) = refusal (cut_by rules) held.text (deletion pos count)
 request_refusal rules held (SetWidth width) = if nat_lt 65535 width then Some refused.WidthOutOfRange else width_refusal width
 request_refusal rules held Show = None
+request_refusal rules held (Ask question) = None
 
 -- what it makes of a text and a width
 abbrev pub obeyed : Held → Request → Held
@@ -34,6 +37,7 @@ obeyed held (Insert pos piece) = record { text = changed held.text (insertion po
 obeyed held (Delete pos count) = record { text = changed held.text (deletion pos count); width = held.width }
 obeyed held (SetWidth width) = record { text = held.text; width = width }
 obeyed held Show = held
+obeyed held (Ask question) = held
 
 abbrev pub after_request : Rules → Held → Request → Held
 after_request rules held request = if is_none (request_refusal rules held request) then obeyed held request else held
@@ -59,6 +63,7 @@ obeyed_text rules print held (Insert pos piece) = edit_text (layouts_at rules he
 obeyed_text rules print held (Delete pos count) = edit_text (layouts_at rules held) (layouts_at rules (obeyed held (Delete pos count))) (deletion pos count)
 obeyed_text rules print held (SetWidth width) = damage_text 0 (length (lines_in (layouts_at rules held))) (length (lines_in (layouts_at rules (obeyed held (SetWidth width)))))
 obeyed_text rules print held Show = page rules held.width print (paragraphs (cut_by rules) held.text)
+obeyed_text rules print held (Ask question) = question_text rules print held.width (layouts_at rules held) question
 
 -- and where it is; want of memory is no reason to refuse a request
 abbrev pub refusal_text : EditFault → List ℕ
@@ -86,31 +91,32 @@ abbrev pub answer_line : Rules → Print → Held → Option Request → List �
 answer_line rules print held None = []
 answer_line rules print held (Some request) = answer_to rules print held request
 
-abbrev pub after_lines : Rules → Held → List (List ℕ) → Held
-after_lines rules held [] = held
-after_lines rules held (line ∷ lines) = after_lines rules (after_line rules held (request_of_line line)) lines
+abbrev pub after_lines : Rules → Bool → Held → List (List ℕ) → Held
+after_lines rules queries held [] = held
+after_lines rules queries held (line ∷ lines) = after_lines rules queries (after_line rules held (request_of_line queries line)) lines
 
-abbrev pub answers : Rules → Print → Held → List (List ℕ) → List ℕ
-answers rules print held [] = []
-answers rules print held (line ∷ lines) =
-    answer_line rules print held (request_of_line line) ++ answers rules print (after_line rules held (request_of_line line)) lines
+abbrev pub answers : Rules → ScriptOptions → Held → List (List ℕ) → List ℕ
+answers rules options held [] = []
+answers rules options held (line ∷ lines) =
+    answer_line rules options.print held (request_of_line options.queries line) ++ answers rules options (after_line rules held (request_of_line options.queries line)) lines
 
 -- ---- the run
 
 -- the lines before the first that is no line of a script
-abbrev pub is_good : List ℕ → Bool
-is_good line = is_some (request_of_line line)
+abbrev pub is_good : Bool → List ℕ → Bool
+is_good queries line = is_some (request_of_line queries line)
 
-abbrev pub good_lines : List (List ℕ) → List (List ℕ)
-good_lines lines = take_while is_good lines
+abbrev pub good_lines : Bool → List (List ℕ) → List (List ℕ)
+good_lines queries lines = take_while (is_good queries) lines
 
 -- the fault that ends the run
 abbrev pub input_fault : Ending → Option RunFault
 input_fault AtEnd = None
 input_fault AtFailure = Some fault.Read
 
-abbrev pub script_fault : Ending → List (List ℕ) → Option RunFault
-script_fault ending lines = if list_all is_good lines then input_fault ending else Some (fault.BadLine (length (good_lines lines) + 1))
+abbrev pub script_fault : Bool → Ending → List (List ℕ) → Option RunFault
+script_fault queries ending lines =
+    if list_all (is_good queries) lines then input_fault ending else Some (fault.BadLine (length (good_lines queries lines) + 1))
 
 -- how many bytes a run reads after the lines that it has answered, at most: a line with its end, and one piece
 abbrev pub line_read_ahead : ℕ

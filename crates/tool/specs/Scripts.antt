@@ -7,6 +7,8 @@ use Rattle.std.specs.Str.{chars}
 use Rattle.std.specs.Str.Lossy.{utf8_valid_len}
 use Rattle.text_run.specs.declared.text.Ending.{Ending}
 use Rattle.text_run.specs.declared.text.Ending.TheVariants.{AtEnd, AtFailure}
+use Rattle.tool.specs.declared.queries.Question.{Question}
+use Rattle.tool.specs.declared.queries.Question.TheVariants as ask
 use Rattle.tool.specs.declared.script.TheConstants.{LINE_LIMIT}
 
 -- ---- lines
@@ -32,12 +34,14 @@ script_lines ending bytes = lines_among ending (slice_split is_line_end bytes)
 
 -- ---- what a line asks for
 
--- to put a piece before the character at a place, to take characters out from a place on, to set the width, or to show all lines
+-- to put a piece before the character at a place, to take characters out from a place on, to set the width, to show all lines, or to
+-- answer a question
 pub data Request : Type 0 where
   Insert : (pos : ℕ) (piece : List ℕ) → Request
   Delete : (pos count : ℕ) → Request
   SetWidth : (width : ℕ) → Request
   Show : Request
+  Ask : (question : Question) → Request
 
 -- a number is 1 to 9 decimal digits
 abbrev pub number_by : ℕ → List ℕ → ℕ
@@ -123,10 +127,43 @@ request_by None None (Some rest) width = deletion_in (parted rest)
 request_by None None None (Some rest) = option_map SetWidth (number_in rest)
 request_by None None None None = None
 
-abbrev pub request_in : List ℕ → Option Request
-request_in line =
+abbrev pub edit_request_in : List ℕ → Option Request
+edit_request_in line =
     request_by (stripped (codes "show") line) (stripped (codes "insert ") line) (stripped (codes "delete ") line) (stripped (codes "width ") line)
 
+-- `lines FIRST COUNT`, `caret POS`, `hit LINE COLUMN`, `cluster POS`, `size` and `text POS COUNT`
+abbrev pub both_of : Option ℕ → Option ℕ → Option (ℕ × ℕ)
+both_of (Some a) (Some b) = Some (a, b)
+both_of (Some a) None = None
+both_of None b = None
+
+abbrev pub both_in : Option (List ℕ × List ℕ) → Option (ℕ × ℕ)
+both_in None = None
+both_in (Some (a, b)) = both_of (number_in a) (number_in b)
+
+abbrev pub question_by : Option (List ℕ) → Option (List ℕ) → Option (List ℕ) → Option (List ℕ) → Option (List ℕ) → Option (List ℕ) → Option Question
+question_by (Some rest) caret hit cluster size text = option_map (λ n. ask.Lines n.0 n.1) (both_in (parted rest))
+question_by None (Some rest) hit cluster size text = option_map ask.Caret (number_in rest)
+question_by None None (Some rest) cluster size text = option_map (λ n. ask.Hit n.0 n.1) (both_in (parted rest))
+question_by None None None (Some rest) size text = option_map ask.Cluster (number_in rest)
+question_by None None None None (Some rest) text = if length rest == 0 then Some ask.Size else None
+question_by None None None None None (Some rest) = option_map (λ n. ask.Text n.0 n.1) (both_in (parted rest))
+question_by None None None None None None = None
+
+abbrev pub question_in : List ℕ → Option Question
+question_in line =
+    question_by (stripped (codes "lines ") line) (stripped (codes "caret ") line) (stripped (codes "hit ") line) (stripped (codes "cluster ") line)
+    (stripped (codes "size") line) (stripped (codes "text ") line)
+
+-- a line that asks for none of the others is a question, where these are allowed
+abbrev pub or_question : Option Request → Option Question → Option Request
+or_question (Some request) question = Some request
+or_question None question = option_map Ask question
+
+abbrev pub request_in : Bool → List ℕ → Option Request
+request_in queries line = or_question (edit_request_in line) (if queries then question_in line else None)
+
 -- what the bytes of a line ask for, if they are UTF-8 and no more than may be
-abbrev pub request_of_line : List ℕ → Option Request
-request_of_line line = if nat_le (length line) LINE_LIMIT && utf8_valid_len line == length line then request_in (chars line) else None
+abbrev pub request_of_line : Bool → List ℕ → Option Request
+request_of_line queries line =
+    if nat_le (length line) LINE_LIMIT && utf8_valid_len line == length line then request_in queries (chars line) else None

@@ -7,7 +7,7 @@ use Rattle.lines.specs.declared.engine.Engine.{Engine}
 use Rattle.session.specs.Changes.{Held, deletion, insertion}
 use Rattle.session.specs.Touched.{fresh}
 use Rattle.tool.specs.ScriptRun.{after_line, request_refusal}
-use Rattle.tool.specs.Scripts.{Request, Insert, Delete, SetWidth, Show, request_of_line}
+use Rattle.tool.specs.Scripts.{Request, Insert, Delete, SetWidth, Show, Ask, request_of_line}
 
 module _ (rules : Rules) where
   -- how many characters a request that isn't refused has analysed at most, and how many filled into lines and written
@@ -16,12 +16,14 @@ module _ (rules : Rules) where
   analysed_by held (Delete pos count) = fresh (paragraphs (cut_by rules) held.text) (deletion pos count)
   analysed_by held (SetWidth width) = 0
   analysed_by held Show = 0
+  analysed_by held (Ask question) = 0
 
   abbrev pub filled_by : Held → Request → ℕ
   filled_by held (Insert pos piece) = fresh (paragraphs (cut_by rules) held.text) (insertion pos piece)
   filled_by held (Delete pos count) = fresh (paragraphs (cut_by rules) held.text) (deletion pos count)
   filled_by held (SetWidth width) = length held.text
   filled_by held Show = 0
+  filled_by held (Ask question) = 0
 
   -- of any request, of a line, and of lines one after another
   abbrev pub work_of : (Held → Request → ℕ) → Held → Request → ℕ

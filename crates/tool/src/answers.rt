@@ -1,16 +1,20 @@
-//! What is answered to a change of a session. An answer is short, and is put together in an array: so
-//! none ever wants for memory.
-ghost use Rattle.std.specs.Prelude.{◌≡◌, ◌+◌, ◌++◌, ◌≤◌, length};
+//! What is answered to a line of a script, where it is short: it is put together in an array, so none ever
+//! wants for memory.
+ghost use Rattle.std.specs.Prelude.{◌≡◌, ◌+◌, ◌*◌, ◌++◌, ◌≤◌, IfOk, IfErr, length};
 ghost use Rattle.std.specs.Fmt.{decimal};
 ghost use Rattle.arrayvec.specs.ArrayVec.{array_vec_len};
-ghost use Rattle.tool.specs.Reading.{change_text};
+ghost use Rattle.lines.specs.Writing.{PassedOn};
+ghost use Rattle.tool.specs.Queries.{out_of_range, told};
+ghost use Rattle.tool.specs.Reading.{change_text, Stops};
 ghost use Rattle.tool.specs.ScriptRun.{damage_text, refusal_text};
 
 use arrayvec::ArrayVec;
+use device::{Sink, write_all};
 use itoa::Buffer;
 use session::{Damage, EditFault};
+use text_run::RunFault;
 
-/// How many bytes an answer has at most: three numbers of 20 digits, and 5 between them.
+/// How many bytes an answer has at most: three numbers of 20 digits, and 5 before, between and after them.
 pub const ANSWER_ROOM: usize = 65;
 
 /// The bytes of an answer.
@@ -23,6 +27,41 @@ pub fn answer_of(change: &Result<Damage, EditFault>) -> Answer
     match change {
         Ok(damage) => damage_answer(damage.first_line, damage.old_lines, damage.new_lines),
         Err(reason) => refusal_answer(*reason),
+    }
+}
+
+/// A line of numbers that are told, which are no more than three.
+pub fn told(numbers: &[usize]) -> Answer
+    requires { length numbers.now ≤ 3 }
+    ensures { result.items ≡ told numbers.now }
+{
+    let mut answer = Answer::new();
+    push(&mut answer, b"=");
+    for number in numbers {
+        push(&mut answer, b" ");
+        push_number(&mut answer, *number);
+    }
+    push(&mut answer, b"\n");
+    answer
+}
+
+/// That there is nothing to tell.
+pub fn out_of_range() -> Answer
+    ensures { result.items ≡ out_of_range }
+{
+    refusal_answer(EditFault::OutOfRange)
+}
+
+/// Writes bytes after so many.
+pub fn write_bytes<W: Sink>(writer: &mut W, written: u64, bytes: &[u8]) -> Result<u64, RunFault>
+    requires { written ≤ (W.state writer.old).passed }
+    ensures ok { IfOk result (PassedOn bytes.now written (W.state writer.old) (W.state writer.new)) }
+    ensures err { IfErr result (Stops bytes.now written (W.state writer.old) (W.state writer.new)) }
+    ensures counted { IfOk result (λ n. n ≤ (W.state writer.new).passed) }
+{
+    match write_all(writer, bytes) {
+        Ok(()) => Ok(written + bytes.len() as u64),
+        Err(n) => Err(RunFault::Write(written + n as u64)),
     }
 }
 

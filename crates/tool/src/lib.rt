@@ -3,10 +3,12 @@
 
 mod answers;
 mod program;
+mod queries;
 mod requests;
 mod script;
 mod start;
 
 pub use program::ProgramFault;
-pub use script::{LINE_LIMIT, run_script};
+pub use queries::Question;
+pub use script::{LINE_LIMIT, ScriptOptions, run_script};
 pub use start::open_text;

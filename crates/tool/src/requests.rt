@@ -5,10 +5,11 @@ ghost use Rattle.std.specs.List.{prefix_len};
 ghost use Rattle.std.specs.Char.{is_digit};
 ghost use Rattle.std.specs.Str.{chars};
 ghost use Rattle.tool.specs.Requests.{request_of};
-ghost use Rattle.tool.specs.Scripts.{SetWidth, are_digits, braced, deletion_in, escaped};
-ghost use Rattle.tool.specs.Scripts.{insertion_in, number_by};
-ghost use Rattle.tool.specs.Scripts.{number_in, request_in, parted, stripped, unescaped, written};
+ghost use Rattle.tool.specs.Scripts.{Ask, SetWidth, are_digits, both_in, braced, deletion_in};
+ghost use Rattle.tool.specs.Scripts.{edit_request_in, escaped, insertion_in, number_by, number_in};
+ghost use Rattle.tool.specs.Scripts.{parted, question_in, request_in, stripped, unescaped, written};
 
+use crate::queries::Question;
 use std::alloc::{AllocError, Global};
 
 /// What a line of a script asks for.
@@ -22,6 +23,8 @@ pub enum Request {
     SetWidth(usize),
     /// To write all lines.
     Show,
+    /// To answer a question.
+    Ask(Question),
 }
 
 const SHOW: [char; 4] = ['s', 'h', 'o', 'w'];
@@ -32,9 +35,79 @@ const DELETE: [char; 7] = ['d', 'e', 'l', 'e', 't', 'e', ' '];
 
 const WIDTH: [char; 6] = ['w', 'i', 'd', 't', 'h', ' '];
 
-/// What the characters of a line ask for, if it is a line of a script.
-pub fn read_request(alloc: Global, line: &[char]) -> Result<Option<Request>, AllocError>
-    ensures { IfOk result (λ request. option_map request_of request ≡ request_in line.now) }
+const LINES: [char; 6] = ['l', 'i', 'n', 'e', 's', ' '];
+
+const CARET: [char; 6] = ['c', 'a', 'r', 'e', 't', ' '];
+
+const HIT: [char; 4] = ['h', 'i', 't', ' '];
+
+const CLUSTER: [char; 8] = ['c', 'l', 'u', 's', 't', 'e', 'r', ' '];
+
+const SIZE: [char; 4] = ['s', 'i', 'z', 'e'];
+
+const TEXT: [char; 5] = ['t', 'e', 'x', 't', ' '];
+
+/// What the characters of a line ask for, if it is a line of a script, in which there may be questions or
+/// not.
+pub fn read_request(
+    alloc: Global,
+    queries: bool,
+    line: &[char],
+) -> Result<Option<Request>, AllocError>
+    ensures { IfOk result (λ request. option_map request_of request ≡ request_in queries line.now) }
+{
+    match read_edit_request(alloc, line) {
+        Ok(None) if queries => Ok(read_question(line)),
+        request => request,
+    }
+}
+
+// A line that asks for none of the others may be a question.
+fn read_question(line: &[char]) -> Option<Request>
+    ensures { option_map request_of result ≡ option_map Ask (question_in line.now) }
+{
+    Some(Request::Ask(question(line)?))
+}
+
+fn question(line: &[char]) -> Option<Question>
+    ensures { result ≡ question_in line.now }
+{
+    if let Some(rest) = after(&LINES, line) {
+        let (first, count) = both(rest)?;
+        return Some(Question::Lines(first, count));
+    }
+    if let Some(rest) = after(&CARET, line) {
+        return Some(Question::Caret(number(rest)?));
+    }
+    if let Some(rest) = after(&HIT, line) {
+        let (n, column) = both(rest)?;
+        return Some(Question::Hit(n, column));
+    }
+    if let Some(rest) = after(&CLUSTER, line) {
+        return Some(Question::Cluster(number(rest)?));
+    }
+    if let Some(rest) = after(&SIZE, line) {
+        return if rest.is_empty() {
+            Some(Question::Size)
+        } else {
+            None
+        };
+    }
+    let (pos, count) = both(after(&TEXT, line)?)?;
+    Some(Question::Text(pos, count))
+}
+
+// Two numbers with a space between them.
+fn both(text: &[char]) -> Option<(usize, usize)>
+    ensures { result ≡ both_in (parted text.now) }
+{
+    let (one, other) = words(text)?;
+    Some((number(one)?, number(other)?))
+}
+
+// What a line asks for that is no question.
+fn read_edit_request(alloc: Global, line: &[char]) -> Result<Option<Request>, AllocError>
+    ensures { IfOk result (λ request. option_map request_of request ≡ edit_request_in line.now) }
 {
     if let Some(rest) = after(&SHOW, line) {
         return Ok(if rest.is_empty() {

@@ -17,12 +17,13 @@ ghost use Rattle.tool.specs.Reading.{CanFeed, Changed, EndsIn, FailsAt, FailsIn,
 ghost use Rattle.tool.specs.Reading.{GrowsNot, IsAt, NoEnd, Obeys, ObeysLine, ObeysNot, Steps, Stops};
 ghost use Rattle.tool.specs.Reading.{Takes, change_text, lacks_memory};
 ghost use Rattle.tool.specs.ScriptEnds.{IsScriptRun};
-ghost use Rattle.tool.specs.Scripts.{Delete, SetWidth, Insert, request_of_line};
+ghost use Rattle.tool.specs.Scripts.{Ask, Delete, SetWidth, Insert, request_of_line};
 ghost use Rattle.tool.specs.Work.{LineWorks, RequestWorks};
 
-use crate::answers::answer_of;
+use crate::answers::{answer_of, write_bytes};
+use crate::queries::{Question, write_query};
 use crate::requests::{Request, read_request};
-use device::{Sink, Source, write_all};
+use device::{Sink, Source};
 use lines::Print;
 use session::{Damage, EditFault, Kept, Session};
 use std::alloc::{AllocError, Global};
@@ -31,6 +32,15 @@ use text_run::{PIECE, RunFault, front, room};
 
 /// How many bytes a line may have, without its end.
 pub const LINE_LIMIT: usize = 1_048_576;
+
+/// What the run of a script goes by.
+#[derive(Clone, Copy, Debug, PartialEq, Eq)]
+pub struct ScriptOptions {
+    /// What is printed of lines.
+    pub print: Print,
+    /// Whether lines of the script may be questions.
+    pub queries: bool,
+}
 
 /// What a run holds between two reads.
 #[derive(Debug)]
@@ -119,11 +129,7 @@ fn write_answer<W: Sink>(
         (W.state writer.old) (W.state writer.new)) }
     ensures counted { IfOk result (λ n. n ≤ (W.state writer.new).passed) }
 {
-    let answer = answer_of(change);
-    match write_all(writer, &answer) {
-        Ok(()) => Ok(written + answer.len() as u64),
-        Err(n) => Err(RunFault::Write(written + n as u64)),
-    }
+    write_bytes(writer, written, &answer_of(change))
 }
 
 // Writes all lines after so many bytes.
@@ -140,10 +146,30 @@ fn show<W: Sink, S: ParagraphStore<Kept>>(
         (W.state writer.old) (W.state writer.new)) }
     ensures counted { IfOk result (λ n. n ≤ (W.state writer.new).passed) }
 {
-    match session.print_behind(writer, written, print) {
+    match session.print_after(writer, written, print) {
         Ok(n) => Ok(n),
         Err(fault) => Err(RunFault::Write(fault.written)),
     }
+}
+
+// Answers a question after so many bytes.
+fn ask<W: Sink, S: ParagraphStore<Kept>>(
+    session: &Session<S>,
+    writer: &mut W,
+    written: u64,
+    print: &Print,
+    question: &Question,
+) -> Result<u64, RunFault>
+    requires { written ≤ (W.state writer.old).passed }
+    ensures ok { IfOk result (Obeys (rules_of session.now.engine) print.now (Ask question.now)
+        written (held_at session.now) (held_at session.now) (W.state writer.old) (W.state writer.new)) }
+    ensures err { IfErr result (ObeysNot (rules_of session.now.engine) print.now (Ask question.now)
+        written (held_at session.now) (held_at session.now) (W.state writer.old) (W.state writer.new)) }
+    ensures counted { IfOk result (λ n. n ≤ (W.state writer.new).passed) }
+{
+    // Shows that what is kept is laid out.
+    let _width = session.width();
+    write_query(session, writer, written, print, question)
 }
 
 fn lacks_memory(change: &Result<Damage, EditFault>) -> bool
@@ -178,6 +204,7 @@ fn obey<W: Sink, S: ParagraphStore<Kept>>(
         Request::Delete(pos, count) => delete(session, *pos, *count),
         Request::SetWidth(width) => set_width(session, *width),
         Request::Show => return show(session, writer, written, print),
+        Request::Ask(question) => return ask(session, writer, written, print, question),
     };
     if lacks_memory(&change) {
         return Err(RunFault::Memory);
@@ -189,11 +216,13 @@ fn obey<W: Sink, S: ParagraphStore<Kept>>(
 // before there is need of memory.
 fn read_line(
     alloc: Global,
+    queries: bool,
     line: &[u8],
     text: &mut Vec<char>,
 ) -> Result<Option<Request>, AllocError>
     requires { length line.now ≤ LINE_LIMIT }
-    ensures ok { IfOk result (λ request. option_map request_of request ≡ request_of_line line.now) }
+    ensures ok { IfOk result (λ request. option_map request_of request
+        ≡ request_of_line queries line.now) }
     ensures err { OnErr result (utf8_valid_len line.now ≡ length line.now) }
 {
     let (characters, _) = front(line);
@@ -202,7 +231,7 @@ fn read_line(
     }
     text.clear();
     push_characters(characters, text)?;
-    read_request(alloc, text)
+    read_request(alloc, queries, text)
 }
 
 fn push_characters(text: &str, characters: &mut Vec<char>) -> Result<(), AllocError>
@@ -219,29 +248,29 @@ fn obey_line<W: Sink, S: ParagraphStore<Kept>>(
     alloc: Global,
     session: &mut Session<S>,
     writer: &mut W,
-    print: &Print,
+    options: &ScriptOptions,
     reading: &mut Reading,
 ) -> Result<(), RunFault>
     requires short { length reading.old.line.items ≤ LINE_LIMIT }
     requires written { reading.old.written ≤ (W.state writer.old).passed }
     requires lines { reading.old.lines < 2 ^ 64 - 1 }
-    ensures ok { OnOk result (ObeysLine (rules_of session.old.engine) print.now reading.old.line.items
+    ensures ok { OnOk result (ObeysLine (rules_of session.old.engine) options.now reading.old.line.items
         (held_at session.old) (held_at session.new) reading.old reading.new
         (W.state writer.old) (W.state writer.new)) }
-    ensures err { IfErr result (FailsAt (rules_of session.old.engine) print.now
+    ensures err { IfErr result (FailsAt (rules_of session.old.engine) options.now
         reading.old.line.items reading.old.lines reading.old.written
         (held_at session.old) (held_at session.new) (W.state writer.old) (W.state writer.new)) }
-    ensures works { LineWorks (rules_of session.old.engine) (held_at session.old) reading.old.line.items
-        session.old.engine session.new.engine }
+    ensures works { LineWorks (rules_of session.old.engine) options.now.queries (held_at session.old)
+        reading.old.line.items session.old.engine session.new.engine }
     ensures rules { SameRules session.old.engine session.new.engine }
 {
-    let request = match read_line(alloc, &reading.line, &mut reading.text) {
+    let request = match read_line(alloc, options.queries, &reading.line, &mut reading.text) {
         Ok(Some(request)) => request,
         Ok(None) => return Err(RunFault::BadLine(reading.lines + 1)),
         Err(_) => return Err(RunFault::Memory),
     };
     let written = reading.written;
-    match obey(session, writer, written, print, &request) {
+    match obey(session, writer, written, &options.print, &request) {
         Ok(written) => {
             reading.written = written;
             reading.lines += 1;
@@ -288,15 +317,15 @@ fn take_part<W: Sink, S: ParagraphStore<Kept>>(
     alloc: Global,
     session: &mut Session<S>,
     writer: &mut W,
-    print: &Print,
+    options: &ScriptOptions,
     reading: &mut Reading,
     piece: &[u8],
 ) -> Result<usize, RunFault>
     requires written { reading.old.written ≤ (W.state writer.old).passed }
     requires lines { reading.old.lines < 2 ^ 64 - 1 }
-    ensures ok { IfOk result (λ n. Takes (rules_of session.old.engine) print.now piece.now n
+    ensures ok { IfOk result (λ n. Takes (rules_of session.old.engine) options.now piece.now n
         session.old session.new reading.old reading.new (W.state writer.old) (W.state writer.new)) }
-    ensures err { IfErr result (FailsIn (rules_of session.old.engine) print.now piece.now
+    ensures err { IfErr result (FailsIn (rules_of session.old.engine) options.now piece.now
         session.old session.new reading.old (W.state writer.old) (W.state writer.new)) }
     ensures rules { SameRules session.old.engine session.new.engine }
 {
@@ -306,7 +335,7 @@ fn take_part<W: Sink, S: ParagraphStore<Kept>>(
                 Ok(()) => (),
                 Err(fault) => return Err(fault),
             }
-            match obey_line(alloc, session, writer, print, reading) {
+            match obey_line(alloc, session, writer, options, reading) {
                 Ok(()) => Ok(end + 1),
                 Err(fault) => Err(fault),
             }
@@ -323,22 +352,22 @@ fn feed<W: Sink, S: ParagraphStore<Kept>>(
     alloc: Global,
     session: &mut Session<S>,
     writer: &mut W,
-    print: &Print,
+    options: &ScriptOptions,
     reading: &mut Reading,
     piece: &[u8],
 ) -> Result<(), RunFault>
-    requires { CanFeed (rules_of session.old.engine) print.now session.old reading.old
+    requires { CanFeed (rules_of session.old.engine) options.now session.old reading.old
         (W.state writer.old) piece.now }
     ensures feeds { (start : State) (reader_start writer_start reader_now : Device)
-        → IsAt (rules_of session.old.engine) print.now start reader_start reader_now
+        → IsAt (rules_of session.old.engine) options.now start reader_start reader_now
         writer_start (W.state writer.old) session.old reading.old piece.now
-        → Feeds (rules_of session.old.engine) print.now start reader_start writer_start reader_now
+        → Feeds (rules_of session.old.engine) options.now start reader_start writer_start reader_now
         (W.state writer.new) session.new reading.new result }
     ensures rules { SameRules session.old.engine session.new.engine }
 {
     let mut at = 0;
     while at < piece.len() {
-        match take_part(alloc, session, writer, print, reading, &piece[at..]) {
+        match take_part(alloc, session, writer, options, reading, &piece[at..]) {
             Ok(taken) => at += taken,
             Err(fault) => return Err(fault),
         }
@@ -351,23 +380,23 @@ fn finish<W: Sink, S: ParagraphStore<Kept>>(
     alloc: Global,
     session: &mut Session<S>,
     writer: &mut W,
-    print: &Print,
+    options: &ScriptOptions,
     reading: &mut Reading,
 ) -> Result<(), RunFault>
-    requires { CanFeed (rules_of session.old.engine) print.now session.old reading.old
+    requires { CanFeed (rules_of session.old.engine) options.now session.old reading.old
         (W.state writer.old) [] }
     ensures ends { (start : State) (reader_start writer_start reader_now : Device)
-        → IsAt (rules_of session.old.engine) print.now start reader_start reader_now
+        → IsAt (rules_of session.old.engine) options.now start reader_start reader_now
         writer_start (W.state writer.old) session.old reading.old []
         → IsAtEnd reader_now.bytes
-        → IsScriptRun (rules_of session.old.engine) print.now start session.new reader_start reader_now
+        → IsScriptRun (rules_of session.old.engine) options.now start session.new reader_start reader_now
         writer_start (W.state writer.new) result }
     ensures rules { SameRules session.old.engine session.new.engine }
 {
     if reading.line.is_empty() {
         return Ok(());
     }
-    obey_line(alloc, session, writer, print, reading)
+    obey_line(alloc, session, writer, options, reading)
 }
 
 // Reads a piece, and obeys the lines that end in it. Says whether the script goes on.
@@ -376,18 +405,18 @@ fn step<R: Source, W: Sink, S: ParagraphStore<Kept>>(
     reader: &mut R,
     writer: &mut W,
     session: &mut Session<S>,
-    print: &Print,
+    options: &ScriptOptions,
     piece: &mut [u8],
     reading: &mut Reading,
 ) -> Result<bool, RunFault>
     requires room { length piece.old ≡ PIECE }
     requires stands { (start : State) × (reader_start : Device) × (writer_start : Device)
-        × IsAt (rules_of session.old.engine) print.now start reader_start (R.state reader.old)
+        × IsAt (rules_of session.old.engine) options.now start reader_start (R.state reader.old)
         writer_start (W.state writer.old) session.old reading.old [] }
     ensures steps { (start : State) (reader_start writer_start : Device)
-        → IsAt (rules_of session.old.engine) print.now start reader_start (R.state reader.old)
+        → IsAt (rules_of session.old.engine) options.now start reader_start (R.state reader.old)
         writer_start (W.state writer.old) session.old reading.old []
-        → Steps (rules_of session.old.engine) print.now start reader_start writer_start
+        → Steps (rules_of session.old.engine) options.now start reader_start writer_start
         (R.state reader.new) (W.state writer.new) session.new reading.new result }
     ensures reads { TellsReads result (R.state reader.old) (R.state reader.new) }
     ensures rises { result ≡ Ok true → (R.state reader.old).passed < (R.state reader.new).passed }
@@ -400,12 +429,12 @@ fn step<R: Source, W: Sink, S: ParagraphStore<Kept>>(
         Err(_) => return Err(RunFault::Read),
     };
     if len == 0 {
-        return match finish(alloc, session, writer, print, reading) {
+        return match finish(alloc, session, writer, options, reading) {
             Ok(()) => Ok(false),
             Err(fault) => Err(fault),
         };
     }
-    match feed(alloc, session, writer, print, reading, &piece[..len]) {
+    match feed(alloc, session, writer, options, reading, &piece[..len]) {
         Ok(()) => Ok(true),
         Err(fault) => Err(fault),
     }
@@ -421,15 +450,15 @@ pub fn run_script<R: Source, W: Sink, S: ParagraphStore<Kept>>(
     reader: &mut R,
     writer: &mut W,
     session: &mut Session<S>,
-    print: &Print,
+    options: &ScriptOptions,
 ) -> Result<(), RunFault>
-    ensures run { IsScriptRun (rules_of session.old.engine) print.now session.old session.new
+    ensures run { IsScriptRun (rules_of session.old.engine) options.now session.old session.new
         (R.state reader.old) (R.state reader.new) (W.state writer.old) (W.state writer.new) result }
     ensures reads { TellsReads result (R.state reader.old) (R.state reader.new) }
     ensures laid_out { IsWholeLayout session.new }
     ensures rules { SameRules session.old.engine session.new.engine }
 {
-    let result = run_over(alloc, reader, writer, session, print);
+    let result = run_over(alloc, reader, writer, session, options);
     // Shows that what is kept is laid out.
     let _width = session.width();
     result
@@ -440,9 +469,9 @@ fn run_over<R: Source, W: Sink, S: ParagraphStore<Kept>>(
     reader: &mut R,
     writer: &mut W,
     session: &mut Session<S>,
-    print: &Print,
+    options: &ScriptOptions,
 ) -> Result<(), RunFault>
-    ensures run { IsScriptRun (rules_of session.old.engine) print.now session.old session.new
+    ensures run { IsScriptRun (rules_of session.old.engine) options.now session.old session.new
         (R.state reader.old) (R.state reader.new) (W.state writer.old) (W.state writer.new) result }
     ensures reads { TellsReads result (R.state reader.old) (R.state reader.new) }
     ensures rules { SameRules session.old.engine session.new.engine }
@@ -462,7 +491,7 @@ fn run_over<R: Source, W: Sink, S: ParagraphStore<Kept>>(
             reader,
             writer,
             session,
-            print,
+            options,
             &mut piece,
             &mut reading,
         ) {

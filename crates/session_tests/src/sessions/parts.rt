@@ -2,7 +2,7 @@
 use super::{Check, Pair, Taker, check_in_tree, renew};
 use device::ToWrite;
 use lines::Print;
-use session::{EditFault, Kept, LinesFault, Session};
+use session::{EditFault, Kept, RangeFault, Session};
 use std::process::Abort;
 use std::test::Fail;
 use store::ParagraphStore;
@@ -50,8 +50,8 @@ fn print_lines<'a, S: ParagraphStore<Kept>>(
     drop(writer);
     match result {
         Ok(()) => room.get(..taken),
-        Err(LinesFault::OutOfRange) => None,
-        Err(LinesFault::Write(_)) => Some(b"fault"),
+        Err(RangeFault::OutOfRange) => None,
+        Err(RangeFault::Write(_)) => Some(b"fault"),
     }
 }
 

@@ -164,15 +164,15 @@ fn stays<S: ParagraphStore<Kept>, T: ParagraphStore<Kept>>(
         damage.first_line.wrapping_add(damage.new_lines),
     );
     let rest = old.line_count().wrapping_sub(after.0);
-    let behind_pars = (
+    let after_pars = (
         damage.first_par.wrapping_add(damage.old_pars),
         damage.first_par.wrapping_add(damage.new_pars),
     );
-    let rest_pars = old.paragraph_count().wrapping_sub(behind_pars.0);
+    let rest_pars = old.paragraph_count().wrapping_sub(after_pars.0);
     same_lines(old, new, (0, 0), damage.first_line)
         && same_lines(old, new, after, rest)
         && same_paragraphs(old, new, (0, 0), damage.first_par)
-        && same_paragraphs(old, new, behind_pars, rest_pars)
+        && same_paragraphs(old, new, after_pars, rest_pars)
 }
 
 // Whether a change was to be answered so, beside the session of the text as it was.

@@ -1,6 +1,6 @@
 use Rattle.std.proofs.Common.{◌≡◌, ◌++◌, take, drop, encode_utf8_all, ap, sym, ◌∙◌, arith}
 use Rattle.lines.specs.Writing.{StoppedIn}
-use Rattle.lines.proofs.WriteLemmas.{encoded-part, encoded-rest, passed-append, same_fault, stopped-before, stopped-behind}
+use Rattle.lines.proofs.WriteLemmas.{encoded-part, encoded-rest, passed-append, same_fault, stopped-before, stopped-after}
 use Rattle.lines.proofs.bytes.write_chars.Goals as goal
 
 -- one piece more
@@ -25,4 +25,4 @@ returns-in_err-written-clause-err g c =
     encoded-rest chars «end» ∙ ap (λ front. front ++ encode_utf8_all (drop «end» chars))
     (encoded-part chars at «end» (omega (arith, c.min-end.ensures, c.loop-at-test.true)) ∙ ap (λ part. encode_utf8_all (take at chars) ++ part) (sym c.encode-len.ensures.bytes)) in
     same_fault _ _ (StoppedIn _ c.args.done _ _) c.from_residual.ensures.1
-    (rw bytes (stopped-before (encode_utf8_all (drop «end» chars)) (stopped-behind c.loop-at.invariant.passed c.in_err-written.ensures.err)))
+    (rw bytes (stopped-before (encode_utf8_all (drop «end» chars)) (stopped-after c.loop-at.invariant.passed c.in_err-written.ensures.err)))

@@ -1,7 +1,7 @@
 use Rattle.std.proofs.Common.{◌++◌, map, drop, encode_utf8_all, slice_index, ap, sym, ◌∙◌}
 use Rattle.std.proofs.lemmas.List.{length-map, take_all}
 use Rattle.lines.specs.Writing.{StoppedIn}
-use Rattle.lines.proofs.WriteLemmas.{encoded-rest, passed-append, same_fault, stopped-before, stopped-behind}
+use Rattle.lines.proofs.WriteLemmas.{encoded-rest, passed-append, same_fault, stopped-before, stopped-after}
 use Rattle.lines.proofs.bytes.write_places.Goals as goal
 
 -- one piece more
@@ -18,7 +18,7 @@ returns-in_err-written-clause-err g c =
     let rest = encode_utf8_all (drop c.encode_places-next.result.0 chars) in
     let bytes = encoded-rest chars c.encode_places-next.result.0 ∙ ap (λ front. front ++ rest) (sym c.encode_places-next.ensures.bytes) in
     same_fault _ _ (StoppedIn _ c.args.done _ _) c.from_residual.ensures.1
-    (rw bytes (stopped-before rest (stopped-behind c.loop-at.invariant.passed c.in_err-written.ensures.err)))
+    (rw bytes (stopped-before rest (stopped-after c.loop-at.invariant.passed c.in_err-written.ensures.err)))
 
 pub returns-clause-ok : goal.returns-clause-ok
 returns-clause-ok g c =

@@ -2,7 +2,7 @@ use Rattle.std.proofs.Common.{◌++◌, map, drop, ap, sym, ◌∙◌}
 use Rattle.std.proofs.lemmas.List.{length-map, take_all}
 use Rattle.std.specs.List.{concat, join_with_byte}
 use Rattle.lines.specs.Writing.{StoppedIn}
-use Rattle.lines.proofs.WriteLemmas.{joined-rest, passed-append, same_fault, spaced, stopped-before, stopped-behind}
+use Rattle.lines.proofs.WriteLemmas.{joined-rest, passed-append, same_fault, spaced, stopped-before, stopped-after}
 use Rattle.lines.proofs.bytes.write_row.Goals as goal
 
 -- one piece more
@@ -19,7 +19,7 @@ returns-in_err-written-clause-err g c =
     let rest = concat (drop c.encode_row-next.result.0 (spaced row)) in
     let bytes = joined-rest row c.encode_row-next.result.0 ∙ ap (λ front. front ++ rest) (sym c.encode_row-next.ensures.bytes) in
     same_fault _ _ (StoppedIn _ c.args.done _ _) c.from_residual.ensures.1
-    (rw bytes (stopped-before rest (stopped-behind c.loop-at.invariant.passed c.in_err-written.ensures.err)))
+    (rw bytes (stopped-before rest (stopped-after c.loop-at.invariant.passed c.in_err-written.ensures.err)))
 
 pub returns-clause-ok : goal.returns-clause-ok
 returns-clause-ok g c =

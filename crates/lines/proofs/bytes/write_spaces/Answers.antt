@@ -1,6 +1,6 @@
 use Rattle.std.proofs.Common.{◌≤◌, sym, arith}
 use Rattle.lines.specs.Writing.{StoppedIn}
-use Rattle.lines.proofs.WriteLemmas.{all_spaces, more_spaces, some_spaces, passed-append, stopped-before, stopped-behind, same_fault}
+use Rattle.lines.proofs.WriteLemmas.{all_spaces, more_spaces, some_spaces, passed-append, stopped-before, stopped-after, same_fault}
 use Rattle.lines.proofs.bytes.write_spaces.Goals as goal
 
 -- some spaces more
@@ -26,6 +26,6 @@ returns-in_err-written-clause-err g c =
     let left = c.loop-left.left in
     let part : some ≤ left = omega (arith, m) in
     let few : some ≤ 64 = omega (arith, m) in
-    let stopped = stopped-before _ (stopped-behind c.loop-left.invariant.passed c.in_err-written.ensures.err) in
+    let stopped = stopped-before _ (stopped-after c.loop-left.invariant.passed c.in_err-written.ensures.err) in
     same_fault _ _ (StoppedIn _ c.args.done _ _) c.from_residual.ensures.1
     (rw (all_spaces c.args.count left some c.loop-left.invariant.within part, sym (some_spaces some few)) stopped)

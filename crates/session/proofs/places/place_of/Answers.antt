@@ -4,7 +4,7 @@ use Rattle.session.specs.Kept.{text_of}
 use Rattle.session.specs.Places.{place_in}
 use Rattle.session.specs.declared.places.Place.{Place}
 use Rattle.session.proofs.EdgeLemmas.{length-lines, length-text}
-use Rattle.session.proofs.PlaceLemmas.{open_some, place_past, place_inside, place_closed, place_open, place_behind}
+use Rattle.session.proofs.PlaceLemmas.{open_some, place_past, place_inside, place_closed, place_open, place_after}
 use Rattle.session.proofs.places.place_of.Goals as goal
 
 pub returns-then-pos-len : goal.returns-then-pos-len
@@ -42,6 +42,6 @@ returns g c =
     let kept = g.S.ParagraphStore.items c.args.store.now in
     let some = open_some (rules_of c.args.engine.now) (text_of kept) (sym c.is_closed.ensures ∙ c.if-is_closed.false) in
     let at_end : c.args.pos ≡ length (text_of kept) = omega (arith, c.if-pos-len.false, c.if-pos-len-2.false, c.total_chars-len.ensures, length-text kept) in
-    let last = place_behind kept (c.total_chars-len.result - 1) c.requires (omega (arith, some, c.total_chars-len.ensures, length-text kept)) c.place_in-last.result c.place_in-last.ensures in
+    let last = place_after kept (c.total_chars-len.result - 1) c.requires (omega (arith, some, c.total_chars-len.ensures, length-text kept)) c.place_in-last.result c.place_in-last.ensures in
     ap Some last ∙ ap (λ n. Some (place_in kept n)) (sym at_end)
     ∙ sym (place_open (rules_of c.args.engine.now) kept c.args.pos at_end (sym c.is_closed.ensures ∙ c.if-is_closed.false))

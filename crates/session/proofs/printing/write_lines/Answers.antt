@@ -4,7 +4,7 @@ use Rattle.std.proofs.lemmas.List.Concat.{flat_map-append}
 use Rattle.lines.specs.Bytes.{line_bytes}
 use Rattle.lines.specs.Layouts.{Layout, visuals}
 use Rattle.lines.specs.Writing.{PassedOn, StoppedIn}
-use Rattle.lines.proofs.WriteLemmas.{passed-append, stopped-before, stopped-behind, same_fault}
+use Rattle.lines.proofs.WriteLemmas.{passed-append, stopped-before, stopped-after, same_fault}
 use Rattle.session.specs.Kept.{lines_in}
 use Rattle.session.proofs.EdgeLemmas.{length-lines, item_read, lines_of}
 use Rattle.session.proofs.PrintLemmas.{front_more, lines_begin}
@@ -43,7 +43,7 @@ returns-in_err-written-clause-err g c =
     let err = subst (λ (x : Layout). StoppedIn (bytes (take c.min-part.result (drop c.loop-index.from (visuals x)))) c.loop-index.written (g.W.Sink.state c.loop-index.writer) (g.W.Sink.state c.write_part.new.writer) c.in_err-written.field-0.0.written) part c.in_err-written.ensures.err in
     same_fault _ _ (λ w. StoppedIn _ c.args.done _ _ w) c.from_residual.ensures.1
     (subst (λ bs. StoppedIn bs c.args.done (g.W.Sink.state c.args.writer.now) (g.W.Sink.state c.write_part.new.writer) c.in_err-written.field-0.0.written) split
-    (stopped-before (bytes rest) (stopped-behind c.loop-index.invariant.passed err)))
+    (stopped-before (bytes rest) (stopped-after c.loop-index.invariant.passed err)))
 
 pub loop-index-preserved : goal.loop-index-preserved
 loop-index-preserved g c =

@@ -2,14 +2,14 @@ use Rattle.std.proofs.lemmas.Grind.{common_steps}
 use Rattle.std.proofs.Common.{◌≡◌, ◌-◌, ◌<◌, ◌∷◌, ◌++◌, take, length, arith, ap, subst, sym, ◌∙◌, append_assoc, []}
 use Rattle.store.specs.Subtrees.{Fits}
 use Rattle.store.specs.Trees.{in_order}
-use Rattle.store.proofs.FitsLemmas.{fits_behind, fits_before}
+use Rattle.store.proofs.FitsLemmas.{fits_after, fits_before}
 use Rattle.store.proofs.ListLemmas.{take_far, drop_far}
 use Rattle.store.proofs.joining.+split.Goals as goal
 
 pub join-requires : goal.join-requires
 join-requires g t c =
     let whole = subst (λ tree. Fits g.P.Measured.chars g.P.Measured.lines (in_order tree)) c.in-Some.ensures.parts c.in-Some.ensures.fits in
-    rw c.split-front.ensures.after (fits_behind g.P.Measured.chars g.P.Measured.lines (in_order c.in-Some.left) (c.in-Some.top ∷ in_order c.in-Some.right) c.args.at whole)
+    rw c.split-front.ensures.after (fits_after g.P.Measured.chars g.P.Measured.lines (in_order c.in-Some.left) (c.in-Some.top ∷ in_order c.in-Some.right) c.args.at whole)
 
 pub join-requires-2 : goal.join-requires-2
 join-requires-2 g t c =

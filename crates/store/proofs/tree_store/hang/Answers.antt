@@ -1,6 +1,6 @@
 use Rattle.std.proofs.lemmas.Grind.{common_steps}
 use Rattle.std.proofs.Common.{◌∷◌, ◌++◌, [], reverse, sym, ap, ◌∙◌, arith}
-use Rattle.store.proofs.ListLemmas.{length_both, one_over, room_behind}
+use Rattle.store.proofs.ListLemmas.{length_both, one_over, room_after}
 use Rattle.store.proofs.tree_store.hang.Goals as goal
 
 pub take_last-requires : goal.take_last-requires
@@ -18,7 +18,7 @@ take_down-requires g c =
     let items = c.args.items.now in
     let put_back = c.push_reserved-in-Err in
     let items_is = put_back.ensures.items ∙ ap (λ x. c.take_last.new.self.items ++ x ∷ []) c.in-Err.ensures.err ∙ sym c.take_last.ensures.items in
-    room_behind c.loop.items.items c.loop.spares.items items.items put_back.new.self.items items.len items.cap put_back.new.self.cap
+    room_after c.loop.items.items c.loop.spares.items items.items put_back.new.self.items items.len items.cap put_back.new.self.cap
     c.loop.invariant.0 items_is items.ok.0 items.ok.1 (put_back.ensures.capacity ∙ c.take_last.ensures.capacity ∙ c.loop.invariant.2)
 
 pub returns-in-Err-clause-err : goal.returns-in-Err-clause-err

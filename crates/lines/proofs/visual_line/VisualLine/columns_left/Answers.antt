@@ -15,7 +15,7 @@ loop-k-preserved c =
       few = omega (arith, c.loop-k.invariant.few, c.columns_at-columns.ensures.few);
     }
 
-pub returns : goal.returns
-returns c =
+pub returns-clause-value : goal.returns-clause-value
+returns-clause-value c =
     let vtol = ap (λ (v : Visual). v.vtol) c.self.view_is in
     c.loop-k.invariant.left ∙ left_to c.args.self.now c.args.place c.loop-k.k (omega (arith, c.loop-k-test.false, c.loop-k.auto.k-end, c.min-k-end.ensures, ap length vtol))

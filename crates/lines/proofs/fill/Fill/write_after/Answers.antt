@@ -4,7 +4,7 @@ use Rattle.lines.specs.Writing.{StoppedIn}
 use Rattle.std.proofs.lemmas.List.{length-map}
 use Rattle.lines.proofs.PageLemmas.{pieces, piece_at, piece_within, pieces_all, pieces_whole}
 use Rattle.lines.proofs.WriteLemmas.{pieces-more, pieces-stopped, same_fault}
-use Rattle.lines.proofs.fill.Fill.write_behind.Goals as goal
+use Rattle.lines.proofs.fill.Fill.write_after.Goals as goal
 
 -- one line more
 pub loop-n-preserved : goal.loop-n-preserved

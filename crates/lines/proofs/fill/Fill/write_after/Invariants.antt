@@ -2,7 +2,7 @@ use Rattle.std.proofs.Common.{◌≤◌, take}
 use Rattle.std.specs.List.{concat}
 use Rattle.lines.proofs.PageLemmas.{pieces}
 use Rattle.lines.specs.Writing.{PassedOn}
-use Rattle.lines.proofs.fill.Fill.write_behind.Given as goal
+use Rattle.lines.proofs.fill.Fill.write_after.Given as goal
 
 abbrev pub invariant-loop-n : goal.invariant-loop-n
 invariant-loop-n g l =

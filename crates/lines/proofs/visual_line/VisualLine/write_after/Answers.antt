@@ -1,11 +1,11 @@
 use Rattle.lines.specs.Writing.{StoppedIn}
-use Rattle.lines.proofs.WriteLemmas.{last_passed, last_stopped, passed-append, stopped-before, stopped-behind, same_fault}
-use Rattle.lines.proofs.visual_line.VisualLine.write_behind.Goals as goal
+use Rattle.lines.proofs.WriteLemmas.{last_passed, last_stopped, passed-append, stopped-before, stopped-after, same_fault}
+use Rattle.lines.proofs.visual_line.VisualLine.write_after.Goals as goal
 
 -- after the line itself
 pub returns-in_err-direction-clause-err : goal.returns-in_err-direction-clause-err
 returns-in_err-direction-clause-err g c =
-    let stopped = stopped-behind c.in_ok-shown.ensures.ok c.in_err-direction.ensures.err in
+    let stopped = stopped-after c.in_ok-shown.ensures.ok c.in_err-direction.ensures.err in
     same_fault _ _ (λ n. StoppedIn _ c.args.done _ _ n) c.from_residual-in_err-direction.ensures.1
     (stopped-before _ (stopped-before _ (stopped-before _ stopped)))
 
@@ -13,13 +13,13 @@ returns-in_err-direction-clause-err g c =
 pub returns-in_err-ltov-clause-err : goal.returns-in_err-ltov-clause-err
 returns-in_err-ltov-clause-err g c =
     let done = passed-append c.in_ok-shown.ensures.ok c.in_ok-direction.ensures.ok in
-    let stopped = stopped-behind done c.in_err-ltov.ensures.err in
+    let stopped = stopped-after done c.in_err-ltov.ensures.err in
     same_fault _ _ (λ n. StoppedIn _ c.args.done _ _ n) c.from_residual-in_err-ltov.ensures.1 (stopped-before _ (stopped-before _ stopped))
 
 pub returns-in_err-vtol-clause-err : goal.returns-in_err-vtol-clause-err
 returns-in_err-vtol-clause-err g c =
     let done = passed-append (passed-append c.in_ok-shown.ensures.ok c.in_ok-direction.ensures.ok) c.in_ok-ltov.ensures.ok in
-    let stopped = stopped-behind done c.in_err-vtol.ensures.err in
+    let stopped = stopped-after done c.in_err-vtol.ensures.err in
     same_fault _ _ (λ n. StoppedIn _ c.args.done _ _ n) c.from_residual-in_err-vtol.ensures.1 (stopped-before _ stopped)
 
 pub returns-clause-err : goal.returns-clause-err

@@ -1,0 +1,116 @@
+-- What is answered to a question about a text at a width.
+use Rattle.std.specs.Prelude.{◌≡◌, ℕ, ◌+◌, ◌-◌, ◌<◌, nat_lt, ◌&&◌, Bool, false, List, [], ◌∷◌, ◌++◌, length, codes, slice_get, slice_index, Option, Some, None, option_map, if◌then◌else◌}
+use Rattle.std.specs.Fmt.{decimal}
+use Rattle.std.specs.List.{flat_map, slice_range}
+use Rattle.device.specs.Device.{Device}
+use Rattle.lines.specs.Bytes.{line_bytes}
+use Rattle.lines.specs.Columns.{covering, padding_of}
+use Rattle.lines.specs.Layouts.{Layout, Rules}
+use Rattle.lines.specs.Order.{is_odd}
+use Rattle.lines.specs.Visual.{Visual}
+use Rattle.lines.specs.Writing.{StoppedIn}
+use Rattle.lines.specs.declared.print.Print.{Print}
+use Rattle.session.specs.Carets.{caret_at}
+use Rattle.session.specs.Clusters.{cluster_at}
+use Rattle.session.specs.Hits.{hit_at}
+use Rattle.session.specs.Kept.{lines_in, text_of}
+use Rattle.session.specs.Reading.{utf8_part}
+use Rattle.session.specs.declared.carets.Caret.{Caret}
+use Rattle.session.specs.declared.clusters.Cluster.{Cluster}
+use Rattle.session.specs.declared.hits.Hit.{Hit}
+use Rattle.text_run.specs.declared.faults.RunFault.{RunFault}
+use Rattle.text_run.specs.declared.faults.RunFault.TheVariants as f
+use Rattle.tool.specs.declared.queries.Question.{Question}
+use Rattle.tool.specs.declared.queries.Question.TheVariants as ask
+
+-- `=` and numbers, each after a space
+abbrev pub told : List ℕ → List ℕ
+told numbers = codes "=" ++ flat_map (λ n. codes " " ++ decimal n) numbers ++ codes "\n"
+
+-- or that there is nothing to tell
+abbrev pub out_of_range : List ℕ
+out_of_range = codes "! range\n"
+
+abbrev pub told_of : Option (List ℕ) → List ℕ
+told_of (Some numbers) = told numbers
+told_of None = out_of_range
+
+-- how many columns of the screen are left of a line's shown part; and where no line is, of one that would come, whose level is told
+abbrev pub screen_left : Print → ℕ → Visual → ℕ
+screen_left print width line = if print.padded then padding_of width line else 0
+
+abbrev pub empty_left : Print → ℕ → ℕ → ℕ
+empty_left print width level = if print.padded && is_odd level then width else 0
+
+abbrev pub left_of : Print → ℕ → Option Visual → ℕ → ℕ
+left_of print width (Some line) level = screen_left print width line
+left_of print width None level = empty_left print width level
+
+-- the character that is hit left of the shown part: the leftmost that takes columns, past which the column is where its level is odd;
+-- where none takes columns the line's start
+abbrev pub is_odd_at : Visual → Option ℕ → Bool
+is_odd_at line (Some place) = is_odd (slice_index line.levels (slice_index line.vtol place))
+is_odd_at line None = false
+
+abbrev pub leftmost : Visual → Hit → Hit
+leftmost line hit = record { pos = hit.pos; trailing = is_odd_at line (covering line 0) }
+
+-- ---- of a text that is laid out at a width
+
+module _ (print : Print) (width : ℕ) (kept : List Layout) where
+  -- a line, a column on the screen and a level
+  abbrev pub caret_numbers : Caret → List ℕ
+  caret_numbers caret = caret.line ∷ left_of print width (slice_get (lines_in kept) caret.line) caret.level + caret.column ∷ caret.level ∷ []
+
+  abbrev pub caret_text : Rules → ℕ → List ℕ
+  caret_text rules pos = told_of (option_map caret_numbers (caret_at rules kept pos))
+
+  -- the character at a column of the screen
+  abbrev pub screen_hit_on : ℕ → ℕ → Option Visual → Option Hit
+  screen_hit_on n column (Some line) =
+      if nat_lt column (screen_left print width line) then option_map (leftmost line) (hit_at kept n 0) else hit_at kept n (column - screen_left print width line)
+  screen_hit_on n column None = None
+
+  abbrev pub screen_hit : ℕ → ℕ → Option Hit
+  screen_hit n column = screen_hit_on n column (slice_get (lines_in kept) n)
+
+  abbrev pub hit_text : ℕ → ℕ → List ℕ
+  hit_text n column = told_of (option_map (λ hit. hit.pos ∷ (if hit.trailing then 1 else 0) ∷ []) (screen_hit n column))
+
+  -- how many lines follow, and the lines
+  abbrev pub lines_text : ℕ → ℕ → List ℕ
+  lines_text first count =
+      if nat_lt (length (lines_in kept)) (first + count) then out_of_range
+      else told (count ∷ []) ++ flat_map (line_bytes width print) (slice_range (lines_in kept) first (first + count))
+
+module _ (kept : List Layout) where
+  abbrev pub cluster_text : ℕ → List ℕ
+  cluster_text pos = told_of (option_map (λ cluster. cluster.start ∷ cluster.end ∷ []) (cluster_at kept pos))
+
+  abbrev pub size_text : List ℕ
+  size_text = told (length (text_of kept) ∷ length (lines_in kept) ∷ length kept ∷ [])
+
+  -- how many bytes follow, the characters, and the end of the line
+  abbrev pub part_text : ℕ → ℕ → List ℕ
+  part_text pos count =
+      if nat_lt (length (text_of kept)) (pos + count) then out_of_range
+      else told (length (utf8_part kept pos count) ∷ []) ++ utf8_part kept pos count ++ codes "\n"
+
+abbrev pub question_text : Rules → Print → ℕ → List Layout → Question → List ℕ
+question_text rules print width kept (ask.Lines first count) = lines_text print width kept first count
+question_text rules print width kept (ask.Caret pos) = caret_text print width kept rules pos
+question_text rules print width kept (ask.Hit n column) = hit_text print width kept n column
+question_text rules print width kept (ask.Cluster pos) = cluster_text kept pos
+question_text rules print width kept ask.Size = size_text kept
+question_text rules print width kept (ask.Text pos count) = part_text kept pos count
+
+-- the questions for which memory may be wanted: the cluster of a character that is there
+abbrev pub WantsMemory : List Layout → Question → Type 0
+WantsMemory kept (ask.Cluster pos) = pos < length (text_of kept)
+WantsMemory kept question = ⊥
+
+-- an answer was not written whole: a write failed, or memory was wanted and nothing is written
+abbrev pub AnswersNot : List ℕ → List Layout → Question → ℕ → Device → Device → RunFault → Type 0
+AnswersNot text kept question written old new (f.Write n) = StoppedIn text written old new n
+AnswersNot text kept question written old new f.Memory = WantsMemory kept question × (new ≡ old)
+AnswersNot text kept question written old new fault = ⊥

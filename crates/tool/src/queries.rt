@@ -1,0 +1,242 @@
+//! The questions of a script about the text as it stands, and what is answered to each.
+ghost use Rattle.std.specs.Prelude.{◌≡◌, ◌^◌, ◌<◌, ◌≤◌, IfOk, IfErr, OnErr, length, slice_index};
+ghost use Rattle.lines.specs.Engine.{rules_of};
+ghost use Rattle.lines.specs.Order.{is_odd};
+ghost use Rattle.lines.specs.Writing.{PassedOn};
+ghost use Rattle.session.specs.Kept.{text_of};
+ghost use Rattle.tool.specs.Queries.{caret_text, cluster_text, hit_text, lines_text, part_text};
+ghost use Rattle.tool.specs.Queries.{question_text, size_text};
+ghost use Rattle.tool.specs.Queries.{empty_left, is_odd_at, screen_hit, screen_left, AnswersNot};
+ghost use Rattle.tool.specs.Reading.{Stops};
+
+use crate::answers::{Answer, out_of_range, told, write_bytes};
+use device::Sink;
+use lines::{Print, VisualLine};
+use session::{Hit, Kept, RangeFault, Session};
+use std::alloc::AllocError;
+use store::ParagraphStore;
+use text_run::RunFault;
+
+/// What a line of a script asks about the text as it stands. Positions count characters, and like lines and
+/// columns they count from 0.
+#[derive(Clone, Copy, Debug, PartialEq, Eq)]
+pub enum Question {
+    /// So many lines, from one on.
+    Lines(usize, usize),
+    /// Where a caret stands on the screen before the character at a position.
+    Caret(usize),
+    /// Which character stands at a line's column of the screen.
+    Hit(usize, usize),
+    /// The grapheme cluster of the character at a position.
+    Cluster(usize),
+    /// How many characters, lines and paragraphs there are.
+    Size,
+    /// So many characters, from a position on.
+    Text(usize, usize),
+}
+
+// How many columns of the screen are left of a line's shown part.
+fn screen_left(line: &VisualLine<'_>, width: u16, print: &Print) -> usize
+    ensures value { result ≡ screen_left print.now width line.now }
+    ensures fits { result < 2 ^ 32 }
+{
+    if print.padded {
+        line.padding(width) as usize
+    } else {
+        0
+    }
+}
+
+// The same where no line is, by the level that one would have.
+fn empty_left(level: u8, width: u16, print: &Print) -> usize
+    ensures value { result ≡ empty_left print.now width level }
+    ensures fits { result < 2 ^ 32 }
+{
+    if print.padded && level % 2 == 1 {
+        width as usize
+    } else {
+        0
+    }
+}
+
+fn caret_answer<S: ParagraphStore<Kept>>(session: &Session<S>, print: &Print, pos: usize) -> Answer
+    ensures { result.items ≡ caret_text print.now session.now.width session.now.kept
+        (rules_of session.now.engine) pos }
+{
+    let Some(caret) = session.caret(pos) else {
+        return out_of_range();
+    };
+    let left = match session.line(caret.line) {
+        Some(line) => screen_left(&line, session.width(), print),
+        None => empty_left(caret.level, session.width(), print),
+    };
+    told(&[caret.line, left + caret.column, caret.level as usize])
+}
+
+// Whether the character at a visual position of a line is at an odd level.
+fn is_odd_at(line: &VisualLine<'_>, place: Option<usize>) -> bool
+    ensures { result ≡ is_odd_at line.now place }
+{
+    let Some(place) = place else {
+        return false;
+    };
+    match line.vtol().get(place) {
+        Some(k) => is_odd_level(line, *k as usize),
+        None => is_odd_level(line, 0),
+    }
+}
+
+fn is_odd_level(line: &VisualLine<'_>, k: usize) -> bool
+    ensures { result ≡ is_odd (slice_index line.now.levels k) }
+{
+    match line.levels().get(k) {
+        Some(level) => level % 2 == 1,
+        None => false,
+    }
+}
+
+// The character at a line's column of the screen.
+fn screen_hit<S: ParagraphStore<Kept>>(
+    session: &Session<S>,
+    print: &Print,
+    n: usize,
+    column: usize,
+) -> Option<Hit>
+    ensures { result ≡ screen_hit print.now session.now.width session.now.kept n column }
+{
+    let line = session.line(n)?;
+    let left = screen_left(&line, session.width(), print);
+    if column >= left {
+        return session.hit(n, column - left);
+    }
+    let hit = session.hit(n, 0)?;
+    Some(Hit {
+        pos: hit.pos,
+        trailing: is_odd_at(&line, line.covering(0)),
+    })
+}
+
+fn hit_answer<S: ParagraphStore<Kept>>(
+    session: &Session<S>,
+    print: &Print,
+    n: usize,
+    column: usize,
+) -> Answer
+    ensures { result.items ≡ hit_text print.now session.now.width session.now.kept n column }
+{
+    match screen_hit(session, print, n, column) {
+        Some(hit) => told(&[hit.pos, usize::from(hit.trailing)]),
+        None => out_of_range(),
+    }
+}
+
+fn cluster_answer<S: ParagraphStore<Kept>>(
+    session: &Session<S>,
+    pos: usize,
+) -> Result<Answer, AllocError>
+    ensures ok { IfOk result (λ answer. answer.items ≡ cluster_text session.now.kept pos) }
+    ensures memory { OnErr result (pos < length (text_of session.now.kept)) }
+{
+    match session.cluster(pos)? {
+        Some(cluster) => Ok(told(&[cluster.start, cluster.end])),
+        None => Ok(out_of_range()),
+    }
+}
+
+fn size_answer<S: ParagraphStore<Kept>>(session: &Session<S>) -> Answer
+    ensures { result.items ≡ size_text session.now.kept }
+{
+    told(&[
+        session.char_count(),
+        session.line_count(),
+        session.paragraph_count(),
+    ])
+}
+
+// Writes so many lines, from one on, after so many bytes.
+fn write_lines<W: Sink, S: ParagraphStore<Kept>>(
+    session: &Session<S>,
+    writer: &mut W,
+    written: u64,
+    print: &Print,
+    first: usize,
+    count: usize,
+) -> Result<u64, RunFault>
+    requires { written ≤ (W.state writer.old).passed }
+    ensures ok { IfOk result (PassedOn (lines_text print.now session.now.width session.now.kept first count)
+        written (W.state writer.old) (W.state writer.new)) }
+    ensures err { IfErr result (Stops (lines_text print.now session.now.width session.now.kept first count)
+        written (W.state writer.old) (W.state writer.new)) }
+    ensures counted { IfOk result (λ n. n ≤ (W.state writer.new).passed) }
+{
+    let lines = session.line_count();
+    if first > lines || count > lines - first {
+        return write_bytes(writer, written, &out_of_range());
+    }
+    let told = write_bytes(writer, written, &told(&[count]))?;
+    match session.print_lines_after(writer, told, first, count, print) {
+        Ok(written) => Ok(written),
+        Err(RangeFault::Write(fault)) => Err(RunFault::Write(fault.written)),
+        Err(RangeFault::OutOfRange) => unreachable!(),
+    }
+}
+
+// Writes so many characters, from a position on, after so many bytes.
+fn write_part<W: Sink, S: ParagraphStore<Kept>>(
+    session: &Session<S>,
+    writer: &mut W,
+    written: u64,
+    pos: usize,
+    count: usize,
+) -> Result<u64, RunFault>
+    requires { written ≤ (W.state writer.old).passed }
+    ensures ok { IfOk result (PassedOn (part_text session.now.kept pos count) written
+        (W.state writer.old) (W.state writer.new)) }
+    ensures err { IfErr result (Stops (part_text session.now.kept pos count) written
+        (W.state writer.old) (W.state writer.new)) }
+    ensures counted { IfOk result (λ n. n ≤ (W.state writer.new).passed) }
+{
+    let Some(len) = session.utf8_len(pos, count) else {
+        return write_bytes(writer, written, &out_of_range());
+    };
+    let told = write_bytes(writer, written, &told(&[len]))?;
+    let part = match session.write_text_after(writer, told, pos, count) {
+        Ok(written) => written,
+        Err(RangeFault::Write(fault)) => return Err(RunFault::Write(fault.written)),
+        Err(RangeFault::OutOfRange) => unreachable!(),
+    };
+    write_bytes(writer, part, b"\n")
+}
+
+/// Writes the answer to a question after so many bytes. It takes memory for the cluster of a character alone.
+pub fn write_query<W: Sink, S: ParagraphStore<Kept>>(
+    session: &Session<S>,
+    writer: &mut W,
+    written: u64,
+    print: &Print,
+    question: &Question,
+) -> Result<u64, RunFault>
+    requires { written ≤ (W.state writer.old).passed }
+    ensures ok { IfOk result (PassedOn (question_text (rules_of session.now.engine) print.now
+        session.now.width session.now.kept question.now) written
+        (W.state writer.old) (W.state writer.new)) }
+    ensures err { IfErr result (AnswersNot (question_text (rules_of session.now.engine) print.now
+        session.now.width session.now.kept question.now) session.now.kept question.now written
+        (W.state writer.old) (W.state writer.new)) }
+    ensures counted { IfOk result (λ n. n ≤ (W.state writer.new).passed) }
+{
+    let answer = match *question {
+        Question::Lines(first, count) => {
+            return write_lines(session, writer, written, print, first, count);
+        }
+        Question::Text(pos, count) => return write_part(session, writer, written, pos, count),
+        Question::Caret(pos) => caret_answer(session, print, pos),
+        Question::Hit(n, column) => hit_answer(session, print, n, column),
+        Question::Size => size_answer(session),
+        Question::Cluster(pos) => match cluster_answer(session, pos) {
+            Ok(answer) => answer,
+            Err(_) => return Err(RunFault::Memory),
+        },
+    };
+    write_bytes(writer, written, &answer)
+}
