@@ -37,7 +37,8 @@ pub fn text_part<S: ParagraphStore<Kept>>(store: &S, pos: usize, count: usize) -
 // How many bytes of UTF-8 some characters are.
 fn bytes_of(chars: &[char]) -> usize
     requires { length chars.now ≤ TEXT_LIMIT }
-    ensures { result ≡ length (encode_utf8_all chars.now) }
+    ensures count { result ≡ length (encode_utf8_all chars.now) }
+    ensures few { result ≤ 4 * length chars.now }
 {
     let mut bytes = 0;
     for c in chars {
