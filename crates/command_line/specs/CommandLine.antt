@@ -10,7 +10,7 @@ use Rattle.clap.specs.declared.builder.action.ArgAction.TheVariants.{Append, Set
 use Rattle.clap.specs.declared.builder.value_parser.ValueParser.TheVariants.{Signed}
 use Rattle.clap.specs.declared.parser.matches.ArgMatches.{ArgMatches}
 use Rattle.command_line.specs.declared.options.SettingsFault.{SettingsFault}
-use Rattle.command_line.specs.declared.options.SettingsFault.TheVariants.{Words, Directions, ScriptFiles, NoMemory}
+use Rattle.command_line.specs.declared.options.SettingsFault.TheVariants.{Words, Directions, ScriptFiles, Queries, NoMemory}
 use Rattle.command_line.specs.declared.options.Settings.{Settings}
 
 -- an option without a value, named by its long name
@@ -33,6 +33,10 @@ width_rule = record (new_rule (codes "width")) {
 -- an edit script
 abbrev pub script_rule : Rule
 script_rule = record (new_rule (codes "script")) { long = Some (codes "script"); value_names = 1; action = Some Set }
+
+-- questions in the script
+abbrev pub queries_rule : Rule
+queries_rule = flag_rule (codes "queries")
 
 -- any number of texts
 abbrev pub files_rule : Rule
@@ -57,7 +61,7 @@ abbrev pub start : App
 start = on_top (λ s. record s { no_binary_name = true }) (new_app (codes "fribidi"))
 
 unfoldable pub program : App
-program = fold with_rule start (layout_rules ++ (print_rules ++ script_rule ∷ files_rule ∷ []))
+program = fold with_rule start (layout_rules ++ (print_rules ++ script_rule ∷ queries_rule ∷ files_rule ∷ []))
 
 -- how base levels are found: by the one option that is set, or by the first strong character
 abbrev pub base_by : Bool → Bool → Bool → Bool → Option Base
@@ -82,6 +86,13 @@ texts_of rows = unwrap_or (all_of (codes "files") rows) []
 abbrev pub script_fits : List Row → Bool
 script_fits rows = fits_script (is_some (first_of (codes "script") rows)) (length (texts_of rows))
 
+-- where there are questions there is a script
+abbrev pub fits_queries : Bool → Bool → Bool
+fits_queries queries has_script = not queries || has_script
+
+abbrev pub queries_fit : List Row → Bool
+queries_fit rows = fits_queries (is_given (codes "queries") rows) (is_some (first_of (codes "script") rows))
+
 -- the number that a text of decimal digits writes
 abbrev pub number_of : Text → ℕ
 number_of text = digits_value 10 (without_leading_plus text)
@@ -104,8 +115,10 @@ pub record AreSettings (words : List Text) (settings : Settings) : Type 0 where
   pub padded : settings.print.padded ≡ not (is_given (codes "nopad") (matches_of program words))
   pub mirrored : settings.print.mirrored ≡ not (is_given (codes "nomirror") (matches_of program words))
   pub script : option_map (λ script. script.now) settings.script ≡ first_of (codes "script") (matches_of program words)
+  pub queries : settings.queries ≡ is_given (codes "queries") (matches_of program words)
   pub files : map (λ file. file.now) settings.files.items ≡ texts_of (matches_of program words)
   pub one : script_fits (matches_of program words) ≡ true
+  pub asked : queries_fit (matches_of program words) ≡ true
 
 -- the width's text, which is a number of columns that is allowed
 pub record HasWidth (rows : List Row) : Type 0 where
@@ -122,10 +135,13 @@ pub record AreMatches (words : List Text) (matches : ArgMatches) : Type 0 where
   pub width : HasWidth (rows_of (found_of matches))
 
 -- `clap` refuses the words, for this kind of error; or it takes them, and more than one direction is set, or else a script beside another
--- number of texts than one
+-- number of texts than one, or else questions without a script
 abbrev pub IsSettingsFault : List Text → SettingsFault → Type 0
 IsSettingsFault words (Words error) = IsAmong (kind_of error) (fault_of program words)
 IsSettingsFault words Directions = (fault_of program words ≡ []) × (base_of (matches_of program words) ≡ None)
 IsSettingsFault words ScriptFiles =
     (fault_of program words ≡ []) × (is_some (base_of (matches_of program words)) ≡ true) × (script_fits (matches_of program words) ≡ false)
+IsSettingsFault words Queries =
+    (fault_of program words ≡ []) × (is_some (base_of (matches_of program words)) ≡ true) × (script_fits (matches_of program words) ≡ true)
+    × (queries_fit (matches_of program words) ≡ false)
 IsSettingsFault words NoMemory = Unit {0}

@@ -17,6 +17,8 @@ pub struct Settings<'a> {
     pub print: Print,
     /// The edit script to run over the one text, if there is one.
     pub script: Option<&'a str>,
+    /// Whether the script may ask about the text.
+    pub queries: bool,
     /// The texts, in order, or none for standard input.
     pub files: Vec<&'a str>,
 }
@@ -31,6 +33,8 @@ pub enum SettingsFault {
     Directions,
     #[error("fribidi: --script takes one file")]
     ScriptFiles,
+    #[error("fribidi: --queries needs --script")]
+    Queries,
     #[error("fribidi: out of memory")]
     NoMemory,
 }
@@ -47,6 +51,7 @@ impl SettingsFault {
             SettingsFault::NoMemory => 1,
             SettingsFault::Directions => 2,
             SettingsFault::ScriptFiles => 2,
+            SettingsFault::Queries => 2,
         }
     }
 }

@@ -6,7 +6,7 @@ ghost use Rattle.clap.specs.Takes.{is_given};
 ghost use Rattle.command_line.specs.CommandLine.{program, ucd_rule, width_rule, script_rule};
 ghost use Rattle.command_line.specs.CommandLine.{files_rule, flag_rule};
 ghost use Rattle.command_line.specs.CommandLine.{AreMatches, AreSettings, IsSettingsFault};
-ghost use Rattle.command_line.specs.CommandLine.{base_by, base_of, fits_script};
+ghost use Rattle.command_line.specs.CommandLine.{base_by, base_of, fits_queries, fits_script};
 ghost use Rattle.command_line.specs.CommandLine.{layout_rules, print_rules};
 
 use crate::options::{Settings, SettingsFault};
@@ -26,7 +26,9 @@ fn command<'a>(alloc: Global) -> Result<Command<'a>, AllocError>
         .about("Prints text as visual lines");
     let command = with_layout(alloc, command)?;
     let command = with_print(alloc, command)?;
-    command.arg(script(alloc))?.arg(files(alloc))
+    let command = command.arg(script(alloc))?;
+    let command = with_flag(alloc, command, "queries", "questions in the script too")?;
+    command.arg(files(alloc))
 }
 
 // The options by which texts are laid out.
@@ -190,6 +192,13 @@ fn fits_script(script: Option<&str>, texts: usize) -> bool
     script.is_none() || texts == 1
 }
 
+// Questions are asked in a script.
+fn fits_queries(queries: bool, script: Option<&str>) -> bool
+    ensures { result ≡ fits_queries queries (is_some script.entry) }
+{
+    !queries || script.is_some()
+}
+
 // The matches of the words.
 fn parse<'a>(alloc: Global, words: &'a [&'a str]) -> Result<ArgMatches<'a>, SettingsFault>
     ensures ok { IfOk result (AreMatches (map (λ word. word.now) words.entry.now)) }
@@ -236,12 +245,17 @@ fn settings_of<'a>(alloc: Global, matches: &ArgMatches<'a>) -> Result<Settings<'
     if !fits_script(script, files.len()) {
         return Err(SettingsFault::ScriptFiles);
     }
+    let queries = is_set(matches, "queries");
+    if !fits_queries(queries, script) {
+        return Err(SettingsFault::Queries);
+    }
     Ok(Settings {
         ucd,
         width,
         options,
         print: print_of(matches),
         script,
+        queries,
         files,
     })
 }

@@ -5,7 +5,7 @@ ghost use Rattle.std.specs.Prelude.{◌<◌};
 
 use command_line::{Settings, SettingsFault, settings};
 use device::{FromRead, ToWrite};
-use lines::{Engine, Print};
+use lines::Engine;
 use session::{Kept, Session};
 use std::alloc::{AllocError, Global};
 use std::fs::File;
@@ -14,7 +14,7 @@ use std::process::ExitCode;
 use std::{env, fs, io};
 use store::TreeStore;
 use text_run::{RunFault, run_text};
-use tool::{ProgramFault, open_text, run_script};
+use tool::{ProgramFault, ScriptOptions, open_text, run_script};
 use ucd::{FILE_NAMES, Tables, UcdFiles};
 
 fn main(rt: HostRuntime) -> ExitCode {
@@ -205,7 +205,7 @@ fn obey_over(
     requires { 0 < settings.now.width }
 {
     match open_text(rt.alloc(), engine, text, settings.width) {
-        Ok(session) => obey_file(rt, script, output, session, &settings.print),
+        Ok(session) => obey_file(rt, script, output, session, &script_options(settings)),
         Err(fault) => Err(ProgramFault::Run(fault)),
     }
 }
@@ -215,10 +215,10 @@ fn obey_file(
     script: &str,
     output: &mut ToWrite<Stdout>,
     session: Session<TreeStore<Kept>>,
-    print: &Print,
+    options: &ScriptOptions,
 ) -> Result<(), ProgramFault> {
     match File::open(rt, script) {
-        Ok(script) => obey_lines(rt.alloc(), script, output, session, print),
+        Ok(script) => obey_lines(rt.alloc(), script, output, session, options),
         Err(_) => Err(ProgramFault::Run(RunFault::Read)),
     }
 }
@@ -242,9 +242,17 @@ fn obey_lines(
     script: File,
     output: &mut ToWrite<Stdout>,
     session: Session<TreeStore<Kept>>,
-    print: &Print,
+    options: &ScriptOptions,
 ) -> Result<(), ProgramFault> {
     let mut session = session;
     let mut reader = FromRead::new(script);
-    run_script(alloc, &mut reader, output, &mut session, print).map_err(ProgramFault::Run)
+    run_script(alloc, &mut reader, output, &mut session, options).map_err(ProgramFault::Run)
+}
+
+// What the run of the script goes by.
+fn script_options(settings: &Settings<'_>) -> ScriptOptions {
+    ScriptOptions {
+        print: settings.print,
+        queries: settings.queries,
+    }
 }

@@ -1,5 +1,5 @@
 -- How much a session works for a request, and for lines one after another.
-use Rattle.std.proofs.Common.{◌≡◌, ℕ, ◌+◌, ◌≤◌, List, [], ◌∷◌, ◌++◌, length, map, Option, Some, None, Result, Ok, Err, IfOk, IfErr, is_none, is_some, false, nat_lt, if◌then◌else◌, refl, sym, ap, subst, ◌∙◌, arith}
+use Rattle.std.proofs.Common.{◌≡◌, ℕ, ◌+◌, ◌≤◌, Bool, List, [], ◌∷◌, ◌++◌, length, map, Option, Some, None, Result, Ok, Err, IfOk, IfErr, is_none, is_some, false, nat_lt, if◌then◌else◌, refl, sym, ap, subst, ◌∙◌, arith}
 use Rattle.std.proofs.lemmas.Bool.{cond-true, true≢false}
 use Rattle.std.proofs.lemmas.List.{append-nil}
 use Rattle.bidi.specs.Cuts.{paragraphs}
@@ -115,7 +115,7 @@ width_works width old new result small m r =
 -- ---- lines, one after another
 module _ (rules : Rules) (queries : Bool) where
   work_more : (work : Held → Request → ℕ) (held : Held) (lines : List (List ℕ)) (line : List ℕ)
-      → work_of_lines rules queries work held (lines ++ line ∷ []) ≡ work_of_lines rules queries work held lines + work_of_line rules queries work (after_lines rules queries held lines) (request_of_line queries line)
+      → work_of_lines rules queries work held (lines ++ line ∷ []) ≡ work_of_lines rules queries work held lines + work_of_line rules work (after_lines rules queries held lines) (request_of_line queries line)
   work_more work held [] line = omega arith
   work_more work held (first ∷ lines) line = omega (arith, work_more work (after_line rules held (request_of_line queries first)) lines line)
 
@@ -133,7 +133,7 @@ module _ (rules : Rules) (queries : Bool) where
   pub lines_work_more : (start held : Held) (lines : List (List ℕ)) (line : List ℕ) (old now new : Engine) → held ≡ after_lines rules queries start lines
       → LinesWork rules queries start lines old now → LineWorks rules queries held line now new → LinesWork rules queries start (lines ++ line ∷ []) old new
   lines_work_more start held lines line old now new held_is before works =
-      let sum = λ (work : Held → Request → ℕ). work_more work start lines line ∙ ap (λ (h : Held). work_of_lines rules queries work start lines + work_of_line rules queries work h (request_of_line queries line)) (sym held_is) in
+      let sum = λ (work : Held → Request → ℕ). work_more work start lines line ∙ ap (λ (h : Held). work_of_lines rules queries work start lines + work_of_line rules work h (request_of_line queries line)) (sym held_is) in
       record {
         analysed = more_rise _ _ _ _ _ _ before.analysed works.analysed (sum (analysed_by rules));
         filled = more_rise _ _ _ _ _ _ before.filled works.filled (sum (filled_by rules));
@@ -141,7 +141,7 @@ module _ (rules : Rules) (queries : Bool) where
       }
 
   -- a line that is none asks for nothing
-  no_work : (work : Held → Request → ℕ) (held : Held) (request : Option Request) → is_some request ≡ false → work_of_line rules queries work held request ≡ 0
+  no_work : (work : Held → Request → ℕ) (held : Held) (request : Option Request) → is_some request ≡ false → work_of_line rules work held request ≡ 0
   no_work work held None bad = refl
   no_work work held (Some request) bad = absurd (true≢false bad)
 
@@ -149,7 +149,7 @@ module _ (rules : Rules) (queries : Bool) where
       → LinesWork rules queries start lines old now → LineWorks rules queries held line now new → LinesWork rules queries start (lines ++ []) old new
   lines_work_bad start held lines line old now new bad before works =
       let sum = λ (work : Held → Request → ℕ).
-      ap (work_of_lines rules queries work start) (append-nil lines) ∙ sum_is (work_of_lines rules queries work start lines) (work_of_line rules queries work held (request_of_line queries line)) (no_work work held (request_of_line queries line) bad) in
+      ap (work_of_lines rules queries work start) (append-nil lines) ∙ sum_is (work_of_lines rules queries work start lines) (work_of_line rules work held (request_of_line queries line)) (no_work work held (request_of_line queries line) bad) in
       record {
         analysed = more_rise _ _ _ _ _ _ before.analysed works.analysed (sum (analysed_by rules));
         filled = more_rise _ _ _ _ _ _ before.filled works.filled (sum (filled_by rules));

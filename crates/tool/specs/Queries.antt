@@ -60,7 +60,7 @@ leftmost line hit = record { pos = hit.pos; trailing = is_odd_at line (covering 
 module _ (print : Print) (width : ℕ) (kept : List Layout) where
   -- a line, a column on the screen and a level
   abbrev pub caret_numbers : Caret → List ℕ
-  caret_numbers caret = caret.line ∷ left_of print width (slice_get (lines_in kept) caret.line) caret.level + caret.column ∷ caret.level ∷ []
+  caret_numbers caret = caret.line ∷ (left_of print width (slice_get (lines_in kept) caret.line) caret.level + caret.column) ∷ caret.level ∷ []
 
   abbrev pub caret_text : Rules → ℕ → List ℕ
   caret_text rules pos = told_of (option_map caret_numbers (caret_at rules kept pos))

@@ -1,5 +1,5 @@
 -- How much work the lines of a script ask for at most: each request what its change asks of a session, one that is refused nothing.
-use Rattle.std.specs.Prelude.{ℕ, ◌+◌, List, [], ◌∷◌, length, Option, Some, None, is_none, if◌then◌else◌}
+use Rattle.std.specs.Prelude.{ℕ, ◌+◌, Bool, List, [], ◌∷◌, length, Option, Some, None, is_none, if◌then◌else◌}
 use Rattle.bidi.specs.Cuts.{paragraphs}
 use Rattle.lines.specs.Engine.{analysed_of, filled_of, written_of, RisesBy}
 use Rattle.lines.specs.Layouts.{Rules, cut_by}
@@ -33,10 +33,10 @@ module _ (rules : Rules) where
   work_of_line work held None = 0
   work_of_line work held (Some request) = work_of work held request
 
-  abbrev pub work_of_lines : (Held → Request → ℕ) → Held → List (List ℕ) → ℕ
-  work_of_lines work held [] = 0
-  work_of_lines work held (line ∷ lines) =
-      work_of_line work held (request_of_line line) + work_of_lines work (after_line rules held (request_of_line line)) lines
+  abbrev pub work_of_lines : Bool → (Held → Request → ℕ) → Held → List (List ℕ) → ℕ
+  work_of_lines queries work held [] = 0
+  work_of_lines queries work held (line ∷ lines) =
+      work_of_line work held (request_of_line queries line) + work_of_lines queries work (after_line rules held (request_of_line queries line)) lines
 
   -- an engine has worked no more than this, of each kind
   pub record Works (most : (Held → Request → ℕ) → ℕ) (old new : Engine) : Type 0 where
@@ -47,8 +47,8 @@ module _ (rules : Rules) where
   abbrev pub RequestWorks : Held → Request → Engine → Engine → Type 0
   RequestWorks held request = Works (λ work. work_of work held request)
 
-  abbrev pub LineWorks : Held → List ℕ → Engine → Engine → Type 0
-  LineWorks held line = Works (λ work. work_of_line work held (request_of_line line))
+  abbrev pub LineWorks : Bool → Held → List ℕ → Engine → Engine → Type 0
+  LineWorks queries held line = Works (λ work. work_of_line work held (request_of_line queries line))
 
-  abbrev pub LinesWork : Held → List (List ℕ) → Engine → Engine → Type 0
-  LinesWork held lines = Works (λ work. work_of_lines work held lines)
+  abbrev pub LinesWork : Bool → Held → List (List ℕ) → Engine → Engine → Type 0
+  LinesWork queries held lines = Works (λ work. work_of_lines queries work held lines)

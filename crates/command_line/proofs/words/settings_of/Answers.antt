@@ -1,11 +1,11 @@
-use Rattle.std.proofs.Common.{◌≡◌, ◌∙◌, ℕ, Bor, List, Result, arith, [], Option, Some, None, ap, codes, is_some, length, map, option_map, refl, ap₂, true, false, rules, sym, true≢false, unwrap_or}
+use Rattle.std.proofs.Common.{◌≡◌, ◌∙◌, ℕ, Bool, Bor, List, Result, arith, [], Option, Some, None, ap, codes, is_some, length, map, option_map, refl, ap₂, true, false, rules, sym, true≢false, unwrap_or}
 use Rattle.std.specs.Prelude.{not}
 use Rattle.clap.specs.Words.{ReadsOne, Row, Text, all_of, matches_of, first_of, found_of, one_text, rows_of}
 use Rattle.clap.specs.declared.parser.matches.Found.{Found}
 use Rattle.clap.specs.Takes.{is_given}
 use Rattle.clap.proofs.WalkLemmas.{first_value-rows, one_text-rows, raw_values-rows}
 use Rattle.std.specs.Str.Parse.{ParsesUnsigned, ExplainsUnsignedError, HasUnsignedDigitsIfOk}
-use Rattle.command_line.specs.CommandLine.{HasWidth, base_of, fits_script, number_of, program, script_fits, texts_of}
+use Rattle.command_line.specs.CommandLine.{HasWidth, base_of, fits_queries, fits_script, number_of, program, queries_fit, script_fits, texts_of}
 use Rattle.std.proofs.lemmas.List.{length-map}
 use Rattle.command_line.proofs.DefaultLemmas.{number_read}
 use Rattle.command_line.proofs.words.settings_of.Goals as goal
@@ -23,6 +23,10 @@ some_told (Some s) = refl
 
 script_one : (script : Option (Bor Text)) (n : ℕ) (rows : List Row) → option_map (λ s. s.now) script ≡ first_of (codes "script") rows → length (texts_of rows) ≡ n → script_fits rows ≡ fits_script (is_some script) n
 script_one script n rows told texts = ap₂ fits_script (ap is_some (sym told) ∙ some_told script) texts
+
+queries_told : (queries : Bool) (script : Option (Bor Text)) (rows : List Row) → option_map (λ s. s.now) script ≡ first_of (codes "script") rows → queries ≡ is_given (codes "queries") rows
+    → queries_fit rows ≡ fits_queries queries (is_some script)
+queries_told queries script rows told is = ap₂ fits_queries (sym is) (ap is_some (sym told) ∙ some_told script)
 
 pub unreachable-requires : goal.unreachable-requires
 unreachable-requires c =
@@ -55,6 +59,7 @@ returns-clause-ok c = λ words m.
     ∙ texts_or_none c.get_strs.result _ refl
     ∙ ap (λ texts. unwrap_or texts []) (c.get_strs.ensures ∙ raw_values-rows found (codes "files") ∙ ap (all_of (codes "files")) m.rows) in
     let fits : c.fits_script.result ≡ true = search rules in
+    let asks : c.fits_queries.result ≡ true = search rules in
     let print = c.print_of.ensures in
     record {
       taken = m.taken;
@@ -73,7 +78,9 @@ returns-clause-ok c = λ words m.
       reordernsm = c.in-Some.ensures.reordernsm ∙ given (codes "reordernsm");
       whole_numbers = c.in-Some.ensures.whole_numbers ∙ given (codes "whole-numbers");
       script = script;
+      queries = c.is_set-queries.ensures ∙ given (codes "queries");
       files = files;
+      asked = queries_told c.is_set-queries.result c.get_str-script.result (matches_of program _) script (c.is_set-queries.ensures ∙ given (codes "queries")) ∙ sym c.fits_queries.ensures ∙ asks;
       one = script_one c.get_str-script.result c.len.result (matches_of program _) script (omega (arith, c.len.ensures, ap length files, length-map c.in-Ok.files.items (λ (s : Bor Text). s.now))) ∙ sym c.fits_script.ensures ∙ fits;
     }
 
@@ -86,3 +93,15 @@ returns-then-not-fits_script-clause-err c = λ words m.
     ∙ ap (λ texts. unwrap_or texts []) (c.get_strs.ensures ∙ raw_values-rows found (codes "files") ∙ ap (all_of (codes "files")) m.rows) in
     let isnt : c.fits_script.result ≡ false = search rules in
     (m.taken, ap is_some (sym (c.in-Some.ensures.base ∙ ap base_of m.rows)), script_one c.get_str-script.result c.len.result (matches_of program _) script (omega (arith, c.len.ensures, ap length files, length-map c.in-Ok.files.items (λ (s : Bor Text). s.now))) ∙ sym c.fits_script.ensures ∙ isnt)
+
+pub returns-then-not-fits_queries-clause-err : goal.returns-then-not-fits_queries-clause-err
+returns-then-not-fits_queries-clause-err c = λ words m.
+    let found = found_of c.args.matches.now in
+    let script = c.get_str-script.ensures ∙ first_value-rows found (codes "script") ∙ ap (first_of (codes "script")) m.rows in
+    let files = ap (map (λ s. s.now)) c.in-Ok.ensures.items ∙ ap (λ (s : Bor (List (Bor Text))). map (λ v. v.now) s.now) c.unwrap_or.ensures
+    ∙ texts_or_none c.get_strs.result _ refl
+    ∙ ap (λ texts. unwrap_or texts []) (c.get_strs.ensures ∙ raw_values-rows found (codes "files") ∙ ap (all_of (codes "files")) m.rows) in
+    let fits : c.fits_script.result ≡ true = search rules in
+    let isnt : c.fits_queries.result ≡ false = search rules in
+    (m.taken, ap is_some (sym (c.in-Some.ensures.base ∙ ap base_of m.rows)), script_one c.get_str-script.result c.len.result (matches_of program _) script (omega (arith, c.len.ensures, ap length files, length-map c.in-Ok.files.items (λ (s : Bor Text). s.now))) ∙ sym c.fits_script.ensures ∙ fits,
+    queries_told c.is_set-queries.result c.get_str-script.result (matches_of program _) script (c.is_set-queries.ensures ∙ ap (is_given (codes "queries")) m.rows) ∙ sym c.fits_queries.ensures ∙ isnt)

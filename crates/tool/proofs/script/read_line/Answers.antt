@@ -29,6 +29,7 @@ returns-clause-err c =
 pub returns-clause-ok : goal.returns-clause-ok
 returns-clause-ok c =
     let line = c.args.line.now in
+    let queries = c.args.queries in
     let within : utf8_valid_len line ≤ length line = utf8_valid_len_le line in
     let is_text : utf8_valid_len line ≡ length line = omega (arith, within, ap length c.front.ensures.text, length-take-le (utf8_valid_len line) line within, c.if-characters-line.false) in
     let short : nat_le (length line) LINE_LIMIT ≡ true = grind (arith, nat_tests, c.requires) in
@@ -36,6 +37,6 @@ returns-clause-ok c =
     let text : c.deref.result.now ≡ chars line =
     c.deref.ensures.value ∙ c.in_ok-push_characters.ensures ∙ ap (λ t. t ++ chars c.front.result.0.now) c.clear.ensures.items
     ∙ ap chars (c.front.ensures.text ∙ take_all (utf8_valid_len line) line (omega (arith, is_text))) in
-    let is : request_in c.deref.result.now ≡ request_of_line line =
-    ap request_in text ∙ sym (ap (λ (b : Bool). if b && (utf8_valid_len line == length line) then request_in (chars line) else None) short ∙ ap (λ (b : Bool). if b then request_in (chars line) else None) valid) in
+    let is : request_in queries c.deref.result.now ≡ request_of_line queries line =
+    ap (request_in queries) text ∙ sym (ap (λ (b : Bool). if b && (utf8_valid_len line == length line) then request_in queries (chars line) else None) short ∙ ap (λ (b : Bool). if b then request_in queries (chars line) else None) valid) in
     subst (λ (o : Option Request). IfOk c.read_request.result (λ command. option_map request_of command ≡ o)) is c.read_request.ensures

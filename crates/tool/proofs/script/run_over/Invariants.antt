@@ -13,7 +13,7 @@ invariant-loop-reading g l =
     record {
       kept : rules_of l.session.engine ≡ rules_of l.fn.session.engine;
       room : vec_len l.piece ≡ PIECE;
-      stands : IsAt (rules_of l.fn.session.engine) l.print l.fn.session (reader l.fn.reader) (reader l.reader) (writer l.fn.writer) (writer l.writer) l.session l.reading [];
+      stands : IsAt (rules_of l.fn.session.engine) l.options l.fn.session (reader l.fn.reader) (reader l.reader) (writer l.fn.writer) (writer l.writer) l.session l.reading [];
     }
 
 abbrev pub decreases-loop-reading : goal.decreases-loop-reading
