@@ -1,5 +1,6 @@
 pub mod EscapeLemmas
 pub mod NumberLemmas
+pub mod QueryLemmas
 pub mod RequestLemmas
 pub mod ScriptLemmas
 pub mod ScriptStepLemmas

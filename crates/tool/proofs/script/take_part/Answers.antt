@@ -1,4 +1,4 @@
-use Rattle.std.proofs.Common.{[], refl, sym, inr}
+use Rattle.std.proofs.Common.{◌+◌, [], refl, sym, take, drop, inl, inr}
 use Rattle.std.proofs.lemmas.List.{append-nil}
 use Rattle.tool.proofs.script.take_part.Goals as goal
 
@@ -12,3 +12,14 @@ returns-in-Err-grow-clause-err g c = inr (record {
   state = refl;
   writer = refl;
 })
+
+pub returns-in-Err-obey_line-clause-err : goal.returns-in-Err-obey_line-clause-err
+returns-in-Err-obey_line-clause-err g c =
+    let grows = c.in-Ok.ensures.ok in
+    inl (record {
+      front = take c.in-Some.end c.args.piece.now;
+      after = drop (c.in-Some.end + 1) c.args.piece.now;
+      ends = c.in-Some.ensures.1;
+      fails = rw (grows.line, grows.lines, grows.written) at c.in-Err-obey_line.ensures.err;
+      works = rw grows.line at c.in-Err-obey_line.ensures.works;
+    })
