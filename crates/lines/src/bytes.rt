@@ -45,11 +45,7 @@ const CHARACTERS_AT_ONCE: usize = 64;
 
 /// Writes characters as UTF-8 after `done` bytes that the sink passed before, and says how many bytes that
 /// makes; a fault counts these too. It takes no memory.
-pub fn write_chars<W: Sink>(
-    writer: &mut W,
-    done: u64,
-    chars: &[char],
-) -> Result<u64, WriteFault>
+pub fn write_chars<W: Sink>(writer: &mut W, done: u64, chars: &[char]) -> Result<u64, WriteFault>
     requires { done ≤ (W.state writer.old).passed }
     ensures ok { IfOk result (λ n. PassedOn (encode_utf8_all chars.now) done
         (W.state writer.old) (W.state writer.new) n) }

@@ -8,19 +8,22 @@ use std::fs::File;
 use std::{env, fs};
 use store::VecStore;
 use text_run::RunFault;
-use tool::{ProgramFault, open_text, run_script};
+use tool::{ProgramFault, ScriptOptions, open_text, run_script};
 use trials::tables::FILES;
 use ucd::Tables;
 
 // The lines alone, as the command prints them where no option asks for more.
-const LINES: Print = Print {
-    visual: true,
-    basedir: false,
-    ltov: false,
-    vtol: false,
-    levels: false,
-    padded: true,
-    mirrored: true,
+const LINES: ScriptOptions = ScriptOptions {
+    print: Print {
+        visual: true,
+        basedir: false,
+        ltov: false,
+        vtol: false,
+        levels: false,
+        padded: true,
+        mirrored: true,
+    },
+    queries: false,
 };
 
 const UNREAD: ProgramFault = ProgramFault::Run(RunFault::Read);

@@ -6,7 +6,7 @@ use session::{Kept, Session};
 use std::alloc::Global;
 use store::ParagraphStore;
 use text_run::{RunFault, run_text};
-use tool::run_script;
+use tool::{ScriptOptions, run_script};
 use trials::sessions::{ALL, open};
 use trials::tables::{engine, let_go};
 use trials::{Page, Writer, Wrong};
@@ -96,5 +96,9 @@ fn obey_in<S: ParagraphStore<Kept> + Drop>(
     let mut session = session;
     let mut reader = FromRead::new(SCRIPT);
     let mut writer = ToWrite::new(Writer { page });
-    run_script(alloc, &mut reader, &mut writer, &mut session, &LINES)
+    let options = ScriptOptions {
+        print: LINES,
+        queries: false,
+    };
+    run_script(alloc, &mut reader, &mut writer, &mut session, &options)
 }

@@ -102,6 +102,9 @@ returns-then-not-fits_queries-clause-err c = λ words m.
     ∙ texts_or_none c.get_strs.result _ refl
     ∙ ap (λ texts. unwrap_or texts []) (c.get_strs.ensures ∙ raw_values-rows found (codes "files") ∙ ap (all_of (codes "files")) m.rows) in
     let fits : c.fits_script.result ≡ true = search rules in
-    let isnt : c.fits_queries.result ≡ false = search rules in
-    (m.taken, ap is_some (sym (c.in-Some.ensures.base ∙ ap base_of m.rows)), script_one c.get_str-script.result c.len.result (matches_of program _) script (omega (arith, c.len.ensures, ap length files, length-map c.in-Ok.files.items (λ (s : Bor Text). s.now))) ∙ sym c.fits_script.ensures ∙ fits,
-    queries_told c.is_set-queries.result c.get_str-script.result (matches_of program _) script (c.is_set-queries.ensures ∙ ap (is_given (codes "queries")) m.rows) ∙ sym c.fits_queries.ensures ∙ isnt)
+    let isnt : c.fits_queries.result ≡ false = search rules in (
+      m.taken,
+      ap is_some (sym (c.in-Some.ensures.base ∙ ap base_of m.rows)),
+      script_one c.get_str-script.result c.len.result (matches_of program _) script (omega (arith, c.len.ensures, ap length files, length-map c.in-Ok.files.items (λ (s : Bor Text). s.now))) ∙ sym c.fits_script.ensures ∙ fits,
+      queries_told c.is_set-queries.result c.get_str-script.result (matches_of program _) script (c.is_set-queries.ensures ∙ ap (is_given (codes "queries")) m.rows) ∙ sym c.fits_queries.ensures ∙ isnt,
+    )
