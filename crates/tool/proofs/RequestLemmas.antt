@@ -10,7 +10,7 @@ use Rattle.session.specs.Changes.{Held}
 use Rattle.session.specs.declared.edits.Damage.{Damage}
 use Rattle.session.specs.declared.edits.EditFault.{EditFault}
 use Rattle.session.specs.declared.edits.EditFault.TheVariants as e
-use Rattle.tool.specs.Reading.{Changed, Obeys, ObeysNot, Stops, change_text, lacks_memory}
+use Rattle.tool.specs.Reading.{Changed, Obeys, ObeysNot, Stops, TakesMemory, change_text, lacks_memory}
 use Rattle.tool.specs.ScriptRun.{after_request, answer_by, answer_to, obeyed, obeyed_text, request_refusal}
 use Rattle.tool.specs.Scripts.{Request}
 use Rattle.text_run.specs.declared.faults.RunFault.{RunFault}
@@ -60,8 +60,8 @@ module _ (rules : Rules) (print : Print) (request : Request) (old new : Held) wh
     stops (Ok n) stopped = tt
     stops (Err fault) stopped = stops_at fault stopped
 
-  -- where memory ran out nothing refuses what is asked, and all stays
-  pub wants : (change : Result Damage EditFault) → Changed rules request old new change → lacks_memory change ≡ true → (request_refusal rules old request ≡ None) × (new ≡ old)
+  -- where memory ran out nothing refuses what is asked, it takes some, and all stays
+  pub wants : (change : Result Damage EditFault) → Changed rules request old new change → lacks_memory change ≡ true → (request_refusal rules old request ≡ None) × TakesMemory old request × (new ≡ old)
   wants (Ok damage) changed short = absurd (true≢false (sym short))
   wants (Err e.NoMemory) changed short = changed
   wants (Err e.OutOfRange) changed short = absurd (true≢false (sym short))

@@ -105,12 +105,12 @@ question_text rules print width kept ask.Size = size_text kept
 question_text rules print width kept (ask.Text pos count) = part_text kept pos count
 
 -- the questions for which memory may be wanted: the cluster of a character that is there
-abbrev pub WantsMemory : List Layout → Question → Type 0
-WantsMemory kept (ask.Cluster pos) = pos < length (text_of kept)
-WantsMemory kept question = ⊥
+abbrev pub AsksMemory : List ℕ → Question → Type 0
+AsksMemory text (ask.Cluster pos) = pos < length text
+AsksMemory text question = ⊥
 
 -- an answer was not written whole: a write failed, or memory was wanted and nothing is written
-abbrev pub AnswersNot : List ℕ → List Layout → Question → ℕ → Device → Device → RunFault → Type 0
-AnswersNot text kept question written old new (f.Write n) = StoppedIn text written old new n
-AnswersNot text kept question written old new f.Memory = WantsMemory kept question × (new ≡ old)
-AnswersNot text kept question written old new fault = ⊥
+abbrev pub AnswersNot : List ℕ → List ℕ → Question → ℕ → Device → Device → RunFault → Type 0
+AnswersNot answer text question written old new (f.Write n) = StoppedIn answer written old new n
+AnswersNot answer text question written old new f.Memory = AsksMemory text question × (new ≡ old)
+AnswersNot answer text question written old new fault = ⊥

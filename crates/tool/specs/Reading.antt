@@ -12,7 +12,8 @@ use Rattle.session.specs.Sessions.{State, held_at}
 use Rattle.session.specs.declared.edits.Damage.{Damage}
 use Rattle.session.specs.declared.edits.EditFault.{EditFault}
 use Rattle.session.specs.declared.edits.EditFault.TheVariants.{NoMemory}
-use Rattle.tool.specs.Scripts.{Request, is_line_end, request_of_line}
+use Rattle.tool.specs.Queries.{AsksMemory}
+use Rattle.tool.specs.Scripts.{Request, Insert, Delete, SetWidth, Show, Ask, is_line_end, request_of_line}
 use Rattle.tool.specs.ScriptEnds.{IsScriptRun}
 use Rattle.tool.specs.ScriptRun.{after_line, after_lines, answer_line, answer_to, after_request, answers, damage_text, is_good, obeyed, obeyed_text, request_refusal, refusal_text, with_ends}
 use Rattle.tool.specs.Work.{LineWorks, LinesWork}
@@ -23,13 +24,21 @@ use Rattle.text_run.specs.declared.faults.RunFault.TheVariants as f
 use Rattle.tool.specs.declared.script.Reading.{Reading}
 use Rattle.tool.specs.declared.script.ScriptOptions.{ScriptOptions}
 
+-- the requests for which memory may be wanted: changes where there is a text or a piece, and the cluster of a character that is there
+abbrev pub TakesMemory : Held → Request → Type 0
+TakesMemory held (Insert pos piece) = 0 < length held.text + length piece
+TakesMemory held (Delete pos count) = 0 < length held.text
+TakesMemory held (SetWidth width) = 0 < length held.text
+TakesMemory held Show = ⊥
+TakesMemory held (Ask question) = AsksMemory held.text question
+
 -- a change was made, and this is its damage; or it was refused, and all stays; which it does for want of memory too, but then
 -- there was no reason to refuse it
 abbrev pub Changed : Rules → Request → Held → Held → Result Damage EditFault → Type 0
 Changed rules request old new (Ok damage) =
     (request_refusal rules old request ≡ None) × (new ≡ obeyed old request)
     × ((print : Print) → obeyed_text rules print old request ≡ damage_text damage.first_line damage.old_lines damage.new_lines)
-Changed rules request old new (Err NoMemory) = (request_refusal rules old request ≡ None) × (new ≡ old)
+Changed rules request old new (Err NoMemory) = (request_refusal rules old request ≡ None) × TakesMemory old request × (new ≡ old)
 Changed rules request old new (Err reason) = (request_refusal rules old request ≡ Some reason) × (new ≡ old)
 
 abbrev pub lacks_memory : Result Damage EditFault → Bool
@@ -51,12 +60,12 @@ pub record Obeys (rules : Rules) (print : Print) (request : Request) (written : 
   pub held : held_new ≡ after_request rules held_old request
   pub wrote : PassedOn (answer_to rules print held_old request) written old new n
 
--- or it was obeyed, and a write failed; or there was no memory for it, where nothing refuses it, and all stays
+-- or it was obeyed, and a write failed; or there was no memory for it, where nothing refuses it and it takes some, and all stays
 abbrev pub ObeysNot : Rules → Print → Request → ℕ → Held → Held → Device → Device → RunFault → Type 0
 ObeysNot rules print request written held_old held_new old new (f.Write n) =
     (held_new ≡ after_request rules held_old request) × StoppedIn (answer_to rules print held_old request) written old new n
 ObeysNot rules print request written held_old held_new old new f.Memory =
-    (request_refusal rules held_old request ≡ None) × (held_new ≡ held_old) × (new ≡ old)
+    (request_refusal rules held_old request ≡ None) × TakesMemory held_old request × (held_new ≡ held_old) × (new ≡ old)
 ObeysNot rules print request written held_old held_new old new fault = ⊥
 
 -- a line was obeyed

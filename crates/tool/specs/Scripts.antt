@@ -1,5 +1,5 @@
 -- The lines of an edit script, and what each asks for.
-use Rattle.std.specs.Prelude.{ℕ, zero, suc, ◌+◌, ◌*◌, ◌-◌, ◌==◌, nat_lt, nat_le, ◌&&◌, ◌||◌, Bool, List, [], ◌∷◌, length, fold, take, drop, take_while, slice_index, codes, Option, Some, None, option_map, if◌then◌else◌}
+use Rattle.std.specs.Prelude.{◌≡◌, ◌<◌, ℕ, zero, suc, ◌+◌, ◌*◌, ◌-◌, ◌==◌, nat_lt, nat_le, ◌&&◌, ◌||◌, Bool, List, [], ◌∷◌, length, fold, take, drop, take_while, slice_index, codes, Option, Some, None, is_some, true, option_map, if◌then◌else◌}
 use Rattle.std.specs.Char.{digit_value, is_digit}
 use Rattle.std.specs.Cmp.Lexicographic.{pointwise}
 use Rattle.std.specs.List.{after_first, before_first, list_all, position_or_len, slice_split}
@@ -110,6 +110,19 @@ insertion_of None piece = None
 abbrev pub insertion_in : Option (List ℕ × List ℕ) → Option Request
 insertion_in None = None
 insertion_in (Some (pos, text)) = insertion_of (number_in pos) (unescaped text)
+
+-- an insert at a place that is a number, of a text that is not empty: what alone is kept as it is read
+pub record IsPieceIn (text : List ℕ) : Type 0 where
+  pub pos : List ℕ
+  pub piece : List ℕ
+  pub parts : parted text ≡ Some (pos, piece)
+  pub place : is_some (number_in pos) ≡ true
+  pub some : 0 < length piece
+
+pub record HasPiece (line : List ℕ) : Type 0 where
+  pub rest : List ℕ
+  pub word : stripped (codes "insert ") line ≡ Some rest
+  pub piece : IsPieceIn rest
 
 abbrev pub deletion_of : Option ℕ → Option ℕ → Option Request
 deletion_of (Some pos) (Some count) = Some (Delete pos count)

@@ -221,7 +221,7 @@ pub fn write_query<W: Sink, S: ParagraphStore<Kept>>(
         session.now.width session.now.kept question.now) written
         (W.state writer.old) (W.state writer.new)) }
     ensures err { IfErr result (AnswersNot (question_text (rules_of session.now.engine) print.now
-        session.now.width session.now.kept question.now) session.now.kept question.now written
+        session.now.width session.now.kept question.now) (text_of session.now.kept) question.now written
         (W.state writer.old) (W.state writer.new)) }
     ensures counted { IfOk result (λ n. n ≤ (W.state writer.new).passed) }
 {

@@ -1,10 +1,11 @@
 //! The lines of an edit script: what each asks for.
 ghost use Rattle.std.specs.Prelude.{◌≡◌, ◌+◌, ◌<◌, ◌≤◌, ◌^◌, List, ℕ, take, drop, length, true};
-ghost use Rattle.std.specs.Prelude.{IfOk, IfSome, option_map, string_bytes};
+ghost use Rattle.std.specs.Prelude.{IfOk, IfSome, OnErr, option_map, string_bytes};
 ghost use Rattle.std.specs.List.{prefix_len};
 ghost use Rattle.std.specs.Char.{is_digit};
 ghost use Rattle.std.specs.Str.{chars};
 ghost use Rattle.tool.specs.Requests.{request_of};
+ghost use Rattle.tool.specs.Scripts.{HasPiece, IsPieceIn};
 ghost use Rattle.tool.specs.Scripts.{Ask, SetWidth, are_digits, both_in, braced, deletion_in};
 ghost use Rattle.tool.specs.Scripts.{edit_request_in, escaped, insertion_in, number_by, number_in};
 ghost use Rattle.tool.specs.Scripts.{parted, question_in, request_in, stripped, unescaped, written};
@@ -54,7 +55,8 @@ pub fn read_request(
     queries: bool,
     line: &[char],
 ) -> Result<Option<Request>, AllocError>
-    ensures { IfOk result (λ request. option_map request_of request ≡ request_in queries line.now) }
+    ensures ok { IfOk result (λ request. option_map request_of request ≡ request_in queries line.now) }
+    ensures memory { OnErr result (HasPiece line.now) }
 {
     match read_edit_request(alloc, line) {
         Ok(None) if queries => Ok(read_question(line)),
@@ -107,7 +109,8 @@ fn both(text: &[char]) -> Option<(usize, usize)>
 
 // What a line asks for that is no question.
 fn read_edit_request(alloc: Global, line: &[char]) -> Result<Option<Request>, AllocError>
-    ensures { IfOk result (λ request. option_map request_of request ≡ edit_request_in line.now) }
+    ensures ok { IfOk result (λ request. option_map request_of request ≡ edit_request_in line.now) }
+    ensures memory { OnErr result (HasPiece line.now) }
 {
     if let Some(rest) = after(&SHOW, line) {
         return Ok(if rest.is_empty() {
@@ -129,7 +132,9 @@ fn read_edit_request(alloc: Global, line: &[char]) -> Result<Option<Request>, Al
 }
 
 fn insertion(alloc: Global, text: &[char]) -> Result<Option<Request>, AllocError>
-    ensures { IfOk result (λ request. option_map request_of request ≡ insertion_in (parted text.now)) }
+    ensures ok { IfOk result (λ request. option_map request_of request
+        ≡ insertion_in (parted text.now)) }
+    ensures memory { OnErr result (IsPieceIn text.now) }
 {
     let Some((pos, text)) = words(text) else {
         return Ok(None);
@@ -216,7 +221,9 @@ fn value(digits: &[char], radix: u32) -> usize
 
 // The text that these characters write, if their escapes are right.
 fn unescape(alloc: Global, text: &[char]) -> Result<Option<String>, AllocError>
-    ensures { IfOk result (λ piece. option_map (λ p. chars (string_bytes p)) piece ≡ unescaped text.now) }
+    ensures ok { IfOk result (λ piece. option_map (λ p. chars (string_bytes p)) piece
+        ≡ unescaped text.now) }
+    ensures memory { OnErr result (0 < length text.now) }
 {
     let mut piece = String::new(alloc);
     let mut at = 0;

@@ -224,6 +224,7 @@ fn read_line(
     ensures ok { IfOk result (λ request. option_map request_of request
         ≡ request_of_line queries line.now) }
     ensures err { OnErr result (utf8_valid_len line.now ≡ length line.now) }
+    ensures memory { OnErr result (0 < length line.now) }
 {
     let (characters, _) = front(line);
     if characters.len() < line.len() {
@@ -235,7 +236,8 @@ fn read_line(
 }
 
 fn push_characters(text: &str, characters: &mut Vec<char>) -> Result<(), AllocError>
-    ensures { OnOk result (characters.new.items ≡ characters.old.items ++ chars text.now) }
+    ensures ok { OnOk result (characters.new.items ≡ characters.old.items ++ chars text.now) }
+    ensures memory { OnErr result (0 < length text.now) }
 {
     for c in text.chars() {
         characters.push(c)?;

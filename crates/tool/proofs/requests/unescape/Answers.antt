@@ -34,8 +34,8 @@ loop-at-preserved c =
           ∙ sym (next_written text n d c.loop-at-test.true front c.in-Some.c c.in-Some.len is c.in-Some.ensures.within.0) ∙ c.loop-at.invariant.whole;
     }
 
-pub returns-in-None : goal.returns-in-None
-returns-in-None c =
+pub returns-in-None-clause-ok : goal.returns-in-None-clause-ok
+returns-in-None-clause-ok c =
     let text = c.args.text.now in
     let n = c.loop-at.at in
     let d = c.index-text-at.result in
@@ -43,5 +43,5 @@ returns-in-None c =
     ap (λ (x : ℕ). written x (drop (n + 1) text)) (sym c.index-text-at.is) ∙ ap (written d) (sym (take_rest text (n + 1))) ∙ sym c.in-None.ensures.value in
     sym (none_written text n d c.loop-at-test.true (chars (string_bytes c.loop-at.piece)) is) ∙ c.loop-at.invariant.whole
 
-pub returns : goal.returns
-returns c = sym (all_written c.args.text.now (chars (string_bytes c.loop-at.piece)) c.loop-at.at (omega (arith, c.loop-at-test.false))) ∙ c.loop-at.invariant.whole
+pub returns-clause-ok : goal.returns-clause-ok
+returns-clause-ok c = sym (all_written c.args.text.now (chars (string_bytes c.loop-at.piece)) c.loop-at.at (omega (arith, c.loop-at-test.false))) ∙ c.loop-at.invariant.whole

@@ -40,7 +40,7 @@ returns-then-lacks_memory-clause-err g c =
     ] in
     let short : lacks_memory c.match-request.change ≡ true = sym c.lacks_memory.ensures ∙ c.if-lacks_memory.true in
     let wanted = wants rules c.args.print.now (request_of c.args.request.now) (held_at c.args.session.now) (held_at c.match-request.session) c.match-request.change changed short in
-    (wanted.0, wanted.1, refl)
+    (wanted.0, wanted.1, wanted.2, refl)
 
 pub returns-then-lacks_memory-clause-works : goal.returns-then-lacks_memory-clause-works
 returns-then-lacks_memory-clause-works g c =

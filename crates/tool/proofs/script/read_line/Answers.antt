@@ -1,11 +1,11 @@
-use Rattle.std.proofs.Common.{◌≡◌, ◌≤◌, ◌==◌, ◌&&◌, ◌++◌, Bool, true, Option, None, IfOk, length, nat_le, option_map, OnErr, Result, Ok, Err, sym, subst, ap, ◌∙◌, arith, if◌then◌else◌}
+use Rattle.std.proofs.Common.{◌≡◌, ℕ, ◌<◌, ◌≤◌, ◌==◌, ◌&&◌, ◌++◌, List, [], ◌∷◌, Bool, true, Option, None, IfOk, length, nat_le, option_map, OnErr, Result, Ok, Err, sym, subst, ap, ◌∙◌, arith, if◌then◌else◌}
 use Rattle.std.specs.Str.{chars}
 use Rattle.std.specs.Str.Lossy.{utf8_valid_len}
 use Rattle.std.proofs.lemmas.Bool.Decides.{nat_tests}
 use Rattle.std.proofs.lemmas.List.{length-take-le, take_all}
-use Rattle.std.proofs.lemmas.Str.{utf8_valid_len_le}
+use Rattle.std.proofs.lemmas.Str.{chars-nil, utf8_valid_len_le}
 use Rattle.tool.specs.Requests.{request_of}
-use Rattle.tool.specs.Scripts.{Request, request_in, request_of_line}
+use Rattle.tool.specs.Scripts.{HasPiece, Request, request_in, request_of_line}
 use Rattle.tool.proofs.script.read_line.Goals as goal
 use Rattle.tool.specs.declared.script.TheConstants.{LINE_LIMIT}
 
@@ -35,8 +35,31 @@ returns-clause-ok c =
     let short : nat_le (length line) LINE_LIMIT ≡ true = grind (arith, nat_tests, c.requires) in
     let valid : (utf8_valid_len line == length line) ≡ true = grind (arith, nat_tests, is_text) in
     let text : c.deref.result.now ≡ chars line =
-    c.deref.ensures.value ∙ c.in_ok-push_characters.ensures ∙ ap (λ t. t ++ chars c.front.result.0.now) c.clear.ensures.items
+    c.deref.ensures.value ∙ c.in_ok-push_characters.ensures.ok ∙ ap (λ t. t ++ chars c.front.result.0.now) c.clear.ensures.items
     ∙ ap chars (c.front.ensures.text ∙ take_all (utf8_valid_len line) line (omega (arith, is_text))) in
     let is : request_in queries c.deref.result.now ≡ request_of_line queries line =
     ap (request_in queries) text ∙ sym (ap (λ (b : Bool). if b && (utf8_valid_len line == length line) then request_in queries (chars line) else None) short ∙ ap (λ (b : Bool). if b then request_in queries (chars line) else None) valid) in
-    subst (λ (o : Option Request). IfOk c.read_request.result (λ command. option_map request_of command ≡ o)) is c.read_request.ensures
+    subst (λ (o : Option Request). IfOk c.read_request.result (λ command. option_map request_of command ≡ o)) is c.read_request.ensures.ok
+
+-- no piece stands in a line without characters
+piece_some : (text : List ℕ) → HasPiece text → 0 < length text
+piece_some [] has = let none = has.word in cc none
+piece_some (c ∷ text) has = omega arith
+
+line_some : (line : List ℕ) → 0 < length (chars line) → 0 < length line
+line_some [] some = omega (arith, some, ap length chars-nil)
+line_some (b ∷ line) some = omega arith
+
+err_weaker : {A E : Type 0} (P Q : Type 0) → (P → Q) → (r : Result A E) → OnErr r P → OnErr r Q
+err_weaker P Q by (Ok done) p = tt
+err_weaker P Q by (Err error) p = by p
+
+pub returns-clause-memory : goal.returns-clause-memory
+returns-clause-memory c =
+    let line = c.args.line.now in
+    let within : utf8_valid_len line ≤ length line = utf8_valid_len_le line in
+    let is_text : utf8_valid_len line ≡ length line = omega (arith, within, ap length c.front.ensures.text, length-take-le (utf8_valid_len line) line within, c.if-characters-line.false) in
+    let text : c.deref.result.now ≡ chars line =
+    c.deref.ensures.value ∙ c.in_ok-push_characters.ensures.ok ∙ ap (λ t. t ++ chars c.front.result.0.now) c.clear.ensures.items
+    ∙ ap chars (c.front.ensures.text ∙ take_all (utf8_valid_len line) line (omega (arith, is_text))) in
+    err_weaker _ _ (λ has. line_some line (piece_some (chars line) (subst HasPiece text has))) c.read_request.result c.read_request.ensures.memory
