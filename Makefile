@@ -4,8 +4,8 @@
 # make ucd    the seven table files of the Unicode version that crates/ucd/src/version.rt names, from Debian's package
 #             unicode-data, into ucd/
 # make check  what to run before each commit, once make has built: what the documents name, the cases, the calls
-#             that fail, Unicode's conformance tests, the libraries' tests, the stored runs, the format and the
-#             table of break marks
+#             that fail, Unicode's conformance tests, the libraries' tests, the stored runs, the format, the table
+#             of break marks, and the editor of examples/coedit under tmux
 # make test   the gate: every proof from nothing, the must-fail edits, the tests and the stored runs; then what the
 #             documents name, the cases, each allocation refused in turn, and each call of a device failing
 # make attack the other wrong bodies, many at a time, over what make has built: make attack CRATES="lines session"
@@ -20,7 +20,7 @@ JOBS := $(shell nproc)
 TABLES = DerivedBidiClass BidiBrackets BidiMirroring LineBreak DerivedGeneralCategory EastAsianWidth emoji-data
 OPTIONS = --width 44 --basedir
 
-.PHONY: all program ucd demo check test attack bench-program conformance bench
+.PHONY: all program ucd demo check tmux test attack bench-program conformance bench
 
 all: programs = fribidi bench refused
 program: programs = fribidi
@@ -74,8 +74,12 @@ else
 	@$(try) --data sample.txt=$(CURDIR)/demo/sample.txt --cases $(CURDIR)/demo -- --ucd ucd
 endif
 
-check: ucd
+check: ucd tmux
 	.ci/check
+
+# The editor of examples/ is driven in it.
+tmux:
+	@command -v tmux > /dev/null || { apt-get update -q && apt-get install -qy tmux; }
 
 test:
 	@log=$$(mktemp) && bash -o pipefail -c "RT_JOBS=$$(.ci/lanes) rt ci | tee $$log && .ci/names $$log | tee -a $$log \
