@@ -1,11 +1,12 @@
 -- The lines of the first paragraphs of a text, one paragraph after another.
-use Rattle.std.proofs.Common.{◌≡◌, ℕ, ◌+◌, ◌≤◌, Bool, true, List, [], ◌∷◌, ◌++◌, length, take, drop, Some, None, sym, subst, ap, ◌∙◌, arith}
+use Rattle.std.proofs.Common.{◌≡◌, ℕ, suc, ◌+◌, ◌<◌, ◌≤◌, Bool, true, List, [], ◌∷◌, ◌++◌, length, take, drop, Some, None, sym, subst, ap, ◌∙◌, arith}
 use Rattle.std.specs.List.{concat}
 use Rattle.std.proofs.lemmas.Bool.{and_parts, leb-true}
-use Rattle.std.proofs.lemmas.List.{append_assoc, append-nil, length-append, length-take-le}
+use Rattle.std.proofs.lemmas.List.{append_assoc, append-nil, length-append, length-drop, length-take-le}
 use Rattle.std.proofs.lemmas.List.Folds.{concat-append}
 use Rattle.std.proofs.lemmas.Grind.{flat_map-append}
 use Rattle.bidi.specs.Cuts.{SplitsAt, paragraphs}
+use Rattle.bidi.specs.Pieces.{ParagraphsArePieces}
 use Rattle.lines.specs.Engine.{Prints}
 use Rattle.lines.specs.Layouts.{Rules, cut_by}
 use Rattle.lines.specs.Pages.{page, paragraph_bytes}
@@ -74,3 +75,18 @@ module _ (rules : Rules) (width : ℕ) (print : Print) (text : List ℕ) (before
   pushed_at_most rest seen n after engine engine_new so_far at_most few =
       at_most_more print engine_old engine engine_new (length (concat so_far.pars)) n (length text) so_far.at_most at_most
       (omega (arith, few, ap length so_far.front.whole, length-append (concat so_far.pars) rest))
+
+-- a text of which a rest has a cut has one
+pub rest_uncut : ParagraphsArePieces → (is_cut : ℕ → ℕ → Bool) (text rest : List ℕ) (pars : List (List ℕ)) (k : ℕ) → IsFront is_cut pars text rest → SplitsAt is_cut rest (Some k) → SplitsAt is_cut text None → ⊥
+rest_uncut law is_cut text rest pars k front splits none =
+    let some : 0 < length text = omega (arith, splits.1, ap length front.whole, length-append (concat pars) rest) in
+    let parts : text ∷ [] ≡ pars ++ paragraphs is_cut rest =
+    sym (none some) ∙ ap (paragraphs is_cut) (sym (append-nil text)) ∙ front.cuts [] ∙ ap (λ t. pars ++ paragraphs is_cut t) (append-nil rest) in
+    let count : 1 ≡ length pars + suc (length (paragraphs is_cut (drop k rest))) =
+    ap length parts ∙ length-append pars (paragraphs is_cut rest) ∙ ap (λ (ps : List (List ℕ)). length pars + length ps) splits.2 in
+    let empty : length (drop k rest) ≡ 0 = no_pieces (paragraphs is_cut (drop k rest)) (drop k rest) (law.whole is_cut (drop k rest)) (omega (arith, count)) in
+    omega (arith, empty, length-drop k rest, splits.1)
+  where
+    no_pieces : (ps : List (List ℕ)) (t : List ℕ) → concat ps ≡ t → length ps ≡ 0 → length t ≡ 0
+    no_pieces [] t whole zero_is = ap length (sym whole)
+    no_pieces (p ∷ ps) t whole zero_is = absurd (omega (arith, zero_is))

@@ -95,7 +95,7 @@ no_memory rules width print bytes old new engine_old engine_new fault wrong (inr
 
 -- where memory runs out at the end of a text nothing is written
 pub none_written : (rules : Rules) (width : ℕ) (print : Print) (held : Held) (old new : Device) (fault : RunFault) → Finishes rules width print held old new (Err fault) → fault ≡ f.Memory → new ≡ old
-none_written rules width print held old new fault is memory = (subst (λ (w : RunFault). Finishes rules width print held old new (Err w)) memory is).1
+none_written rules width print held old new fault is memory = (subst (λ (w : RunFault). Finishes rules width print held old new (Err w)) memory is).2
 
 module _ (rules : Rules) (width : ℕ) (print : Print) (reader_old writer_old : Device) (engine_old : Engine) (reader writer : Device) (engine : Engine) where
   -- a run that stops has counted no more than the characters that were read
@@ -306,7 +306,7 @@ module _ (rules : Rules) (width : ℕ) (print : Print) (reader_old writer_old : 
           ended reader_new writer_new engine_new (f.Write n) (finish_stopped is.0 writer_new is.1.0 n is.1.2 is.1.1) no_more_last (λ same. absurd (cc same))
       ends_finish piece writer_new (Err f.Memory) is counts =
           let next = at_read reader_new (take held.waiting held.piece.items) held.text.items [] s.is_at s.all_sent s.text.short s.beginning.few gives.bytes (omega (arith, gives.passes.passed)) gives.passes.failures (omega arith) in
-          subst (λ (w : Device). Ends rules width print reader_old writer_old engine_old reader_new w engine_new (Err f.Memory)) (sym is.1)
+          subst (λ (w : Device). Ends rules width print reader_old writer_old engine_old reader_new w engine_new (Err f.Memory)) (sym is.2)
           (ended reader_new writer engine_new f.Memory (at_memory rules width print reader_old reader_new writer_old writer (take held.waiting held.piece.items ++ []) held.text.items [] next.0) no_more_last
           (λ same. (s.is_at.decoded ++ take held.waiting held.piece.items, has_read, (ap are_within (pars_last is.0) ∙ within_last is.0, λ bad. absurd (true≢false (sym bad ∙ no_bad held s))))))
       ends_finish piece writer_new (Err f.Read) is counts = absurd is

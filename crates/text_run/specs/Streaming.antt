@@ -124,7 +124,7 @@ Finishes rules width print held old new (Ok done) = (held.waiting ≡ 0) × Wrot
 Finishes rules width print held old new (Err (f.NotUtf8 n)) = (0 < held.waiting) × (n ≡ held.decoded) × (new ≡ old)
 Finishes rules width print held old new (Err (f.Write n)) =
     (held.waiting ≡ 0) × ((m : ℕ) × (n ≡ held.written + m) × StoppedAt m (last_lines rules width print held) old new)
-Finishes rules width print held old new (Err f.Memory) = (held.waiting ≡ 0) × (new ≡ old)
+Finishes rules width print held old new (Err f.Memory) = (held.waiting ≡ 0) × (0 < length held.text.items) × (new ≡ old)
 Finishes rules width print held old new (Err fault) = ⊥
 
 -- Between two states of its devices a run has read some bytes and written the lines of some paragraphs. It waits with some bytes at

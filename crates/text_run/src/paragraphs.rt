@@ -1,6 +1,6 @@
 //! The paragraphs of a text whose end isn't known: those that a cut ends are laid out, and the rest waits.
 ghost use Rattle.std.specs.Prelude.{◌≡◌, ◌++◌, ◌<◌, ◌≤◌, ℕ, ⊤, false, true, length, take};
-ghost use Rattle.std.specs.Prelude.{None, Some, IfOk, IfSome, MatchOption, if◌then◌else◌};
+ghost use Rattle.std.specs.Prelude.{None, Some, IfOk, IfSome, OnErr, MatchOption, if◌then◌else◌};
 ghost use Rattle.std.specs.Str.{chars};
 ghost use Rattle.bidi.specs.Cuts.{paragraphs, SplitsAt};
 ghost use Rattle.lines.specs.Engine.{rules_of, SameRules};
@@ -113,7 +113,8 @@ fn is_cut_after(engine: &Engine, last: Option<char>, c: char) -> bool
 }
 
 /// Adds to a page the lines of the paragraphs of a text that a cut ends. None of them is too long, and
-/// there is no cut among the first `seen` characters. Gives what is left of the text.
+/// there is no cut among the first `seen` characters. Gives what is left of the text. It takes memory only
+/// where a cut ends one.
 pub fn push_paragraphs<'a>(
     alloc: Global,
     page: &mut Page,
@@ -128,6 +129,7 @@ pub fn push_paragraphs<'a>(
     requires seen { SplitsAt (cut_by (rules_of engine.old)) (take seen text.now) None }
     ensures pushed { IfOk result (λ rest. Pushed (rules_of engine.old) width print.now text.now rest.now
         page.old.bytes.items page.new.bytes.items engine.old engine.new) }
+    ensures memory { OnErr result (SplitsAt (cut_by (rules_of engine.old)) text.now None → ⊥) }
     ensures at_most { PrintsAtMost (length text.now) print.now engine.old engine.new }
     ensures rules { SameRules engine.old engine.new }
 {

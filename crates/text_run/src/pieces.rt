@@ -1,5 +1,5 @@
 //! The characters of a text whose bytes come in pieces, each of which may end inside a character.
-ghost use Rattle.std.specs.Prelude.{◌≡◌, ◌+◌, ◌++◌, ◌<◌, ◌≤◌, false, true, None, length, take, OnOk};
+ghost use Rattle.std.specs.Prelude.{◌≡◌, ◌+◌, ◌++◌, ◌<◌, ◌≤◌, false, true, None, length, take, OnErr, OnOk};
 ghost use Rattle.std.specs.Str.{chars};
 ghost use Rattle.std.specs.Str.Lossy.{utf8_valid_len, utf8_error_len};
 ghost use Rattle.text_run.specs.TextRun.{is_bad};
@@ -9,7 +9,8 @@ use std::alloc::AllocError;
 
 /// Adds the characters of a text.
 pub fn push_characters(text: &str, characters: &mut Vec<char>) -> Result<(), AllocError>
-    ensures { OnOk result (characters.new.items ≡ characters.old.items ++ chars text.now) }
+    ensures ok { OnOk result (characters.new.items ≡ characters.old.items ++ chars text.now) }
+    ensures memory { OnErr result (0 < length text.now) }
 {
     for c in text.chars() {
         characters.push(c)?;

@@ -4,6 +4,7 @@
 ghost use Rattle.std.specs.Prelude.{◌≡◌, ◌+◌, ◌-◌, ◌++◌, ◌<◌, ◌≤◌, ◌^◌, ◌⊎◌, [], true, None, Some, Ok};
 ghost use Rattle.std.specs.Prelude.{take, drop, length, vec_len};
 ghost use Rattle.std.specs.Prelude.{IfOk, IfErr, IsErrOf, OnOk, OnErr, if◌then◌else◌};
+ghost use Rattle.std.specs.Str.Lossy.{utf8_valid_len};
 ghost use Rattle.bidi.specs.Cuts.{paragraphs, SplitsAt};
 ghost use Rattle.device.specs.Device.{Device, Fails};
 ghost use Rattle.lines.specs.Engine.{rules_of, Prints, SameRules};
@@ -114,7 +115,7 @@ impl Held {
 
     // Decodes the bytes that wait and `len` more, and gathers the lines of the paragraphs that are known to
     // end then. Says what is wrong with the text, if anything. Memory is asked for only where no paragraph is
-    // too long, and where bytes are bad only if a paragraph ends before them.
+    // too long, where bytes are bad only if a paragraph ends before them, and where a character is decoded.
     fn gather(
         &mut self,
         alloc: Global,
@@ -139,6 +140,8 @@ impl Held {
         ensures ended { OnErr result (is_bad (take (self.old.waiting + len) self.old.piece.items) ≡ true
             → 1 < length (paragraphs (cut_by (rules_of engine.old))
             (self.old.text.items ++ front_of (take (self.old.waiting + len) self.old.piece.items)))) }
+        ensures decoded { OnErr result
+            (0 < utf8_valid_len (take (self.old.waiting + len) self.old.piece.items)) }
         ensures at_most { PrintsAtMost
             (length (self.old.text.items ++ front_of (take (self.old.waiting + len) self.old.piece.items)))
             print.now engine.old engine.new }
@@ -173,6 +176,7 @@ impl Held {
         requires uncut { SplitsAt (cut_by (rules_of engine.old)) self.old.text.items None }
         requires short { length self.old.text.items ≤ PARAGRAPH_LIMIT }
         ensures lines { OnOk result (GathersLast (rules_of engine.old) width print.now self.old self.new) }
+        ensures memory { OnErr result (0 < length self.old.text.items) }
         ensures counts { OnOk result
             (Prints (length self.old.text.items) print.now engine.old engine.new) }
         ensures at_most { PrintsAtMost (length self.old.text.items) print.now engine.old engine.new }

@@ -24,7 +24,7 @@ use Rattle.text_run.specs.declared.faults.RunFault.TheVariants as f
 use Rattle.tool.specs.declared.script.Reading.{Reading}
 use Rattle.tool.specs.declared.script.ScriptOptions.{ScriptOptions}
 
--- the requests for which memory may be wanted: changes where there is a text or a piece, and the cluster of a character that is there
+-- what memory may be wanted for: a change where there is a text or a piece, and the cluster of a character that is there
 abbrev pub TakesMemory : Held → Request → Type 0
 TakesMemory held (Insert pos piece) = 0 < length held.text + length piece
 TakesMemory held (Delete pos count) = 0 < length held.text

@@ -1,11 +1,11 @@
-use Rattle.std.proofs.Common.{◌≡◌, ◌∙◌, ◌++◌, Some, None, refl, subst}
+use Rattle.std.proofs.Common.{◌≡◌, ◌∙◌, ◌++◌, Some, None, Result, Ok, Err, OnErr, refl, subst}
 use Rattle.bidi.specs.Cuts.{SplitsAt}
 use Rattle.lines.specs.Engine.{rules_of}
 use Rattle.lines.specs.Layouts.{Rules, cut_by}
 use Rattle.lines.specs.Pages.{paragraph_bytes}
 use Rattle.text_run.proofs.CountLemmas.{at_most_none}
 use Rattle.text_run.proofs.PieceLemmas.{first_is_paragraph}
-use Rattle.text_run.proofs.PushLemmas.{first_within, pushed_more, pushed_none, pushed_rest}
+use Rattle.text_run.proofs.PushLemmas.{first_within, pushed_more, pushed_none, pushed_rest, rest_uncut}
 use Rattle.text_run.proofs.paragraphs.push_paragraphs.Goals as goal
 
 pub loop-end-init : goal.loop-end-init
@@ -41,3 +41,16 @@ returns-clause-pushed c =
     let rest = c.loop-end.rest.now in
     pushed_rest (rules_of c.args.engine.now) c.args.width c.args.print.now c.args.text.now c.args.page.now.bytes.items c.args.engine.now rest _ _ c.loop-end.engine
     (subst (λ (r : Rules). SplitsAt (cut_by r) rest None) c.loop-end.invariant.kept c.in_default.ensures) c.loop-end.invariant.so_far
+
+on_err : {A E : Type 0} (P : Type 0) (r : Result A E) → P → OnErr r P
+on_err P (Ok done) p = tt
+on_err P (Err error) p = p
+
+-- memory ran out for a paragraph that a cut ends
+pub returns-in_err-push_paragraph-clause-memory : goal.returns-in_err-push_paragraph-clause-memory
+returns-in_err-push_paragraph-clause-memory c =
+    let rest = c.loop-end.rest.now in
+    let so_far = c.loop-end.invariant.so_far in
+    on_err _ c.from_residual.result
+    (rest_uncut c.paragraphs_are_pieces.ensures (cut_by (rules_of c.args.engine.now)) c.args.text.now rest so_far.pars c.in-Some.end so_far.front
+    (subst (λ (r : Rules). SplitsAt (cut_by r) rest (Some c.in-Some.end)) c.loop-end.invariant.kept c.in-Some.ensures))

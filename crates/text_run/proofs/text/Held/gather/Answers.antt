@@ -1,8 +1,9 @@
-use Rattle.std.proofs.Common.{Bool, Some, None, if◌then◌else◌, inl, inr, refl, ap₂, ◌≡◌, ◌∙◌, ◌+◌, ◌-◌, ◌++◌, ℕ, List, length, take, drop, vec_len, sym, subst, ap, arith}
-use Rattle.std.proofs.lemmas.List.{drop_at, length-append, length-take-le}
-use Rattle.std.proofs.lemmas.Str.{utf8_valid_len_le}
+use Rattle.std.proofs.Common.{Bool, zero, suc, ◌<◌, [], Result, Ok, Err, OnErr, Some, None, if◌then◌else◌, inl, inr, refl, ap₂, ◌≡◌, ◌∙◌, ◌+◌, ◌-◌, ◌++◌, ℕ, List, length, take, drop, vec_len, sym, subst, ap, arith}
+use Rattle.std.proofs.lemmas.List.{append-nil, drop_at, length-append, length-take-le}
+use Rattle.std.proofs.lemmas.Str.{chars-nil, utf8_valid_len_le}
 use Rattle.std.specs.Str.Lossy.{utf8_valid_len}
 use Rattle.lines.specs.Engine.{rules_of}
+use Rattle.bidi.specs.Cuts.{SplitsAt}
 use Rattle.lines.specs.Layouts.{cut_by}
 use Rattle.text_run.specs.declared.text.Held.{Held}
 use Rattle.std.specs.List.{concat}
@@ -71,7 +72,7 @@ returns-clause-gathers c =
     let bytes_len : length bytes ≡ filled = length-take-le filled piece (omega (arith, c.requires.len, c.deref.ensures.len)) in
     let same = c.keep_text.ensures.same in
     let held = c.push_characters.new.characters.items in
-    let text : held ≡ old.text.items ++ front_of bytes = c.in_ok-push_characters.ensures ∙ ap (λ t. old.text.items ++ chars t) c.front-is_bad.ensures.text in
+    let text : held ≡ old.text.items ++ front_of bytes = c.in_ok-push_characters.ensures.ok ∙ ap (λ t. old.text.items ++ chars t) c.front-is_bad.ensures.text in
     let rest = c.in_ok-rest.rest.now in
     let after = c.push_paragraphs.new.page.bytes.items in
     let pushed : Pushed rules c.args.width c.args.print.now c.as_slice-text.result.now rest old.page.bytes.items after c.args.engine.now engine = c.in_ok-rest.ensures.pushed in
@@ -95,3 +96,24 @@ returns-clause-gathers c =
       written = c.keep_bytes.ensures.written ∙ ap (λ (h : Held). h.written) same;
       room = c.keep_bytes.ensures.room ∙ ap (λ (h : Held). vec_len h.piece) same;
     }))
+
+on_err : {A E : Type 0} (P : Type 0) (r : Result A E) → P → OnErr r P
+on_err P (Ok done) p = tt
+on_err P (Err error) p = p
+
+positive : (n : ℕ) → (n ≡ 0 → ⊥) → 0 < n
+positive zero isnt = absurd (isnt refl)
+positive (suc n) isnt = omega arith
+
+-- where no character is decoded the text has no cut still, so nothing is laid out
+pub returns-in_err-rest-clause-decoded : goal.returns-in_err-rest-clause-decoded
+returns-in_err-rest-clause-decoded c =
+    let old = c.args.self.now in
+    let bytes = take (old.waiting + c.args.len) c.deref.result.now in
+    let isnt : utf8_valid_len bytes ≡ 0 → ⊥ = λ none.
+    let text : c.as_slice-text.result.now ≡ old.text.items =
+    c.as_slice-text.ensures.value ∙ c.in_ok-push_characters.ensures.ok ∙ ap (λ t. old.text.items ++ chars t) (c.front-is_bad.ensures.text ∙ ap (λ n. take n bytes) none)
+    ∙ ap (λ cs. old.text.items ++ cs) chars-nil ∙ append-nil old.text.items in
+    c.in_err-rest.ensures.memory (subst (λ (t : List ℕ). SplitsAt (cut_by (rules_of c.args.engine.now)) t None) (sym text) c.requires.uncut) in
+    let some = positive (utf8_valid_len bytes) isnt in
+    on_err _ c.from_residual-in_err-rest.result (subst (λ (p : List ℕ). 0 < utf8_valid_len (take (old.waiting + c.args.len) p)) c.deref.ensures.value some)
