@@ -55,9 +55,9 @@ impl Drop for Engine {
 }
 
 impl Model for Engine {
-    ghost use Rattle.lines.specs.Layouts.{State};
+    ghost use Rattle.lines.specs.Layouts.{EngineState};
 
-    ghost Value = { State };
+    ghost Value = { EngineState };
 
     ghost view = { λ e. record {
       rules = record { tables = e.tables; options = e.options };

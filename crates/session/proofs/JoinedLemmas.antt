@@ -8,7 +8,7 @@ use Rattle.std.proofs.lemmas.List.{append-nil, append_assoc, nil_from_length}
 use Rattle.bidi.specs.Cuts.{paragraphs, SplitsAt}
 use Rattle.bidi.specs.Pieces.{ArePieces, ParagraphsArePieces}
 use Rattle.lines.specs.Layouts.{Layout, Rules, cut_by, layout_of, IsParagraph}
-use Rattle.session.specs.Changes.{are_within, is_within_limit}
+use Rattle.session.specs.Edits.{are_within, is_within_limit}
 use Rattle.session.specs.Kept.{layouts_of}
 use Rattle.session.specs.Scans.{HasScanned}
 use Rattle.session.specs.declared.scan.Scan.{Scan}

@@ -8,7 +8,7 @@ use Rattle.lines.specs.Engine.{rules_of, SameRules, LaysOutAtMost}
 use Rattle.lines.specs.Layouts.{Layout, cut_by}
 use Rattle.lines.specs.declared.engine.Engine.{Engine}
 use Rattle.session.specs.Sessions.{IsCountedFor, Opens, OpensNot, opening_refusal}
-use Rattle.session.specs.Changes.{is_within_limit, paragraphs_refusal, text_refusal}
+use Rattle.session.specs.Edits.{is_within_limit, paragraphs_refusal, text_refusal}
 use Rattle.session.specs.Kept.{text_of, layouts_of}
 use Rattle.session.specs.Sessions.{IsAnswerFor}
 use Rattle.session.specs.declared.edits.EditFault.{EditFault}

@@ -22,7 +22,7 @@ use Rattle.store.specs.Finding.{Finds}
 use Rattle.store.specs.declared.found.Found.{Found}
 use Rattle.session.specs.Kept.{lines_in, pars_of, text_of}
 use Rattle.session.specs.Places.{count_to, lines_from, line_starts, paragraph_starts, paragraphs_from, is_closed, next_place, place_at, place_in, IsLined}
-use Rattle.session.specs.Sessions.{State, IsWholeLayout, cuts_at, text_at}
+use Rattle.session.specs.Sessions.{SessionState, IsWholeLayout, cuts_at, text_at}
 use Rattle.session.specs.declared.edits.TheConstants.{TEXT_LIMIT}
 use Rattle.session.proofs.RefusalLemmas.{allowed-length}
 use Rattle.session.proofs.WidthLemmas.{all_each, each_laid_out}
@@ -410,5 +410,5 @@ pub none_place : (rules : Rules) (kept : List Layout) (pos : ℕ) → is_none (p
 none_place rules kept pos = none_if (nat_lt (length (text_of kept)) pos) (pos == length (text_of kept) && is_closed rules (text_of kept)) (next_place kept) (place_in kept pos)
 
 -- a text that is kept is not too long
-pub text_short : (state : State) → IsWholeLayout state → length (text_at state) ≤ TEXT_LIMIT
+pub text_short : (state : SessionState) → IsWholeLayout state → length (text_at state) ≤ TEXT_LIMIT
 text_short state whole = allowed-length (cuts_at state) (text_at state) whole.allowed

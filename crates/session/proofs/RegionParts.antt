@@ -10,7 +10,7 @@ use Rattle.session.specs.Kept.{pars_of, text_of}
 use Rattle.session.specs.Touched.{AreTouched, Span}
 use Rattle.session.specs.Touched.{start_of}
 use Rattle.session.specs.declared.edge.Edge.{Edge}
-use Rattle.session.proofs.ChangeLemmas.{region_of}
+use Rattle.session.proofs.ReplacementLemmas.{region_of}
 use Rattle.session.proofs.TouchedLemmas.{start_of-more, start_of-le, start_of-end, AreTouched-from_walks}
 
 -- the start of a paragraph after others

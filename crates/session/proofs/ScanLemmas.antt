@@ -5,7 +5,7 @@ use Rattle.std.proofs.lemmas.Bool.{le-leb, lt-leb, leb-true, and_right}
 use Rattle.std.proofs.lemmas.List.{append_assoc, length_push, get_or_push}
 use Rattle.std.proofs.lemmas.Option.{slice_get-get_or}
 use Rattle.bidi.specs.Cuts.{paragraphs}
-use Rattle.session.specs.Changes.{are_within}
+use Rattle.session.specs.Edits.{are_within}
 use Rattle.session.specs.Scans.{HasScanned}
 use Rattle.session.specs.declared.scan.Scan.{Scan}
 use Rattle.lines.specs.declared.engine.TheConstants.{PARAGRAPH_LIMIT}

@@ -1,6 +1,6 @@
 -- The definitions of touched paragraphs and of lists of changes, worked on rows.
 use Rattle.std.proofs.Common.{◌≡◌, ℕ, ◌==◌, Bool, List, [], ◌∷◌, refl}
-use Rattle.session.specs.Changes.{after_all, deletion, insertion}
+use Rattle.session.specs.Edits.{after_all, deletion, insertion}
 use Rattle.session.specs.Touched.{first_touched, touched_count, fresh}
 use Rattle.session.specs.declared.edits.Edit.{Edit}
 use Rattle.session.specs.declared.edits.Edit.TheVariants.{Delete, SetWidth}

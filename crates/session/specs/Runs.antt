@@ -4,7 +4,7 @@ use Rattle.std.specs.Str.{chars}
 use Rattle.bidi.specs.Cuts.{paragraphs}
 use Rattle.lines.specs.Engine.{analysed_of, filled_of, written_of, RisesBy}
 use Rattle.lines.specs.declared.engine.Engine.{Engine}
-use Rattle.session.specs.Changes.{Held, after_all, after_one, deletion, insertion, refusal, width_refusal}
+use Rattle.session.specs.Edits.{Held, after_all, after_one, deletion, insertion, refusal, width_refusal}
 use Rattle.session.specs.Touched.{fresh}
 use Rattle.session.specs.declared.edits.Edit.{Edit}
 use Rattle.session.specs.declared.edits.Edit.TheVariants.{Insert, Delete, SetWidth}

@@ -6,7 +6,7 @@ ghost use Rattle.std.specs.Str.{chars};
 ghost use Rattle.lines.specs.Engine.{rules_of, LaysOutAtMost, SameRules};
 ghost use Rattle.lines.specs.Layouts.{cut_by, layout_of, IsParagraph};
 ghost use Rattle.session.specs.Sessions.{IsCountedFor};
-ghost use Rattle.session.specs.Changes.{is_within_limit, paragraphs_refusal};
+ghost use Rattle.session.specs.Edits.{is_within_limit, paragraphs_refusal};
 ghost use Rattle.session.specs.Kept.{layouts_of};
 ghost use Rattle.session.specs.Sessions.{IsAnswerFor};
 ghost use Rattle.session.specs.declared.edits.EditFault.TheVariants.{NoMemory};

@@ -9,8 +9,8 @@ use Rattle.device.specs.Device.{Device, StoppedAt, Took, Wrote, greatest}
 use Rattle.lines.specs.Layouts.{Rules}
 use Rattle.lines.specs.Writing.{StoppedIn}
 use Rattle.tool.specs.declared.script.ScriptOptions.{ScriptOptions}
-use Rattle.session.specs.Changes.{Held}
-use Rattle.session.specs.Sessions.{State, held_at}
+use Rattle.session.specs.Edits.{Held}
+use Rattle.session.specs.Sessions.{SessionState, held_at}
 use Rattle.tool.specs.Reading.{FailsAt, NoEnd}
 use Rattle.tool.specs.Scripts.{is_line_end, lines_among, request_of_line, script_lines}
 use Rattle.tool.specs.ScriptRun.{after_line, after_lines, answer_line, answers, good_lines, input_fault, is_good, line_read_ahead, script_fault, with_ends}
@@ -98,7 +98,7 @@ module _ (rules : Rules) (options : ScriptOptions) where
 
 -- ---- how the run ends
 
-module _ (rules : Rules) (options : ScriptOptions) (start now : State) (reader_old writer_old reader_new writer_new : Device) where
+module _ (rules : Rules) (options : ScriptOptions) (start now : SessionState) (reader_old writer_old reader_new writer_new : Device) where
   abbrev before : Held
   before = held_at start
 
@@ -248,7 +248,7 @@ module _ (rules : Rules) (options : ScriptOptions) (start now : State) (reader_o
       )
 
   -- a line fails
-  pub ends_line : (ending : Ending) (bytes : List ℕ) (done : List (List ℕ)) (line : List ℕ) (others : List (List ℕ)) (mid : State) (lines written : ℕ) (writer_mid : Device) (fault : RunFault) → Gave reader_old reader_new ending bytes
+  pub ends_line : (ending : Ending) (bytes : List ℕ) (done : List (List ℕ)) (line : List ℕ) (others : List (List ℕ)) (mid : SessionState) (lines written : ℕ) (writer_mid : Device) (fault : RunFault) → Gave reader_old reader_new ending bytes
       → script_lines ending bytes ≡ done ++ line ∷ others → list_all (is_good options.queries) done ≡ true → held_at mid ≡ after_lines rules options.queries before done → lines ≡ length done → written ≡ length (answers rules options before done)
       → Wrote (answers rules options before done) writer_old writer_mid → LinesWork rules options.queries before done start.engine mid.engine
       → FailsAt rules options line lines written (held_at mid) (held_at now) writer_mid writer_new fault → LineWorks rules options.queries (held_at mid) line mid.engine now.engine → IsDone done

@@ -11,8 +11,8 @@ use Rattle.std.proofs.lemmas.List.Splits.{slice_split_at, slice_split_none}
 use Rattle.device.specs.Device.{Device, Fails, Gives, Wrote, greatest}
 use Rattle.lines.specs.Layouts.{Rules}
 use Rattle.tool.specs.declared.script.ScriptOptions.{ScriptOptions}
-use Rattle.session.specs.Changes.{Held}
-use Rattle.session.specs.Sessions.{State, held_at}
+use Rattle.session.specs.Edits.{Held}
+use Rattle.session.specs.Sessions.{SessionState, held_at}
 use Rattle.tool.specs.Reading.{EndsIn, EndsLine, FailsAt, FailsIn, FailsLine, GoesOn, GrowsNot, IsAt, NoEnd, ObeysLine, Steps, Takes}
 use Rattle.tool.specs.Scripts.{is_last_line, is_line_end, lines_among, request_of_line, script_lines}
 use Rattle.tool.specs.ScriptEnds.{IsScriptRun}
@@ -56,11 +56,11 @@ long_line p (q ∷ ps) long = (lines_among AtEnd (q ∷ ps), refl)
 long_is_bad : (queries : Bool) (p : List ℕ) → LINE_LIMIT < length p → is_good queries p ≡ false
 long_is_bad queries p long = rw (over p long) refl
 
-module _ (rules : Rules) (options : ScriptOptions) (start : State) (reader_old reader writer_old writer : Device) where
+module _ (rules : Rules) (options : ScriptOptions) (start : SessionState) (reader_old reader writer_old writer : Device) where
   abbrev before : Held
   before = held_at start
 
-  module _ (now : State) (reading : Reading) where
+  module _ (now : SessionState) (reading : Reading) where
     -- ---- a piece is read
     pub at_read : (reader_new : Device) (n : ℕ) (buffer : List ℕ) → IsAt rules options start reader_old reader writer_old writer now reading [] → Gives reader reader_new n buffer → n ≤ length buffer → n ≤ PIECE
         → IsAt rules options start reader_old reader_new writer_old writer now reading (take n buffer)
@@ -88,7 +88,7 @@ module _ (rules : Rules) (options : ScriptOptions) (start : State) (reader_old r
 
     module _ (waiting : List ℕ) (at : IsAt rules options start reader_old reader writer_old writer now reading waiting) where
       -- ---- of what waits, a part is taken
-      pub at_more : (n : ℕ) (state : State) (new : Reading) (writer_new : Device) → GoesOn waiting n now state reading new writer writer_new
+      pub at_more : (n : ℕ) (state : SessionState) (new : Reading) (writer_new : Device) → GoesOn waiting n now state reading new writer writer_new
           → IsAt rules options start reader_old reader writer_old writer_new state new []
       at_more n state new writer_new more = record {
         bytes = at.bytes;
@@ -102,14 +102,14 @@ module _ (rules : Rules) (options : ScriptOptions) (start : State) (reader_old r
         size = omega (arith, at.size, ap length more.grows.line, length-append reading.line.items waiting);
         wrote = subst (Wrote (answers rules options before at.done) writer_old) (sym more.writer) at.wrote;
         held_is = ap held_at more.state ∙ at.held_is;
-        works = subst (λ (s : State). LinesWork rules options.queries before at.done start.engine s.engine) (sym more.state) at.works;
+        works = subst (λ (s : SessionState). LinesWork rules options.queries before at.done start.engine s.engine) (sym more.state) at.works;
         lines = more.grows.lines ∙ at.lines;
         written = more.grows.written ∙ at.written;
         ahead = omega (arith, at.ahead, ap length more.grows.line, length-append reading.line.items waiting);
         short = more.grows.short;
       }
 
-      module _ (line : List ℕ) (state : State) (new : Reading) (writer_new : Device) (obeys : ObeysLine rules options line (held_at now) (held_at state) reading new writer writer_new) where
+      module _ (line : List ℕ) (state : SessionState) (new : Reading) (writer_new : Device) (obeys : ObeysLine rules options line (held_at now) (held_at state) reading new writer writer_new) where
         next_answer : answer_line rules options.print (held_at now) (request_of_line options.queries line) ≡ answers rules options (after_lines rules options.queries before at.done) (line ∷ [])
         next_answer = ap (λ h. answer_line rules options.print h (request_of_line options.queries line)) at.held_is ∙ sym (append-nil (answer_line rules options.print (after_lines rules options.queries before at.done) (request_of_line options.queries line)))
 
@@ -131,7 +131,7 @@ module _ (rules : Rules) (options : ScriptOptions) (start : State) (reader_old r
         pub obeyed_written : new.written ≡ length (answers rules options before (at.done ++ line ∷ []))
         obeyed_written = omega (arith, obeys.wrote.count, at.written, ap length answers_are, length-append (answers rules options before at.done) (answer_line rules options.print (held_at now) (request_of_line options.queries line)))
 
-      pub at_line : (n : ℕ) (state : State) (new : Reading) (writer_new : Device) (taken : EndsLine rules options waiting n now state reading new writer writer_new)
+      pub at_line : (n : ℕ) (state : SessionState) (new : Reading) (writer_new : Device) (taken : EndsLine rules options waiting n now state reading new writer writer_new)
           → IsAt rules options start reader_old reader writer_old writer_new state new taken.after
       at_line n state new writer_new taken =
           let line = reading.line.items ++ taken.front in
@@ -159,7 +159,7 @@ module _ (rules : Rules) (options : ScriptOptions) (start : State) (reader_old r
             short = omega (arith, ap length obeys.empty);
           }
 
-      pub at_taken : (n : ℕ) (state : State) (new : Reading) (writer_new : Device) → Takes rules options waiting n now state reading new writer writer_new
+      pub at_taken : (n : ℕ) (state : SessionState) (new : Reading) (writer_new : Device) → Takes rules options waiting n now state reading new writer writer_new
           → IsAt rules options start reader_old reader writer_old writer_new state new (drop n waiting)
       at_taken n state new writer_new (inl more) =
           subst (IsAt rules options start reader_old reader writer_old writer_new state new) (sym (ap (λ k. drop k waiting) more.all ∙ drop_all (length waiting) waiting (omega arith))) (at_more n state new writer_new more)
@@ -169,7 +169,7 @@ module _ (rules : Rules) (options : ScriptOptions) (start : State) (reader_old r
           subst (IsAt rules options start reader_old reader writer_old writer_new state new) (sym place) (at_line n state new writer_new taken)
 
       -- ---- the run ends within it
-      ahead_now : (state : State) (writer_new : Device) → IsDone rules options start state reader_old writer_old reader writer_new at.done
+      ahead_now : (state : SessionState) (writer_new : Device) → IsDone rules options start state reader_old writer_old reader writer_new at.done
       ahead_now state writer_new = record { ahead = omega (arith, at.passed, at.size, at.ahead) }
 
       abbrev rest : List ℕ
@@ -190,7 +190,7 @@ module _ (rules : Rules) (options : ScriptOptions) (start : State) (reader_old r
           (lines_work_front rules options.queries before at.done (take 1 (good_lines options.queries others)) start.engine now.engine at.works)
 
       -- at a line that is ended
-      ends_ended : (state : State) (writer_new : Device) (fault : RunFault) → FailsLine rules options waiting now state reading writer writer_new fault
+      ends_ended : (state : SessionState) (writer_new : Device) (fault : RunFault) → FailsLine rules options waiting now state reading writer writer_new fault
           → IsScriptRun rules options start state reader_old reader writer_old writer_new (Err fault)
       ends_ended state writer_new fault failed =
           let line = reading.line.items ++ failed.front in
@@ -226,10 +226,10 @@ module _ (rules : Rules) (options : ScriptOptions) (start : State) (reader_old r
       ends_unkept front after whole none f.ParagraphTooLong fails = absurd fails
       ends_unkept front after whole none f.TextTooLong fails = absurd fails
 
-      pub ends_in : (state : State) (writer_new : Device) (fault : RunFault) → FailsIn rules options waiting now state reading writer writer_new fault → IsScriptRun rules options start state reader_old reader writer_old writer_new (Err fault)
+      pub ends_in : (state : SessionState) (writer_new : Device) (fault : RunFault) → FailsIn rules options waiting now state reading writer writer_new fault → IsScriptRun rules options start state reader_old reader writer_old writer_new (Err fault)
       ends_in state writer_new fault (inl failed) = ends_ended state writer_new fault failed
       ends_in state writer_new fault (inr not) =
-          subst (λ (s : State). IsScriptRun rules options start s reader_old reader writer_old writer_new (Err fault)) (sym not.state)
+          subst (λ (s : SessionState). IsScriptRun rules options start s reader_old reader writer_old writer_new (Err fault)) (sym not.state)
           (subst (λ w. IsScriptRun rules options start now reader_old reader writer_old w (Err fault)) (sym not.writer) (ends_unkept not.front not.after not.whole not.none fault not.grows))
 
     -- ---- nothing waits
@@ -272,7 +272,7 @@ module _ (rules : Rules) (options : ScriptOptions) (start : State) (reader_old r
               let is_some : nat_lt 0 (length reading.line.items) ≡ true = grind (arith, nat_tests, some) in
               all_lines AtEnd ∙ ap (λ (b : Bool). at.done ++ (if b then reading.line.items ∷ [] else [])) is_some
 
-          pub ends_last : (state : State) (new : Reading) (writer_new : Device) → ObeysLine rules options reading.line.items (held_at now) (held_at state) reading new writer writer_new
+          pub ends_last : (state : SessionState) (new : Reading) (writer_new : Device) → ObeysLine rules options reading.line.items (held_at now) (held_at state) reading new writer writer_new
               → LineWorks rules options.queries (held_at now) reading.line.items now.engine state.engine → IsScriptRun rules options start state reader_old reader writer_old writer_new (Ok tt)
           ends_last state new writer_new obeys works =
               let line = reading.line.items in
@@ -284,7 +284,7 @@ module _ (rules : Rules) (options : ScriptOptions) (start : State) (reader_old r
                 works = obeyed_works [] at line state new writer_new obeys works;
               })
 
-          pub ends_last_not : (state : State) (writer_new : Device) (fault : RunFault) → FailsAt rules options reading.line.items reading.lines reading.written (held_at now) (held_at state) writer writer_new fault
+          pub ends_last_not : (state : SessionState) (writer_new : Device) (fault : RunFault) → FailsAt rules options reading.line.items reading.lines reading.written (held_at now) (held_at state) writer writer_new fault
               → LineWorks rules options.queries (held_at now) reading.line.items now.engine state.engine → IsScriptRun rules options start state reader_old reader writer_old writer_new (Err fault)
           ends_last_not state writer_new fault fails works =
               ends_line rules options start state reader_old writer_old reader writer_new AtEnd at.bytes at.done reading.line.items [] now reading.lines reading.written writer fault gave_all last_line at.good at.held_is at.lines at.written at.wrote at.works fails works
@@ -295,7 +295,7 @@ nothing_read None = tt
 nothing_read (Some xs) = refl
 
 -- the run begins
-pub at_start : (rules : Rules) (options : ScriptOptions) (start : State) (reader writer : Device) (reading : Reading) → reading.line.items ≡ [] → reading.lines ≡ 0 → reading.written ≡ 0 → IsAt rules options start reader reader writer writer start reading []
+pub at_start : (rules : Rules) (options : ScriptOptions) (start : SessionState) (reader writer : Device) (reading : Reading) → reading.line.items ≡ [] → reading.lines ≡ 0 → reading.written ≡ 0 → IsAt rules options start reader reader writer writer start reading []
 at_start rules options start reader writer reading line lines written = record {
   bytes = [];
   done = [];
@@ -320,7 +320,7 @@ done_short : (done : List (List ℕ)) → length done ≤ length (with_ends done
 done_short [] = omega arith
 done_short (l ∷ done) = omega (arith, done_short done, length-append (l ++ 10 ∷ []) (with_ends done), length-append l (10 ∷ []))
 
-module _ (rules : Rules) (options : ScriptOptions) (start : State) (reader_old reader writer_old writer : Device) (now : State) (reading : Reading) (waiting : List ℕ) (at : IsAt rules options start reader_old reader writer_old writer now reading waiting) where
+module _ (rules : Rules) (options : ScriptOptions) (start : SessionState) (reader_old reader writer_old writer : Device) (now : SessionState) (reading : Reading) (waiting : List ℕ) (at : IsAt rules options start reader_old reader writer_old writer now reading waiting) where
   pub lines_fit : reader.passed ≤ greatest → 0 < length reading.line.items + length waiting → reading.lines < greatest
   lines_fit counted some = omega (arith, counted, some, at.passed, at.size, at.lines, done_short at.done)
 
@@ -328,7 +328,7 @@ module _ (rules : Rules) (options : ScriptOptions) (start : State) (reader_old r
   written_fits = omega (arith, at.written, at.wrote.0.passed)
 
 -- the last line was obeyed, or failed
-pub ends_finish : (rules : Rules) (options : ScriptOptions) (start : State) (reader_old reader writer_old writer : Device) (now state : State) (reading new : Reading) (writer_new : Device) → IsAt rules options start reader_old reader writer_old writer now reading []
+pub ends_finish : (rules : Rules) (options : ScriptOptions) (start : SessionState) (reader_old reader writer_old writer : Device) (now state : SessionState) (reading new : Reading) (writer_new : Device) → IsAt rules options start reader_old reader writer_old writer now reading []
     → IsAtEnd reader.bytes → 0 < length reading.line.items → (r : Result (Unit {0}) RunFault) → OnOk r (ObeysLine rules options reading.line.items (held_at now) (held_at state) reading new writer writer_new)
     → IfErr r (FailsAt rules options reading.line.items reading.lines reading.written (held_at now) (held_at state) writer writer_new)
     → LineWorks rules options.queries (held_at now) reading.line.items now.engine state.engine → IsScriptRun rules options start state reader_old reader writer_old writer_new r
@@ -338,7 +338,7 @@ ends_finish rules options start reader_old reader writer_old writer now state re
     ends_last_not rules options start reader_old reader writer_old writer now reading at finished some state writer_new fault fails works
 
 -- ---- a part of a piece, under the rules that the run began with
-module _ (rules held_rules : Rules) (options : ScriptOptions) (start : State) (reader_old reader writer_old writer writer_new : Device) (now state : State) (reading new : Reading) (piece part : List ℕ) (n at : ℕ)
+module _ (rules held_rules : Rules) (options : ScriptOptions) (start : SessionState) (reader_old reader writer_old writer writer_new : Device) (now state : SessionState) (reading new : Reading) (piece part : List ℕ) (n at : ℕ)
     (same : held_rules ≡ rules) (part_is : part ≡ drop at piece) (stands : IsAt rules options start reader_old reader writer_old writer now reading (drop at piece)) where
   pub took_part : Takes held_rules options part n now state reading new writer writer_new → IsAt rules options start reader_old reader writer_old writer_new state new (drop (at + n) piece)
   took_part takes =
@@ -354,20 +354,20 @@ module _ (rules held_rules : Rules) (options : ScriptOptions) (start : State) (r
       ends_in rules options start reader_old reader writer_old writer now reading (drop at piece) stands state writer_new fault failed
 
 -- of the first n of a list that is longer, some are taken
-pub takes_some : (rules : Rules) (options : ScriptOptions) (piece : List ℕ) (n : ℕ) (now state : State) (reading new : Reading) (writer writer_new : Device) → 0 < length piece → Takes rules options piece n now state reading new writer writer_new → (0 < n) × (n ≤ length piece)
+pub takes_some : (rules : Rules) (options : ScriptOptions) (piece : List ℕ) (n : ℕ) (now state : SessionState) (reading new : Reading) (writer writer_new : Device) → 0 < length piece → Takes rules options piece n now state reading new writer writer_new → (0 < n) × (n ≤ length piece)
 takes_some rules options piece n now state reading new writer writer_new some (inl more) = (omega (arith, some, more.all), omega (arith, more.all))
 takes_some rules options piece n now state reading new writer writer_new some (inr ended) =
     (omega (arith, ended.taken), omega (arith, ended.taken, ap length ended.ends.whole, length-append ended.front (10 ∷ ended.after)))
 
 -- a read that gave nothing leaves the run where it stands
-pub at_none : (rules : Rules) (options : ScriptOptions) (start : State) (reader_old reader writer_old writer : Device) (now : State) (reading : Reading) (reader_new : Device) (n : ℕ) (buffer : List ℕ)
+pub at_none : (rules : Rules) (options : ScriptOptions) (start : SessionState) (reader_old reader writer_old writer : Device) (now : SessionState) (reading : Reading) (reader_new : Device) (n : ℕ) (buffer : List ℕ)
     → IsAt rules options start reader_old reader writer_old writer now reading [] → Gives reader reader_new n buffer → n ≡ 0 → IsAt rules options start reader_old reader_new writer_old writer now reading []
 at_none rules options start reader_old reader writer_old writer now reading reader_new n buffer at gives none =
     subst (IsAt rules options start reader_old reader_new writer_old writer now reading) (ap (λ k. take k buffer) none)
     (at_read rules options start reader_old reader writer_old writer now reading reader_new n buffer at gives (omega (arith, none)) (omega (arith, none)))
 
 -- a step of a run under the rules that it began with
-module _ (rules held_rules : Rules) (options : ScriptOptions) (start : State) (reader_old writer_old reader writer reader_new writer_new : Device) (now state : State) (reading new : Reading) (kept : held_rules ≡ rules)
+module _ (rules held_rules : Rules) (options : ScriptOptions) (start : SessionState) (reader_old writer_old reader writer reader_new writer_new : Device) (now state : SessionState) (reading new : Reading) (kept : held_rules ≡ rules)
     (stands : IsAt rules options start reader_old reader writer_old writer now reading []) (result : Result Bool RunFault)
     (steps : IsAt held_rules options start reader_old reader writer_old writer now reading [] → Steps held_rules options start reader_old writer_old reader_new writer_new state new result) where
   stepped : Steps rules options start reader_old writer_old reader_new writer_new state new result
@@ -379,7 +379,7 @@ module _ (rules held_rules : Rules) (options : ScriptOptions) (start : State) (r
   script_stepped is same = subst (Steps rules options start reader_old writer_old reader_new writer_new state new) same stepped
 
 -- memory ran out before anything was read
-pub ends_at_once : (rules : Rules) (options : ScriptOptions) (start : State) (reader writer : Device) → IsScriptRun rules options start start reader reader writer writer (Err f.Memory)
+pub ends_at_once : (rules : Rules) (options : ScriptOptions) (start : SessionState) (reader writer : Device) → IsScriptRun rules options start start reader reader writer writer (Err f.Memory)
 ends_at_once rules options start reader writer =
     let some = parts_some (unwrap_or reader.bytes []) in
     ends_short rules options start start reader writer reader writer AtEnd (unwrap_or reader.bytes []) [] (lines_among AtEnd (some.0 ∷ some.1))

@@ -4,7 +4,7 @@ use Rattle.std.specs.Str.{chars}
 use Rattle.std.specs.Str.Lossy.{utf8_valid_len}
 use Rattle.std.proofs.lemmas.Bool.Decides.{nat_tests}
 use Rattle.lines.specs.Layouts.{Rules, cut_by}
-use Rattle.session.specs.Changes.{is_within_limit, text_refusal}
+use Rattle.session.specs.Edits.{is_within_limit, text_refusal}
 use Rattle.session.specs.Sessions.{IsAnswerFor, opening_refusal}
 use Rattle.session.specs.declared.edits.EditFault.{EditFault}
 use Rattle.session.specs.declared.edits.EditFault.TheVariants as e

@@ -4,15 +4,15 @@ use Rattle.std.specs.Str.{chars}
 use Rattle.std.specs.Str.Lossy.{utf8_valid_len}
 use Rattle.lines.specs.Layouts.{Rules, cut_by}
 use Rattle.lines.specs.declared.engine.Engine.{Engine}
-use Rattle.session.specs.Changes.{text_refusal}
-use Rattle.session.specs.Sessions.{State, Opens}
+use Rattle.session.specs.Edits.{text_refusal}
+use Rattle.session.specs.Sessions.{SessionState, Opens}
 use Rattle.session.specs.declared.edits.EditFault.{EditFault}
 use Rattle.session.specs.declared.edits.EditFault.TheVariants as e
 use Rattle.text_run.specs.declared.faults.RunFault.{RunFault}
 use Rattle.text_run.specs.declared.faults.RunFault.TheVariants as f
 
 -- the bytes are UTF-8, and a session was opened on their characters
-pub record Starts (engine : Engine) (bytes : List ℕ) (width : ℕ) (state : State) : Type 0 where
+pub record Starts (engine : Engine) (bytes : List ℕ) (width : ℕ) (state : SessionState) : Type 0 where
   pub valid : utf8_valid_len bytes ≡ length bytes
   pub opens : Opens engine (chars bytes) width state
 

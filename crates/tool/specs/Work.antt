@@ -4,7 +4,7 @@ use Rattle.bidi.specs.Cuts.{paragraphs}
 use Rattle.lines.specs.Engine.{analysed_of, filled_of, written_of, RisesBy}
 use Rattle.lines.specs.Layouts.{Rules, cut_by}
 use Rattle.lines.specs.declared.engine.Engine.{Engine}
-use Rattle.session.specs.Changes.{Held, deletion, insertion}
+use Rattle.session.specs.Edits.{Held, deletion, insertion}
 use Rattle.session.specs.Touched.{fresh}
 use Rattle.tool.specs.ScriptRun.{after_line, request_refusal}
 use Rattle.tool.specs.Scripts.{Request, Insert, Delete, SetWidth, Show, Ask, request_of_line}

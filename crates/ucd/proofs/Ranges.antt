@@ -6,7 +6,7 @@ use Rattle.std.proofs.lemmas.Grind.{common_steps}
 use Rattle.std.proofs.lemmas.List.{take-append-le, take_more}
 use Rattle.std.proofs.Math.Seq.{take-append_seam}
 use Rattle.std.proofs.lemmas.Option.{slice_get_within, get_or_from_slice_get}
-use Rattle.ucd.specs.Answers.{Answers}
+use Rattle.ucd.specs.Answers.{PropertyAnswers}
 use Rattle.ucd.specs.Puts.{put_by}
 use Rattle.ucd.specs.declared.grammar.Entry.{Entry}
 use Rattle.ucd.specs.Entries.{covers, value_at, AddsEntry, AreApart, AreNamed, IsFree}
@@ -73,7 +73,7 @@ module _ {V : Type 0} where
       rw more (value_push (take i es) e c (apart.apart i e is c))
 
   -- what is said of a code point with one more
-  pub put_more : (put : V → Answers → Answers) (es : List (Entry V)) → AreApart es → (i : ℕ) (e : Entry V) → slice_get es i ≡ Some e → (c : ℕ) (old mid new : Answers) →
+  pub put_more : (put : V → PropertyAnswers → PropertyAnswers) (es : List (Entry V)) → AreApart es → (i : ℕ) (e : Entry V) → slice_get es i ≡ Some e → (c : ℕ) (old mid new : PropertyAnswers) →
       mid ≡ put_by put (value_at (take i es) c) old → new ≡ (if nat_le e.first c && nat_lt c (e.last + 1) then put e.value mid else mid) → new ≡ put_by put (value_at (take (i + 1) es) c) old
   put_more put es apart i e is c old mid new before after =
       let here : Bool = nat_le e.first c && nat_lt c (e.last + 1) in

@@ -62,10 +62,10 @@ impl Drop for Tables {
 }
 
 impl Model for Tables {
-    ghost use Rattle.ucd.specs.Contents.{Contents};
+    ghost use Rattle.ucd.specs.Contents.{TableContents};
     ghost use Rattle.ucd.specs.Paged.{contents_in, AreSound};
 
-    ghost Value = { Contents };
+    ghost Value = { TableContents };
 
     ghost view = { λ t. contents_in t.pages.index.items t.pages.entries.items t.brackets t.mirrors };
 

@@ -6,7 +6,7 @@ use Rattle.std.proofs.lemmas.List.{append-nil}
 use Rattle.lines.specs.Engine.{rules_of, LaysOutAtMost}
 use Rattle.lines.specs.Layouts.{cut_by}
 use Rattle.session.specs.Sessions.{IsCountedFor}
-use Rattle.session.specs.Changes.{is_within_limit, paragraphs_refusal}
+use Rattle.session.specs.Edits.{is_within_limit, paragraphs_refusal}
 use Rattle.session.specs.Kept.{layouts_of}
 use Rattle.session.specs.Sessions.{IsAnswerFor}
 use Rattle.session.proofs.EditLemmas.{at_ok}

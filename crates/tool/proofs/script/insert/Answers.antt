@@ -1,5 +1,5 @@
 use Rattle.std.specs.Str.{chars}
-use Rattle.session.specs.Changes.{insertion}
+use Rattle.session.specs.Edits.{insertion}
 use Rattle.tool.proofs.WorkLemmas.{edit_works}
 use Rattle.tool.proofs.script.insert.Goals as goal
 

@@ -1,6 +1,6 @@
 use Rattle.std.proofs.Common.{refl, sym, ap, ◌∙◌, arith}
 use Rattle.std.proofs.lemmas.List.{take_all}
-use Rattle.session.specs.Changes.{after_all}
+use Rattle.session.specs.Edits.{after_all}
 use Rattle.session.specs.Sessions.{cuts_at, held_at}
 use Rattle.session.proofs.RunLemmas.{HasRun-next, HasRun-rules, HasRun-stops, edited, refilled_to, stays, edit_works, width_works, next_works, whole_works, lacks_memory, has_memory}
 use Rattle.session.proofs.session.Session.run.Goals as goal

@@ -1,7 +1,7 @@
 use Rattle.std.proofs.Common.{refl, sum_by, sym, ap, ◌∙◌}
 use Rattle.session.proofs.EdgeLemmas.{lines_of}
 use Rattle.session.proofs.EditLemmas.{at_ok, AreSums-splice}
-use Rattle.session.proofs.edit.put.Goals as goal
+use Rattle.session.proofs.replace.put.Goals as goal
 
 pub overflow_sub-old_lines : goal.overflow_sub-old_lines
 overflow_sub-old_lines g c =
