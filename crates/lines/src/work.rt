@@ -22,7 +22,7 @@ use crate::filling::line_starts;
 use crate::laid::Laid;
 use crate::paragraph::{LentRules, Paragraph, Text};
 use crate::places::{Place, take_places};
-use crate::room::reserve;
+use crate::reserve::reserve;
 use crate::showing::{show_lines, take_shown};
 use bidi::Resolver;
 use breaks::{Mark, Tailoring, marks_into};

@@ -1,4 +1,4 @@
--- Why a text or a change of it is refused.
+-- Why a text or an edit of it is refused.
 use Rattle.std.proofs.Common.{◌≡◌, ℕ, ◌+◌, ◌-◌, ◌<◌, ◌≤◌, Bool, true, false, List, length, Some, None, nat_lt, if◌then◌else◌, refl, ◌∙◌}
 use Rattle.std.proofs.lemmas.Bool.{cond-true, cond-false, lt-ltb, le-ltb, ltb-false}
 use Rattle.session.specs.Edits.{Replacement, replaced, replacing, refusal, text_refusal, is_within_limit}
@@ -30,7 +30,7 @@ module _ (is_cut : ℕ → ℕ → Bool) where
   refusal-inside text edit within =
       cond-false (nat_lt (length text) (edit.pos + edit.count)) (Some OutOfRange) (text_refusal is_cut (replaced text edit)) (le-ltb (length text) (edit.pos + edit.count) within)
 
--- what holds of a change that lies inside the text
+-- what holds of an edit that lies inside the text
 pub refusal-too_long : (is_cut : ℕ → ℕ → Bool) (text piece : List ℕ) (pos count : ℕ) → pos + count ≤ length text → TEXT_LIMIT < length text - count + length piece
     → refusal is_cut text (replacing pos count piece) ≡ Some TextTooLong
 refusal-too_long is_cut text piece pos count within long =

@@ -1,4 +1,4 @@
--- The touched paragraphs of a text after a change: what the first has before it, the piece, and what the last has after it.
+-- The touched paragraphs of a text after an edit: what the first has before it, the piece, and what the last has after it.
 use Rattle.std.proofs.Common.{◌≡◌, ℕ, zero, suc, zero-add, suc-add, ◌+◌, ◌-◌, ◌<◌, ◌≤◌, List, [], ◌∷◌, ◌++◌, length, take, drop, get_or, refl, sym, ap, ap₂, ◌∙◌, ◌⊎◌, inl, inr, arith}
 use Rattle.std.specs.List.{concat, slice_range}
 use Rattle.std.proofs.lemmas.Bool.{cases_eq, cases_lt}
@@ -136,7 +136,7 @@ module _ (kept : List Layout) (pos to : ℕ) (front back : Edge) (order : pos �
       AreTouched-from_walks (pars_of kept) pos to front.index back.index front.chars back.chars order within f.edge_is.chars b.edge_is.chars edges_rise
       (omega (arith, b.edge_is.within, pars_number)) f.before (λ some. f.after (omega (arith, pars_number))) (λ i above below. b.before i below) (λ more. b.after (omega (arith, pars_number)))
 
-  -- the changed text of the touched paragraphs
+  -- the new text of the touched paragraphs
   pub region_parts : (piece : List ℕ) → region_of (pars_of kept) (touched_by front back) pos to piece ≡ front_of (pars_of kept) front pos ++ (piece ++ back_of (pars_of kept) back to)
   region_parts piece =
       let pars = pars_of kept in

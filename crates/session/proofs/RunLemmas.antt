@@ -1,4 +1,4 @@
--- Changes one after another: what text and width are after each.
+-- Edits one after another: what text and width are after each.
 use Rattle.std.proofs.Common.{◌≡◌, ℕ, zero, suc, ◌+◌, ◌<◌, ◌≤◌, Bool, true, false, List, [], ◌∷◌, ◌++◌, length, take, drop, get_or, Option, None, Result, Ok, Err, is_none, if◌then◌else◌, refl, sym, ap, ap₂, subst, ◌∙◌, append_assoc, take-append-drop, arith}
 use Rattle.std.specs.Result.{IfOk, IfErr, result_eq}
 use Rattle.std.proofs.lemmas.Bool.{cond-true, cond-false, both_ways}
@@ -29,7 +29,7 @@ choice-refused reason new old TextTooLong e other = cond-false (is_none reason) 
 choice-refused reason new old ParagraphTooLong e other = cond-false (is_none reason) new old (ap is_none e)
 choice-refused reason new old NoMemory e other = absurd (other refl)
 
--- a change that was made or refused
+-- an edit that was made or refused
 pub record HasMoved (after : Held) (old new : SessionState) : Type 0 where
   pub held : held_at new ≡ after
   pub laid_out : IsWholeLayout new
@@ -87,7 +87,7 @@ stays reason bound old new (Err TextTooLong) r e = absurd (cc e)
 stays reason bound old new (Err ParagraphTooLong) r e = absurd (cc e)
 stays reason bound old new (Err NoMemory) r e = record { moved = has_stayed reason bound old new NoMemory r; accepted = r.answer }
 
--- how much one change worked: nothing where it was refused
+-- how much one edit worked: nothing where it was refused
 pub record Works (reason : Option EditFault) (n m : ℕ) (old new : Engine) : Type 0 where
   pub analysed : RisesBy (if is_none reason then n else 0) (analysed_of old) (analysed_of new)
   pub filled : RisesBy (if is_none reason then m else 0) (filled_of old) (filled_of new)
@@ -152,7 +152,7 @@ width_works width old new (Err fault) m r =
     works-counted (width_refusal width) 0 n (FillsAtMost n) old.engine new.engine fault r.answer r.counts
     (λ e counts. works-filled (width_refusal width) n old.engine new.engine e counts)
 
--- where the changes have come from the start, after n of them
+-- where the edits have come from the start, after n of them
 pub record HasRun (start : SessionState) (edits : List Edit) (n : ℕ) (now : SessionState) : Type 0 where
   pub held : held_at now ≡ after_all (cuts_at start) (held_at start) (take n edits)
   pub laid_out : IsWholeLayout now
@@ -163,7 +163,7 @@ after_all-push : (is_cut : ℕ → ℕ → Bool) (held : Held) (edits : List Edi
 after_all-push is_cut held [] edit = refl
 after_all-push is_cut held (first ∷ edits) edit = after_all-push is_cut (after_one is_cut held first) edits edit
 
--- what a change does is the same where cuts and text are told by the start
+-- what an edit does is the same where cuts and text are told by the start
 work_of-push : (is_cut : ℕ → ℕ → Bool) (work : Held → Edit → ℕ) (held : Held) (edits : List Edit) (edit : Edit)
     → work_of_all is_cut work held (edits ++ edit ∷ []) ≡ work_of_all is_cut work held edits + work_of is_cut work (after_all is_cut held edits) edit
 work_of-push is_cut work held [] edit = omega arith
@@ -205,7 +205,7 @@ next_works start old new edits n d edit within read run works =
       written = RisesBy-more _ _ _ _ _ _ run.works.written works.written (sum_is filled_by);
     }
 
--- the change at which a run ended
+-- the edit at which a run ended
 pub HasRun-stops : (start old new : SessionState) (edits : List Edit) (n : ℕ) (d edit : Edit) → n < length edits → get_or edits n d ≡ edit → HasRun start edits n old
     → HasStayed (edit_refusal (cuts_at old) (held_at old) edit) old new
     → Works (edit_refusal (cuts_at old) (held_at old) edit) (analysed_by (cuts_at old) (held_at old) edit) (filled_by (cuts_at old) (held_at old) edit) old.engine new.engine

@@ -85,7 +85,7 @@ module _ (is_cut : ℕ → ℕ → Bool) where
       concat-append left (paragraphs is_cut new ++ right) ∙ ap (λ t. concat left ++ t) text in
       ap (paragraphs is_cut) (sym whole) ∙ law.only is_cut (left ++ (paragraphs is_cut new ++ right)) all
 
--- A change of a text that lies in its middle is one of the middle.
+-- An edit of a text that lies in its middle is one of the middle.
 take-add : (left rest : List ℕ) (n : ℕ) → take (length left + n) (left ++ rest) ≡ left ++ take n rest
 take-add [] rest n = rw zero-add refl
 take-add (x ∷ left) rest n = rw suc-add (ap (λ t. x ∷ t) (take-add left rest n))
@@ -103,7 +103,7 @@ replaced-middle left mid right piece from count within =
     ap (λ n. drop n (left ++ (mid ++ right))) (add_assoc (length left) from count) ∙ drop-add left (mid ++ right) (from + count) ∙ drop-append-le (from + count) mid right within in
     rw (front, back) (simp append_assoc)
 
--- the first and the last character of what a change makes of a text, where it lies after the one and before the other
+-- the first and the last character of what an edit makes of a text, where it lies after the one and before the other
 pub first-replaced : (mid piece : List ℕ) (from count : ℕ) → 0 < from → from + count ≤ length mid
     → (0 < length mid) × (0 < length (replaced mid (replacing from count piece))) × (slice_index (replaced mid (replacing from count piece)) 0 ≡ slice_index mid 0)
 first-replaced mid piece from count some within =

@@ -1,4 +1,4 @@
--- The definitions of touched paragraphs and of lists of changes, worked on rows.
+-- The definitions of touched paragraphs and of lists of edits, worked on rows.
 use Rattle.std.proofs.Common.{◌≡◌, ℕ, ◌==◌, Bool, List, [], ◌∷◌, refl}
 use Rattle.session.specs.Edits.{after_all, deletion, insertion}
 use Rattle.session.specs.Touched.{first_touched, touched_count, fresh}
@@ -27,8 +27,8 @@ in-nothing = (refl, refl, refl)
 abbrev after_newline : ℕ → ℕ → Bool
 after_newline before after = before == 10
 
-abbrev four_changes : List Edit
-four_changes = SetWidth 0 ∷ SetWidth 5 ∷ Delete 2 2 ∷ Delete 0 1 ∷ []
+abbrev four_edits : List Edit
+four_edits = SetWidth 0 ∷ SetWidth 5 ∷ Delete 2 2 ∷ Delete 0 1 ∷ []
 
-after-four : after_all after_newline (record { text = 97 ∷ 10 ∷ 98 ∷ []; width = 80 }) four_changes ≡ record { text = 10 ∷ 98 ∷ []; width = 5 }
+after-four : after_all after_newline (record { text = 97 ∷ 10 ∷ 98 ∷ []; width = 80 }) four_edits ≡ record { text = 10 ∷ 98 ∷ []; width = 5 }
 after-four = refl

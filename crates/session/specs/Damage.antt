@@ -1,4 +1,4 @@
--- What a change names as replaced, among the lines and among the paragraphs.
+-- What an edit names as replaced, among the lines and among the paragraphs.
 use Rattle.std.specs.Prelude.{◌≡◌, ℕ, ◌+◌, List, length, take, drop, slice_range}
 use Rattle.lines.specs.Layouts.{Layout}
 use Rattle.session.specs.Edits.{Replacement}

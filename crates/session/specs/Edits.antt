@@ -1,4 +1,4 @@
--- What a change makes of a text, and which changes are refused.
+-- What an edit makes of a text, and which edits are refused.
 use Rattle.std.specs.Prelude.{ℕ, ◌+◌, nat_lt, nat_le, ◌==◌, Bool, List, [], ◌∷◌, ◌++◌, length, take, drop, Option, Some, None, is_none, if◌then◌else◌}
 use Rattle.std.specs.List.{list_all}
 use Rattle.std.specs.Str.{chars}
@@ -47,7 +47,7 @@ text_refusal is_cut text =
     if nat_lt TEXT_LIMIT (length text) then Some TextTooLong
     else (if is_within_limit is_cut text then None else Some ParagraphTooLong)
 
--- why a change is refused: it reaches past the end of the text, or makes a text that can't be kept
+-- why an edit is refused: it reaches past the end of the text, or makes a text that can't be kept
 abbrev pub refusal : (ℕ → ℕ → Bool) → List ℕ → Replacement → Option EditFault
 refusal is_cut text edit =
     if nat_lt (length text) (edit.pos + edit.count) then Some OutOfRange
@@ -62,7 +62,7 @@ pub record Held : Type 0 where
 abbrev pub width_refusal : ℕ → Option EditFault
 width_refusal width = if width == 0 then Some WidthOutOfRange else None
 
--- the text after a change, and the width, of which one that is refused changes nothing
+-- the text after an edit, and the width, of which one that is refused changes nothing
 abbrev pub after_edit : (ℕ → ℕ → Bool) → List ℕ → Replacement → List ℕ
 after_edit is_cut text edit = if is_none (refusal is_cut text edit) then replaced text edit else text
 

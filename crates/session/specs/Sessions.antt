@@ -89,7 +89,7 @@ pub record SetsWidth (width : ℕ) (old new : SessionState) (answer : Damage) : 
   pub damage : NamesAll old.kept new.kept answer
   pub counts : FillsAtMost (length (text_at old)) old.engine new.engine
 
--- a change was refused, and all is as before
+-- an edit was refused, and all is as before
 pub record Stays (reason : Option EditFault) (bound : Engine → Engine → Type 0) (old new : SessionState) (fault : EditFault) : Type 0 where
   pub answer : IsAnswerFor reason fault
   pub kept : new.kept ≡ old.kept

@@ -1,4 +1,4 @@
--- Which paragraphs a change touches, how much there is to analyse, and where these stand.
+-- Which paragraphs an edit touches, how much there is to analyse, and where these stand.
 use Rattle.std.specs.Prelude.{◌≡◌, ℕ, ◌+◌, ◌-◌, ◌<◌, ◌≤◌, nat_le, Bool, ◌&&◌, List, [], length, take, count_by, unwrap_or}
 use Rattle.std.specs.List.{concat, range_with_len, slice_range}
 use Rattle.bidi.specs.Least.{least}
@@ -9,7 +9,7 @@ abbrev pub start_of : List (List ℕ) → ℕ → ℕ
 start_of pars i = length (concat (take i pars))
 
 module _ (pars : List (List ℕ)) (edit : Replacement) where
-  -- the closed span of a paragraph meets the closed range of the change
+  -- the closed span of a paragraph meets the closed range of the edit
   abbrev pub is_touched : ℕ → Bool
   is_touched i = nat_le (start_of pars i) (edit.pos + edit.count) && nat_le edit.pos (start_of pars (i + 1))
 
@@ -35,7 +35,7 @@ pub record Span : Type 0 where
   pub start : ℕ
   pub stop : ℕ
 
--- the paragraphs that a change of the characters from pos up to end touches: where others stand before or after them, a character stays at that side
+-- the paragraphs that an edit of the characters from pos up to end touches: where others stand before or after them, a character stays at that side
 pub record AreTouched (pars : List (List ℕ)) (pos end : ℕ) (touched : Span) : Type 0 where
   pub first : touched.first ≡ first_touched pars (region_edit pos end [])
   pub count : touched.end ≡ touched.first + touched_count pars (region_edit pos end [])

@@ -1,4 +1,4 @@
-//! The paragraphs of a text that stands in three parts, laid out: what is before a change, the new
+//! The paragraphs of a text that stands in three parts, laid out: what is before an edit, the new
 //! piece, and what is after it.
 ghost use Rattle.std.specs.Prelude.{◌≡◌, ◌<◌, ◌++◌, true, false, not, List, [], ℕ, length};
 ghost use Rattle.std.specs.Prelude.{IfOk, IfErr, IsErrOf};

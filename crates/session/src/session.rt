@@ -488,7 +488,7 @@ impl<S: ParagraphStore<Kept>> Session<S> {
         let _ = &self.engine;
     }
 
-    /// Makes changes one after another. Those that are refused change nothing. It ends at the first that is
+    /// Makes edits one after another. Those that are refused change nothing. It ends at the first that is
     /// not refused and for which there is no memory. The counts rise by at most what each may raise them, up
     /// to that one.
     pub fn run(&mut self, edits: &[Edit<'_>]) -> Result<(), AllocError>
@@ -501,7 +501,7 @@ impl<S: ParagraphStore<Kept>> Session<S> {
         ensures laid_out { IsWholeLayout self.new }
         ensures rules { SameRules self.old.engine self.new.engine }
     {
-        // Shows that what is kept is laid out before the first change.
+        // Shows that what is kept is laid out before the first edit.
         let _ = &self.engine;
         for edit in edits {
             let result = match *edit {

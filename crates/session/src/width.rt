@@ -1,4 +1,4 @@
-//! A change of the width: of all lines that change it is known where they start and how much of each is
+//! A width change: of all lines that change it is known where they start and how much of each is
 //! shown, before the first of them is written over those at the old width.
 ghost use Rattle.std.specs.Prelude.{◌≡◌, ◌^◌, ◌<◌, ◌≤◌, ℕ, false, is_none, length, map, sum_by};
 ghost use Rattle.std.specs.Prelude.{IfOk, IfErr, IfSome, IsErrOf, OnErr};

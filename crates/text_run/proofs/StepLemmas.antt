@@ -21,8 +21,7 @@ use Rattle.lines.specs.declared.print.Print.{Print}
 use Rattle.text_run.specs.declared.faults.RunFault.{RunFault}
 use Rattle.text_run.specs.declared.faults.RunFault.TheVariants as f
 use Rattle.text_run.specs.declared.text.Held.{Held}
-use Rattle.text_run.specs.declared.text.Ending.TheVariants.{AtEnd, AtFailure}
-use Rattle.text_run.specs.TextRun.{are_within, input_fault, front_of, front_paragraphs, is_bad, written_of, Gave, HasRead, PrintsNoMore, WantsMemory}
+use Rattle.text_run.specs.TextRun.{AtEnd, AtFailure, are_within, input_fault, front_of, front_paragraphs, is_bad, written_of, Gave, HasRead, PrintsNoMore, WantsMemory}
 use Rattle.text_run.specs.Counts.{PrintsAtMost}
 use Rattle.text_run.specs.Streaming.{Ends, FindsFault, Finishes, Gathers, IsAt, IsBeginning, IsFront, IsFaultAhead, IsOpen, IsRead, Stands, Steps, StopsWriting, Writes, last_lines}
 use Rattle.text_run.proofs.CountLemmas.{at_most_more, at_most_none, at_most_printed, prints_more}

@@ -20,9 +20,7 @@ use Rattle.lines.specs.declared.engine.Engine.{Engine}
 use Rattle.lines.specs.declared.print.Print.{Print}
 use Rattle.text_run.specs.declared.faults.RunFault.{RunFault}
 use Rattle.text_run.specs.declared.faults.RunFault.TheVariants as f
-use Rattle.text_run.specs.declared.text.Ending.{Ending}
-use Rattle.text_run.specs.declared.text.Ending.TheVariants.{AtEnd}
-use Rattle.text_run.specs.TextRun.{are_within, is_within, written_of, ending_of, input_fault, front_of, front_paragraphs, read_ahead, Gave, EndsWith, IsTextRun, ReadsAhead}
+use Rattle.text_run.specs.TextRun.{Ending, AtEnd, are_within, is_within, written_of, ending_of, input_fault, front_of, front_paragraphs, read_ahead, Gave, EndsWith, IsTextRun, ReadsAhead}
 use Rattle.text_run.specs.Streaming.{IsAt, IsFront, IsOpen, StartsLong}
 use Rattle.text_run.proofs.Fronts.{first_paragraph}
 use Rattle.text_run.proofs.Utf8Lemmas.{take-valid-after}

@@ -29,13 +29,6 @@ use std::io::ErrorKind;
 /// How many bytes are asked of a source at a time.
 pub const PIECE: usize = 65_536;
 
-/// How an input ended: the source had no more, or it failed.
-#[derive(Clone, Copy, Debug, PartialEq, Eq)]
-pub enum Ending {
-    AtEnd,
-    AtFailure,
-}
-
 /// What a run holds between two reads.
 #[derive(Debug)]
 struct Held {

@@ -16,11 +16,9 @@ use Rattle.tool.specs.Scripts.{is_line_end, lines_among, request_of_line, script
 use Rattle.tool.specs.ScriptRun.{after_line, after_lines, answer_line, answers, good_lines, input_fault, is_good, line_read_ahead, script_fault, with_ends}
 use Rattle.tool.specs.ScriptEnds.{Answered, EndsAfter, IsScriptRun, obeyed_lines}
 use Rattle.tool.specs.Work.{LineWorks, LinesWork}
-use Rattle.text_run.specs.TextRun.{Gave}
+use Rattle.text_run.specs.TextRun.{Ending, AtEnd, AtFailure, Gave}
 use Rattle.text_run.specs.declared.faults.RunFault.{RunFault}
 use Rattle.text_run.specs.declared.faults.RunFault.TheVariants as f
-use Rattle.text_run.specs.declared.text.Ending.{Ending}
-use Rattle.text_run.specs.declared.text.Ending.TheVariants.{AtEnd, AtFailure}
 use Rattle.text_run.proofs.StreamLemmas.{Took-append}
 use Rattle.tool.proofs.WorkLemmas.{lines_work_bad, lines_work_more}
 

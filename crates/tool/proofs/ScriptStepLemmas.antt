@@ -18,12 +18,10 @@ use Rattle.tool.specs.Scripts.{is_last_line, is_line_end, lines_among, request_o
 use Rattle.tool.specs.ScriptEnds.{IsScriptRun}
 use Rattle.tool.specs.ScriptRun.{after_line, after_lines, answer_line, answers, good_lines, is_good, with_ends}
 use Rattle.tool.specs.Work.{LineWorks, LinesWork}
-use Rattle.text_run.specs.TextRun.{Gave}
+use Rattle.text_run.specs.TextRun.{Ending, AtEnd, AtFailure, Gave}
 use Rattle.text_run.specs.declared.faults.RunFault.{RunFault}
 use Rattle.text_run.specs.declared.faults.RunFault.TheVariants as f
 use Rattle.tool.specs.declared.script.Reading.{Reading}
-use Rattle.text_run.specs.declared.text.Ending.{Ending}
-use Rattle.text_run.specs.declared.text.Ending.TheVariants.{AtEnd, AtFailure}
 use Rattle.text_run.proofs.Devices.{Took-nothing}
 use Rattle.tool.proofs.WorkLemmas.{lines_work_front, lines_work_more, works_none}
 use Rattle.tool.proofs.ScriptLemmas.{IsDone, after_more, answers_more, ends_at_failure, ends_line, ends_short, ends_whole, first_part, lines_after, parts_some}

@@ -24,7 +24,7 @@ use Rattle.text_run.specs.declared.faults.RunFault.TheVariants as f
 use Rattle.tool.specs.declared.script.Reading.{Reading}
 use Rattle.tool.specs.declared.script.ScriptOptions.{ScriptOptions}
 
--- what memory may be wanted for: a change where there is a text or a piece, and the cluster of a character that is there
+-- what memory may be wanted for: an edit where there is a text or a piece, and the cluster of a character that is there
 abbrev pub TakesMemory : Held → Request → Type 0
 TakesMemory held (Insert pos piece) = 0 < length held.text + length piece
 TakesMemory held (Delete pos count) = 0 < length held.text
@@ -32,7 +32,7 @@ TakesMemory held (SetWidth width) = 0 < length held.text
 TakesMemory held Show = ⊥
 TakesMemory held (Ask question) = AsksMemory held.text question
 
--- a change was made, and this is its damage; or it was refused, and all stays; which it does for want of memory too, but then
+-- an edit was made, and this is its damage; or it was refused, and all stays; which it does for want of memory too, but then
 -- there was no reason to refuse it
 abbrev pub Edited : Rules → Request → Held → Held → Result Damage EditFault → Type 0
 Edited rules request old new (Ok damage) =
@@ -45,7 +45,7 @@ abbrev pub lacks_memory : Result Damage EditFault → Bool
 lacks_memory (Err NoMemory) = true
 lacks_memory edit = false
 
--- what is answered to a change
+-- what is answered to an edit
 abbrev pub answer_text : Result Damage EditFault → List ℕ
 answer_text (Ok damage) = damage_text damage.first_line damage.old_lines damage.new_lines
 answer_text (Err reason) = refusal_text reason

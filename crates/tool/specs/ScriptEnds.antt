@@ -5,10 +5,9 @@ use Rattle.lines.specs.Layouts.{Rules}
 use Rattle.tool.specs.declared.script.ScriptOptions.{ScriptOptions}
 use Rattle.session.specs.Edits.{Held}
 use Rattle.session.specs.Sessions.{SessionState, held_at}
-use Rattle.text_run.specs.TextRun.{Gave, HasReadAll, fault_of}
+use Rattle.text_run.specs.TextRun.{Ending, Gave, HasReadAll, fault_of}
 use Rattle.text_run.specs.declared.faults.RunFault.{RunFault}
 use Rattle.text_run.specs.declared.faults.RunFault.TheVariants as fault
-use Rattle.text_run.specs.declared.text.Ending.{Ending}
 use Rattle.tool.specs.ScriptRun.{after_lines, answers, good_lines, line_read_ahead, script_fault, with_ends}
 use Rattle.tool.specs.Scripts.{script_lines}
 use Rattle.tool.specs.Work.{LinesWork}

@@ -13,10 +13,9 @@ use Rattle.session.specs.declared.edits.EditFault.{EditFault}
 use Rattle.session.specs.declared.edits.EditFault.TheVariants as refused
 use Rattle.tool.specs.Queries.{question_text}
 use Rattle.tool.specs.Scripts.{Request, Insert, Delete, SetWidth, Show, Ask, request_of_line}
+use Rattle.text_run.specs.TextRun.{Ending, AtEnd, AtFailure}
 use Rattle.text_run.specs.declared.faults.RunFault.{RunFault}
 use Rattle.text_run.specs.declared.faults.RunFault.TheVariants as fault
-use Rattle.text_run.specs.declared.text.Ending.{Ending}
-use Rattle.text_run.specs.declared.text.Ending.TheVariants.{AtEnd, AtFailure}
 use Rattle.text_run.specs.declared.text.TheConstants.{PIECE}
 use Rattle.tool.specs.declared.script.ScriptOptions.{ScriptOptions}
 use Rattle.tool.specs.declared.script.TheConstants.{LINE_LIMIT}

@@ -1,4 +1,4 @@
--- How much work the lines of a script ask for at most: each request what its change asks of a session, one that is refused nothing.
+-- How much work the lines of a script ask for at most: each request what its edit asks of a session, one that is refused nothing.
 use Rattle.std.specs.Prelude.{ℕ, ◌+◌, Bool, List, [], ◌∷◌, length, Option, Some, None, is_none, if◌then◌else◌}
 use Rattle.bidi.specs.Cuts.{paragraphs}
 use Rattle.lines.specs.Engine.{analysed_of, filled_of, written_of, RisesBy}

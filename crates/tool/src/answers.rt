@@ -20,7 +20,7 @@ pub const ANSWER_ROOM: usize = 65;
 /// The bytes of an answer.
 pub type Answer = ArrayVec<u8, ANSWER_ROOM>;
 
-/// The answer to a change: which lines gave way to how many, or why it was refused.
+/// The answer to an edit: which lines gave way to how many, or why it was refused.
 pub fn answer_of(edit: &Result<Damage, EditFault>) -> Answer
     ensures { result.items ≡ answer_text edit.now }
 {
@@ -108,7 +108,7 @@ fn push(answer: &mut Answer, bytes: &[u8])
     }
 }
 
-// Want of memory is no reason to refuse a change, and has no words.
+// Want of memory is no reason to refuse an edit, and has no words.
 fn reason_text(reason: EditFault) -> &'static str
     ensures value { result.now ≡ refusal_text reason }
     ensures short { length result.now ≤ 65 }

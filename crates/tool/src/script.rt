@@ -116,7 +116,7 @@ fn delete<S: ParagraphStore<Kept>>(
     session.delete(pos, count)
 }
 
-// Writes the answer to a change after so many bytes.
+// Writes the answer to an edit after so many bytes.
 fn write_answer<W: Sink>(
     writer: &mut W,
     written: u64,
@@ -444,9 +444,9 @@ fn step<R: Source, W: Sink, S: ParagraphStore<Kept>>(
 
 /// Obeys the lines of a script over a session. Each line is obeyed as soon as its end was read, and its
 /// answer is written before more is read: of the script, no more is held than a line and one piece.
-/// However the run ends, the session has made the changes of the lines that were answered, and worked no
+/// However the run ends, the session has made the edits of the lines that were answered, and worked no
 /// more than these ask for; where a write failed, also that of the line whose answer it was. Memory runs
-/// out only while a line is read or its change is made, and that line changes nothing then.
+/// out only while a line is read or its edit is made, and that line changes nothing then.
 pub fn run_script<R: Source, W: Sink, S: ParagraphStore<Kept>>(
     alloc: Global,
     reader: &mut R,
