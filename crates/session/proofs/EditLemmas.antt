@@ -75,7 +75,9 @@ module _ (law : ParagraphsArePieces) (few : LinesAreFew) (rules : Rules) (width 
       omega (arith, chars-laid)
 
 -- an engine that goes by the same rules
-pub IsWholeLayout-same : (old new : Engine) (width : ℕ) (kept : List Layout) → SameRules old new → IsWholeLayout (record { engine = old; width = width; kept = kept }) → IsWholeLayout (record { engine = new; width = width; kept = kept })
+pub IsWholeLayout-same : (old new : Engine) (width : ℕ) (kept : List Layout) → SameRules old new
+    → IsWholeLayout (record { engine = old; width = width; kept = kept })
+    → IsWholeLayout (record { engine = new; width = width; kept = kept })
 IsWholeLayout-same old new width kept same whole = record {
   kept = whole.kept ∙ ap (λ r. layouts_of r width (text_of kept)) (sym same);
   allowed = ap (λ r. text_refusal (cut_by r) (text_of kept)) same ∙ whole.allowed;
@@ -84,7 +86,8 @@ IsWholeLayout-same old new width kept same whole = record {
 
 -- a refusal, with the engine as it was
 pub LaysOutAtMost-none : (n : ℕ) (engine : Engine) → LaysOutAtMost n engine engine
-LaysOutAtMost-none n engine = record { analysed = record { least = omega arith; most = omega arith }; filled = record { least = omega arith; most = omega arith }; written = record { least = omega arith; most = omega arith } }
+LaysOutAtMost-none n engine = record { analysed = record { least = omega arith; most = omega arith }; filled =
+    record { least = omega arith; most = omega arith }; written = record { least = omega arith; most = omega arith } }
 
 pub EditsNot-unchanged : (edit : Replacement) (state : SessionState) (fault : EditFault) → IsWholeLayout state → IsAnswerFor (refusal (cuts_at state) (text_at state) edit) fault
     → IsCountedFor fault (LaysOutAtMost (fresh (pars_of state.kept) edit)) state.engine state.engine → EditsNot edit state state fault
@@ -148,7 +151,8 @@ module _ (law : ParagraphsArePieces) (few : LinesAreFew) (engine : Engine) (widt
   pars-kept = ap pars_of whole.kept ∙ pars-layouts rules width (paragraphs (cut_by rules) (text_of kept))
 
   spliced : IsSpliced (cut_by rules) (pars_of kept) pos count piece (touched_by front back)
-  spliced = IsSpliced-from_touched law (cut_by rules) (pars_of kept) pos count piece (touched_by front back) (sym pars-kept) within (AreTouched-edges kept pos (pos + count) front back order within f b)
+  spliced = IsSpliced-from_touched law (cut_by rules) (pars_of kept) pos count piece (touched_by front back)
+      (sym pars-kept) within (AreTouched-edges kept pos (pos + count) front back order within f b)
 
   region_is : region_of (pars_of kept) (touched_by front back) pos (pos + count) piece ≡ region
   region_is = region_parts kept pos (pos + count) front back order within f b piece
@@ -269,6 +273,7 @@ pub ends_ok : (P : List Layout → Damage → Type 0) (r : Result Damage EditFau
 ends_ok P (Ok x) now made d h e p = subst (λ ks. P ks x) (sym h) (subst (P made) (sym e) p)
 ends_ok P (Err x) now made d h e p = tt
 
-pub ends_err : (P : List Layout → EditFault → Type 0) (r : Result Damage EditFault) (now before : List Layout) → OnErr r (now ≡ before) → IfErr r (λ fault. fault ≡ NoMemory) → P before NoMemory → IfErr r (P now)
+pub ends_err : (P : List Layout → EditFault → Type 0) (r : Result Damage EditFault) (now before : List Layout)
+    → OnErr r (now ≡ before) → IfErr r (λ fault. fault ≡ NoMemory) → P before NoMemory → IfErr r (P now)
 ends_err P (Ok x) now before h e p = tt
 ends_err P (Err x) now before h e p = subst (λ ks. P ks x) (sym h) (subst (P before) (sym e) p)

@@ -209,7 +209,8 @@ same_place : (p n o q m r : ℕ) → p ≡ q → n ≡ m → o ≡ r
     → let here : Place = record { paragraph = p; line = n; offset = o } in here ≡ record { paragraph = q; line = m; offset = r }
 same_place p n o q m r e f h = rw (e, f, h) refl
 
-module _ (kept : List Layout) (pos : ℕ) (found : Found) (f : Finds chars_of chars_of lines_of kept pos found) (l : Layout) (read : Some l ≡ slice_get kept found.index) (lined : All IsLined kept) (j : ℕ)
+module _ (kept : List Layout) (pos : ℕ) (found : Found) (f : Finds chars_of chars_of lines_of kept pos found)
+    (l : Layout) (read : Some l ≡ slice_get kept found.index) (lined : All IsLined kept) (j : ℕ)
     (j-is : j ≡ count_to found.rest (map begins l.lines)) where
   abbrev before : ℕ
   before = sum_by chars_of f.before

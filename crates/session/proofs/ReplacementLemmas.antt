@@ -19,7 +19,8 @@ pub record IsSpliced (is_cut : ℕ → ℕ → Bool) (pars : List (List ℕ)) (p
   pub order : pos - touched.start ≤ pos + count - touched.start
   pub reach : pos + count - touched.start ≤ length (concat (slice_range pars touched.first touched.end))
   pub text : replaced (concat pars) (replacing pos count piece) ≡ concat (take touched.first pars) ++ (region_of pars touched pos (pos + count) piece ++ concat (drop touched.end pars))
-  pub pieces : paragraphs is_cut (replaced (concat pars) (replacing pos count piece)) ≡ take touched.first pars ++ (paragraphs is_cut (region_of pars touched pos (pos + count) piece) ++ drop touched.end pars)
+  pub pieces : paragraphs is_cut (replaced (concat pars) (replacing pos count piece)) ≡ take touched.first pars
+      ++ (paragraphs is_cut (region_of pars touched pos (pos + count) piece) ++ drop touched.end pars)
   pub first : touched.first ≡ first_touched pars (replacing pos count piece)
   pub number : touched.end ≡ touched.first + touched_count pars (replacing pos count piece)
   pub size : length (region_of pars touched pos (pos + count) piece) ≡ fresh pars (replacing pos count piece)
@@ -73,5 +74,7 @@ IsSpliced-from_touched law is_cut pars pos count piece touched whole within t =
       first = first;
       number = counted;
       size = rw region_is (size ∙ ap (λ ps. length (concat ps) - count + length piece) slice);
-      limit = λ few. ap are_within pieces ∙ are_within-splice left mid right (paragraphs is_cut (replaced (concat mid) (replacing from count piece))) (rw split at few) ∙ ap (is_within_limit is_cut) (sym region_is);
+      limit = λ few. ap are_within pieces
+          ∙ are_within-splice left mid right (paragraphs is_cut (replaced (concat mid) (replacing from count piece)))
+          (rw split at few) ∙ ap (is_within_limit is_cut) (sym region_is);
     }

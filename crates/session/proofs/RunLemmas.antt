@@ -7,7 +7,7 @@ use Rattle.bidi.specs.Cuts.{paragraphs}
 use Rattle.lines.specs.Engine.{SameRules, LaysOutAtMost, FillsAtMost, RisesBy, analysed_of, filled_of, written_of, rules_of}
 use Rattle.lines.specs.Layouts.{cut_by}
 use Rattle.lines.specs.declared.engine.Engine.{Engine}
-use Rattle.session.specs.Runs.{StopsAt, WorksAtMost, analysed_by, edit_refusal, filled_by, work_of, work_of_all}
+use Rattle.session.specs.Runs.{StopsAt, TakesMemory, WorksAtMost, analysed_by, edit_refusal, filled_by, work_of, work_of_all}
 use Rattle.session.specs.Touched.{fresh}
 use Rattle.session.proofs.EditLemmas.{pars-layouts}
 use Rattle.session.specs.Edits.{Replacement, Held, replaced, refusal, width_refusal, after_edit, after_width, after_one, after_all}
@@ -53,7 +53,8 @@ edited edit old new (Err fault) m r other = record {
   rules = r.rules;
 }
 
-pub refilled_to : (width : ℕ) (old new : SessionState) (result : Result Damage EditFault) → IfOk result (SetsWidth width old new) → IfErr result (SetsWidthNot width old new) → (result ≡ Err NoMemory → ⊥)
+pub refilled_to : (width : ℕ) (old new : SessionState) (result : Result Damage EditFault)
+    → IfOk result (SetsWidth width old new) → IfErr result (SetsWidthNot width old new) → (result ≡ Err NoMemory → ⊥)
     → HasMoved (record { text = text_at old; width = after_width old.width width }) old new
 refilled_to width old new (Ok damage) m r other = record {
   held = held-by new (text_at old) (after_width old.width width) m.text (m.at_width ∙ sym (choice-accepted (width_refusal width) width old.width m.accepted));
@@ -79,7 +80,9 @@ has_stayed reason bound old new fault r = record {
   rules = r.rules;
 }
 
-pub stays : (reason : Option EditFault) (bound : Engine → Engine → Type 0) (old new : SessionState) (result : Result Damage EditFault) → IfErr result (Stays reason bound old new) → result ≡ Err NoMemory → HasStayed reason old new
+pub stays : (reason : Option EditFault) (bound : Engine → Engine
+    → Type 0) (old new : SessionState) (result : Result Damage EditFault) → IfErr result (Stays reason bound old new)
+    → result ≡ Err NoMemory → HasStayed reason old new
 stays reason bound old new (Ok damage) r e = absurd (cc e)
 stays reason bound old new (Err OutOfRange) r e = absurd (cc e)
 stays reason bound old new (Err WidthOutOfRange) r e = absurd (cc e)
@@ -181,7 +184,9 @@ RisesBy-more n m k a b c r s e = record { least = omega (arith, r.least, s.least
 RisesBy-within : (n m a b : ℕ) → n ≤ m → RisesBy n a b → RisesBy m a b
 RisesBy-within n m a b le r = record { least = r.least; most = omega (arith, r.most, le) }
 
-pub whole_works : (start : SessionState) (edits : List Edit) (n : ℕ) (old new : Engine) → WorksAtMost (cuts_at start) (held_at start) (take n edits) old new → WorksAtMost (cuts_at start) (held_at start) edits old new
+pub whole_works : (start : SessionState) (edits : List Edit) (n : ℕ) (old new : Engine)
+    → WorksAtMost (cuts_at start) (held_at start) (take n edits) old new
+    → WorksAtMost (cuts_at start) (held_at start) edits old new
 whole_works start edits n old new w = record {
   analysed = RisesBy-within _ _ _ _ (work_of-take (cuts_at start) (analysed_by (cuts_at start)) (held_at start) edits n) w.analysed;
   filled = RisesBy-within _ _ _ _ (work_of-take (cuts_at start) (filled_by (cuts_at start)) (held_at start) edits n) w.filled;
@@ -207,10 +212,11 @@ next_works start old new edits n d edit within read run works =
 
 -- the edit at which a run ended
 pub HasRun-stops : (start old new : SessionState) (edits : List Edit) (n : ℕ) (d edit : Edit) → n < length edits → get_or edits n d ≡ edit → HasRun start edits n old
+    → TakesMemory (cuts_at old) (held_at old) edit
     → HasStayed (edit_refusal (cuts_at old) (held_at old) edit) old new
     → Works (edit_refusal (cuts_at old) (held_at old) edit) (analysed_by (cuts_at old) (held_at old) edit) (filled_by (cuts_at old) (held_at old) edit) old.engine new.engine
     → StopsAt (cuts_at start) (held_at start) edits (held_at new) start.engine new.engine
-HasRun-stops start old new edits n d edit within read run stayed works =
+HasRun-stops start old new edits n d edit within read run takes stayed works =
     let front = take n edits in
     let more : take (n + 1) edits ≡ front ++ edit ∷ [] = take_more edits n d within ∙ ap (λ e. front ++ e ∷ []) read in
     record {
@@ -220,6 +226,7 @@ HasRun-stops start old new edits n d edit within read run stayed works =
       place = sym (take-append-drop (n + 1) edits) ∙ ap (λ xs. xs ++ drop (n + 1) edits) more ∙ append_assoc front (edit ∷ []) (drop (n + 1) edits);
       held = stayed.moved.held ∙ run.held;
       accepted = ap (λ held. edit_refusal (cuts_at start) held edit) stayed.moved.held ∙ ap (λ r. edit_refusal (cut_by r) (held_at old) edit) (sym run.rules) ∙ stayed.accepted;
+      takes = subst (λ held. TakesMemory (cuts_at start) held edit) (sym stayed.moved.held) takes;
       works = subst (λ done. WorksAtMost (cuts_at start) (held_at start) done start.engine new.engine) more (next_works start old new edits n d edit within read run works);
     }
 

@@ -48,7 +48,8 @@ all_laid_out : (rules : Rules) (width : ℕ) (pars : List (List ℕ)) → Each (
 all_laid_out rules width [] h = tt
 all_laid_out rules width (p ∷ pars) h = (record { width = width; paragraph = h.0; from_scratch = refl }, all_laid_out rules width pars h.1)
 
-pub each_laid_out : ParagraphsArePieces → (engine : Engine) (width : ℕ) (kept : List Layout) → IsWholeLayout (record { engine = engine; width = width; kept = kept }) → Each (IsLaidOut (rules_of engine)) kept
+pub each_laid_out : ParagraphsArePieces → (engine : Engine) (width : ℕ) (kept : List Layout)
+    → IsWholeLayout (record { engine = engine; width = width; kept = kept }) → Each (IsLaidOut (rules_of engine)) kept
 each_laid_out law engine width kept whole =
     let rules = rules_of engine in
     let pars = paragraphs (cut_by rules) (text_of kept) in
@@ -152,7 +153,9 @@ module _ (start now : Engine) (width : ℕ) (kept : List Layout) (n : ℕ) (fill
       written = counts.written ∙ so_far.written;
     }
 
-    pub AreFilled-next : (part : Option LineExtents) (more : List (Option LineExtents)) → BringsTo (rules_of now) width l part → more ≡ fills ++ part ∷ [] → AreFilled start width kept (n + 1) more next
+    pub AreFilled-next : (part : Option LineExtents) (more : List (Option LineExtents))
+        → BringsTo (rules_of now) width l part → more ≡ fills ++ part ∷ []
+        → AreFilled start width kept (n + 1) more next
     AreFilled-next part more brings more-is = record {
       made = rw (more-is, take_more kept n l here, item)
           (zip_push (BringsTo (rules_of start) width) (take n kept) fills l part so_far.made (subst (λ r. BringsTo r width l part) so_far.rules brings));
@@ -245,7 +248,8 @@ refilled-pars : (rules : Rules) (old width : ℕ) (pars : List (List ℕ)) → r
 refilled-pars rules old width [] = refl
 refilled-pars rules old width (p ∷ pars) = ap (λ ks. layout_of rules width p ∷ ks) (refilled-pars rules old width pars)
 
-module _ (law : ParagraphsArePieces) (few : LinesAreFew) (engine : Engine) (old width : ℕ) (kept : List Layout) (whole : IsWholeLayout (record { engine = engine; width = old; kept = kept })) (some : width ≡ 0 → ⊥) where
+module _ (law : ParagraphsArePieces) (few : LinesAreFew) (engine : Engine) (old width : ℕ) (kept : List Layout)
+    (whole : IsWholeLayout (record { engine = engine; width = old; kept = kept })) (some : width ≡ 0 → ⊥) where
   abbrev after : List Layout
   after = refilled (rules_of engine) width kept
 

@@ -2,6 +2,7 @@
 use Rattle.std.proofs.Common.{◌≡◌, ℕ, ◌==◌, Bool, List, [], ◌∷◌, refl}
 use Rattle.session.specs.Edits.{after_all, deletion, insertion}
 use Rattle.session.specs.Touched.{first_touched, touched_count, fresh}
+use Rattle.session.specs.declared.edits.TheConstants.{TEXT_LIMIT}
 use Rattle.session.specs.declared.edits.Edit.{Edit}
 use Rattle.session.specs.declared.edits.Edit.TheVariants.{Delete, SetWidth}
 
@@ -23,7 +24,7 @@ over-three = (refl, refl, refl)
 in-nothing : (first_touched [] (insertion 0 (120 ∷ [])) ≡ 0) × (touched_count [] (insertion 0 (120 ∷ [])) ≡ 0) × (fresh [] (insertion 0 (120 ∷ [])) ≡ 1)
 in-nothing = (refl, refl, refl)
 
--- changes that are refused change nothing
+-- edits that are refused change nothing
 abbrev after_newline : ℕ → ℕ → Bool
 after_newline before after = before == 10
 
@@ -32,3 +33,7 @@ four_edits = SetWidth 0 ∷ SetWidth 5 ∷ Delete 2 2 ∷ Delete 0 1 ∷ []
 
 after-four : after_all after_newline (record { text = 97 ∷ 10 ∷ 98 ∷ []; width = 80 }) four_edits ≡ record { text = 10 ∷ 98 ∷ []; width = 5 }
 after-four = refl
+
+-- a text has at most so many characters
+text_limit : TEXT_LIMIT ≡ 16777216
+text_limit = refl

@@ -58,7 +58,7 @@ impl Drop for Held {
 }
 
 /// Room for so many bytes.
-pub fn room(alloc: Global, len: usize) -> Result<Vec<u8>, AllocError>
+pub fn zeroed(alloc: Global, len: usize) -> Result<Vec<u8>, AllocError>
     ensures { IfOk result (λ piece. vec_len piece ≡ len) }
 {
     vec![in alloc; 0; len]
@@ -87,7 +87,7 @@ impl Held {
         ensures page { IfOk result (λ held. held.page.bytes.items ≡ []) }
     {
         Ok(Held {
-            piece: room(alloc, PIECE)?,
+            piece: zeroed(alloc, PIECE)?,
             waiting: 0,
             decoded: 0,
             text: Vec::new(alloc),

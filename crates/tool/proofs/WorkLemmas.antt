@@ -101,7 +101,8 @@ width_worked width old new (Err fault) m r =
     counted_for (width_refusal width) 0 n (FillsAtMost n) old.engine new.engine fault r.answer r.counts
     (λ e counts. filled_anew (width_refusal width) n old.engine new.engine e counts)
 
-pub width_works : (width : ℕ) (old new : SessionState) (result : Result Damage EditFault) → nat_lt 65535 width ≡ false → IfOk result (SetsWidth width old new) → IfErr result (SetsWidthNot width old new)
+pub width_works : (width : ℕ) (old new : SessionState) (result : Result Damage EditFault) → nat_lt 65535 width ≡ false
+    → IfOk result (SetsWidth width old new) → IfErr result (SetsWidthNot width old new)
     → RequestWorks (rules_of old.engine) (held_at old) (SetWidth width) old.engine new.engine
 width_works width old new result small m r =
     let w = width_worked width old new result m r in
@@ -115,7 +116,9 @@ width_works width old new result small m r =
 -- ---- lines, one after another
 module _ (rules : Rules) (queries : Bool) where
   work_more : (work : Held → Request → ℕ) (held : Held) (lines : List (List ℕ)) (line : List ℕ)
-      → work_of_lines rules queries work held (lines ++ line ∷ []) ≡ work_of_lines rules queries work held lines + work_of_line rules work (after_lines rules queries held lines) (request_of_line queries line)
+      → work_of_lines rules queries work held (lines ++ line ∷ [])
+          ≡ work_of_lines rules queries work held lines + work_of_line rules work
+          (after_lines rules queries held lines) (request_of_line queries line)
   work_more work held [] line = omega arith
   work_more work held (first ∷ lines) line = omega (arith, work_more work (after_line rules held (request_of_line queries first)) lines line)
 
@@ -133,7 +136,9 @@ module _ (rules : Rules) (queries : Bool) where
   pub lines_work_more : (start held : Held) (lines : List (List ℕ)) (line : List ℕ) (old now new : Engine) → held ≡ after_lines rules queries start lines
       → LinesWork rules queries start lines old now → LineWorks rules queries held line now new → LinesWork rules queries start (lines ++ line ∷ []) old new
   lines_work_more start held lines line old now new held_is before works =
-      let sum = λ (work : Held → Request → ℕ). work_more work start lines line ∙ ap (λ (h : Held). work_of_lines rules queries work start lines + work_of_line rules work h (request_of_line queries line)) (sym held_is) in
+      let sum = λ (work : Held → Request → ℕ). work_more work start lines line
+          ∙ ap (λ (h : Held). work_of_lines rules queries work start lines + work_of_line rules work h
+          (request_of_line queries line)) (sym held_is) in
       record {
         analysed = more_rise _ _ _ _ _ _ before.analysed works.analysed (sum (analysed_by rules));
         filled = more_rise _ _ _ _ _ _ before.filled works.filled (sum (filled_by rules));
@@ -149,7 +154,10 @@ module _ (rules : Rules) (queries : Bool) where
       → LinesWork rules queries start lines old now → LineWorks rules queries held line now new → LinesWork rules queries start (lines ++ []) old new
   lines_work_bad start held lines line old now new bad before works =
       let sum = λ (work : Held → Request → ℕ).
-      ap (work_of_lines rules queries work start) (append-nil lines) ∙ sum_is (work_of_lines rules queries work start lines) (work_of_line rules work held (request_of_line queries line)) (no_work work held (request_of_line queries line) bad) in
+      ap (work_of_lines rules queries work start) (append-nil lines)
+          ∙ sum_is (work_of_lines rules queries work start lines)
+          (work_of_line rules work held (request_of_line queries line))
+          (no_work work held (request_of_line queries line) bad) in
       record {
         analysed = more_rise _ _ _ _ _ _ before.analysed works.analysed (sum (analysed_by rules));
         filled = more_rise _ _ _ _ _ _ before.filled works.filled (sum (filled_by rules));

@@ -106,7 +106,7 @@ pub record Grows (bytes : List ℕ) (old new : Reading) : Type 0 where
 -- or they were not, since the line would be too long, or else for want of memory
 abbrev pub GrowsNot : List ℕ → Reading → RunFault → Type 0
 GrowsNot bytes reading (f.BadLine n) = (LINE_LIMIT < length (reading.line.items ++ bytes)) × (n ≡ reading.lines + 1)
-GrowsNot bytes reading f.Memory = length (reading.line.items ++ bytes) ≤ LINE_LIMIT
+GrowsNot bytes reading f.Memory = (length (reading.line.items ++ bytes) ≤ LINE_LIMIT) × (0 < length bytes)
 GrowsNot bytes reading fault = ⊥
 
 -- Of a piece, the first n bytes were taken: all of it goes on with the line, or a line ended and was obeyed.
@@ -153,7 +153,9 @@ FailsIn rules options piece state_old state_new reading old new fault =
 
 -- Between two states of its devices and of its session a run has read some bytes and obeyed some lines. After these it holds the
 -- beginning of a line, and bytes that wait.
-pub record IsAt (rules : Rules) (options : ScriptOptions) (start : SessionState) (reader_old reader_new writer_old writer_new : Device) (now : SessionState) (reading : Reading) (waiting : List ℕ) : Type 0 where
+pub record IsAt (rules : Rules) (options : ScriptOptions) (start : SessionState)
+    (reader_old reader_new writer_old writer_new : Device) (now : SessionState) (reading : Reading)
+    (waiting : List ℕ) : Type 0 where
   pub bytes : List ℕ
   pub done : List (List ℕ)
   pub read : Consumes reader_old.bytes reader_new.bytes bytes

@@ -27,7 +27,9 @@ obeyed_lines lines k stop = take k lines
 
 -- A run ended after the first k lines. No more lines than these were obeyed, but for the one whose answer was being written; so
 -- much was read ahead; and the session worked no more than these lines ask for, and the next one, at which the run ended.
-pub record EndsAfter (rules : Rules) (options : ScriptOptions) (old new : SessionState) (lines : List (List ℕ)) (wrong : Option RunFault) (k : ℕ) (reader_old reader_new writer_old writer_new : Device) (stop : Option RunFault) : Type 0 where
+pub record EndsAfter (rules : Rules) (options : ScriptOptions) (old new : SessionState) (lines : List (List ℕ))
+    (wrong : Option RunFault) (k : ℕ) (reader_old reader_new writer_old writer_new : Device)
+    (stop : Option RunFault) : Type 0 where
   pub wrote : Answered rules options (held_at old) lines wrong k writer_old writer_new stop
   pub held : held_at new ≡ after_lines rules options.queries (held_at old) (obeyed_lines lines k stop)
   pub ahead : reader_new.passed ≤ reader_old.passed + length (with_ends (take k lines)) + line_read_ahead

@@ -17,13 +17,14 @@ pub record Starts (engine : Engine) (bytes : List ℕ) (width : ℕ) (state : Se
   pub opens : Opens engine (chars bytes) width state
 
 -- why none was: the bytes aren't UTF-8, or else the text is too long, or else one of its paragraphs is; where memory ran out none of
--- these is so
+-- these is so, and there is a text
 abbrev pub IsStartFault : Rules → List ℕ → RunFault → Type 0
 IsStartFault rules bytes (f.NotUtf8 n) = (n ≡ utf8_valid_len bytes) × (n < length bytes)
 IsStartFault rules bytes f.TextTooLong = (utf8_valid_len bytes ≡ length bytes) × (text_refusal (cut_by rules) (chars bytes) ≡ Some e.TextTooLong)
 IsStartFault rules bytes f.ParagraphTooLong =
     (utf8_valid_len bytes ≡ length bytes) × (text_refusal (cut_by rules) (chars bytes) ≡ Some e.ParagraphTooLong)
-IsStartFault rules bytes f.Memory = (utf8_valid_len bytes ≡ length bytes) × (text_refusal (cut_by rules) (chars bytes) ≡ None)
+IsStartFault rules bytes f.Memory =
+    (utf8_valid_len bytes ≡ length bytes) × (text_refusal (cut_by rules) (chars bytes) ≡ None) × (0 < length (chars bytes))
 IsStartFault rules bytes fault = ⊥
 
 abbrev pub start_fault : EditFault → RunFault

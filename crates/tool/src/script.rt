@@ -28,7 +28,7 @@ use lines::Print;
 use session::{Damage, EditFault, Kept, Session};
 use std::alloc::{AllocError, Global};
 use store::ParagraphStore;
-use text_run::{PIECE, RunFault, front, room};
+use text_run::{PIECE, RunFault, front, zeroed};
 
 /// How many bytes a line may have, without its end.
 pub const LINE_LIMIT: usize = 1_048_576;
@@ -478,7 +478,7 @@ fn run_over<R: Source, W: Sink, S: ParagraphStore<Kept>>(
     ensures reads { TellsReads result (R.state reader.old) (R.state reader.new) }
     ensures rules { SameRules session.old.engine session.new.engine }
 {
-    let Ok(mut piece) = room(alloc, PIECE) else {
+    let Ok(mut piece) = zeroed(alloc, PIECE) else {
         return Err(RunFault::Memory);
     };
     let mut reading = Reading {

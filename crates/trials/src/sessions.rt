@@ -1,6 +1,6 @@
 //! The calls of a session: each is made in a session of its own, beside one in which nothing was asked for.
 use crate::Wrong;
-use crate::page::{Page, Writer};
+use crate::page::{Printed, Writer};
 use crate::tables::{engine, let_go};
 use device::ToWrite;
 use lines::{Engine, Laid, Print, VisualLine};
@@ -243,14 +243,14 @@ pub const ALL: Print = Print {
 };
 
 fn is_same_page<S: ParagraphStore<Kept>>(left: &Session<S>, right: &Session<S>) -> bool {
-    let (mut left_page, mut right_page) = (Page::new(), Page::new());
+    let (mut left_page, mut right_page) = (Printed::new(), Printed::new());
     let left_result = print(left, &mut left_page);
     let right_result = print(right, &mut right_page);
     left_result && right_result && left_page.bytes() == right_page.bytes()
 }
 
 // Whether the whole page was printed.
-fn print<S: ParagraphStore<Kept>>(session: &Session<S>, page: &mut Page) -> bool {
+fn print<S: ParagraphStore<Kept>>(session: &Session<S>, page: &mut Printed) -> bool {
     session
         .print(&mut ToWrite::new(Writer { page }), &ALL)
         .is_ok()

@@ -6,7 +6,8 @@ use Rattle.ucd.specs.Answers.{PropertyAnswers, unnamed}
 use Rattle.ucd.specs.Pages.{answers_at, HasPage}
 
 -- the last page is the one
-pub has_last : (entries page : List PropertyAnswers) (end : ℕ) → end ≡ length entries → length entries % 256 ≡ 0 → 256 ≤ end → drop (end - 256) entries ≡ page → HasPage entries entries page (end / 256 - 1)
+pub has_last : (entries page : List PropertyAnswers) (end : ℕ) → end ≡ length entries → length entries % 256 ≡ 0
+    → 256 ≤ end → drop (end - 256) entries ≡ page → HasPage entries entries page (end / 256 - 1)
 has_last entries page end is whole some same = record {
   whole = whole;
   room = omega arith;

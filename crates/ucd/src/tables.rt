@@ -229,6 +229,20 @@ impl Tables {
         })
     }
 
+    /// Other tables that say the same, unless memory is wanting.
+    pub fn copy(&self, alloc: Global) -> Result<Tables, AllocError>
+        ensures { IfOk result (λ tables. tables ≡ self.now) }
+    {
+        let pages = self.pages.copy(alloc)?;
+        let brackets = self.brackets.clone()?;
+        let mirrors = self.mirrors.clone()?;
+        Ok(Tables {
+            pages,
+            brackets,
+            mirrors,
+        })
+    }
+
     /// The bidirectional class, `L` where no line names the character.
     pub fn bidi_class(&self, c: char) -> BidiClass
         ensures { result ≡ class_of self.now c }

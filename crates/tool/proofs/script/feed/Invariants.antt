@@ -12,7 +12,9 @@ invariant-loop-at g l =
     let rules = rules_of l.fn.session.engine in
     record {
       within : l.at ≤ length l.piece;
-      stands : (start : SessionState) (reader_start writer_start reader_now : Device) → IsAt rules l.options start reader_start reader_now writer_start (state l.fn.writer) l.fn.session l.fn.reading l.piece
+      stands : (start : SessionState) (reader_start writer_start reader_now : Device)
+          → IsAt rules l.options start reader_start reader_now writer_start (state l.fn.writer) l.fn.session
+          l.fn.reading l.piece
           → IsAt rules l.options start reader_start reader_now writer_start (state l.writer) l.session l.reading (drop l.at l.piece);
       rules : SameRules l.fn.session.engine l.session.engine;
     }
