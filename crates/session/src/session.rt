@@ -374,12 +374,7 @@ impl<S: ParagraphStore<Kept>> Session<S> {
     }
 
     /// Puts a piece in place of `count` characters from `pos` on: both at once, with one damage.
-    pub fn replace(
-        &mut self,
-        pos: usize,
-        count: usize,
-        piece: &str,
-    ) -> Result<Damage, EditFault>
+    pub fn replace(&mut self, pos: usize, count: usize, piece: &str) -> Result<Damage, EditFault>
         ensures ok { IfOk result (Edits (replacing pos count (chars piece.now)) self.old self.new) }
         ensures err { IfErr result (EditsNot (replacing pos count (chars piece.now)) self.old self.new) }
         ensures memory { IsErrOf result NoMemory
