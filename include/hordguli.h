@@ -77,7 +77,7 @@ typedef int32_t hordguli_status;
  * "unknown status". */
 const char *hordguli_status_text(hordguli_status status);
 
-/* The version of the library, as "0.5.0", and the Unicode version whose rules it keeps, as "15.0.0": constants. */
+/* The version of the library, as "0.5.0", and the Unicode version whose rules it keeps, as "15.0": constants. */
 const char *hordguli_version(void);
 const char *hordguli_unicode_version(void);
 
@@ -168,13 +168,13 @@ typedef struct hordguli_table_fault {
 
 /* Opens tables of the contents of the seven files. `fault` may be null; it is set where the status is
  * HORDGULI_TABLE_FAULT.
- *   NULL, ALREADY_OPEN, TABLE_FAULT, NO_MEMORY */
+ *   NULL, OVERLAP, ALREADY_OPEN, TABLE_FAULT, NO_MEMORY */
 hordguli_status hordguli_tables_read(hordguli_tables *tables, const hordguli_bytes files[HORDGULI_TABLE_FILES],
                                      hordguli_table_fault *fault);
 
 /* Opens tables of the seven files of a folder, whose path ends in a NUL. `fault` may be null; it is set where the
  * status is HORDGULI_TABLE_FAULT or HORDGULI_UNREAD_FILE.
- *   NULL, ALREADY_OPEN, UNREAD_FILE, TABLE_FAULT, NO_MEMORY */
+ *   NULL, OVERLAP, ALREADY_OPEN, UNREAD_FILE, TABLE_FAULT, NO_MEMORY */
 hordguli_status hordguli_tables_open_folder(hordguli_tables *tables, const char *folder, hordguli_table_fault *fault);
 
 /* Gives the memory of tables back, and closes the handle. A closed handle and a null pointer survive it. Tables may be
@@ -195,7 +195,7 @@ typedef struct hordguli_damage {
 } hordguli_damage;
 
 /* Opens a session on a text, by a copy of the tables (some 140 KB). `text` may be null where `length` is 0.
- *   NULL, WIDTH_OUT_OF_RANGE, ALREADY_OPEN (the session), CLOSED (the tables), UNKNOWN_OPTION, NOT_UTF8,
+ *   NULL, OVERLAP, WIDTH_OUT_OF_RANGE, ALREADY_OPEN (the session), CLOSED (the tables), UNKNOWN_OPTION, NOT_UTF8,
  *   TEXT_TOO_LONG, PARAGRAPH_TOO_LONG, NO_MEMORY */
 hordguli_status hordguli_session_open(hordguli_session *session, hordguli_tables *tables, uint32_t options,
                                       uint32_t width, const char *text, size_t length);
