@@ -18,7 +18,7 @@
 #             of a long text, and of hostile ones
 
 UNICODE = /usr/share/unicode
-VERSION := $(shell sed -n 's/^pub const UNICODE_VERSION: &str = "\(.*\)";/\1/p' crates/ucd/src/version.rt)
+VERSION := $(shell sed -n 's/^pub const UNICODE_VERSION: &str = "Unicode \(.*\)";/\1/p' crates/ucd/src/version.rt)
 JOBS := $(shell nproc)
 TABLES = DerivedBidiClass BidiBrackets BidiMirroring LineBreak DerivedGeneralCategory EastAsianWidth emoji-data
 OPTIONS = --width 44 --basedir

@@ -1,7 +1,7 @@
-/* The calls of the proved crate hordguli_c, over which hordguli.c is written. Each does the whole of the call of the same
- * name; what is left to C is what they cannot test: that no pointer is null, that a width is below 65,536, that no two
- * arrays overlap. An array is a pointer, which is never null, and its length; one of length 0 may point anywhere but to
- * null. A status is a number of hordguli.h, from 0 to 12. */
+/* The calls of the proved crate hordguli_c, over which hordguli.c is written. Each does the whole of the call of the
+ * same name; what is left to C is what they cannot test: that no pointer is null, that a width is below 65,536, that no
+ * two arrays overlap. An array is a pointer, which is never null, and its length; one of length 0 may point anywhere but
+ * to null, and is aligned for its type. A status is a number of hordguli.h, from 0 to 12. */
 #ifndef HORDGULI_CORE_H
 #define HORDGULI_CORE_H
 
@@ -17,8 +17,8 @@ uint32_t hordguli_core_tables_read(hordguli_tables *tables, const uint8_t *bidi_
                                    const uint8_t *emoji_data, size_t emoji_data_length, hordguli_table_fault *fault);
 void hordguli_core_tables_close(hordguli_tables *tables);
 
-uint32_t hordguli_core_session_open(hordguli_session *session, hordguli_tables *tables, uint32_t options, uint16_t width,
-                                    const uint8_t *text, size_t length);
+uint32_t hordguli_core_session_open(hordguli_session *session, hordguli_tables *tables, uint32_t options,
+                                    uint16_t width, const uint8_t *text, size_t length);
 void hordguli_core_session_close(hordguli_session *session);
 
 uint32_t hordguli_core_insert(hordguli_session *session, size_t pos, const uint8_t *text, size_t length,
@@ -45,7 +45,7 @@ uint32_t hordguli_core_cluster_at(hordguli_session *session, size_t pos, hordgul
 #define HORDGULI_CORE_COLUMNS UINT32_C(16)
 uint32_t hordguli_core_line(hordguli_session *session, size_t line, hordguli_line_info *info, uint32_t wanted,
                             uint32_t *characters, size_t characters_room, uint8_t *levels, size_t levels_room,
-                            uint32_t *ltov, size_t ltov_room, uint32_t *vtol, size_t vtol_room, uint32_t *columns,
+                            uint32_t *ltov, size_t ltov_room, uint32_t *vtol, size_t vtol_room, size_t *columns,
                             size_t columns_room);
 
 uint32_t hordguli_core_lines_utf8(hordguli_session *session, size_t first, size_t count, uint32_t print, uint8_t *bytes,

@@ -1,4 +1,4 @@
-/* Stands in front of the C library's calls by which a program takes memory, reads, writes and opens (LD_PRELOAD).
+/* Stands between the command and the C library's calls by which a program takes memory, reads, writes and opens (LD_PRELOAD).
  * FAULT_CALL  malloc, read, read-table (of a file named .txt), write or open: the call that fails
  * FAULT_AT    which one of these calls it is, counted from 1
  * FAULT_AS    the error, as a number; with 0 the call passes no byte; with -1 it passes one byte alone

@@ -308,7 +308,6 @@ typedef struct hordguli_line_info {
     size_t shown;      /* how many of them are shown */
     size_t columns;    /* how many columns these take */
     size_t padding;    /* how many columns are left of them where the line is printed padded */
-    size_t paragraph;  /* its paragraph */
     uint32_t base;     /* the base level of its paragraph, 0 or 1 */
     uint32_t first;    /* 1 where it is the first line of its paragraph, 0 else */
 } hordguli_line_info;
@@ -319,12 +318,13 @@ typedef struct hordguli_line_info {
  *   levels      the level of each after L1, in logical order
  *   ltov        of each logical position the visual one
  *   vtol        of each visual position the logical one
- *   columns     of each visual position how many columns are left of it
+ *   columns     of each visual position how many columns its character takes
  * Where `room` is too small and an array is not null, `info` is set all the same, and no array is written: `shown`
  * elements are wanted.
  *   NULL (session, info), OVERLAP, CLOSED, OUT_OF_RANGE, NO_ROOM */
 hordguli_status hordguli_line(hordguli_session *session, size_t line, hordguli_line_info *info, size_t room,
-                              uint32_t *characters, uint8_t *levels, uint32_t *ltov, uint32_t *vtol, uint32_t *columns);
+                              uint32_t *characters, uint8_t *levels, uint32_t *ltov, uint32_t *vtol,
+                              size_t *columns);
 
 /* The lines first .. first + count as they are printed, each with its line feed, by print flags, into an array with
  * room for `room` bytes; `length` is how many bytes they are, also where the room is too small. `bytes` may be null

@@ -2,7 +2,7 @@
  * Standard input is UTF-8. Each of its paragraphs goes through ubidi and through ubrk's line breaks. A line
  * takes as many of the pieces between breaks as fit, where spaces at its end count for nothing; a piece that
  * is longer than a line is cut between grapheme clusters. A line is written in visual order with mirrors,
- * from a paragraph of right-to-left direction behind so many spaces that it ends at the last column. */
+ * from a paragraph of right-to-left direction after so many spaces that it ends at the last column. */
 #include <stdio.h>
 #include <stdlib.h>
 #include <unicode/ubidi.h>

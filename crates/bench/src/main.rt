@@ -97,7 +97,7 @@ fn run_on_tables(rt: &HostRuntime, subject: Subject, folder: &str, words: &[Stri
                 number(words, 5),
             )
         }
-        Subject::Width => sessions::change_width(rt, folder, kind(words, 3)?, word(words, 4)),
+        Subject::Width => sessions::set_width(rt, folder, kind(words, 3)?, word(words, 4)),
         Subject::Levels => levels::run(rt, folder, number(words, 3)),
         Subject::Layouts => levels::lay_out_each(rt, folder, number(words, 3)),
         Subject::Marks => marks::run(rt, folder, number(words, 3)),

@@ -82,17 +82,17 @@ const WIDE: u16 = 80;
 /// Prints how long in nanoseconds it takes, on the text of a file: to lay out each paragraph; to fill each
 /// again at the narrow width, and at the wide one; to change the width of a session over a list or a tree to
 /// the narrow one, and back. All but the first are the least of some runs.
-pub fn change_width(rt: &HostRuntime, folder: &str, kind: StoreKind, file: &str) -> Result<()> {
+pub fn set_width(rt: &HostRuntime, folder: &str, kind: StoreKind, file: &str) -> Result<()> {
     let text = fs::read_to_string(rt, file)?;
-    change_width_of(rt, folder, kind, text.as_str())
+    set_width_of(rt, folder, kind, text.as_str())
 }
 
-fn change_width_of(rt: &HostRuntime, folder: &str, kind: StoreKind, text: &str) -> Result<()> {
+fn set_width_of(rt: &HostRuntime, folder: &str, kind: StoreKind, text: &str) -> Result<()> {
     let (laying_out, filling) = lay_out_and_fill(rt, folder, text)?;
     let engine = engine(rt, folder)?;
-    let changing = match kind {
-        StoreKind::List => change::<VecStore<Kept>>(rt, engine, text)?,
-        StoreKind::Tree => change::<TreeStore<Kept>>(rt, engine, text)?,
+    let widths = match kind {
+        StoreKind::List => time_widths::<VecStore<Kept>>(rt, engine, text)?,
+        StoreKind::Tree => time_widths::<TreeStore<Kept>>(rt, engine, text)?,
     };
     show_numbers(
         rt,
@@ -100,8 +100,8 @@ fn change_width_of(rt: &HostRuntime, folder: &str, kind: StoreKind, text: &str) 
             laying_out,
             filling.narrow,
             filling.wide,
-            changing.narrow,
-            changing.wide,
+            widths.narrow,
+            widths.wide,
         ],
     )
 }
@@ -130,31 +130,31 @@ impl Times {
 }
 
 // How long width changes take.
-fn change<S: ParagraphStore<Kept> + Drop>(
+fn time_widths<S: ParagraphStore<Kept> + Drop>(
     rt: &HostRuntime,
     engine: Engine,
     text: &str,
 ) -> Result<Times> {
     let mut session: Session<S> = open(rt.alloc(), engine, text)?;
-    let times = times_to_change(rt, &mut session);
+    let times = times_of_widths(rt, &mut session);
     close(session);
     times
 }
 
-fn times_to_change<S: ParagraphStore<Kept>>(
+fn times_of_widths<S: ParagraphStore<Kept>>(
     rt: &HostRuntime,
     session: &mut Session<S>,
 ) -> Result<Times> {
     let mut times = Times::none();
     for _ in 0..RUNS {
-        let narrow = time_to_change(rt, session, NARROW)?;
-        let wide = time_to_change(rt, session, WIDE)?;
+        let narrow = time_of_width(rt, session, NARROW)?;
+        let wide = time_of_width(rt, session, WIDE)?;
         times = times.or(narrow, wide);
     }
     Ok(times)
 }
 
-fn time_to_change<S: ParagraphStore<Kept>>(
+fn time_of_width<S: ParagraphStore<Kept>>(
     rt: &HostRuntime,
     session: &mut Session<S>,
     width: u16,

@@ -22,7 +22,8 @@ pub level_at-bound : (base : ℕ) (classes : List BidiClass) (k : ℕ) → base 
 level_at-bound base classes k low =
     elim (cases_Bool (is_separator (class_at classes k))) [
       | inl separator ↦ rw (cond-true (is_separator (class_at classes k)) base (inside_at base classes k).level separator) (omega arith)
-      | inr other ↦ rw (cond-false (is_separator (class_at classes k)) base (inside_at base classes k).level other) (level-le base (omega arith) (open_chain classes (if is_pdi (class_at classes k) then k + 1 else k)))
+      | inr other ↦ rw (cond-false (is_separator (class_at classes k)) base (inside_at base classes k).level other)
+          (level-le base (omega arith) (open_chain classes (if is_pdi (class_at classes k) then k + 1 else k)))
     ]
 
 -- the numbers below the next one

@@ -72,7 +72,8 @@ carry-passes rule test kept passes makes step next before (type ∷ types) k p =
     All-cons (λ t. makes t ≡ true) (rule before type types) (carry rule test (if test type then type else before) types) (step before type types k first)
     (carry-passes rule test kept passes makes step next (if test type then type else before) types (next before type k first) (All-tail (λ t. passes t ≡ true) type types p))
 
-length-carry : (rule : BidiClass → BidiClass → List BidiClass → BidiClass) (test : BidiClass → Bool) (before : BidiClass) (types : List BidiClass) → length (carry rule test before types) ≡ length types
+length-carry : (rule : BidiClass → BidiClass → List BidiClass → BidiClass) (test : BidiClass
+    → Bool) (before : BidiClass) (types : List BidiClass) → length (carry rule test before types) ≡ length types
 length-carry rule test before [] = refl
 length-carry rule test before (type ∷ types) = ap suc (length-carry rule test (if test type then type else before) types)
 

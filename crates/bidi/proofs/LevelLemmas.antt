@@ -67,7 +67,9 @@ module _ (bracket_of : ℕ → Option Bracket) (base : ℕ) (characters : List �
       let is_told : test ≡ get_or flags start false =
       ap (λ j. list_any (λ before. is_initiator (class_at classes (last_of before)) && is_match (match_of classes (last_of before)) j) now.earlier) begins
       ∙ sym (now.told start (omega arith) (λ some. now.edge some (omega arith))) in
-      let split : sequences_from classes now.earlier (runs_from levels start) ≡ (if test then rest else joined classes first later ∷ rest) = ap (sequences_from classes now.earlier) (runs_from-run levels start end run) in
+      let split : sequences_from classes now.earlier (runs_from levels start)
+          ≡ (if test then rest else joined classes first later ∷ rest) =
+          ap (sequences_from classes now.earlier) (runs_from-run levels start end run) in
       let here : sequence_at classes levels start ≡ joined classes first later = ap (joined_first classes) (runs_from-run levels start end run) in
       record {
         earlier = first ∷ now.earlier;
@@ -125,7 +127,9 @@ marked_none levels m j flags e some within edge =
           absurd (cc)
     ]
 
-pub marked-is : (levels : List ℕ) (m j : ℕ) (flags : List Bool) (next : Option ℕ) → next ≡ next_start levels m → length flags ≡ length levels → 0 < m → j < length levels → (0 < j → slice_index levels (j - 1) ≢ slice_index levels j)
+pub marked-is : (levels : List ℕ) (m j : ℕ) (flags : List Bool) (next : Option ℕ) → next ≡ next_start levels m
+    → length flags ≡ length levels → 0 < m → j < length levels
+    → (0 < j → slice_index levels (j - 1) ≢ slice_index levels j)
     → get_or (marked flags next) j false ≡ ((m == j) || get_or flags j false)
 marked-is levels m j flags None e size some within edge = marked_none levels m j flags (sym e) some within edge
 marked-is levels m j flags (Some next) e size some within edge = marked_some levels m next j flags (sym e) size within

@@ -49,7 +49,10 @@ popped_isolate front entries rest status h popped isolate =
       | inr w ↦ let split = h.split ∙ ap (λ (l : List Status). front ++ h.isolate ∷ l) w.2 ∙ sym (append_assoc front (h.isolate ∷ w.0) (w.1 ∷ [])) in
           let same : status ≡ w.1 = sym (item-last entries rest status status popped) ∙ item-last entries (front ++ h.isolate ∷ w.0) w.1 status split in
           let none = sym (list_any-append (λ (s : Status). s.is_isolate) w.0 (w.1 ∷ [])) ∙ sym (ap (list_any (λ (s : Status). s.is_isolate)) w.2) ∙ h.none in
-          absurd (both_ways w.1.is_isolate (or_parts w.1.is_isolate false (or_parts (list_any (λ (s : Status). s.is_isolate) w.0) (w.1.is_isolate || false) none).1).0 (sym (ap (λ (s : Status). s.is_isolate) same) ∙ isolate))
+          absurd (both_ways w.1.is_isolate
+              (or_parts w.1.is_isolate false
+              (or_parts (list_any (λ (s : Status). s.is_isolate) w.0) (w.1.is_isolate || false) none).1).0
+              (sym (ap (λ (s : Status). s.is_isolate) same) ∙ isolate))
     ]
 
 -- or it stands above it
@@ -81,7 +84,9 @@ AreBeforeIsolate-more front entries status h other = record {
   inner = h.inner ++ status ∷ [];
   split = ap (λ (l : List Status). l ++ status ∷ []) h.split ∙ append_assoc front (h.isolate ∷ h.inner) (status ∷ []);
   opens = h.opens;
-  none = list_any-append (λ (s : Status). s.is_isolate) h.inner (status ∷ []) ∙ or_from (list_any (λ (s : Status). s.is_isolate) h.inner) (status.is_isolate || false) h.none (or_from status.is_isolate false other refl);
+  none = list_any-append (λ (s : Status). s.is_isolate) h.inner (status ∷ [])
+      ∙ or_from (list_any (λ (s : Status). s.is_isolate) h.inner) (status.is_isolate || false) h.none
+      (or_from status.is_isolate false other refl);
 }
 
 -- the innermost isolate is the innermost opener, or it is outside of that
@@ -224,11 +229,15 @@ module _ (base : ℕ) where
       ]
 
   -- a void embedding is counted where no void isolate is open
-  pub embedding_counted : (opener : BidiClass) (outer : List BidiClass) → Adds true false opener outer → overflowed_isolates base outer ≡ 0 → overflowed_embeddings base (opener ∷ outer) ≡ overflowed_embeddings base outer + 1
+  pub embedding_counted : (opener : BidiClass) (outer : List BidiClass) → Adds true false opener outer
+      → overflowed_isolates base outer ≡ 0 → overflowed_embeddings base (opener ∷ outer)
+      ≡ overflowed_embeddings base outer + 1
   embedding_counted opener outer a none = a.overflowed_embeddings_are
       ∙ cond-true (overflowed_isolates base outer == 0) (overflowed_embeddings base outer + 1) (overflowed_embeddings base outer) (eq-eqb (overflowed_isolates base outer) 0 none)
 
-  pub embedding_passed : (opener : BidiClass) (outer : List BidiClass) → Adds true false opener outer → 0 < overflowed_isolates base outer → overflowed_embeddings base (opener ∷ outer) ≡ overflowed_embeddings base outer
+  pub embedding_passed : (opener : BidiClass) (outer : List BidiClass) → Adds true false opener outer
+      → 0 < overflowed_isolates base outer → overflowed_embeddings base (opener ∷ outer)
+      ≡ overflowed_embeddings base outer
   embedding_passed opener outer a some = a.overflowed_embeddings_are
       ∙ cond-false (overflowed_isolates base outer == 0) (overflowed_embeddings base outer + 1) (overflowed_embeddings base outer) (ne_eqb (overflowed_isolates base outer) 0 (omega arith))
 

@@ -117,7 +117,9 @@ lives-greatest live fit test (suc k) same =
       | inl passed ↦
           let e = lives-yes live k passed in
           let size : length (lives live (suc k)) ≡ length (lives live k) + 1 = ap length e ∙ length_push (lives live k) k in
-          let top : get_or (lives live (suc k)) (length (lives live k)) 0 ≡ k = ap (λ (l : List ℕ). get_or l (length (lives live k)) 0) e ∙ get_or_push (lives live k) k 0 (length (lives live k)) refl in
+          let top : get_or (lives live (suc k)) (length (lives live k)) 0
+              ≡ k = ap (λ (l : List ℕ). get_or l (length (lives live k)) 0) e
+              ∙ get_or_push (lives live k) k 0 (length (lives live k)) refl in
           let last : fit k ≡ test (length (lives live k)) = ap fit (sym top) ∙ same (length (lives live k)) (omega arith) in
           elim (cases_Bool (fit k)) [
             | inl fits ↦
@@ -423,7 +425,8 @@ module _ (bracket_of : ℕ → Option Bracket) (characters : List ℕ) (types : 
   length-held : (k : ℕ) (openers : List Opener) (closers : List ℕ) → Walks k openers closers → length (lives (live (before k)) k) ≡ length openers
   length-held k openers closers now = sym (ap length now.held) ∙ length-map openers (λ (o : Opener). o.place)
 
-  pub place-below : (k : ℕ) (openers : List Opener) (closers : List ℕ) → Walks k openers closers → (m : ℕ) → m < length openers → (place_of openers m < k) × (live (before k) (place_of openers m) ≡ true)
+  pub place-below : (k : ℕ) (openers : List Opener) (closers : List ℕ) → Walks k openers closers → (m : ℕ)
+      → m < length openers → (place_of openers m < k) × (live (before k) (place_of openers m) ≡ true)
   place-below k openers closers now m h =
       let lt : m < length (lives (live (before k)) k) = omega (arith, length-held k openers closers now) in
       rw now.held (lives-item (live (before k)) k m lt)
@@ -439,7 +442,9 @@ module _ (bracket_of : ℕ → Option Bracket) (characters : List ℕ) (types : 
   full : (k : ℕ) (openers : List Opener) (closers : List ℕ) → Walks k openers closers → is_full bracket_of characters types k ≡ (opens k && nat_le 63 (length openers))
   full k openers closers now = ap (λ n. opens k && nat_le 63 n) (length-lives (live (before k)) k ∙ length-held k openers closers now)
 
-  room-next : (k : ℕ) → ((j : ℕ) → j < k → is_full bracket_of characters types j ≡ false) → is_full bracket_of characters types k ≡ false → (j : ℕ) → j < suc k → is_full bracket_of characters types j ≡ false
+  room-next : (k : ℕ) → ((j : ℕ) → j < k → is_full bracket_of characters types j ≡ false)
+      → is_full bracket_of characters types k ≡ false → (j : ℕ) → j < suc k → is_full bracket_of characters types j
+      ≡ false
   room-next k room here j h =
       elim (cases_eq j k) [
         | inl e ↦ rw e here
@@ -479,8 +484,10 @@ module _ (bracket_of : ℕ → Option Bracket) (characters : List ℕ) (types : 
               ap (λ i. is_pair_of (bracket_of (get_or characters i 0)) c) a ∙ ap (λ o. is_pair_of o c) is ∙ ap (λ p. canonical p == canonical c) (sym b)
           | inr ne ↦
               let lt : m < length openers = omega (arith, length_push openers opener) in
-              let a : place_of (openers ++ opener ∷ []) m ≡ place_of openers m = ap (λ l. get_or l m 0) places ∙ get_or_append_left (map (λ (o : Opener). o.place) openers) (k ∷ []) 0 m (omega arith) in
-              let b : pair_of (openers ++ opener ∷ []) m ≡ pair_of openers m = ap (λ l. get_or l m 0) pairs ∙ get_or_append_left (map (λ (o : Opener). o.pair) openers) (bracket.pair ∷ []) 0 m (omega arith) in
+              let a : place_of (openers ++ opener ∷ []) m ≡ place_of openers m = ap (λ l. get_or l m 0) places
+                  ∙ get_or_append_left (map (λ (o : Opener). o.place) openers) (k ∷ []) 0 m (omega arith) in
+              let b : pair_of (openers ++ opener ∷ []) m ≡ pair_of openers m = ap (λ l. get_or l m 0) pairs
+                  ∙ get_or_append_left (map (λ (o : Opener). o.pair) openers) (bracket.pair ∷ []) 0 m (omega arith) in
               ap (λ i. is_pair_of (bracket_of (get_or characters i 0)) c) a ∙ now.fit m lt c ∙ ap (λ p. canonical p == canonical c) (sym b)
         ];
         found = now.found ∙ ap (λ l. closers_of l (length types)) (sym same);
@@ -526,8 +533,12 @@ module _ (bracket_of : ℕ → Option Bracket) (characters : List ℕ) (types : 
             ∙ sym (ap (λ l. lives (live l) (suc k)) step ∙ lives-no (live (with_pair (before k) i k)) k (and_left (opens k) (not (covers (with_pair (before k) i k) k)) other));
         fit = λ x lt c.
             let short : x < m = omega (arith, length-take-le m openers (omega arith)) in
-            let a : place_of (take m openers) x ≡ place_of openers x = ap (λ l. get_or l x 0) (sym (take-map (λ (o : Opener). o.place) m openers)) ∙ get_or-take m (map (λ (o : Opener). o.place) openers) x 0 short in
-            let b : pair_of (take m openers) x ≡ pair_of openers x = ap (λ l. get_or l x 0) (sym (take-map (λ (o : Opener). o.pair) m openers)) ∙ get_or-take m (map (λ (o : Opener). o.pair) openers) x 0 short in
+            let a : place_of (take m openers) x
+                ≡ place_of openers x = ap (λ l. get_or l x 0) (sym (take-map (λ (o : Opener). o.place) m openers))
+                ∙ get_or-take m (map (λ (o : Opener). o.place) openers) x 0 short in
+            let b : pair_of (take m openers) x
+                ≡ pair_of openers x = ap (λ l. get_or l x 0) (sym (take-map (λ (o : Opener). o.pair) m openers))
+                ∙ get_or-take m (map (λ (o : Opener). o.pair) openers) x 0 short in
             ap (λ j. is_pair_of (bracket_of (get_or characters j 0)) c) a ∙ now.fit x (omega arith) c ∙ ap (λ p. canonical p == canonical c) (sym b);
         found =
             ap (λ l. set l i k) now.found

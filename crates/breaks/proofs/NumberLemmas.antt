@@ -133,7 +133,9 @@ any_and true p xs = refl
 any_and false p xs = any_none xs
 
 module _ (a b d e : Bool) where
-  any_place : (backs : List (List LineClass)) → list_any (at_place a b d e) backs ≡ ((a && list_any is_unaffixed backs) || ((b && list_any begins_with_digit backs) || ((d && list_any goes_on backs) || (e && list_any is_end backs))))
+  any_place : (backs : List (List LineClass)) → list_any (at_place a b d e) backs
+      ≡ ((a && list_any is_unaffixed backs) ||
+      ((b && list_any begins_with_digit backs) || ((d && list_any goes_on backs) || (e && list_any is_end backs))))
   any_place backs =
       any_or (λ back. a && is_unaffixed back) (λ back. (b && begins_with_digit back) || ((d && goes_on back) || (e && is_end back))) backs
       ∙ rw (
@@ -146,7 +148,9 @@ module _ (a b d e : Bool) where
       ) refl
 
 -- fronts of a list by its first item
-fronts_begin : (test : List LineClass → Bool) (class : LineClass) (back : List LineClass) → list_any test (fronts (class ∷ back)) ≡ (test (class ∷ []) || list_any (λ front. test (class ∷ front)) (fronts back))
+fronts_begin : (test : List LineClass → Bool) (class : LineClass) (back : List LineClass)
+    → list_any test (fronts (class ∷ back))
+    ≡ (test (class ∷ []) || list_any (λ front. test (class ∷ front)) (fronts back))
 fronts_begin test class back = ap (λ rest. test (class ∷ []) || rest) (any_map (λ front. class ∷ front) test (fronts back))
 
 abbrev first_is : List LineClass → List LineClass → Bool
@@ -201,16 +205,23 @@ either_way test [] ys = sym (any_none ys)
 either_way test (x ∷ xs) ys = ap (λ rest. list_any (test x) ys || rest) (either_way test xs ys) ∙ sym (any_or (test x) (λ y. list_any (λ x. test x y) xs) ys)
 
 -- some bases before the position, and some after it, are a number
-begun_fronts : (before : List Base) (b : Base) (fs : List (List Base)) → list_any (λ back. list_any (λ front. is_number (classes_of (reverse front ++ back))) (fronts before)) (map (λ front. b ∷ front) fs) ≡ list_any (λ back. is_at before (classes_of back)) (map (λ front. b ∷ front) fs)
+begun_fronts : (before : List Base) (b : Base) (fs : List (List Base))
+    → list_any (λ back. list_any (λ front. is_number (classes_of (reverse front ++ back))) (fronts before))
+    (map (λ front. b ∷ front) fs) ≡ list_any (λ back. is_at before (classes_of back)) (map (λ front. b ∷ front) fs)
 begun_fronts before b [] = refl
 begun_fronts before b (f ∷ fs) = rw (begun_is before b f, begun_fronts before b fs) refl
 
-begun_all : (before after : List Base) → list_any (λ back. list_any (λ front. is_number (classes_of (reverse front ++ back))) (fronts before)) (fronts after) ≡ list_any (λ back. is_at before (classes_of back)) (fronts after)
+begun_all : (before after : List Base)
+    → list_any (λ back. list_any (λ front. is_number (classes_of (reverse front ++ back))) (fronts before))
+    (fronts after) ≡ list_any (λ back. is_at before (classes_of back)) (fronts after)
 begun_all before [] = refl
 begun_all before (b ∷ after) = begun_fronts before b ([] ∷ fronts after)
 
 -- the conditions on what stands before, and on what stands after
-pub in_number_is : (before after : List Base) → is_in_number before after ≡ ((is affix before && begins_unaffixed after) || ((is opening before && is (NU ∷ []) after) || ((ends_in_digits before && is goes_on_after_digits after) || (ends_in_closed_digits before && is affix after))))
+pub in_number_is : (before after : List Base) → is_in_number before after
+    ≡ ((is affix before && begins_unaffixed after) ||
+    ((is opening before && is (NU ∷ []) after) ||
+    ((ends_in_digits before && is goes_on_after_digits after) || (ends_in_closed_digits before && is affix after))))
 in_number_is before [] =
     either_way (λ front back. is_number (classes_of (reverse front ++ back))) (fronts before) []
     ∙ sym (none_of (is affix before) (is opening before) (ends_in_digits before) (ends_in_closed_digits before))

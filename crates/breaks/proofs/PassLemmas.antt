@@ -53,17 +53,30 @@ both_of whole_numbers state symbol outcome =
     gives_both whole_numbers (answers whole_numbers (bases_at state)) (answers_after whole_numbers (shown symbol) false)
     (answers_after whole_numbers (shown symbol) true) outcome
 
-given_both : (whole_numbers : Bool) (state symbol outcome : ℕ) (is_joined is_pictograph before_digit : Bool) → both_of whole_numbers state symbol outcome is_joined is_pictograph ≡ true → mark_of whole_numbers (decided_at outcome is_joined is_pictograph) before_digit ≡ decide (marks_by_row whole_numbers) (answered_with whole_numbers is_joined is_pictograph (answers whole_numbers (bases_at state))) (answers_after whole_numbers (shown symbol) before_digit)
+given_both : (whole_numbers : Bool) (state symbol outcome : ℕ) (is_joined is_pictograph before_digit : Bool)
+    → both_of whole_numbers state symbol outcome is_joined is_pictograph ≡ true
+    → mark_of whole_numbers (decided_at outcome is_joined is_pictograph) before_digit
+    ≡ decide (marks_by_row whole_numbers)
+    (answered_with whole_numbers is_joined is_pictograph (answers whole_numbers (bases_at state)))
+    (answers_after whole_numbers (shown symbol) before_digit)
 given_both whole_numbers state symbol outcome is_joined is_pictograph false gives = is_mark_is _ _ (both _ _ gives).0
 given_both whole_numbers state symbol outcome is_joined is_pictograph true gives = is_mark_is _ _ (both _ _ gives).1
 
-given : (whole_numbers : Bool) (state symbol outcome : ℕ) (is_joined is_pictograph before_digit : Bool) → (is_joined ≡ true → is unattached (bases_at state) ≡ false) → gives_each whole_numbers state symbol outcome ≡ true → mark_of whole_numbers (decided_at outcome is_joined is_pictograph) before_digit ≡ decide (marks_by_row whole_numbers) (answered_with whole_numbers is_joined is_pictograph (answers whole_numbers (bases_at state))) (answers_after whole_numbers (shown symbol) before_digit)
+given : (whole_numbers : Bool) (state symbol outcome : ℕ) (is_joined is_pictograph before_digit : Bool)
+    → (is_joined ≡ true → is unattached (bases_at state) ≡ false) → gives_each whole_numbers state symbol outcome
+    ≡ true → mark_of whole_numbers (decided_at outcome is_joined is_pictograph) before_digit
+    ≡ decide (marks_by_row whole_numbers)
+    (answered_with whole_numbers is_joined is_pictograph (answers whole_numbers (bases_at state)))
+    (answers_after whole_numbers (shown symbol) before_digit)
 given whole_numbers state symbol outcome false false before_digit free each = given_both whole_numbers state symbol outcome false false before_digit (both _ _ (both _ _ each).0).0
 given whole_numbers state symbol outcome false true before_digit free each = given_both whole_numbers state symbol outcome false true before_digit (both _ _ (both _ _ each).0).1
 given whole_numbers state symbol outcome true is_pictograph before_digit free each =
     let joined : (is unattached (bases_at state) || (both_of whole_numbers state symbol outcome true false && both_of whole_numbers state symbol outcome true true)) ≡ true = (both _ _ each).1 in
     let whole : (both_of whole_numbers state symbol outcome true false && both_of whole_numbers state symbol outcome true true) ≡ true = rw (free refl) at joined in
-    elim is_pictograph as (λ p. mark_of whole_numbers (decided_at outcome true p) before_digit ≡ decide (marks_by_row whole_numbers) (answered_with whole_numbers true p (answers whole_numbers (bases_at state))) (answers_after whole_numbers (shown symbol) before_digit)) [
+    elim is_pictograph as (λ p. mark_of whole_numbers (decided_at outcome true p) before_digit
+        ≡ decide (marks_by_row whole_numbers)
+        (answered_with whole_numbers true p (answers whole_numbers (bases_at state)))
+        (answers_after whole_numbers (shown symbol) before_digit)) [
       | false ↦ given_both whole_numbers state symbol outcome true false before_digit (both _ _ whole).0
       | true ↦ given_both whole_numbers state symbol outcome true true before_digit (both _ _ whole).1
     ]
@@ -79,7 +92,8 @@ state_is_right : (whole_numbers : Bool) (state : ℕ) → state < STATE_COUNT �
 state_is_right true state state_lt = below STATE_COUNT (all_right true) table_is_right_whole state state_lt
 state_is_right false state state_lt = below STATE_COUNT (all_right false) table_is_right state state_lt
 
-pub entry_is_right : (whole_numbers : Bool) (state symbol row entry : ℕ) → state < STATE_COUNT → symbol < SYMBOL_COUNT → row ≡ state * SYMBOL_COUNT → entry ≡ get_or TABLE (row + symbol) 0 → Leads whole_numbers state symbol entry
+pub entry_is_right : (whole_numbers : Bool) (state symbol row entry : ℕ) → state < STATE_COUNT → symbol < SYMBOL_COUNT
+    → row ≡ state * SYMBOL_COUNT → entry ≡ get_or TABLE (row + symbol) 0 → Leads whole_numbers state symbol entry
 entry_is_right whole_numbers state symbol row entry state_lt symbol_lt begins reads =
     let at_state = state_is_right whole_numbers state state_lt in
     let at_symbol = below SYMBOL_COUNT (λ symbol. is_right whole_numbers state symbol (get_or TABLE (state * SYMBOL_COUNT + symbol) 0)) at_state symbol symbol_lt in
@@ -119,7 +133,11 @@ beginning whole_numbers state symbol outcome next led =
     }
 
 -- a character that begins a base, after bases that carry what those of a state do
-pub begins : (whole_numbers : Bool) (state symbol entry : ℕ) (c : Character) (before : List Base) → symbol < SYMBOL_COUNT → shown symbol ≡ told c → Leads whole_numbers state symbol entry → stays state symbol ≡ false → carried before ≡ carried (bases_at state) → Stands whole_numbers (record { row = entry / PARTS; is_joined = symbol == JOINER; is_pictograph = c.is_future_pictograph }) (alone c) before
+pub begins : (whole_numbers : Bool) (state symbol entry : ℕ) (c : Character) (before : List Base)
+    → symbol < SYMBOL_COUNT → shown symbol ≡ told c → Leads whole_numbers state symbol entry → stays state symbol
+    ≡ false → carried before ≡ carried (bases_at state)
+    → Stands whole_numbers (record { row = entry / PARTS; is_joined = symbol == JOINER; is_pictograph =
+    c.is_future_pictograph }) (alone c) before
 begins whole_numbers state symbol entry c before symbol_lt shows entry_leads begun carry =
     let says : Begins whole_numbers state symbol (entry % PARTS) entry_leads.next = beginning _ _ _ _ _ (rw begun at entry_leads.leads) in
     record {
@@ -138,7 +156,11 @@ begins whole_numbers state symbol entry c before symbol_lt shows entry_leads beg
     }
 
 -- a character that stays with the last base
-attached : (whole_numbers : Bool) (walk : Walk) (last : Base) (others : List Base) (stands : Stands whole_numbers walk last others) (symbol entry : ℕ) (c : Character) → symbol < SYMBOL_COUNT → shown symbol ≡ told c → Leads whole_numbers stands.state symbol entry → stays stands.state symbol ≡ true → Stands whole_numbers (record { row = entry / PARTS; is_joined = symbol == JOINER; is_pictograph = walk.is_pictograph }) (with_attached last c) others
+attached : (whole_numbers : Bool) (walk : Walk) (last : Base) (others : List Base)
+    (stands : Stands whole_numbers walk last others) (symbol entry : ℕ) (c : Character) → symbol < SYMBOL_COUNT
+    → shown symbol ≡ told c → Leads whole_numbers stands.state symbol entry → stays stands.state symbol ≡ true
+    → Stands whole_numbers (record { row = entry / PARTS; is_joined = symbol == JOINER; is_pictograph =
+    walk.is_pictograph }) (with_attached last c) others
 attached whole_numbers walk last others stands symbol entry c symbol_lt shows entry_leads stay =
     let led : leads whole_numbers true stands.state symbol (entry % PARTS) entry_leads.next ≡ true = rw stay at entry_leads.leads in
     let here : List Base = bases_at stands.state in
@@ -163,7 +185,9 @@ attached whole_numbers walk last others stands symbol entry c symbol_lt shows en
     }
 
 -- of the bases after a position the rules read what the first begins with, and whether the second is NU
-reads_after : (whole_numbers : Bool) (c : Character) (attached : List Character) (bases : List Base) → map (λ row. row.after (record { first = c; attached = attached } ∷ bases)) (rows whole_numbers) ≡ answers_after whole_numbers c (is (NU ∷ []) bases)
+reads_after : (whole_numbers : Bool) (c : Character) (attached : List Character) (bases : List Base)
+    → map (λ row. row.after (record { first = c; attached = attached } ∷ bases)) (rows whole_numbers)
+    ≡ answers_after whole_numbers c (is (NU ∷ []) bases)
 unfolding rows rows_before_numbers rows_of_numbers rows_after_numbers
 reads_after true c attached bases =
     elim (cases_Bool (is (NU ∷ []) bases)) [
@@ -213,13 +237,17 @@ second_is c (d ∷ text) free =
     ]
 
 -- what is read of the bases of a text
-read_text : (whole_numbers : Bool) (c : Character) (text : List Character) → map (λ row. row.after (bases_of (c ∷ text))) (rows whole_numbers) ≡ answers_after whole_numbers c (second_is_digit (bases_of (c ∷ text)))
+read_text : (whole_numbers : Bool) (c : Character) (text : List Character)
+    → map (λ row. row.after (bases_of (c ∷ text))) (rows whole_numbers)
+    ≡ answers_after whole_numbers c (second_is_digit (bases_of (c ∷ text)))
 read_text whole_numbers c text =
     let next = first_base c text in
     rw next.2 (reads_after whole_numbers c next.0 next.1)
 
 -- whether what is after the second base matters
-waits_or_not : (whole_numbers : Bool) (outcome : ℕ) (is_joined is_pictograph : Bool) (a b : Bool) → (outcome == WAITS) ≡ false → mark_of whole_numbers (decided_at outcome is_joined is_pictograph) a ≡ mark_of whole_numbers (decided_at outcome is_joined is_pictograph) b
+waits_or_not : (whole_numbers : Bool) (outcome : ℕ) (is_joined is_pictograph : Bool) (a b : Bool) → (outcome == WAITS)
+    ≡ false → mark_of whole_numbers (decided_at outcome is_joined is_pictograph) a
+    ≡ mark_of whole_numbers (decided_at outcome is_joined is_pictograph) b
 waits_or_not false outcome is_joined is_pictograph a b h = refl
 waits_or_not true outcome true is_pictograph a b h = refl
 waits_or_not true outcome false is_pictograph a b h =
@@ -235,7 +263,10 @@ opening_attaches class h = cc
 told_class : (symbol : ℕ) (c : Character) → shown symbol ≡ told c → (shown symbol).class ≡ c.class
 told_class symbol c shows = ap (λ d. d.class) shows
 
-same_of_digit : (whole_numbers : Bool) (symbol outcome : ℕ) (c : Character) (text : List Character) (is_joined is_pictograph : Bool) → shown symbol ≡ told c → waits_for_base symbol outcome ≡ true → mark_of whole_numbers (decided_at outcome is_joined is_pictograph) (is_before_digit text) ≡ mark_of whole_numbers (decided_at outcome is_joined is_pictograph) (second_is_digit (bases_of (c ∷ text)))
+same_of_digit : (whole_numbers : Bool) (symbol outcome : ℕ) (c : Character) (text : List Character)
+    (is_joined is_pictograph : Bool) → shown symbol ≡ told c → waits_for_base symbol outcome ≡ true
+    → mark_of whole_numbers (decided_at outcome is_joined is_pictograph) (is_before_digit text)
+    ≡ mark_of whole_numbers (decided_at outcome is_joined is_pictograph) (second_is_digit (bases_of (c ∷ text)))
 same_of_digit whole_numbers symbol outcome c text is_joined is_pictograph shows waits =
     elim (cases_Bool (outcome == WAITS)) [
       | inl waiting ↦
@@ -246,7 +277,11 @@ same_of_digit whole_numbers symbol outcome c text is_joined is_pictograph shows 
     ]
 
 -- the mark before a character that begins a base
-marks_begun : (whole_numbers : Bool) (walk : Walk) (last : Base) (others : List Base) (stands : Stands whole_numbers walk last others) (symbol entry : ℕ) (c : Character) (text : List Character) → shown symbol ≡ told c → Leads whole_numbers stands.state symbol entry → stays stands.state symbol ≡ false → mark_of whole_numbers (decided_at (entry % PARTS) walk.is_joined walk.is_pictograph) (is_before_digit text) ≡ mark_by (rules whole_numbers) (last ∷ others) (bases_of (c ∷ text))
+marks_begun : (whole_numbers : Bool) (walk : Walk) (last : Base) (others : List Base)
+    (stands : Stands whole_numbers walk last others) (symbol entry : ℕ) (c : Character) (text : List Character)
+    → shown symbol ≡ told c → Leads whole_numbers stands.state symbol entry → stays stands.state symbol ≡ false
+    → mark_of whole_numbers (decided_at (entry % PARTS) walk.is_joined walk.is_pictograph) (is_before_digit text)
+    ≡ mark_by (rules whole_numbers) (last ∷ others) (bases_of (c ∷ text))
 marks_begun whole_numbers walk last others stands symbol entry c text shows entry_leads begun =
     let says : Begins whole_numbers stands.state symbol (entry % PARTS) entry_leads.next = beginning _ _ _ _ _ (rw begun at entry_leads.leads) in
     let digit : Bool = second_is_digit (bases_of (c ∷ text)) in
@@ -255,20 +290,29 @@ marks_begun whole_numbers walk last others stands symbol entry c text shows entr
     same_of_digit whole_numbers symbol (entry % PARTS) c text walk.is_joined walk.is_pictograph shows says.waits
     ∙ given whole_numbers stands.state symbol (entry % PARTS) walk.is_joined walk.is_pictograph digit free says.gives
     ∙ ap (λ row. decide (marks_by_row whole_numbers) (answered_with whole_numbers walk.is_joined walk.is_pictograph row) (answers_after whole_numbers (shown symbol) digit)) (sym stands.answered)
-    ∙ ap (λ joined. decide (marks_by_row whole_numbers) (answered_with whole_numbers joined walk.is_pictograph (answers whole_numbers (last ∷ others))) (answers_after whole_numbers (shown symbol) digit)) stands.is_joined
-    ∙ ap (λ pictograph. decide (marks_by_row whole_numbers) (answered_with whole_numbers (is_same (end_of last).class ZWJ) pictograph (answers whole_numbers (last ∷ others))) (answers_after whole_numbers (shown symbol) digit)) stands.is_pictograph
+    ∙ ap (λ joined. decide (marks_by_row whole_numbers)
+        (answered_with whole_numbers joined walk.is_pictograph (answers whole_numbers (last ∷ others)))
+        (answers_after whole_numbers (shown symbol) digit)) stands.is_joined
+    ∙ ap (λ pictograph. decide (marks_by_row whole_numbers)
+        (answered_with whole_numbers (is_same (end_of last).class ZWJ) pictograph
+        (answers whole_numbers (last ∷ others))) (answers_after whole_numbers (shown symbol) digit))
+        stands.is_pictograph
     ∙ ap (λ row. decide (marks_by_row whole_numbers) (answered_with whole_numbers (is_same (end_of last).class ZWJ) last.first.is_future_pictograph (answers whole_numbers (last ∷ others))) row)
     (ap (λ d. answers_after whole_numbers d digit) shows ∙ sym (answers_after_told whole_numbers c digit) ∙ sym (read_text whole_numbers c text))
     ∙ sym (marked whole_numbers last others (bases_of (c ∷ text)))
 
 -- whether the next character stays with the last base
-stays_is : (whole_numbers : Bool) (walk : Walk) (last : Base) (others : List Base) (stands : Stands whole_numbers walk last others) (symbol : ℕ) (c : Character) → shown symbol ≡ told c → stays_with (end_of last) c ≡ stays stands.state symbol
+stays_is : (whole_numbers : Bool) (walk : Walk) (last : Base) (others : List Base)
+    (stands : Stands whole_numbers walk last others) (symbol : ℕ) (c : Character) → shown symbol ≡ told c
+    → stays_with (end_of last) c ≡ stays stands.state symbol
 stays_is whole_numbers walk last others stands symbol c shows =
     ap (λ attaches. is_one_of (CM ∷ ZWJ ∷ []) c.class && not attaches) stands.attaches
     ∙ ap (λ d. is_one_of (CM ∷ ZWJ ∷ []) d.class && not (is unattached (bases_at stands.state))) (sym shows)
 
 -- where it does, the outcome says so
-outcome_stays : (whole_numbers : Bool) (walk : Walk) (last : Base) (others : List Base) (stands : Stands whole_numbers walk last others) (symbol entry : ℕ) → Leads whole_numbers stands.state symbol entry → (entry % PARTS == STAYS) ≡ stays stands.state symbol
+outcome_stays : (whole_numbers : Bool) (walk : Walk) (last : Base) (others : List Base)
+    (stands : Stands whole_numbers walk last others) (symbol entry : ℕ) → Leads whole_numbers stands.state symbol entry
+    → (entry % PARTS == STAYS) ≡ stays stands.state symbol
 outcome_stays whole_numbers walk last others stands symbol entry entry_leads =
     elim (cases_Bool (stays stands.state symbol)) [
       | inl stay ↦
@@ -292,13 +336,18 @@ never_joined : (whole_numbers before_digit : Bool) → mark_of whole_numbers NEV
 never_joined true before_digit = refl
 never_joined false before_digit = refl
 
-never_stays : (whole_numbers : Bool) (outcome : ℕ) (is_joined is_pictograph before_digit : Bool) → (outcome == STAYS) ≡ true → mark_of whole_numbers (decided_at outcome is_joined is_pictograph) before_digit ≡ Never
+never_stays : (whole_numbers : Bool) (outcome : ℕ) (is_joined is_pictograph before_digit : Bool) → (outcome == STAYS)
+    ≡ true → mark_of whole_numbers (decided_at outcome is_joined is_pictograph) before_digit ≡ Never
 never_stays whole_numbers outcome true is_pictograph before_digit stay = never_joined whole_numbers before_digit
 never_stays whole_numbers outcome false is_pictograph before_digit stay =
     ap (λ o. mark_of whole_numbers (decided_at o false is_pictograph) before_digit) (is_equal outcome STAYS stay)
     ∙ never_outcome whole_numbers before_digit is_pictograph
 
-pub passes : (whole_numbers : Bool) (walk : Walk) (symbol entry : ℕ) (c : Character) → symbol < SYMBOL_COUNT → shown symbol ≡ told c → entry ≡ get_or TABLE (walk.row + symbol) 0 → (last : Base) (others : List Base) → Stands whole_numbers walk last others → Passes whole_numbers (record { row = entry / PARTS; is_joined = symbol == JOINER; is_pictograph = kept walk (entry % PARTS) c }) last others c (decided_at (entry % PARTS) walk.is_joined walk.is_pictograph)
+pub passes : (whole_numbers : Bool) (walk : Walk) (symbol entry : ℕ) (c : Character) → symbol < SYMBOL_COUNT
+    → shown symbol ≡ told c → entry ≡ get_or TABLE (walk.row + symbol) 0 → (last : Base) (others : List Base)
+    → Stands whole_numbers walk last others
+    → Passes whole_numbers (record { row = entry / PARTS; is_joined = symbol == JOINER; is_pictograph =
+    kept walk (entry % PARTS) c }) last others c (decided_at (entry % PARTS) walk.is_joined walk.is_pictograph)
 passes whole_numbers walk symbol entry c symbol_lt shows reads last others stands =
     let entry_leads : Leads whole_numbers stands.state symbol entry = entry_is_right whole_numbers stands.state symbol walk.row entry stands.below symbol_lt stands.row reads in
     let whether = stays_is whole_numbers walk last others stands symbol c shows in
@@ -317,12 +366,21 @@ passes whole_numbers walk symbol entry c symbol_lt shows reads last others stand
     ]
 
 -- a text's start is to what follows as BK is
-pub starts : (symbol entry : ℕ) (c : Character) → symbol < SYMBOL_COUNT → shown symbol ≡ told c → entry ≡ get_or TABLE (0 + symbol) 0 → (whole_numbers : Bool) → Stands whole_numbers (record { row = entry / PARTS; is_joined = symbol == JOINER; is_pictograph = c.is_future_pictograph }) (alone c) []
+pub starts : (symbol entry : ℕ) (c : Character) → symbol < SYMBOL_COUNT → shown symbol ≡ told c → entry
+    ≡ get_or TABLE (0 + symbol) 0 → (whole_numbers : Bool)
+    → Stands whole_numbers (record { row = entry / PARTS; is_joined = symbol == JOINER; is_pictograph =
+    c.is_future_pictograph }) (alone c) []
 starts symbol entry c symbol_lt shows reads whole_numbers =
     begins whole_numbers 0 symbol entry c [] symbol_lt shows (entry_is_right whole_numbers 0 symbol 0 entry (omega arith) symbol_lt refl reads) (and_false _) refl
 
 -- the same, of what a step makes of what is kept
-pub passes_as : (walk : Walk) (symbol entry : ℕ) (c : Character) (is_pictograph : Bool) (decided : ℕ) → symbol < SYMBOL_COUNT → shown symbol ≡ told c → entry ≡ get_or TABLE (walk.row + symbol) 0 → kept walk (entry % PARTS) c ≡ is_pictograph → decided ≡ decided_at (entry % PARTS) walk.is_joined walk.is_pictograph → (whole_numbers : Bool) (last : Base) (others : List Base) → Stands whole_numbers walk last others → Passes whole_numbers (record { row = entry / PARTS; is_joined = symbol == JOINER; is_pictograph = is_pictograph }) last others c decided
+pub passes_as : (walk : Walk) (symbol entry : ℕ) (c : Character) (is_pictograph : Bool) (decided : ℕ)
+    → symbol < SYMBOL_COUNT → shown symbol ≡ told c → entry ≡ get_or TABLE (walk.row + symbol) 0
+    → kept walk (entry % PARTS) c ≡ is_pictograph → decided
+    ≡ decided_at (entry % PARTS) walk.is_joined walk.is_pictograph
+    → (whole_numbers : Bool) (last : Base) (others : List Base) → Stands whole_numbers walk last others
+    → Passes whole_numbers (record { row = entry / PARTS; is_joined = symbol == JOINER; is_pictograph =
+    is_pictograph }) last others c decided
 passes_as walk symbol entry c is_pictograph decided symbol_lt shows reads keeps is whole_numbers last others stands =
     rw (← keeps, is) (passes whole_numbers walk symbol entry c symbol_lt shows reads last others stands)
 

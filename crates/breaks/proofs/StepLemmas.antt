@@ -59,7 +59,9 @@ number_mark mark before after =
     (ends_in_digits before && is goes_on_after_digits after) (ends_in_closed_digits before && is affix after) mark
 
 -- the rules are their rows
-rows_mark : (whole_numbers : Bool) (before after : List Base) → mark_by (rules whole_numbers) before after ≡ row_mark rows_before_numbers (row_mark (number_rows whole_numbers) (row_mark rows_after_numbers May before after) before after) before after
+rows_mark : (whole_numbers : Bool) (before after : List Base) → mark_by (rules whole_numbers) before after
+    ≡ row_mark rows_before_numbers
+    (row_mark (number_rows whole_numbers) (row_mark rows_after_numbers May before after) before after) before after
 unfolding rules
 rows_mark true before after =
     rules_of_rows rows_before_numbers _ before after
@@ -72,7 +74,9 @@ rows_mark false before after =
     (rules_of_rows rows_of_numbers _ before after
     ∙ ap (λ mark. row_mark rows_of_numbers mark before after) (last_rules_of_rows rows_after_numbers before after))
 
-rules_decide : (whole_numbers : Bool) (before after : List Base) → mark_by (rules whole_numbers) before after ≡ decide (marks_by_row whole_numbers) (map (λ row. row.before before) (rows whole_numbers)) (map (λ row. row.after after) (rows whole_numbers))
+rules_decide : (whole_numbers : Bool) (before after : List Base) → mark_by (rules whole_numbers) before after
+    ≡ decide (marks_by_row whole_numbers) (map (λ row. row.before before) (rows whole_numbers))
+    (map (λ row. row.after after) (rows whole_numbers))
 unfolding rows
 rules_decide whole_numbers before after =
     rows_mark whole_numbers before after
@@ -86,7 +90,9 @@ pair_after firsts classes b [] = refl
 pair_after firsts classes b (a ∷ bases) = refl
 
 spaced_after : (classes : List LineClass) (b : Base) (bases : List Base) → is_spaced classes (b ∷ bases) ≡ (if is_same (class_of b) SP then is_spaced classes bases else is_one_of classes (class_of b))
-spaced_after classes b bases = elim (is_same (class_of b) SP) as (λ space. is classes (if space then without_spaces bases else b ∷ bases) ≡ (if space then is_spaced classes bases else is_one_of classes (class_of b))) [ true ↦ refl | false ↦ refl ]
+spaced_after classes b bases =
+    elim (is_same (class_of b) SP) as (λ space. is classes (if space then without_spaces bases else b ∷ bases)
+    ≡ (if space then is_spaced classes bases else is_one_of classes (class_of b))) [ true ↦ refl | false ↦ refl ]
 
 -- of a base the class alone says what it is after spaces
 pub spaced_same_class : (classes : List LineClass) (b d : Base) (bases : List Base) → class_of b ≡ class_of d → is_spaced classes (b ∷ bases) ≡ is_spaced classes (d ∷ bases)
@@ -151,16 +157,22 @@ carried_same_class b d bases e =
     (cons _ _ _ _ (odd_after b bases ∙ ap (λ c. is_same c RI && not (ends_in_odd_run bases)) e ∙ sym (odd_after d bases))
     (cons _ _ _ _ (ap (λ c. is_same c NU || (is_one_of middle c && ends_in_digits bases)) e) refl)))))))
 
-answers_same_plain : (whole_numbers : Bool) (b : Base) (p q : List Base) → carried p ≡ carried q → map (λ row. row.before (b ∷ p)) (rows whole_numbers) ≡ map (λ row. row.before (b ∷ q)) (rows whole_numbers)
+answers_same_plain : (whole_numbers : Bool) (b : Base) (p q : List Base) → carried p ≡ carried q
+    → map (λ row. row.before (b ∷ p)) (rows whole_numbers) ≡ map (λ row. row.before (b ∷ q)) (rows whole_numbers)
 unfolding rows rows_before_numbers rows_of_numbers rows_after_numbers
-answers_same_plain true b p q carry = rw (zw b p q carry, op b p q carry, qu b p q carry, after_closing b p q carry, dash b p q carry, odd b p q carry, pair_same b p q carry (BA ∷ HY ∷ []), digits b p q carry, closed_digits b p q carry) refl
+answers_same_plain true b p q carry =
+    rw (zw b p q carry, op b p q carry, qu b p q carry, after_closing b p q carry, dash b p q carry, odd b p q carry,
+    pair_same b p q carry (BA ∷ HY ∷ []), digits b p q carry, closed_digits b p q carry) refl
 answers_same_plain false b p q carry = rw (zw b p q carry, op b p q carry, qu b p q carry, after_closing b p q carry, dash b p q carry, odd b p q carry, pair_same b p q carry (BA ∷ HY ∷ [])) refl
 
 pub answers_same : (whole_numbers : Bool) (b : Base) (p q : List Base) → carried p ≡ carried q → answers whole_numbers (b ∷ p) ≡ answers whole_numbers (b ∷ q)
 answers_same whole_numbers b p q carry = answers_same_plain whole_numbers (record { first = record b.first { is_future_pictograph = false }; attached = narrow CM ∷ [] }) p q carry
 
 -- all answers of some bases, with what LB8a and LB30b ask of the last one
-all_answers : (whole_numbers : Bool) (last : Base) (others : List Base) → map (λ row. row.before (last ∷ others)) (rows whole_numbers) ≡ answered_with whole_numbers (is_same (end_of last).class ZWJ) last.first.is_future_pictograph (answers whole_numbers (last ∷ others))
+all_answers : (whole_numbers : Bool) (last : Base) (others : List Base)
+    → map (λ row. row.before (last ∷ others)) (rows whole_numbers)
+    ≡ answered_with whole_numbers (is_same (end_of last).class ZWJ) last.first.is_future_pictograph
+    (answers whole_numbers (last ∷ others))
 unfolding rows rows_before_numbers rows_of_numbers rows_after_numbers
 all_answers true last others =
     let plain_last : Base = record { first = record last.first { is_future_pictograph = false }; attached = narrow CM ∷ [] } in
@@ -181,13 +193,19 @@ all_answers false last others =
       spaced_same_class (B2 ∷ []) last plain_last others refl,
     ) refl
 
-pub marked : (whole_numbers : Bool) (last : Base) (others after : List Base) → mark_by (rules whole_numbers) (last ∷ others) after ≡ decide (marks_by_row whole_numbers) (answered_with whole_numbers (is_same (end_of last).class ZWJ) last.first.is_future_pictograph (answers whole_numbers (last ∷ others))) (map (λ row. row.after after) (rows whole_numbers))
+pub marked : (whole_numbers : Bool) (last : Base) (others after : List Base)
+    → mark_by (rules whole_numbers) (last ∷ others) after
+    ≡ decide (marks_by_row whole_numbers)
+    (answered_with whole_numbers (is_same (end_of last).class ZWJ) last.first.is_future_pictograph
+    (answers whole_numbers (last ∷ others))) (map (λ row. row.after after) (rows whole_numbers))
 marked whole_numbers last others after =
     rules_decide whole_numbers (last ∷ others) after
     ∙ ap (λ befores. decide (marks_by_row whole_numbers) befores (map (λ row. row.after after) (rows whole_numbers))) (all_answers whole_numbers last others)
 
 -- a character attached changes no other answer
-pub answers_attached : (whole_numbers : Bool) (last : Base) (others : List Base) (attached : List Character) → answers whole_numbers (record { first = last.first; attached = attached } ∷ others) ≡ answers whole_numbers (last ∷ others)
+pub answers_attached : (whole_numbers : Bool) (last : Base) (others : List Base) (attached : List Character)
+    → answers whole_numbers (record { first = last.first; attached = attached } ∷ others)
+    ≡ answers whole_numbers (last ∷ others)
 unfolding rows rows_before_numbers rows_of_numbers rows_after_numbers
 answers_attached true last others attached = refl
 answers_attached false last others attached = refl

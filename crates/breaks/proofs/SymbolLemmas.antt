@@ -22,7 +22,9 @@ HasSymbol class is_wide is_mark is_future_pictograph =
     shown (get_or SYMBOLS (tag_of the_type class * 8 + (if is_wide then 4 else 0) + (if is_mark then 2 else 0) + (if is_future_pictograph then 1 else 0)) 0)
     ≡ told (record { class = resolved class is_mark; is_wide = is_wide; is_future_pictograph = is_future_pictograph })
 
-eight : (P : Bool → Bool → Bool → Type 0) → P true true true → P true true false → P true false true → P true false false → P false true true → P false true false → P false false true → P false false false → (a b c : Bool) → P a b c
+eight : (P : Bool → Bool → Bool → Type 0) → P true true true → P true true false → P true false true
+    → P true false false → P false true true → P false true false → P false false true → P false false false
+    → (a b c : Bool) → P a b c
 eight P p q r s t u v w true true true = p
 eight P p q r s t u v w true true false = q
 eight P p q r s t u v w true false true = r
@@ -89,11 +91,13 @@ pub is_not_attached : (symbol : ℕ) → symbol < SYMBOL_COUNT → nat_lt symbol
 is_not_attached symbol lt = same_is _ _ (below SYMBOL_COUNT (λ x. same (nat_lt x ATTACHED) (not (is_one_of (CM ∷ ZWJ ∷ []) (shown x).class))) attached_are_last symbol lt)
 
 -- the rules read no more of a character than its symbol shows
-pub narrow_before : (class : LineClass) (is_wide : Bool) → (is_one_of (CP ∷ []) (base_class class) && not is_wide) ≡ (is_one_of (CP ∷ []) (base_class class) && not (is_one_of (CP ∷ OP ∷ []) class && is_wide))
+pub narrow_before : (class : LineClass) (is_wide : Bool) → (is_one_of (CP ∷ []) (base_class class) && not is_wide)
+    ≡ (is_one_of (CP ∷ []) (base_class class) && not (is_one_of (CP ∷ OP ∷ []) class && is_wide))
 narrow_before CP is_wide = refl
 narrow_before class is_wide = refl
 
-narrow_after : (class : LineClass) (is_wide : Bool) → (is_one_of (OP ∷ []) (base_class class) && not is_wide) ≡ (is_one_of (OP ∷ []) (base_class class) && not (is_one_of (CP ∷ OP ∷ []) class && is_wide))
+narrow_after : (class : LineClass) (is_wide : Bool) → (is_one_of (OP ∷ []) (base_class class) && not is_wide)
+    ≡ (is_one_of (OP ∷ []) (base_class class) && not (is_one_of (CP ∷ OP ∷ []) class && is_wide))
 narrow_after OP is_wide = refl
 narrow_after class is_wide = refl
 

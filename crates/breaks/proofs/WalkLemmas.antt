@@ -62,8 +62,12 @@ same_tail : (front : List Mark) (m n : Mark) (ms ns : List Mark) → m ≡ n →
 same_tail front m n ms ns mark marks = rw (mark, marks) refl
 
 -- the walk from a base on
-walk_is : (whole_numbers : Bool) (others : List Base) (last : Base) (text : List Character) (end : Character) → end_of last ≡ end → nevers last.attached ++ walk whole_numbers others last text ≡ marks_after whole_numbers others (grown last (bases_of (end ∷ text)))
-walk_is whole_numbers others last [] end is = same_tail (nevers last.attached) _ _ [] [] (sym (end_mark whole_numbers (last ∷ others))) refl ∙ ap (marks_after whole_numbers others) (sym (grown_end last end []))
+walk_is : (whole_numbers : Bool) (others : List Base) (last : Base) (text : List Character) (end : Character)
+    → end_of last ≡ end → nevers last.attached ++ walk whole_numbers others last text
+    ≡ marks_after whole_numbers others (grown last (bases_of (end ∷ text)))
+walk_is whole_numbers others last [] end is =
+    same_tail (nevers last.attached) _ _ [] [] (sym (end_mark whole_numbers (last ∷ others))) refl
+    ∙ ap (marks_after whole_numbers others) (sym (grown_end last end []))
 walk_is whole_numbers others last (c ∷ text) end is =
     elim (cases_Bool (stays_with end c)) [
       | inl stays ↦ rw (is, stays)
@@ -87,7 +91,9 @@ none_marked t whole_numbers [] none = refl
 none_marked t whole_numbers (c ∷ text) none = absurd (omega arith)
 
 -- the walk begins after the first character
-pub begins_walk : (t : Tables) (whole_numbers : Bool) (text rest : List ℕ) (c : ℕ) (first : Character) (marks : List Mark) → text ≡ c ∷ rest → first ≡ character t c → marks ≡ [] → marks ++ walk whole_numbers [] (alone first) (map (character t) rest) ≡ marks_of t whole_numbers text
+pub begins_walk : (t : Tables) (whole_numbers : Bool) (text rest : List ℕ) (c : ℕ) (first : Character)
+    (marks : List Mark) → text ≡ c ∷ rest → first ≡ character t c → marks ≡ [] → marks
+    ++ walk whole_numbers [] (alone first) (map (character t) rest) ≡ marks_of t whole_numbers text
 unfolding marks_of
 begins_walk t whole_numbers text rest c first marks is reads none = rw (none, is, reads) (walk_from_start whole_numbers (character t c) (map (character t) rest))
 
@@ -96,14 +102,19 @@ abbrev pub Walks : Bool → Walk → List Mark → List Character → List Mark 
 Walks whole_numbers before marks text whole =
     (last : Base) × (others : List Base) × Stands whole_numbers before last others × (marks ++ walk whole_numbers others last text ≡ whole)
 
-passes_on : (whole_numbers : Bool) (before after : Walk) (marks : List Mark) (mark : Mark) (decided : ℕ) (c : Character) (text : List Character) (whole : List Mark) (last : Base) (others : List Base) → marks ++ walk whole_numbers others last (c ∷ text) ≡ whole → Passes whole_numbers after last others c decided → mark ≡ mark_of whole_numbers decided (is_before_digit text) → Walks whole_numbers after (marks ++ mark ∷ []) text whole
+passes_on : (whole_numbers : Bool) (before after : Walk) (marks : List Mark) (mark : Mark) (decided : ℕ)
+    (c : Character) (text : List Character) (whole : List Mark) (last : Base) (others : List Base) → marks
+    ++ walk whole_numbers others last (c ∷ text) ≡ whole → Passes whole_numbers after last others c decided → mark
+    ≡ mark_of whole_numbers decided (is_before_digit text) → Walks whole_numbers after (marks ++ mark ∷ []) text whole
 passes_on whole_numbers before after marks mark decided c text whole last others is passes seen =
     elim (cases_Bool (stays_with (end_of last) c)) [
       | inl stays ↦
           let stayed : ((digit : Bool) → mark_of whole_numbers decided digit ≡ Never) × Stands whole_numbers after (with_attached last c) others = rw stays at passes in
           (with_attached last c, others, stayed.1, rw (append_assoc, seen ∙ stayed.0 (is_before_digit text)) (rw stays at is))
       | inr begins ↦
-          let begun : ((text : List Character) → mark_of whole_numbers decided (is_before_digit text) ≡ mark_by (rules whole_numbers) (last ∷ others) (bases_of (c ∷ text))) × Stands whole_numbers after (alone c) (last ∷ others) = rw begins at passes in
+          let begun : ((text : List Character) → mark_of whole_numbers decided (is_before_digit text)
+              ≡ mark_by (rules whole_numbers) (last ∷ others) (bases_of (c ∷ text)))
+              × Stands whole_numbers after (alone c) (last ∷ others) = rw begins at passes in
           (alone c, last ∷ others, begun.1, rw (append_assoc, seen ∙ begun.0 text) (rw begins at is))
     ]
 
@@ -131,13 +142,16 @@ other_class symbol c below shows begins =
 
 module _ {X : Type 0} (read : X → Character) (rest : List X) where
   -- looking for NU over what is attached: one more, or the answer
-  pub looks_on : (i : ℕ) (x : X) (symbol : ℕ) → i < length rest → x ≡ get_or rest i x → symbol < SYMBOL_COUNT → shown symbol ≡ told (read x) → ATTACHED ≤ symbol → is_before_digit (map read (drop i rest)) ≡ is_before_digit (map read (drop (i + 1) rest))
+  pub looks_on : (i : ℕ) (x : X) (symbol : ℕ) → i < length rest → x ≡ get_or rest i x → symbol < SYMBOL_COUNT
+      → shown symbol ≡ told (read x) → ATTACHED ≤ symbol → is_before_digit (map read (drop i rest))
+      ≡ is_before_digit (map read (drop (i + 1) rest))
   looks_on i x symbol lt is below shows stays =
       let here : drop i rest ≡ x ∷ drop (i + 1) rest = at_drop_more (λ xs. xs) rest i x lt ∙ ap (λ y. y ∷ drop (i + 1) rest) (sym is) in
       let attached : is_one_of (CM ∷ ZWJ ∷ []) (read x).class ≡ true = attached_class symbol (read x) below shows (is_no_less symbol ATTACHED stays) in
       rw (here, attached) refl
 
-  pub finds : (i : ℕ) (x : X) (symbol : ℕ) → i < length rest → x ≡ get_or rest i x → symbol < SYMBOL_COUNT → shown symbol ≡ told (read x) → symbol < ATTACHED → (symbol == DIGIT) ≡ is_before_digit (map read (drop i rest))
+  pub finds : (i : ℕ) (x : X) (symbol : ℕ) → i < length rest → x ≡ get_or rest i x → symbol < SYMBOL_COUNT
+      → shown symbol ≡ told (read x) → symbol < ATTACHED → (symbol == DIGIT) ≡ is_before_digit (map read (drop i rest))
   finds i x symbol lt is below shows stays =
       let here : drop i rest ≡ x ∷ drop (i + 1) rest = at_drop_more (λ xs. xs) rest i x lt ∙ ap (λ y. y ∷ drop (i + 1) rest) (sym is) in
       let other : is_one_of (CM ∷ ZWJ ∷ []) (read x).class ≡ false = other_class symbol (read x) below shows (is_less symbol ATTACHED stays) in
@@ -145,17 +159,29 @@ module _ {X : Type 0} (read : X → Character) (rest : List X) where
 
 module _ {X : Type 0} (read : X → Character) (rest : List X) (whole : List Mark) where
   -- one step of it, over what stands at a place, whose mark is written there
-  pub steps : (whole_numbers : Bool) (i : ℕ) (x : X) (c : Character) (before after : Walk) (marks new : List Mark) (mark : Mark) (decided : ℕ) → i < length rest → x ≡ get_or rest i x → c ≡ read x → Walks whole_numbers before (take i marks) (map read (drop i rest)) whole → ((whole_numbers : Bool) (last : Base) (others : List Base) → Stands whole_numbers before last others → Passes whole_numbers after last others c decided) → mark ≡ mark_of whole_numbers decided (is_before_digit (map read (drop (i + 1) rest))) → take (i + 1) new ≡ take i marks ++ mark ∷ [] → Walks whole_numbers after (take (i + 1) new) (map read (drop (i + 1) rest)) whole
+  pub steps : (whole_numbers : Bool) (i : ℕ) (x : X) (c : Character) (before after : Walk) (marks new : List Mark)
+      (mark : Mark) (decided : ℕ) → i < length rest → x ≡ get_or rest i x → c ≡ read x
+      → Walks whole_numbers before (take i marks) (map read (drop i rest)) whole
+      → ((whole_numbers : Bool) (last : Base) (others : List Base) → Stands whole_numbers before last others
+      → Passes whole_numbers after last others c decided) → mark
+      ≡ mark_of whole_numbers decided (is_before_digit (map read (drop (i + 1) rest))) → take (i + 1) new
+      ≡ take i marks ++ mark ∷ [] → Walks whole_numbers after (take (i + 1) new) (map read (drop (i + 1) rest)) whole
   steps whole_numbers i x c before after marks new mark decided lt is reads (last, others, stands, so_far) passes seen written =
       let here : drop i rest ≡ x ∷ drop (i + 1) rest = at_drop_more (λ xs. xs) rest i x lt ∙ ap (λ y. y ∷ drop (i + 1) rest) (sym is) in
-      rw written (passes_on whole_numbers before after (take i marks) mark decided c (map read (drop (i + 1) rest)) whole last others (rw (here, ← reads) at so_far) (passes whole_numbers last others stands) seen)
+      rw written (passes_on whole_numbers before after (take i marks) mark decided c (map read (drop (i + 1) rest))
+          whole last others (rw (here, ← reads) at so_far) (passes whole_numbers last others stands) seen)
 
   -- the last mark, after the whole text
-  pub ends : (whole_numbers : Bool) (i : ℕ) (before : Walk) (marks : List Mark) → i ≡ length rest → length marks ≡ length rest + 1 → Walks whole_numbers before (take i marks) (map read (drop i rest)) whole → set marks (length rest) Must ≡ whole
+  pub ends : (whole_numbers : Bool) (i : ℕ) (before : Walk) (marks : List Mark) → i ≡ length rest → length marks
+      ≡ length rest + 1 → Walks whole_numbers before (take i marks) (map read (drop i rest)) whole
+      → set marks (length rest) Must ≡ whole
   ends whole_numbers i before marks last_place len (last, others, stands, so_far) =
       let none : drop i rest ≡ [] = drop_all i rest (omega arith) in
       let written : take (length rest + 1) (set marks (length rest) Must) ≡ take (length rest) marks ++ Must ∷ [] = take_more_set marks (length rest) Must (omega arith) in
-      let all_of_it : take (length rest + 1) (set marks (length rest) Must) ≡ set marks (length rest) Must = take_all (length rest + 1) (set marks (length rest) Must) (omega (arith, length-set marks (length rest) Must)) in
+      let all_of_it : take (length rest + 1) (set marks (length rest) Must)
+          ≡ set marks (length rest) Must =
+          take_all (length rest + 1) (set marks (length rest) Must)
+          (omega (arith, length-set marks (length rest) Must)) in
       sym all_of_it ∙ written ∙ ap (λ n. take n marks ++ Must ∷ []) (sym last_place) ∙ rw none at so_far
 
 -- the walk finds a mark for each character
@@ -205,7 +231,9 @@ pub one_longer : {X : Type 0} (text : List X) (x : X) (rest : List X) (marks : L
 one_longer text x rest marks len is = omega (arith, ap length is)
 
 -- the walk begins after the first character, of which the properties are read
-pub begins_read : (t : Tables) (whole_numbers : Bool) (text : List ℕ) (properties rest : List Properties) (p : Properties) → properties ≡ map (properties_of t) text → properties ≡ p ∷ rest → walk whole_numbers [] (alone (character_by p)) (map character_by rest) ≡ marks_of t whole_numbers text
+pub begins_read : (t : Tables) (whole_numbers : Bool) (text : List ℕ) (properties rest : List Properties)
+    (p : Properties) → properties ≡ map (properties_of t) text → properties ≡ p ∷ rest
+    → walk whole_numbers [] (alone (character_by p)) (map character_by rest) ≡ marks_of t whole_numbers text
 begins_read t whole_numbers [] properties rest p is reads =
     let none : [] ≡ p ∷ rest = sym is ∙ reads in
     cc

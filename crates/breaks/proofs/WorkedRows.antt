@@ -167,11 +167,17 @@ unfolding rules rows_before_numbers rows_of_numbers rows_after_numbers
 listed_digit = (refl, refl)
 
 -- a whole price, a negative one in parentheses, and one that a space takes apart
-amount : (marks_by (PR ∷ NU ∷ IS ∷ NU ∷ NU ∷ NU ∷ IS ∷ NU ∷ []) ≡ Never ∷ Never ∷ Never ∷ Never ∷ Never ∷ Never ∷ Never ∷ Must ∷ []) × (whole_marks_by (PR ∷ NU ∷ IS ∷ NU ∷ NU ∷ NU ∷ IS ∷ NU ∷ []) ≡ Never ∷ Never ∷ Never ∷ Never ∷ Never ∷ Never ∷ Never ∷ Must ∷ [])
+amount : (marks_by (PR ∷ NU ∷ IS ∷ NU ∷ NU ∷ NU ∷ IS ∷ NU ∷ [])
+    ≡ Never ∷ Never ∷ Never ∷ Never ∷ Never ∷ Never ∷ Never ∷ Must ∷ [])
+    × (whole_marks_by (PR ∷ NU ∷ IS ∷ NU ∷ NU ∷ NU ∷ IS ∷ NU ∷ [])
+    ≡ Never ∷ Never ∷ Never ∷ Never ∷ Never ∷ Never ∷ Never ∷ Must ∷ [])
 unfolding rules rows_before_numbers rows_of_numbers rows_after_numbers
 amount = (refl, refl)
 
-debt : (marks_by (PO ∷ HY ∷ NU ∷ NU ∷ CP ∷ PR ∷ SY ∷ PR ∷ []) ≡ Never ∷ Never ∷ Never ∷ Never ∷ Never ∷ Never ∷ May ∷ Must ∷ []) × (whole_marks_by (PO ∷ HY ∷ NU ∷ NU ∷ CP ∷ PR ∷ SY ∷ PR ∷ []) ≡ Never ∷ Never ∷ Never ∷ Never ∷ Never ∷ Never ∷ May ∷ Must ∷ [])
+debt : (marks_by (PO ∷ HY ∷ NU ∷ NU ∷ CP ∷ PR ∷ SY ∷ PR ∷ [])
+    ≡ Never ∷ Never ∷ Never ∷ Never ∷ Never ∷ Never ∷ May ∷ Must ∷ [])
+    × (whole_marks_by (PO ∷ HY ∷ NU ∷ NU ∷ CP ∷ PR ∷ SY ∷ PR ∷ [])
+    ≡ Never ∷ Never ∷ Never ∷ Never ∷ Never ∷ Never ∷ May ∷ Must ∷ [])
 unfolding rules rows_before_numbers rows_of_numbers rows_after_numbers
 debt = (refl, refl)
 

@@ -16,6 +16,7 @@ use clap::parser::ValueSource;
 use clap::{Arg, ArgAction, ArgMatches, Command, value_parser};
 use lines::{Options, Print};
 use std::alloc::{AllocError, Global};
+use ucd::UNICODE_VERSION;
 
 // The options and the texts that the program takes.
 fn command<'a>(alloc: Global) -> Result<Command<'a>, AllocError>
@@ -23,7 +24,8 @@ fn command<'a>(alloc: Global) -> Result<Command<'a>, AllocError>
 {
     let command = Command::new(alloc, "fribidi")
         .no_binary_name(true)
-        .about("Prints text as visual lines");
+        .about("Prints text as visual lines")
+        .after_help(UNICODE_VERSION);
     let command = with_layout(alloc, command)?;
     let command = with_print(alloc, command)?;
     let command = command.arg(script(alloc))?;
@@ -50,7 +52,7 @@ fn with_layout<'a>(alloc: Global, command: Command<'a>) -> Result<Command<'a>, A
             ("nobreak", "end lines at mandatory breaks only"),
             (
                 "reordernsm",
-                "marks behind their letters from right to left too",
+                "marks after their letters from right to left too",
             ),
             ("whole-numbers", "end no line inside a number"),
         ],
@@ -65,7 +67,7 @@ fn with_print<'a>(alloc: Global, command: Command<'a>) -> Result<Command<'a>, Al
         alloc,
         command,
         &[
-            ("nopad", "no spaces in front of lines from right to left"),
+            ("nopad", "no spaces left of lines from right to left"),
             ("nomirror", "characters as they are, not their mirrors"),
             ("novisual", "no visual lines"),
             ("basedir", "print the direction of each paragraph"),

@@ -14,7 +14,8 @@ Appends-append (Some all) (Some more) None xs ys first second = absurd second
 Appends-append (Some all) (Some more) (Some last) xs ys first second = second ∙ ap (λ zs. zs ++ ys) first ∙ append_assoc all xs ys
 
 -- what a sink took of some bytes, and then of the rest of them
-pub Took-more : (old mid new : Device) (bytes : List ℕ) (w n : ℕ) (part : List ℕ) → part ≡ drop w bytes → w + n ≤ length bytes → Took old mid (take w bytes) → Takes mid new n part → Took old new (take (w + n) bytes)
+pub Took-more : (old mid new : Device) (bytes : List ℕ) (w n : ℕ) (part : List ℕ) → part ≡ drop w bytes
+    → w + n ≤ length bytes → Took old mid (take w bytes) → Takes mid new n part → Took old new (take (w + n) bytes)
 Took-more old mid new bytes w n part part_is within first next =
     let split : take (w + n) bytes ≡ take w bytes ++ take n (drop w bytes) = take-add w n bytes in
     record {

@@ -1,7 +1,7 @@
 //! A source over a reader of std.
 ghost use Rattle.std.specs.Prelude.{◌≡◌};
 
-use crate::{Source, room};
+use crate::{Source, countable};
 use std::io;
 use std::io::ErrorKind;
 
@@ -45,7 +45,7 @@ impl<R: io::Read> Source for FromRead<R> {
     ghost state = { source_state R.remaining };
 
     fn read(&mut self, buffer: &mut [u8]) -> Result<usize, ErrorKind> {
-        let len = room(self.passed, buffer.len());
+        let len = countable(self.passed, buffer.len());
         if len == 0 {
             self.count_failure();
             return Err(ErrorKind::QuotaExceeded);

@@ -43,7 +43,7 @@ pub trait Sink {
 }
 
 // How many of `len` bytes may still pass.
-fn room(passed: u64, len: usize) -> usize
+fn countable(passed: u64, len: usize) -> usize
     ensures { result ≡ min len (2 ^ 64 - 1 - passed) }
 {
     let room = u64::MAX - passed;

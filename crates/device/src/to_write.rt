@@ -1,7 +1,7 @@
 //! A sink over a writer of std.
 ghost use Rattle.std.specs.Prelude.{◌≡◌};
 
-use crate::{Sink, room};
+use crate::{Sink, countable};
 use std::io;
 use std::io::ErrorKind;
 
@@ -45,7 +45,7 @@ impl<W: io::Write> Sink for ToWrite<W> {
     ghost state = { sink_state W.contents };
 
     fn write(&mut self, bytes: &[u8]) -> Result<usize, ErrorKind> {
-        let len = room(self.passed, bytes.len());
+        let len = countable(self.passed, bytes.len());
         if len == 0 {
             self.count_failure();
             return Err(ErrorKind::QuotaExceeded);

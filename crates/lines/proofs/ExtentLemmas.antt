@@ -1,11 +1,11 @@
 -- Extents, and what the tables say of characters, written one after the other.
 use Rattle.std.proofs.Common.{◌≡◌, ℕ, ◌+◌, ◌<◌, ◌≤◌, List, [], ◌∷◌, ◌++◌, length, map, take, get_or, set, refl, ap, ap₂, sym, ◌∙◌, arith}
 use Rattle.std.proofs.lemmas.List.{map-append, take_all, take_more, take_more_set}
-use Rattle.lines.specs.Extents.{Spans}
+use Rattle.lines.specs.Extents.{LineExtents}
 use Rattle.lines.specs.declared.fill.Shown.{Shown}
 
 pub spans_as : (starts seen : List ℕ) (parts seen_parts : List Shown) → starts ≡ seen → parts ≡ seen_parts
-    → let here : Spans = record { starts = starts; shown = parts } in here ≡ record { starts = seen; shown = seen_parts }
+    → let here : LineExtents = record { starts = starts; shown = parts } in here ≡ record { starts = seen; shown = seen_parts }
 spans_as starts seen parts seen_parts e f = rw (e, f) refl
 
 module _ {A : Type 0} (f : ℕ → A) (text : List ℕ) (list : List A) (k : ℕ) where

@@ -1,7 +1,7 @@
 -- A layout from its parts, and what an exchange leaves.
 use Rattle.std.proofs.Common.{◌≡◌, ℕ, List, Result, Ok, Err, IfOk, length, refl, ap, ap₂, subst, sym, ◌∙◌}
 use Rattle.breaks.specs.declared.mark.Mark.{Mark}
-use Rattle.lines.specs.Extents.{extents_of, reflowed, Spans}
+use Rattle.lines.specs.Extents.{extents_of, reflowed, LineExtents}
 use Rattle.lines.specs.Layouts.{fill_of, layout_of, AreLinesOf, Exchanges, Filled, IsLaidOut, IsParagraph, Layout, Rules}
 use Rattle.lines.specs.Visual.{Line}
 
@@ -53,13 +53,13 @@ pub exchanged_by : (old new : Layout) (fill_old fill_new : Filled) → new ≡ r
 exchanged_by old new fill_old fill_new put taken = rw (put, taken) (exchanged old fill_old)
 
 -- what is written over the lines by extents at a width
-pub reflowed_by : (rules : Rules) (width : ℕ) (old : Layout) (extents : Spans) → IsLaidOut rules old → extents ≡ extents_of rules width old.text
+pub reflowed_by : (rules : Rules) (width : ℕ) (old : Layout) (extents : LineExtents) → IsLaidOut rules old → extents ≡ extents_of rules width old.text
     → reflowed rules old extents ≡ layout_of rules width old.text
 reflowed_by rules width old extents laid is =
     ap (reflowed rules old) is
     ∙ subst (λ (m : Layout). reflowed rules m (extents_of rules width m.text) ≡ layout_of rules width m.text) (sym laid.from_scratch) refl
 
-pub reflowed_laid_out : (rules : Rules) (width : ℕ) (old new : Layout) (extents : Spans) → IsLaidOut rules old → extents ≡ extents_of rules width old.text
+pub reflowed_laid_out : (rules : Rules) (width : ℕ) (old new : Layout) (extents : LineExtents) → IsLaidOut rules old → extents ≡ extents_of rules width old.text
     → new ≡ reflowed rules old extents → IsLaidOut rules new
 reflowed_laid_out rules width old new extents laid is put =
     rw (put ∙ reflowed_by rules width old extents laid is) (record { width = width; paragraph = laid.paragraph; from_scratch = refl })

@@ -3,6 +3,7 @@ use Rattle.std.proofs.Common.{◌≡◌, ℕ, ◌-◌, ◌^◌, true, false, Lis
 use Rattle.breaks.specs.declared.mark.Mark.TheVariants.{Never, May, Must}
 use Rattle.lines.specs.Engine.{counted}
 use Rattle.lines.specs.Filling.{line_starts_of, shown}
+use Rattle.lines.specs.declared.engine.TheConstants.{PARAGRAPH_LIMIT}
 use Rattle.lines.specs.declared.places.Place.{Place}
 
 -- a letter, a space, and a letter at the end of the paragraph
@@ -77,3 +78,7 @@ too_wide = refl
 -- a count stays at the greatest number
 count_stays : counted (2 ^ 64 - 3) 7 ≡ 2 ^ 64 - 1
 count_stays = refl
+
+-- a paragraph has at most so many characters
+paragraph_limit : PARAGRAPH_LIMIT ≡ 1048576
+paragraph_limit = refl

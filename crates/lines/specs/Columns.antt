@@ -9,6 +9,10 @@ use Rattle.lines.specs.Visual.{Visual}
 abbrev pub unmirrored : Visual → List ℕ
 unmirrored line = map (slice_index line.text) line.vtol
 
+-- how many columns the character at a visual place takes
+abbrev pub columns_at : Visual → ℕ → ℕ
+columns_at line place = if nat_lt place (length line.vtol) then columns_of (slice_index line.text (slice_index line.vtol place)) else 0
+
 -- how many columns are left of a visual place: those of the characters that stand left of it
 abbrev pub columns_left : Visual → ℕ → ℕ
 columns_left line place = sum_by columns_of (take place (unmirrored line))

@@ -7,7 +7,7 @@ use Rattle.lines.specs.Visual.{Line, lines_from}
 use Rattle.lines.specs.declared.places.Place.{Place}
 use Rattle.lines.specs.declared.fill.Shown.{Shown}
 
-pub record Spans : Type 0 where
+pub record LineExtents : Type 0 where
   pub starts : List ℕ
   pub shown : List Shown
 
@@ -24,7 +24,7 @@ shown_from n places (s ∷ []) = shown_between places s n ∷ []
 shown_from n places (s ∷ t ∷ starts) = shown_between places s t ∷ shown_from n places (t ∷ starts)
 
 -- those of a paragraph at a width
-abbrev pub extents_of : Rules → ℕ → List ℕ → Spans
+abbrev pub extents_of : Rules → ℕ → List ℕ → LineExtents
 extents_of rules width text =
     let places = places_of rules.tables rules.options.whole_numbers text in
     let starts = line_starts_of rules.options.nobreak width places in
@@ -34,16 +34,16 @@ extents_of rules width text =
 abbrev pub shown_in : Line → Shown
 shown_in line = record { len = length line.levels; columns = line.columns }
 
-abbrev pub extents_in : List Line → Spans
+abbrev pub extents_in : List Line → LineExtents
 extents_in lines = record { starts = map start_of lines; shown = map shown_in lines }
 
 -- a paragraph with the lines that start there in place of its own
-abbrev pub reflowed : Rules → Layout → Spans → Layout
+abbrev pub reflowed : Rules → Layout → LineExtents → Layout
 reflowed rules l extents =
     let places = places_of rules.tables rules.options.whole_numbers l.text in
     record l { lines = lines_from rules.tables rules.options l.base l.text l.levels places extents.starts }
 
 -- room in which lines are written: for how many characters, and of how many the lines were written in it
-pub record Space : Type 0 where
+pub record RoomState : Type 0 where
   pub len : ℕ
   pub written : ℕ

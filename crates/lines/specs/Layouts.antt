@@ -99,7 +99,7 @@ pub record Exchanges (old new : Layout) (fill_old fill_new : Filled) : Type 0 wh
 
 -- What an engine shows: the rules that it goes by, how many characters it analysed, how many it filled into lines, and of how many it
 -- wrote the lines.
-pub record State : Type 0 where
+pub record EngineState : Type 0 where
   pub rules : Rules
   pub analysed : ℕ
   pub filled : ℕ

@@ -19,7 +19,7 @@ use crate::laid::Laid;
 use crate::options::Options;
 use crate::paragraph::LentRules;
 use crate::print::{Print, PrintFault};
-use crate::work::{LayoutLists, Parts, Work};
+use crate::work::{LayoutLists, Parts, Workspace};
 use bidi::{base_level, first_cut, is_cut};
 use breaks::{Mark, Tailoring, marks_are_as_many};
 use device::Sink;
@@ -37,7 +37,7 @@ pub struct Engine {
     options: Options,
     counts: Counts,
     // Made for the first paragraph, and kept for the next ones.
-    work: Option<Work>,
+    work: Option<Workspace>,
     // What the last paragraph that was written consisted of.
     kept: Option<LayoutLists>,
 }
@@ -55,9 +55,9 @@ impl Drop for Engine {
 }
 
 impl Model for Engine {
-    ghost use Rattle.lines.specs.Layouts.{State};
+    ghost use Rattle.lines.specs.Layouts.{EngineState};
 
-    ghost Value = { State };
+    ghost Value = { EngineState };
 
     ghost view = { λ e. record {
       rules = record { tables = e.tables; options = e.options };
@@ -290,7 +290,7 @@ impl Engine {
         ensures at_most { LaysOutAtMost (length text.now) self.old self.new }
         ensures rules { SameRules self.old self.new }
     {
-        let work = self.work.get_or_insert_with(|| Work::new(alloc));
+        let work = self.work.get_or_insert_with(|| Workspace::new(alloc));
         let kept = self.kept.get_or_insert_with(|| LayoutLists::new(alloc));
         let counts = &mut self.counts;
         let rules = LentRules {
@@ -358,7 +358,7 @@ impl Engine {
         ensures at_most { LaysOutAtMost (length text.now) self.old self.new }
         ensures rules { SameRules self.old self.new }
     {
-        let work = self.work.get_or_insert_with(|| Work::new(alloc));
+        let work = self.work.get_or_insert_with(|| Workspace::new(alloc));
         let mut kept = LayoutLists::new(alloc);
         let counts = &mut self.counts;
         let rules = LentRules {
@@ -391,7 +391,7 @@ impl Engine {
         ensures at_most { FindsExtentsAtMost (length text.now) self.old self.new }
         ensures rules { SameRules self.old self.new }
     {
-        let work = self.work.get_or_insert_with(|| Work::new(alloc));
+        let work = self.work.get_or_insert_with(|| Workspace::new(alloc));
         let counts = &mut self.counts;
         let rules = LentRules {
             tables: &self.tables,
@@ -409,7 +409,7 @@ impl Engine {
         ensures at_most { FillsAtMost (length laid.now.text) self.old self.new }
         ensures rules { SameRules self.old self.new }
     {
-        let work = self.work.get_or_insert_with(|| Work::new(alloc));
+        let work = self.work.get_or_insert_with(|| Workspace::new(alloc));
         let rules = LentRules {
             tables: &self.tables,
             options: self.options,

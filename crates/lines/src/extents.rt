@@ -17,9 +17,9 @@ pub struct Extents {
 }
 
 impl Model for Extents {
-    ghost use Rattle.lines.specs.Extents.{Spans};
+    ghost use Rattle.lines.specs.Extents.{LineExtents};
 
-    ghost Value = { Spans };
+    ghost Value = { LineExtents };
 
     ghost view = { λ e. record { starts = e.starts.items; shown = e.shown.items } };
 }
@@ -34,9 +34,9 @@ pub struct Room {
 
 impl Model for Room {
     ghost use Rattle.std.specs.Prelude.{length};
-    ghost use Rattle.lines.specs.Extents.{Space};
+    ghost use Rattle.lines.specs.Extents.{RoomState};
 
-    ghost Value = { Space };
+    ghost Value = { RoomState };
 
     ghost view = { λ r. record { len = length r.properties.items; written = r.written } };
 }

@@ -16,7 +16,7 @@ mod order;
 mod paragraph;
 mod places;
 mod print;
-mod room;
+mod reserve;
 mod showing;
 mod spaces;
 mod visual_line;

@@ -27,7 +27,7 @@ use crate::mirror::visual_chars;
 use crate::order::{identity, order};
 use crate::paragraph::{Paragraph, Spans, Text};
 use crate::places::Place;
-use crate::room::reserve;
+use crate::reserve::reserve;
 use crate::spaces::reset_levels;
 use std::alloc::AllocError;
 use ucd::Properties;

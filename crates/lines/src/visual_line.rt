@@ -3,7 +3,7 @@ ghost use Rattle.std.specs.Prelude.{◌≡◌, ◌^◌, ◌<◌, ◌≤◌, true
 ghost use Rattle.device.specs.Device.{Wrote, StoppedAt};
 ghost use Rattle.bidi.specs.Runs.{AreWithin};
 ghost use Rattle.lines.specs.Bytes.{line_bytes, padding};
-ghost use Rattle.lines.specs.Columns.{columns_left, covering, padding_of};
+ghost use Rattle.lines.specs.Columns.{columns_at, columns_left, covering, padding_of};
 ghost use Rattle.lines.specs.Places.{columns_of};
 ghost use Rattle.lines.specs.Writing.{PassedOn, StoppedIn};
 ghost use Rattle.lines.specs.declared.print.Print.{Print};
@@ -122,6 +122,18 @@ impl<'a> VisualLine<'a> {
             columns += columns_at(self.text, self.vtol, k);
         }
         columns
+    }
+
+    /// How many columns the character at a visual position takes, in the text and not its mirror: none where
+    /// the line has no such position.
+    pub fn columns_at(&self, place: usize) -> usize
+        ensures { result ≡ columns_at self.now place }
+    {
+        if place < self.vtol.len() {
+            columns_at(self.text, self.vtol, place)
+        } else {
+            0
+        }
     }
 
     /// The visual position whose character covers a column, counted from 0 at the left edge: none right of

@@ -22,7 +22,7 @@ use crate::filling::line_starts;
 use crate::laid::Laid;
 use crate::paragraph::{LentRules, Paragraph, Text};
 use crate::places::{Place, take_places};
-use crate::room::reserve;
+use crate::reserve::reserve;
 use crate::showing::{show_lines, take_shown};
 use bidi::Resolver;
 use breaks::{Mark, Tailoring, marks_into};
@@ -61,15 +61,15 @@ impl LayoutLists {
 /// Lists that live for one paragraph, used again for the next: so a paragraph that fits into them takes
 /// memory for what is kept of it alone.
 #[derive(Debug)]
-pub(crate) struct Work {
+pub(crate) struct Workspace {
     properties: Vec<Properties>,
     places: Vec<Place>,
     resolver: Resolver,
 }
 
-impl Drop for Work {
+impl Drop for Workspace {
     fn drop(self) {
-        let Work {
+        let Workspace {
             properties: _,
             places: _,
             resolver: _,
@@ -77,7 +77,7 @@ impl Drop for Work {
     }
 }
 
-impl Work {
+impl Workspace {
     ghost use Rattle.ucd.specs.Properties.{properties_of};
     ghost use Rattle.bidi.specs.Levels.{levels_of};
     ghost use Rattle.breaks.specs.Marks.{marks_of};
@@ -89,8 +89,8 @@ impl Work {
     ghost use Rattle.lines.specs.Paragraphs.{rules_in};
 
     /// Empty lists, which take no memory.
-    pub(crate) fn new(alloc: Global) -> Work {
-        Work {
+    pub(crate) fn new(alloc: Global) -> Workspace {
+        Workspace {
             properties: Vec::new(alloc),
             places: Vec::new(alloc),
             resolver: Resolver::new(alloc),

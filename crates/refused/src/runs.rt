@@ -9,7 +9,7 @@ use text_run::{RunFault, run_text};
 use tool::{ScriptOptions, run_script};
 use trials::sessions::{ALL, open};
 use trials::tables::{engine, let_go};
-use trials::{Page, Writer, Wrong};
+use trials::{Printed, Writer, Wrong};
 
 const LINES: Print = Print {
     basedir: false,
@@ -28,12 +28,12 @@ pub fn try_text(alloc: Global) -> Result<(), Wrong> {
 }
 
 fn try_text_by(alloc: Global, engine: &mut Engine) -> Result<(), Wrong> {
-    let mut page = Page::new();
+    let mut page = Printed::new();
     if is_refused(write_text(alloc, engine, &mut page)) {
         if !page.is_one_of(&[b"", b"a\n"]) {
             return Err("written in part");
         }
-        page = Page::new();
+        page = Printed::new();
         if write_text(alloc, engine, &mut page).is_err() {
             return Err("refused twice");
         }
@@ -48,7 +48,7 @@ fn is_refused(answer: Result<(), RunFault>) -> bool {
     answer == Err(RunFault::Memory)
 }
 
-fn write_text(alloc: Global, engine: &mut Engine, page: &mut Page) -> Result<(), RunFault> {
+fn write_text(alloc: Global, engine: &mut Engine, page: &mut Printed) -> Result<(), RunFault> {
     let mut reader = FromRead::new(b"a\nb".as_slice());
     let mut writer = ToWrite::new(Writer { page });
     run_text(alloc, &mut reader, &mut writer, engine, 80, &LINES)
@@ -64,12 +64,12 @@ const UNFINISHED: [&[u8]; 3] = [b"", b"@ 1 1 2\n", b"@ 1 1 2\n@ 0 3 1\n"];
 
 /// Obeys a script.
 pub fn try_script<S: ParagraphStore<Kept> + Drop>(alloc: Global) -> Result<(), Wrong> {
-    let mut page = Page::new();
+    let mut page = Printed::new();
     if is_refused(obey::<S>(alloc, &mut page)?) {
         if !page.is_one_of(&UNFINISHED) {
             return Err("answered in part");
         }
-        page = Page::new();
+        page = Printed::new();
         if obey::<S>(alloc, &mut page)?.is_err() {
             return Err("refused twice");
         }
@@ -82,7 +82,7 @@ pub fn try_script<S: ParagraphStore<Kept> + Drop>(alloc: Global) -> Result<(), W
 
 fn obey<S: ParagraphStore<Kept> + Drop>(
     alloc: Global,
-    page: &mut Page,
+    page: &mut Printed,
 ) -> Result<Result<(), RunFault>, Wrong> {
     let session: Session<S> = open(alloc)?;
     Ok(obey_in(alloc, session, page))
@@ -91,7 +91,7 @@ fn obey<S: ParagraphStore<Kept> + Drop>(
 fn obey_in<S: ParagraphStore<Kept> + Drop>(
     alloc: Global,
     session: Session<S>,
-    page: &mut Page,
+    page: &mut Printed,
 ) -> Result<(), RunFault> {
     let mut session = session;
     let mut reader = FromRead::new(SCRIPT);

@@ -12,8 +12,8 @@ use Rattle.bidi.specs.Pieces.{ParagraphsArePieces}
 use Rattle.lines.specs.Engine.{rules_of, SameRules, LaysOutAtMost}
 use Rattle.lines.specs.Layouts.{Layout, Rules, cut_by, layout_of, lines_of}
 use Rattle.lines.specs.declared.engine.Engine.{Engine}
-use Rattle.session.specs.Sessions.{State, IsWholeLayout, IsCountedFor, Edits, EditsNot, text_at, cuts_at}
-use Rattle.session.specs.Changes.{Change, changed, changing, refusal, text_refusal, paragraphs_refusal, are_within, is_within_limit}
+use Rattle.session.specs.Sessions.{SessionState, IsWholeLayout, IsCountedFor, Edits, EditsNot, text_at, cuts_at}
+use Rattle.session.specs.Edits.{Replacement, replaced, replacing, refusal, text_refusal, paragraphs_refusal, are_within, is_within_limit}
 use Rattle.session.specs.Damage.{Replaces, IsDamage}
 use Rattle.session.specs.Edges.{IsEdge, IsFrontEdge, IsBackEdge, damage_between}
 use Rattle.lines.specs.Layouts.{visuals}
@@ -24,7 +24,7 @@ use Rattle.session.specs.declared.edge.Edge.{Edge}
 use Rattle.session.specs.declared.edits.Damage.{Damage}
 use Rattle.session.specs.declared.edits.EditFault.{EditFault}
 use Rattle.session.specs.declared.edits.EditFault.TheVariants.{OutOfRange, ParagraphTooLong, NoMemory}
-use Rattle.session.proofs.ChangeLemmas.{IsSpliced, IsSpliced-from_touched, region_of, length-changed_text}
+use Rattle.session.proofs.ReplacementLemmas.{IsSpliced, IsSpliced-from_touched, region_of, length-replaced_text}
 use Rattle.session.proofs.EdgeLemmas.{chars_of, lines_of as line_number, length-text, length-lines}
 use Rattle.session.proofs.RegionParts.{touched_by, front_of, back_of, AreTouched-edges, region_parts, edges_rise, take-both}
 use Rattle.session.proofs.RefusalLemmas.{allowed-within_limit, text_refusal-short, refusal-inside}
@@ -75,7 +75,9 @@ module _ (law : ParagraphsArePieces) (few : LinesAreFew) (rules : Rules) (width 
       omega (arith, chars-laid)
 
 -- an engine that goes by the same rules
-pub IsWholeLayout-same : (old new : Engine) (width : ℕ) (kept : List Layout) → SameRules old new → IsWholeLayout (record { engine = old; width = width; kept = kept }) → IsWholeLayout (record { engine = new; width = width; kept = kept })
+pub IsWholeLayout-same : (old new : Engine) (width : ℕ) (kept : List Layout) → SameRules old new
+    → IsWholeLayout (record { engine = old; width = width; kept = kept })
+    → IsWholeLayout (record { engine = new; width = width; kept = kept })
 IsWholeLayout-same old new width kept same whole = record {
   kept = whole.kept ∙ ap (λ r. layouts_of r width (text_of kept)) (sym same);
   allowed = ap (λ r. text_refusal (cut_by r) (text_of kept)) same ∙ whole.allowed;
@@ -84,11 +86,12 @@ IsWholeLayout-same old new width kept same whole = record {
 
 -- a refusal, with the engine as it was
 pub LaysOutAtMost-none : (n : ℕ) (engine : Engine) → LaysOutAtMost n engine engine
-LaysOutAtMost-none n engine = record { analysed = record { least = omega arith; most = omega arith }; filled = record { least = omega arith; most = omega arith }; written = record { least = omega arith; most = omega arith } }
+LaysOutAtMost-none n engine = record { analysed = record { least = omega arith; most = omega arith }; filled =
+    record { least = omega arith; most = omega arith }; written = record { least = omega arith; most = omega arith } }
 
-pub EditsNot-unchanged : (change : Change) (state : State) (fault : EditFault) → IsWholeLayout state → IsAnswerFor (refusal (cuts_at state) (text_at state) change) fault
-    → IsCountedFor fault (LaysOutAtMost (fresh (pars_of state.kept) change)) state.engine state.engine → EditsNot change state state fault
-EditsNot-unchanged change state fault whole answer counts = record {
+pub EditsNot-unchanged : (edit : Replacement) (state : SessionState) (fault : EditFault) → IsWholeLayout state → IsAnswerFor (refusal (cuts_at state) (text_at state) edit) fault
+    → IsCountedFor fault (LaysOutAtMost (fresh (pars_of state.kept) edit)) state.engine state.engine → EditsNot edit state state fault
+EditsNot-unchanged edit state fault whole answer counts = record {
   answer = answer;
   kept = refl;
   at_width = refl;
@@ -97,9 +100,9 @@ EditsNot-unchanged change state fault whole answer counts = record {
   counts = counts;
 }
 
-pub refusal-past : (is_cut : ℕ → ℕ → Bool) (text : List ℕ) (change : Change) → length text < change.pos + change.count → refusal is_cut text change ≡ Some OutOfRange
-refusal-past is_cut text change past =
-    cond-true (nat_lt (length text) (change.pos + change.count)) (Some OutOfRange) (text_refusal is_cut (changed text change)) (lt-ltb (length text) (change.pos + change.count) past)
+pub refusal-past : (is_cut : ℕ → ℕ → Bool) (text : List ℕ) (edit : Replacement) → length text < edit.pos + edit.count → refusal is_cut text edit ≡ Some OutOfRange
+refusal-past is_cut text edit past =
+    cond-true (nat_lt (length text) (edit.pos + edit.count)) (Some OutOfRange) (text_refusal is_cut (replaced text edit)) (lt-ltb (length text) (edit.pos + edit.count) past)
 
 -- what a call says of its outcome
 pub at_ok : {X E Q : Type 0} (r : Result X E) → is_err r ≡ false → OnOk r Q → Q
@@ -135,8 +138,8 @@ module _ (law : ParagraphsArePieces) (few : LinesAreFew) (engine : Engine) (widt
   abbrev pub region : List ℕ
   region = front_of (pars_of kept) front pos ++ (piece ++ back_of (pars_of kept) back (pos + count))
 
-  abbrev pub change : Change
-  change = changing pos count piece
+  abbrev pub edit : Replacement
+  edit = replacing pos count piece
 
   abbrev rules : Rules
   rules = rules_of engine
@@ -148,7 +151,8 @@ module _ (law : ParagraphsArePieces) (few : LinesAreFew) (engine : Engine) (widt
   pars-kept = ap pars_of whole.kept ∙ pars-layouts rules width (paragraphs (cut_by rules) (text_of kept))
 
   spliced : IsSpliced (cut_by rules) (pars_of kept) pos count piece (touched_by front back)
-  spliced = IsSpliced-from_touched law (cut_by rules) (pars_of kept) pos count piece (touched_by front back) (sym pars-kept) within (AreTouched-edges kept pos (pos + count) front back order within f b)
+  spliced = IsSpliced-from_touched law (cut_by rules) (pars_of kept) pos count piece (touched_by front back)
+      (sym pars-kept) within (AreTouched-edges kept pos (pos + count) front back order within f b)
 
   region_is : region_of (pars_of kept) (touched_by front back) pos (pos + count) piece ≡ region
   region_is = region_parts kept pos (pos + count) front back order within f b piece
@@ -156,11 +160,11 @@ module _ (law : ParagraphsArePieces) (few : LinesAreFew) (engine : Engine) (widt
   pub rise : front.index ≤ back.index
   rise = edges_rise kept pos (pos + count) front back order within f b
 
-  pub length-region : length region ≡ fresh (pars_of kept) change
+  pub length-region : length region ≡ fresh (pars_of kept) edit
   length-region = ap length (sym region_is) ∙ spliced.size
 
   -- what is kept afterwards
-  pub kept-after : splice kept front.index back.index (layouts_of rules width region) ≡ layouts_of rules width (changed (text_of kept) change)
+  pub kept-after : splice kept front.index back.index (layouts_of rules width region) ≡ layouts_of rules width (replaced (text_of kept) edit)
   kept-after =
       let one = layout_of rules width in
       let pars = pars_of kept in
@@ -176,17 +180,17 @@ module _ (law : ParagraphsArePieces) (few : LinesAreFew) (engine : Engine) (widt
       ∙ ap (map one) (sym spliced.pieces)
 
   -- why it is refused, where the text isn't too long
-  pub refusal-by_region : length (text_of kept) - count + length piece ≤ TEXT_LIMIT → refusal (cut_by rules) (text_of kept) change ≡ paragraphs_refusal (cut_by rules) region
+  pub refusal-by_region : length (text_of kept) - count + length piece ≤ TEXT_LIMIT → refusal (cut_by rules) (text_of kept) edit ≡ paragraphs_refusal (cut_by rules) region
   refusal-by_region short =
-      let text = changed (text_of kept) change in
+      let text = replaced (text_of kept) edit in
       let allowed : are_within (pars_of kept) ≡ true = ap are_within pars-kept ∙ allowed-within_limit (cut_by rules) (text_of kept) whole.allowed in
-      refusal-inside (cut_by rules) (text_of kept) change within
-      ∙ text_refusal-short (cut_by rules) text (rw (length-changed_text (text_of kept) piece pos count within) short)
+      refusal-inside (cut_by rules) (text_of kept) edit within
+      ∙ text_refusal-short (cut_by rules) text (rw (length-replaced_text (text_of kept) piece pos count within) short)
       ∙ ap (λ b. if b then None else Some ParagraphTooLong) (spliced.limit allowed ∙ ap (is_within_limit (cut_by rules)) region_is)
 
   pub EditsNot-by_region : (new_engine : Engine) (fault : EditFault) → length (text_of kept) - count + length piece ≤ TEXT_LIMIT → IsAnswerFor (paragraphs_refusal (cut_by rules) region) fault
       → SameRules engine new_engine → IsCountedFor fault (LaysOutAtMost (length region)) engine new_engine
-      → EditsNot change (record { engine = engine; width = width; kept = kept }) (record { engine = new_engine; width = width; kept = kept }) fault
+      → EditsNot edit (record { engine = engine; width = width; kept = kept }) (record { engine = new_engine; width = width; kept = kept }) fault
   EditsNot-by_region new_engine fault short answer same counts = record {
     answer = subst (λ o. IsAnswerFor o fault) (sym (refusal-by_region short)) answer;
     kept = refl;
@@ -201,20 +205,20 @@ module _ (law : ParagraphsArePieces) (few : LinesAreFew) (engine : Engine) (widt
     abbrev pub after : List Layout
     after = splice kept front.index back.index new
 
-    after_is : after ≡ layouts_of rules width (changed (text_of kept) change)
+    after_is : after ≡ layouts_of rules width (replaced (text_of kept) edit)
     after_is = ap (splice kept front.index back.index) laid ∙ kept-after
 
-    text-after : text_of after ≡ changed (text_of kept) change
-    text-after = ap text_of after_is ∙ text-layouts law rules width (changed (text_of kept) change)
+    text-after : text_of after ≡ replaced (text_of kept) edit
+    text-after = ap text_of after_is ∙ text-layouts law rules width (replaced (text_of kept) edit)
 
-    size-after : length (changed (text_of kept) change) ≤ TEXT_LIMIT
-    size-after = rw (length-changed_text (text_of kept) piece pos count within) short
+    size-after : length (replaced (text_of kept) edit) ≤ TEXT_LIMIT
+    size-after = rw (length-replaced_text (text_of kept) piece pos count within) short
 
     pub chars_fit : sum_by chars_of after < 2 ^ 64
-    chars_fit = omega (arith, chars-laid law few rules width (changed (text_of kept) change) after after_is, size-after)
+    chars_fit = omega (arith, chars-laid law few rules width (replaced (text_of kept) edit) after after_is, size-after)
 
     pub lines_fit : sum_by line_number after < 2 ^ 64
-    lines_fit = omega (arith, few-laid law few rules width (changed (text_of kept) change) after after_is, size-after)
+    lines_fit = omega (arith, few-laid law few rules width (replaced (text_of kept) edit) after after_is, size-after)
 
     old-parts : kept ≡ take front.index kept ++ (slice_range kept front.index back.index ++ drop back.index kept)
     old-parts = sym (take-append-drop front.index kept) ∙ ap (λ ks. take front.index kept ++ ks) (drop_split kept front.index back.index rise)
@@ -222,7 +226,7 @@ module _ (law : ParagraphsArePieces) (few : LinesAreFew) (engine : Engine) (widt
     lines-parts : (left mid right : List Layout) → lines_in (left ++ (mid ++ right)) ≡ lines_in left ++ (lines_in mid ++ lines_in right)
     lines-parts left mid right = flat_map-append visuals left (mid ++ right) ∙ ap (λ ls. lines_in left ++ ls) (flat_map-append visuals mid right)
 
-    IsDamage-after : IsDamage change kept after (damage_between front back new)
+    IsDamage-after : IsDamage edit kept after (damage_between front back new)
     IsDamage-after =
         let left = take front.index kept in
         let mid = slice_range kept front.index back.index in
@@ -245,11 +249,11 @@ module _ (law : ParagraphsArePieces) (few : LinesAreFew) (engine : Engine) (widt
         }
 
     pub Edits-after : (new_engine : Engine) → is_within_limit (cut_by rules) region ≡ true → SameRules engine new_engine → LaysOutAtMost (length region) engine new_engine
-        → Edits change (record { engine = engine; width = width; kept = kept }) (record { engine = new_engine; width = width; kept = after }) (damage_between front back new)
+        → Edits edit (record { engine = engine; width = width; kept = kept }) (record { engine = new_engine; width = width; kept = after }) (damage_between front back new)
     Edits-after new_engine in_limit same counts =
-        let accepted : refusal (cut_by rules) (text_of kept) change ≡ None =
+        let accepted : refusal (cut_by rules) (text_of kept) edit ≡ None =
         refusal-by_region short ∙ cond-true (is_within_limit (cut_by rules) region) None (Some ParagraphTooLong) in_limit in
-        let allowed : text_refusal (cut_by rules) (changed (text_of kept) change) ≡ None = sym (refusal-inside (cut_by rules) (text_of kept) change within) ∙ accepted in
+        let allowed : text_refusal (cut_by rules) (replaced (text_of kept) edit) ≡ None = sym (refusal-inside (cut_by rules) (text_of kept) edit within) ∙ accepted in
         record {
           accepted = accepted;
           text = text-after;
@@ -269,6 +273,7 @@ pub ends_ok : (P : List Layout → Damage → Type 0) (r : Result Damage EditFau
 ends_ok P (Ok x) now made d h e p = subst (λ ks. P ks x) (sym h) (subst (P made) (sym e) p)
 ends_ok P (Err x) now made d h e p = tt
 
-pub ends_err : (P : List Layout → EditFault → Type 0) (r : Result Damage EditFault) (now before : List Layout) → OnErr r (now ≡ before) → IfErr r (λ fault. fault ≡ NoMemory) → P before NoMemory → IfErr r (P now)
+pub ends_err : (P : List Layout → EditFault → Type 0) (r : Result Damage EditFault) (now before : List Layout)
+    → OnErr r (now ≡ before) → IfErr r (λ fault. fault ≡ NoMemory) → P before NoMemory → IfErr r (P now)
 ends_err P (Ok x) now before h e p = tt
 ends_err P (Err x) now before h e p = subst (λ ks. P ks x) (sym h) (subst (P before) (sym e) p)

@@ -8,7 +8,7 @@ use Rattle.std.proofs.lemmas.List.{append-nil, append_assoc, nil_from_length}
 use Rattle.bidi.specs.Cuts.{paragraphs, SplitsAt}
 use Rattle.bidi.specs.Pieces.{ArePieces, ParagraphsArePieces}
 use Rattle.lines.specs.Layouts.{Layout, Rules, cut_by, layout_of, IsParagraph}
-use Rattle.session.specs.Changes.{are_within, is_within_limit}
+use Rattle.session.specs.Edits.{are_within, is_within_limit}
 use Rattle.session.specs.Kept.{layouts_of}
 use Rattle.session.specs.Scans.{HasScanned}
 use Rattle.session.specs.declared.scan.Scan.{Scan}
@@ -30,7 +30,8 @@ module _ (is_cut : ℕ → ℕ → Bool) where
       ap (paragraphs is_cut) (sym (append-nil first)) ∙ law.only is_cut (first ∷ []) one
 
   -- the first paragraph is not too long, and nor are the others
-  pub within_parts : (text first : List ℕ) (pieces : List (List ℕ)) → paragraphs is_cut text ≡ first ∷ pieces → is_within_limit is_cut text ≡ true → (length first ≤ PARAGRAPH_LIMIT) × (are_within pieces ≡ true)
+  pub within_parts : (text first : List ℕ) (pieces : List (List ℕ)) → paragraphs is_cut text ≡ first ∷ pieces
+      → is_within_limit is_cut text ≡ true → (length first ≤ PARAGRAPH_LIMIT) × (are_within pieces ≡ true)
   within_parts text first pieces e within =
       let parts = and_parts (nat_le (length first) PARAGRAPH_LIMIT) (are_within pieces) (sym (ap are_within e) ∙ within) in
       (leb-true (length first) PARAGRAPH_LIMIT parts.0, parts.1)
@@ -53,7 +54,8 @@ module _ (law : ParagraphsArePieces) (rules : Rules) (text : List ℕ) (within :
 
 -- the layouts so far with one more
 pub layouts_more : (rules : Rules) (width : ℕ) (text rest first after : List ℕ) (kept more : List Layout) (one : Layout) → paragraphs (cut_by rules) rest ≡ first ∷ paragraphs (cut_by rules) after
-    → one ≡ layout_of rules width first → more ≡ kept ++ one ∷ [] → kept ++ layouts_of rules width rest ≡ layouts_of rules width text → more ++ layouts_of rules width after ≡ layouts_of rules width text
+    → one ≡ layout_of rules width first → more ≡ kept ++ one ∷ [] → kept ++ layouts_of rules width rest
+        ≡ layouts_of rules width text → more ++ layouts_of rules width after ≡ layouts_of rules width text
 layouts_more rules width text rest first after kept more one split one-is more-is so_far =
     ap (λ ks. ks ++ layouts_of rules width after) more-is
     ∙ append_assoc kept (one ∷ []) (layouts_of rules width after)
@@ -66,7 +68,8 @@ pub layouts_last : (rules : Rules) (width : ℕ) (text rest : List ℕ) (kept mo
 layouts_last rules width text rest kept more one split one-is more-is so_far =
     more-is ∙ ap (λ k. kept ++ k ∷ []) one-is ∙ ap (λ ps. kept ++ map (layout_of rules width) ps) (sym split) ∙ so_far
 
-pub layouts_none : (rules : Rules) (width : ℕ) (text rest : List ℕ) (kept : List Layout) → rest ≡ [] → kept ++ layouts_of rules width rest ≡ layouts_of rules width text → kept ≡ layouts_of rules width text
+pub layouts_none : (rules : Rules) (width : ℕ) (text rest : List ℕ) (kept : List Layout) → rest ≡ [] → kept
+    ++ layouts_of rules width rest ≡ layouts_of rules width text → kept ≡ layouts_of rules width text
 layouts_none rules width text rest kept none so_far = sym (append-nil kept) ∙ ap (λ r. kept ++ layouts_of rules width r) (sym none) ∙ so_far
 
 -- what the test for an empty list tells

@@ -1,4 +1,4 @@
-mod ChangeLemmas
+mod ReplacementLemmas
 mod ClusterLemmas
 mod EdgeLemmas
 mod EditLemmas

@@ -8,7 +8,7 @@ use Rattle.lines.specs.Engine.{rules_of, SameRules, LaysOutAtMost}
 use Rattle.lines.specs.Layouts.{Layout, cut_by}
 use Rattle.lines.specs.declared.engine.Engine.{Engine}
 use Rattle.session.specs.Sessions.{IsCountedFor, Opens, OpensNot, opening_refusal}
-use Rattle.session.specs.Changes.{is_within_limit, paragraphs_refusal, text_refusal}
+use Rattle.session.specs.Edits.{is_within_limit, paragraphs_refusal, text_refusal}
 use Rattle.session.specs.Kept.{text_of, layouts_of}
 use Rattle.session.specs.Sessions.{IsAnswerFor}
 use Rattle.session.specs.declared.edits.EditFault.{EditFault}
@@ -73,7 +73,9 @@ module _ (engine : Engine) (whole : List ℕ) (width : ℕ) (some : width ≡ 0 
           }
 
 -- the sums fit
-module _ (law : ParagraphsArePieces) (few : LinesAreFew) (engine : Engine) (whole : List ℕ) (width : ℕ) (new : List Layout) (laid : new ≡ layouts_of (rules_of engine) width whole) (short : length whole ≤ TEXT_LIMIT) where
+module _ (law : ParagraphsArePieces) (few : LinesAreFew) (engine : Engine) (whole : List ℕ) (width : ℕ)
+    (new : List Layout) (laid : new ≡ layouts_of (rules_of engine) width whole) (short : length whole ≤ TEXT_LIMIT)
+    where
   pub opening-chars : (before : List Layout) → before ≡ [] → sum_by chars_of (splice before 0 0 new) < 2 ^ 64
   opening-chars before none = rw (ap (λ ks. splice ks 0 0 new) none ∙ splice_all new) (omega (arith, chars-laid law few (rules_of engine) width whole new laid))
 

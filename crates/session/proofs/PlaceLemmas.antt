@@ -22,7 +22,7 @@ use Rattle.store.specs.Finding.{Finds}
 use Rattle.store.specs.declared.found.Found.{Found}
 use Rattle.session.specs.Kept.{lines_in, pars_of, text_of}
 use Rattle.session.specs.Places.{count_to, lines_from, line_starts, paragraph_starts, paragraphs_from, is_closed, next_place, place_at, place_in, IsLined}
-use Rattle.session.specs.Sessions.{State, IsWholeLayout, cuts_at, text_at}
+use Rattle.session.specs.Sessions.{SessionState, IsWholeLayout, cuts_at, text_at}
 use Rattle.session.specs.declared.edits.TheConstants.{TEXT_LIMIT}
 use Rattle.session.proofs.RefusalLemmas.{allowed-length}
 use Rattle.session.proofs.WidthLemmas.{all_each, each_laid_out}
@@ -209,7 +209,8 @@ same_place : (p n o q m r : ℕ) → p ≡ q → n ≡ m → o ≡ r
     → let here : Place = record { paragraph = p; line = n; offset = o } in here ≡ record { paragraph = q; line = m; offset = r }
 same_place p n o q m r e f h = rw (e, f, h) refl
 
-module _ (kept : List Layout) (pos : ℕ) (found : Found) (f : Finds chars_of chars_of lines_of kept pos found) (l : Layout) (read : Some l ≡ slice_get kept found.index) (lined : All IsLined kept) (j : ℕ)
+module _ (kept : List Layout) (pos : ℕ) (found : Found) (f : Finds chars_of chars_of lines_of kept pos found)
+    (l : Layout) (read : Some l ≡ slice_get kept found.index) (lined : All IsLined kept) (j : ℕ)
     (j-is : j ≡ count_to found.rest (map begins l.lines)) where
   abbrev before : ℕ
   before = sum_by chars_of f.before
@@ -410,5 +411,5 @@ pub none_place : (rules : Rules) (kept : List Layout) (pos : ℕ) → is_none (p
 none_place rules kept pos = none_if (nat_lt (length (text_of kept)) pos) (pos == length (text_of kept) && is_closed rules (text_of kept)) (next_place kept) (place_in kept pos)
 
 -- a text that is kept is not too long
-pub text_short : (state : State) → IsWholeLayout state → length (text_at state) ≤ TEXT_LIMIT
+pub text_short : (state : SessionState) → IsWholeLayout state → length (text_at state) ≤ TEXT_LIMIT
 text_short state whole = allowed-length (cuts_at state) (text_at state) whole.allowed

@@ -22,7 +22,7 @@ use Rattle.session.specs.Printing.{lines_page, PrintsNot}
 use Rattle.session.specs.declared.printing.RangeFault.{RangeFault}
 use Rattle.session.specs.declared.printing.RangeFault.TheVariants.{Write}
 use Rattle.lines.specs.declared.bytes.WriteFault.{WriteFault}
-use Rattle.session.specs.Sessions.{State, IsWholeLayout, cuts_at, page_at, text_at}
+use Rattle.session.specs.Sessions.{SessionState, IsWholeLayout, cuts_at, page_at, text_at}
 
 module _ (width : ℕ) (print : Print) where
   -- the bytes of each paragraph
@@ -46,7 +46,7 @@ module _ (width : ℕ) (print : Print) where
         sym (get_or-map (layout_bytes width print) kept k l [] (slice_get_within kept k l (sym read)) ∙ ap (layout_bytes width print) (get_or_from_slice_get kept k l l (sym read)))
 
 -- what is kept makes the page of the text
-pub page_of_kept : (state : State) (print : Print) → IsWholeLayout state → flat_map (layout_bytes state.width print) state.kept ≡ page_at state print
+pub page_of_kept : (state : SessionState) (print : Print) → IsWholeLayout state → flat_map (layout_bytes state.width print) state.kept ≡ page_at state print
 page_of_kept state print whole =
     ap (flat_map (layout_bytes state.width print)) whole.kept
     ∙ flat_map-map (layout_bytes state.width print) (layout_of (rules_of state.engine) state.width) (paragraphs (cuts_at state) (text_at state))
@@ -60,7 +60,7 @@ by_lines law width print [] = refl
 by_lines law width print (l ∷ kept) =
     ap₂ (λ (x y : List ℕ). x ++ y) (law width print l) (by_lines law width print kept) ∙ sym (flat_map-append (line_bytes width print) (visuals l) (lines_in kept))
 
-pub page_by_lines : LinesArePrinted → (state : State) (print : Print) → IsWholeLayout state → page_at state print ≡ flat_map (line_bytes state.width print) (lines_in state.kept)
+pub page_by_lines : LinesArePrinted → (state : SessionState) (print : Print) → IsWholeLayout state → page_at state print ≡ flat_map (line_bytes state.width print) (lines_in state.kept)
 page_by_lines law state print whole = sym (page_of_kept state print whole) ∙ by_lines law state.width print state.kept
 
 -- ---- some lines of all
@@ -150,12 +150,12 @@ front_more kept i from left part l read within part-is front whole so_far =
     ∙ so_far
 
 -- all lines are the page
-pub lines_page_all : (state : State) (print : Print) (count : ℕ) → count ≡ length (lines_in state.kept) → page_at state print ≡ flat_map (line_bytes state.width print) (lines_in state.kept)
+pub lines_page_all : (state : SessionState) (print : Print) (count : ℕ) → count ≡ length (lines_in state.kept) → page_at state print ≡ flat_map (line_bytes state.width print) (lines_in state.kept)
     → lines_page state 0 count print ≡ page_at state print
 lines_page_all state print count is law =
     ap (flat_map (line_bytes state.width print)) (take_all (0 + count - 0) (lines_in state.kept) (omega (arith, is))) ∙ sym law
 
 -- the sink's fault
-pub fault_of_sink : (state : State) (first count : ℕ) (untouched : Type 0) (stopped : ℕ → Type 0) (fault : RangeFault) (of_sink : WriteFault) → fault ≡ Write of_sink
+pub fault_of_sink : (state : SessionState) (first count : ℕ) (untouched : Type 0) (stopped : ℕ → Type 0) (fault : RangeFault) (of_sink : WriteFault) → fault ≡ Write of_sink
     → PrintsNot state first count untouched stopped fault → stopped of_sink.written
 fault_of_sink state first count untouched stopped fault of_sink is h = (subst (PrintsNot state first count untouched stopped) is h).1

@@ -1,9 +1,9 @@
--- Why a text or a change of it is refused.
+-- Why a text or an edit of it is refused.
 use Rattle.std.proofs.Common.{◌≡◌, ℕ, ◌+◌, ◌-◌, ◌<◌, ◌≤◌, Bool, true, false, List, length, Some, None, nat_lt, if◌then◌else◌, refl, ◌∙◌}
 use Rattle.std.proofs.lemmas.Bool.{cond-true, cond-false, lt-ltb, le-ltb, ltb-false}
-use Rattle.session.specs.Changes.{Change, changed, changing, refusal, text_refusal, is_within_limit}
+use Rattle.session.specs.Edits.{Replacement, replaced, replacing, refusal, text_refusal, is_within_limit}
 use Rattle.session.specs.declared.edits.EditFault.TheVariants.{OutOfRange, TextTooLong, ParagraphTooLong}
-use Rattle.session.proofs.ChangeLemmas.{length-changed_text}
+use Rattle.session.proofs.ReplacementLemmas.{length-replaced_text}
 use Rattle.session.specs.declared.edits.TheConstants.{TEXT_LIMIT}
 
 text_refusal_parts : (long within : Bool) → (if long then Some TextTooLong else (if within then None else Some ParagraphTooLong)) ≡ None → (long ≡ false) × (within ≡ true)
@@ -26,13 +26,13 @@ module _ (is_cut : ℕ → ℕ → Bool) where
   text_refusal-short text short =
       cond-false (nat_lt TEXT_LIMIT (length text)) (Some TextTooLong) (if is_within_limit is_cut text then None else Some ParagraphTooLong) (le-ltb TEXT_LIMIT (length text) short)
 
-  pub refusal-inside : (text : List ℕ) (change : Change) → change.pos + change.count ≤ length text → refusal is_cut text change ≡ text_refusal is_cut (changed text change)
-  refusal-inside text change within =
-      cond-false (nat_lt (length text) (change.pos + change.count)) (Some OutOfRange) (text_refusal is_cut (changed text change)) (le-ltb (length text) (change.pos + change.count) within)
+  pub refusal-inside : (text : List ℕ) (edit : Replacement) → edit.pos + edit.count ≤ length text → refusal is_cut text edit ≡ text_refusal is_cut (replaced text edit)
+  refusal-inside text edit within =
+      cond-false (nat_lt (length text) (edit.pos + edit.count)) (Some OutOfRange) (text_refusal is_cut (replaced text edit)) (le-ltb (length text) (edit.pos + edit.count) within)
 
--- what holds of a change that lies inside the text
+-- what holds of an edit that lies inside the text
 pub refusal-too_long : (is_cut : ℕ → ℕ → Bool) (text piece : List ℕ) (pos count : ℕ) → pos + count ≤ length text → TEXT_LIMIT < length text - count + length piece
-    → refusal is_cut text (changing pos count piece) ≡ Some TextTooLong
+    → refusal is_cut text (replacing pos count piece) ≡ Some TextTooLong
 refusal-too_long is_cut text piece pos count within long =
-    refusal-inside is_cut text (changing pos count piece) within
-    ∙ text_refusal-long is_cut (changed text (changing pos count piece)) (rw (length-changed_text text piece pos count within) long)
+    refusal-inside is_cut text (replacing pos count piece) within
+    ∙ text_refusal-long is_cut (replaced text (replacing pos count piece)) (rw (length-replaced_text text piece pos count within) long)

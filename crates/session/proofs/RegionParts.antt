@@ -1,4 +1,4 @@
--- The touched paragraphs of a text after a change: what the first has before it, the piece, and what the last has after it.
+-- The touched paragraphs of a text after an edit: what the first has before it, the piece, and what the last has after it.
 use Rattle.std.proofs.Common.{◌≡◌, ℕ, zero, suc, zero-add, suc-add, ◌+◌, ◌-◌, ◌<◌, ◌≤◌, List, [], ◌∷◌, ◌++◌, length, take, drop, get_or, refl, sym, ap, ap₂, ◌∙◌, ◌⊎◌, inl, inr, arith}
 use Rattle.std.specs.List.{concat, slice_range}
 use Rattle.std.proofs.lemmas.Bool.{cases_eq, cases_lt}
@@ -10,7 +10,7 @@ use Rattle.session.specs.Kept.{pars_of, text_of}
 use Rattle.session.specs.Touched.{AreTouched, Span}
 use Rattle.session.specs.Touched.{start_of}
 use Rattle.session.specs.declared.edge.Edge.{Edge}
-use Rattle.session.proofs.ChangeLemmas.{region_of}
+use Rattle.session.proofs.ReplacementLemmas.{region_of}
 use Rattle.session.proofs.TouchedLemmas.{start_of-more, start_of-le, start_of-end, AreTouched-from_walks}
 
 -- the start of a paragraph after others
@@ -136,7 +136,7 @@ module _ (kept : List Layout) (pos to : ℕ) (front back : Edge) (order : pos �
       AreTouched-from_walks (pars_of kept) pos to front.index back.index front.chars back.chars order within f.edge_is.chars b.edge_is.chars edges_rise
       (omega (arith, b.edge_is.within, pars_number)) f.before (λ some. f.after (omega (arith, pars_number))) (λ i above below. b.before i below) (λ more. b.after (omega (arith, pars_number)))
 
-  -- the changed text of the touched paragraphs
+  -- the new text of the touched paragraphs
   pub region_parts : (piece : List ℕ) → region_of (pars_of kept) (touched_by front back) pos to piece ≡ front_of (pars_of kept) front pos ++ (piece ++ back_of (pars_of kept) back to)
   region_parts piece =
       let pars = pars_of kept in

@@ -1,4 +1,4 @@
--- Changes one after another: what text and width are after each.
+-- Edits one after another: what text and width are after each.
 use Rattle.std.proofs.Common.{◌≡◌, ℕ, zero, suc, ◌+◌, ◌<◌, ◌≤◌, Bool, true, false, List, [], ◌∷◌, ◌++◌, length, take, drop, get_or, Option, None, Result, Ok, Err, is_none, if◌then◌else◌, refl, sym, ap, ap₂, subst, ◌∙◌, append_assoc, take-append-drop, arith}
 use Rattle.std.specs.Result.{IfOk, IfErr, result_eq}
 use Rattle.std.proofs.lemmas.Bool.{cond-true, cond-false, both_ways}
@@ -7,12 +7,12 @@ use Rattle.bidi.specs.Cuts.{paragraphs}
 use Rattle.lines.specs.Engine.{SameRules, LaysOutAtMost, FillsAtMost, RisesBy, analysed_of, filled_of, written_of, rules_of}
 use Rattle.lines.specs.Layouts.{cut_by}
 use Rattle.lines.specs.declared.engine.Engine.{Engine}
-use Rattle.session.specs.Runs.{StopsAt, WorksAtMost, analysed_by, edit_refusal, filled_by, work_of, work_of_all}
+use Rattle.session.specs.Runs.{StopsAt, TakesMemory, WorksAtMost, analysed_by, edit_refusal, filled_by, work_of, work_of_all}
 use Rattle.session.specs.Touched.{fresh}
 use Rattle.session.proofs.EditLemmas.{pars-layouts}
-use Rattle.session.specs.Changes.{Change, Held, changed, refusal, width_refusal, after_change, after_width, after_one, after_all}
+use Rattle.session.specs.Edits.{Replacement, Held, replaced, refusal, width_refusal, after_edit, after_width, after_one, after_all}
 use Rattle.session.specs.Kept.{pars_of, text_of}
-use Rattle.session.specs.Sessions.{State, IsWholeLayout, IsAnswerFor, IsCountedFor, Edits, EditsNot, Refills, RefillsNot, Stays, cuts_at, held_at, text_at}
+use Rattle.session.specs.Sessions.{SessionState, IsWholeLayout, IsAnswerFor, IsCountedFor, Edits, EditsNot, SetsWidth, SetsWidthNot, Stays, cuts_at, held_at, text_at}
 use Rattle.session.specs.declared.edits.Damage.{Damage}
 use Rattle.session.specs.declared.edits.Edit.{Edit}
 use Rattle.session.specs.declared.edits.EditFault.{EditFault}
@@ -29,31 +29,32 @@ choice-refused reason new old TextTooLong e other = cond-false (is_none reason) 
 choice-refused reason new old ParagraphTooLong e other = cond-false (is_none reason) new old (ap is_none e)
 choice-refused reason new old NoMemory e other = absurd (other refl)
 
--- a change that was made or refused
-pub record HasMoved (after : Held) (old new : State) : Type 0 where
+-- an edit that was made or refused
+pub record HasMoved (after : Held) (old new : SessionState) : Type 0 where
   pub held : held_at new ≡ after
   pub laid_out : IsWholeLayout new
   pub rules : SameRules old.engine new.engine
 
-held-by : (state : State) (text : List ℕ) (width : ℕ) → text_at state ≡ text → state.width ≡ width → held_at state ≡ record { text = text; width = width }
+held-by : (state : SessionState) (text : List ℕ) (width : ℕ) → text_at state ≡ text → state.width ≡ width → held_at state ≡ record { text = text; width = width }
 held-by state text width t w = ap₂ {C = Held} (λ (x : List ℕ) (y : ℕ). record { text = x; width = y }) t w
 
-pub edited : (change : Change) (old new : State) (result : Result Damage EditFault) → IfOk result (Edits change old new) → IfErr result (EditsNot change old new) → (result ≡ Err NoMemory → ⊥)
-    → HasMoved (record { text = after_change (cuts_at old) (text_at old) change; width = old.width }) old new
-edited change old new (Ok damage) m r other = record {
-  held = held-by new (after_change (cuts_at old) (text_at old) change) old.width
-      (m.text ∙ sym (choice-accepted (refusal (cuts_at old) (text_at old) change) (changed (text_at old) change) (text_at old) m.accepted)) m.at_width;
+pub edited : (edit : Replacement) (old new : SessionState) (result : Result Damage EditFault) → IfOk result (Edits edit old new) → IfErr result (EditsNot edit old new) → (result ≡ Err NoMemory → ⊥)
+    → HasMoved (record { text = after_edit (cuts_at old) (text_at old) edit; width = old.width }) old new
+edited edit old new (Ok damage) m r other = record {
+  held = held-by new (after_edit (cuts_at old) (text_at old) edit) old.width
+      (m.text ∙ sym (choice-accepted (refusal (cuts_at old) (text_at old) edit) (replaced (text_at old) edit) (text_at old) m.accepted)) m.at_width;
   laid_out = m.laid_out;
   rules = m.rules;
 }
-edited change old new (Err fault) m r other = record {
-  held = held-by new (after_change (cuts_at old) (text_at old) change) old.width
-      (ap text_of r.kept ∙ sym (choice-refused (refusal (cuts_at old) (text_at old) change) (changed (text_at old) change) (text_at old) fault r.answer (λ e. other (ap Err e)))) r.at_width;
+edited edit old new (Err fault) m r other = record {
+  held = held-by new (after_edit (cuts_at old) (text_at old) edit) old.width
+      (ap text_of r.kept ∙ sym (choice-refused (refusal (cuts_at old) (text_at old) edit) (replaced (text_at old) edit) (text_at old) fault r.answer (λ e. other (ap Err e)))) r.at_width;
   laid_out = r.laid_out;
   rules = r.rules;
 }
 
-pub refilled_to : (width : ℕ) (old new : State) (result : Result Damage EditFault) → IfOk result (Refills width old new) → IfErr result (RefillsNot width old new) → (result ≡ Err NoMemory → ⊥)
+pub refilled_to : (width : ℕ) (old new : SessionState) (result : Result Damage EditFault)
+    → IfOk result (SetsWidth width old new) → IfErr result (SetsWidthNot width old new) → (result ≡ Err NoMemory → ⊥)
     → HasMoved (record { text = text_at old; width = after_width old.width width }) old new
 refilled_to width old new (Ok damage) m r other = record {
   held = held-by new (text_at old) (after_width old.width width) m.text (m.at_width ∙ sym (choice-accepted (width_refusal width) width old.width m.accepted));
@@ -68,18 +69,20 @@ refilled_to width old new (Err fault) m r other = record {
 }
 
 -- one for which there was no memory
-pub record HasStayed (reason : Option EditFault) (old new : State) : Type 0 where
+pub record HasStayed (reason : Option EditFault) (old new : SessionState) : Type 0 where
   pub moved : HasMoved (held_at old) old new
   pub accepted : reason ≡ None
 
-has_stayed : (reason : Option EditFault) (bound : Engine → Engine → Type 0) (old new : State) (fault : EditFault) → Stays reason bound old new fault → HasMoved (held_at old) old new
+has_stayed : (reason : Option EditFault) (bound : Engine → Engine → Type 0) (old new : SessionState) (fault : EditFault) → Stays reason bound old new fault → HasMoved (held_at old) old new
 has_stayed reason bound old new fault r = record {
   held = held-by new (text_at old) old.width (ap text_of r.kept) r.at_width;
   laid_out = r.laid_out;
   rules = r.rules;
 }
 
-pub stays : (reason : Option EditFault) (bound : Engine → Engine → Type 0) (old new : State) (result : Result Damage EditFault) → IfErr result (Stays reason bound old new) → result ≡ Err NoMemory → HasStayed reason old new
+pub stays : (reason : Option EditFault) (bound : Engine → Engine
+    → Type 0) (old new : SessionState) (result : Result Damage EditFault) → IfErr result (Stays reason bound old new)
+    → result ≡ Err NoMemory → HasStayed reason old new
 stays reason bound old new (Ok damage) r e = absurd (cc e)
 stays reason bound old new (Err OutOfRange) r e = absurd (cc e)
 stays reason bound old new (Err WidthOutOfRange) r e = absurd (cc e)
@@ -87,7 +90,7 @@ stays reason bound old new (Err TextTooLong) r e = absurd (cc e)
 stays reason bound old new (Err ParagraphTooLong) r e = absurd (cc e)
 stays reason bound old new (Err NoMemory) r e = record { moved = has_stayed reason bound old new NoMemory r; accepted = r.answer }
 
--- how much one change worked: nothing where it was refused
+-- how much one edit worked: nothing where it was refused
 pub record Works (reason : Option EditFault) (n m : ℕ) (old new : Engine) : Type 0 where
   pub analysed : RisesBy (if is_none reason then n else 0) (analysed_of old) (analysed_of new)
   pub filled : RisesBy (if is_none reason then m else 0) (filled_of old) (filled_of new)
@@ -128,23 +131,23 @@ works-counted reason n m bound old new TextTooLong a counts by = works-none reas
 works-counted reason n m bound old new ParagraphTooLong a counts by = works-none reason n m old new counts
 works-counted reason n m bound old new NoMemory a counts by = by a counts
 
-pars-kept : (state : State) → IsWholeLayout state → pars_of state.kept ≡ paragraphs (cuts_at state) (text_at state)
+pars-kept : (state : SessionState) → IsWholeLayout state → pars_of state.kept ≡ paragraphs (cuts_at state) (text_at state)
 pars-kept state whole = ap pars_of whole.kept ∙ pars-layouts (rules_of state.engine) state.width (paragraphs (cuts_at state) (text_at state))
 
-pub edit_works : (change : Change) (old new : State) (result : Result Damage EditFault) → IsWholeLayout old → IfOk result (Edits change old new) → IfErr result (EditsNot change old new)
-    → Works (refusal (cuts_at old) (text_at old) change) (fresh (paragraphs (cuts_at old) (text_at old)) change) (fresh (paragraphs (cuts_at old) (text_at old)) change) old.engine new.engine
-edit_works change old new (Ok damage) whole m r =
-    let n = fresh (paragraphs (cuts_at old) (text_at old)) change in
-    works-laid_out (refusal (cuts_at old) (text_at old) change) n old.engine new.engine m.accepted
-    (subst (λ ps. LaysOutAtMost (fresh ps change) old.engine new.engine) (pars-kept old whole) m.counts)
-edit_works change old new (Err fault) whole m r =
-    let n = fresh (paragraphs (cuts_at old) (text_at old)) change in
-    let reason = refusal (cuts_at old) (text_at old) change in
+pub edit_works : (edit : Replacement) (old new : SessionState) (result : Result Damage EditFault) → IsWholeLayout old → IfOk result (Edits edit old new) → IfErr result (EditsNot edit old new)
+    → Works (refusal (cuts_at old) (text_at old) edit) (fresh (paragraphs (cuts_at old) (text_at old)) edit) (fresh (paragraphs (cuts_at old) (text_at old)) edit) old.engine new.engine
+edit_works edit old new (Ok damage) whole m r =
+    let n = fresh (paragraphs (cuts_at old) (text_at old)) edit in
+    works-laid_out (refusal (cuts_at old) (text_at old) edit) n old.engine new.engine m.accepted
+    (subst (λ ps. LaysOutAtMost (fresh ps edit) old.engine new.engine) (pars-kept old whole) m.counts)
+edit_works edit old new (Err fault) whole m r =
+    let n = fresh (paragraphs (cuts_at old) (text_at old)) edit in
+    let reason = refusal (cuts_at old) (text_at old) edit in
     works-counted reason n n (LaysOutAtMost n) old.engine new.engine fault r.answer
-    (subst (λ ps. IsCountedFor fault (LaysOutAtMost (fresh ps change)) old.engine new.engine) (pars-kept old whole) r.counts)
+    (subst (λ ps. IsCountedFor fault (LaysOutAtMost (fresh ps edit)) old.engine new.engine) (pars-kept old whole) r.counts)
     (λ e counts. works-laid_out reason n old.engine new.engine e counts)
 
-pub width_works : (width : ℕ) (old new : State) (result : Result Damage EditFault) → IfOk result (Refills width old new) → IfErr result (RefillsNot width old new)
+pub width_works : (width : ℕ) (old new : SessionState) (result : Result Damage EditFault) → IfOk result (SetsWidth width old new) → IfErr result (SetsWidthNot width old new)
     → Works (width_refusal width) 0 (length (text_at old)) old.engine new.engine
 width_works width old new (Ok damage) m r = works-filled (width_refusal width) (length (text_at old)) old.engine new.engine m.accepted m.counts
 width_works width old new (Err fault) m r =
@@ -152,8 +155,8 @@ width_works width old new (Err fault) m r =
     works-counted (width_refusal width) 0 n (FillsAtMost n) old.engine new.engine fault r.answer r.counts
     (λ e counts. works-filled (width_refusal width) n old.engine new.engine e counts)
 
--- where the changes have come from the start, after n of them
-pub record HasRun (start : State) (edits : List Edit) (n : ℕ) (now : State) : Type 0 where
+-- where the edits have come from the start, after n of them
+pub record HasRun (start : SessionState) (edits : List Edit) (n : ℕ) (now : SessionState) : Type 0 where
   pub held : held_at now ≡ after_all (cuts_at start) (held_at start) (take n edits)
   pub laid_out : IsWholeLayout now
   pub rules : SameRules start.engine now.engine
@@ -163,7 +166,7 @@ after_all-push : (is_cut : ℕ → ℕ → Bool) (held : Held) (edits : List Edi
 after_all-push is_cut held [] edit = refl
 after_all-push is_cut held (first ∷ edits) edit = after_all-push is_cut (after_one is_cut held first) edits edit
 
--- what a change does is the same where cuts and text are told by the start
+-- what an edit does is the same where cuts and text are told by the start
 work_of-push : (is_cut : ℕ → ℕ → Bool) (work : Held → Edit → ℕ) (held : Held) (edits : List Edit) (edit : Edit)
     → work_of_all is_cut work held (edits ++ edit ∷ []) ≡ work_of_all is_cut work held edits + work_of is_cut work (after_all is_cut held edits) edit
 work_of-push is_cut work held [] edit = omega arith
@@ -181,14 +184,16 @@ RisesBy-more n m k a b c r s e = record { least = omega (arith, r.least, s.least
 RisesBy-within : (n m a b : ℕ) → n ≤ m → RisesBy n a b → RisesBy m a b
 RisesBy-within n m a b le r = record { least = r.least; most = omega (arith, r.most, le) }
 
-pub whole_works : (start : State) (edits : List Edit) (n : ℕ) (old new : Engine) → WorksAtMost (cuts_at start) (held_at start) (take n edits) old new → WorksAtMost (cuts_at start) (held_at start) edits old new
+pub whole_works : (start : SessionState) (edits : List Edit) (n : ℕ) (old new : Engine)
+    → WorksAtMost (cuts_at start) (held_at start) (take n edits) old new
+    → WorksAtMost (cuts_at start) (held_at start) edits old new
 whole_works start edits n old new w = record {
   analysed = RisesBy-within _ _ _ _ (work_of-take (cuts_at start) (analysed_by (cuts_at start)) (held_at start) edits n) w.analysed;
   filled = RisesBy-within _ _ _ _ (work_of-take (cuts_at start) (filled_by (cuts_at start)) (held_at start) edits n) w.filled;
   written = RisesBy-within _ _ _ _ (work_of-take (cuts_at start) (filled_by (cuts_at start)) (held_at start) edits n) w.written;
 }
 
-pub next_works : (start old new : State) (edits : List Edit) (n : ℕ) (d edit : Edit) → n < length edits → get_or edits n d ≡ edit → HasRun start edits n old
+pub next_works : (start old new : SessionState) (edits : List Edit) (n : ℕ) (d edit : Edit) → n < length edits → get_or edits n d ≡ edit → HasRun start edits n old
     → Works (edit_refusal (cuts_at old) (held_at old) edit) (analysed_by (cuts_at old) (held_at old) edit) (filled_by (cuts_at old) (held_at old) edit) old.engine new.engine
     → WorksAtMost (cuts_at start) (held_at start) (take (n + 1) edits) start.engine new.engine
 next_works start old new edits n d edit within read run works =
@@ -205,12 +210,13 @@ next_works start old new edits n d edit within read run works =
       written = RisesBy-more _ _ _ _ _ _ run.works.written works.written (sum_is filled_by);
     }
 
--- the change at which a run ended
-pub HasRun-stops : (start old new : State) (edits : List Edit) (n : ℕ) (d edit : Edit) → n < length edits → get_or edits n d ≡ edit → HasRun start edits n old
+-- the edit at which a run ended
+pub HasRun-stops : (start old new : SessionState) (edits : List Edit) (n : ℕ) (d edit : Edit) → n < length edits → get_or edits n d ≡ edit → HasRun start edits n old
+    → TakesMemory (cuts_at old) (held_at old) edit
     → HasStayed (edit_refusal (cuts_at old) (held_at old) edit) old new
     → Works (edit_refusal (cuts_at old) (held_at old) edit) (analysed_by (cuts_at old) (held_at old) edit) (filled_by (cuts_at old) (held_at old) edit) old.engine new.engine
     → StopsAt (cuts_at start) (held_at start) edits (held_at new) start.engine new.engine
-HasRun-stops start old new edits n d edit within read run stayed works =
+HasRun-stops start old new edits n d edit within read run takes stayed works =
     let front = take n edits in
     let more : take (n + 1) edits ≡ front ++ edit ∷ [] = take_more edits n d within ∙ ap (λ e. front ++ e ∷ []) read in
     record {
@@ -220,10 +226,11 @@ HasRun-stops start old new edits n d edit within read run stayed works =
       place = sym (take-append-drop (n + 1) edits) ∙ ap (λ xs. xs ++ drop (n + 1) edits) more ∙ append_assoc front (edit ∷ []) (drop (n + 1) edits);
       held = stayed.moved.held ∙ run.held;
       accepted = ap (λ held. edit_refusal (cuts_at start) held edit) stayed.moved.held ∙ ap (λ r. edit_refusal (cut_by r) (held_at old) edit) (sym run.rules) ∙ stayed.accepted;
+      takes = subst (λ held. TakesMemory (cuts_at start) held edit) (sym stayed.moved.held) takes;
       works = subst (λ done. WorksAtMost (cuts_at start) (held_at start) done start.engine new.engine) more (next_works start old new edits n d edit within read run works);
     }
 
-pub HasRun-next : (start old new : State) (edits : List Edit) (n : ℕ) (d edit : Edit) → n < length edits → get_or edits n d ≡ edit → HasRun start edits n old
+pub HasRun-next : (start old new : SessionState) (edits : List Edit) (n : ℕ) (d edit : Edit) → n < length edits → get_or edits n d ≡ edit → HasRun start edits n old
     → HasMoved (after_one (cuts_at old) (held_at old) edit) old new
     → Works (edit_refusal (cuts_at old) (held_at old) edit) (analysed_by (cuts_at old) (held_at old) edit) (filled_by (cuts_at old) (held_at old) edit) old.engine new.engine
     → HasRun start edits (n + 1) new
@@ -241,7 +248,7 @@ HasRun-next start old new edits n d edit within read run step works =
       works = next_works start old new edits n d edit within read run works;
     }
 
-pub HasRun-rules : (start old new : State) (edits : List Edit) (n : ℕ) (reason : Option EditFault) → HasRun start edits n old → HasStayed reason old new → SameRules start.engine new.engine
+pub HasRun-rules : (start old new : SessionState) (edits : List Edit) (n : ℕ) (reason : Option EditFault) → HasRun start edits n old → HasStayed reason old new → SameRules start.engine new.engine
 HasRun-rules start old new edits n reason run stayed = stayed.moved.rules ∙ run.rules
 
 -- what the test for want of memory tells

@@ -5,7 +5,7 @@ use Rattle.std.proofs.lemmas.Bool.{le-leb, lt-leb, leb-true, and_right}
 use Rattle.std.proofs.lemmas.List.{append_assoc, length_push, get_or_push}
 use Rattle.std.proofs.lemmas.Option.{slice_get-get_or}
 use Rattle.bidi.specs.Cuts.{paragraphs}
-use Rattle.session.specs.Changes.{are_within}
+use Rattle.session.specs.Edits.{are_within}
 use Rattle.session.specs.Scans.{HasScanned}
 use Rattle.session.specs.declared.scan.Scan.{Scan}
 use Rattle.lines.specs.declared.engine.TheConstants.{PARAGRAPH_LIMIT}
@@ -170,7 +170,8 @@ module _ (is_cut : ℕ → ℕ → Bool) (text : List ℕ) (c : ℕ) where
     length_got = ap length (get_or-last (paragraphs is_cut (text ++ c ∷ []))) ∙ length_last
 
     -- one more character, with which the last paragraph is within the limit, or past it
-    pub scanned_within : (len : ℕ) (is_long : Bool) → n < PARAGRAPH_LIMIT → len ≡ n + 1 → is_long ≡ scan.is_long → HasScanned is_cut (text ++ c ∷ []) (record { last = Some c; len = len; is_long = is_long })
+    pub scanned_within : (len : ℕ) (is_long : Bool) → n < PARAGRAPH_LIMIT → len ≡ n + 1 → is_long ≡ scan.is_long
+        → HasScanned is_cut (text ++ c ∷ []) (record { last = Some c; len = len; is_long = is_long })
     scanned_within len is_long short len-is is_long-is = record {
       last = slice_get-push text c;
       len = (let n-is = n_before in rw length_got (omega arith));
@@ -187,7 +188,8 @@ module _ (is_cut : ℕ → ℕ → Bool) (text : List ℕ) (c : ℕ) where
     }
 
 -- what was scanned, put together in another way
-pub scanned_push : (is_cut : ℕ → ℕ → Bool) (text part more : List ℕ) (c : ℕ) (scan : Scan) → more ≡ part ++ c ∷ [] → HasScanned is_cut (text ++ part ++ c ∷ []) scan → HasScanned is_cut (text ++ more) scan
+pub scanned_push : (is_cut : ℕ → ℕ → Bool) (text part more : List ℕ) (c : ℕ) (scan : Scan) → more ≡ part ++ c ∷ []
+    → HasScanned is_cut (text ++ part ++ c ∷ []) scan → HasScanned is_cut (text ++ more) scan
 scanned_push is_cut text part more c scan more-is known =
     subst (λ (xs : List ℕ). HasScanned is_cut xs scan) (append_assoc text part (c ∷ []) ∙ ap (λ xs. text ++ xs) (sym more-is)) known
 

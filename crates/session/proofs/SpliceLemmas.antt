@@ -7,7 +7,7 @@ use Rattle.std.proofs.Math.Bool.{and-true}
 use Rattle.std.proofs.lemmas.Bool.{and_parts}
 use Rattle.bidi.specs.Cuts.{paragraphs}
 use Rattle.bidi.specs.Pieces.{ArePieces, ParagraphsArePieces}
-use Rattle.session.specs.Changes.{changed, changing, are_within}
+use Rattle.session.specs.Edits.{replaced, replacing, are_within}
 use Rattle.lines.specs.declared.engine.TheConstants.{PARAGRAPH_LIMIT}
 use Rattle.session.specs.Kept.{IsCutAt}
 
@@ -85,7 +85,7 @@ module _ (is_cut : ℕ → ℕ → Bool) where
       concat-append left (paragraphs is_cut new ++ right) ∙ ap (λ t. concat left ++ t) text in
       ap (paragraphs is_cut) (sym whole) ∙ law.only is_cut (left ++ (paragraphs is_cut new ++ right)) all
 
--- A change of a text that lies in its middle is one of the middle.
+-- An edit of a text that lies in its middle is one of the middle.
 take-add : (left rest : List ℕ) (n : ℕ) → take (length left + n) (left ++ rest) ≡ left ++ take n rest
 take-add [] rest n = rw zero-add refl
 take-add (x ∷ left) rest n = rw suc-add (ap (λ t. x ∷ t) (take-add left rest n))
@@ -94,28 +94,30 @@ drop-add : (left rest : List ℕ) (n : ℕ) → drop (length left + n) (left ++ 
 drop-add [] rest n = rw zero-add refl
 drop-add (x ∷ left) rest n = rw suc-add (drop-add left rest n)
 
-pub changed-middle : (left mid right piece : List ℕ) (from count : ℕ) → from + count ≤ length mid
-    → changed (left ++ (mid ++ right)) (changing (length left + from) count piece) ≡ left ++ (changed mid (changing from count piece) ++ right)
-changed-middle left mid right piece from count within =
+pub replaced-middle : (left mid right piece : List ℕ) (from count : ℕ) → from + count ≤ length mid
+    → replaced (left ++ (mid ++ right)) (replacing (length left + from) count piece) ≡ left ++ (replaced mid (replacing from count piece) ++ right)
+replaced-middle left mid right piece from count within =
     let front : take (length left + from) (left ++ (mid ++ right)) ≡ left ++ take from mid =
     take-add left (mid ++ right) from ∙ ap (λ t. left ++ t) (take-append-le from mid right (omega arith)) in
     let back : drop (length left + from + count) (left ++ (mid ++ right)) ≡ drop (from + count) mid ++ right =
     ap (λ n. drop n (left ++ (mid ++ right))) (add_assoc (length left) from count) ∙ drop-add left (mid ++ right) (from + count) ∙ drop-append-le (from + count) mid right within in
     rw (front, back) (simp append_assoc)
 
--- the first and the last character of what a change makes of a text, where it lies after the one and before the other
-pub first-changed : (mid piece : List ℕ) (from count : ℕ) → 0 < from → from + count ≤ length mid
-    → (0 < length mid) × (0 < length (changed mid (changing from count piece))) × (slice_index (changed mid (changing from count piece)) 0 ≡ slice_index mid 0)
-first-changed mid piece from count some within =
+-- the first and the last character of what an edit makes of a text, where it lies after the one and before the other
+pub first-replaced : (mid piece : List ℕ) (from count : ℕ) → 0 < from → from + count ≤ length mid
+    → (0 < length mid) × (0 < length (replaced mid (replacing from count piece))) × (slice_index (replaced mid (replacing from count piece)) 0 ≡ slice_index mid 0)
+first-replaced mid piece from count some within =
     let front : length (take from mid) ≡ from = length-take-le from mid (omega arith) in (
       omega arith,
       rw (length-append (take from mid) (piece ++ drop (from + count) mid)) (omega arith),
       first-append (take from mid) (piece ++ drop (from + count) mid) (omega arith) ∙ get_or-take from mid 0 0 some,
     )
 
-pub last-changed : (mid piece : List ℕ) (from count : ℕ) → from + count < length mid
-    → (0 < length mid) × (0 < length (changed mid (changing from count piece))) × (slice_index (changed mid (changing from count piece)) (length (changed mid (changing from count piece)) - 1) ≡ slice_index mid (length mid - 1))
-last-changed mid piece from count within =
+pub last-replaced : (mid piece : List ℕ) (from count : ℕ) → from + count < length mid
+    → (0 < length mid) × (0 < length (replaced mid (replacing from count piece)))
+        × (slice_index (replaced mid (replacing from count piece))
+        (length (replaced mid (replacing from count piece)) - 1) ≡ slice_index mid (length mid - 1))
+last-replaced mid piece from count within =
     let back : length (drop (from + count) mid) ≡ length mid - (from + count) = length-drop (from + count) mid in
     let tail : 0 < length (piece ++ drop (from + count) mid) = rw (length-append piece (drop (from + count) mid)) (omega arith) in
     let place : from + count + (length (drop (from + count) mid) - 1) ≡ length mid - 1 = omega arith in (
@@ -127,8 +129,8 @@ last-changed mid piece from count within =
           ∙ ap (slice_index mid) place,
     )
 
-pub length-changed : (mid piece : List ℕ) (from count : ℕ) → from + count ≤ length mid → length (changed mid (changing from count piece)) ≡ length mid - count + length piece
-length-changed mid piece from count within =
+pub length-replaced : (mid piece : List ℕ) (from count : ℕ) → from + count ≤ length mid → length (replaced mid (replacing from count piece)) ≡ length mid - count + length piece
+length-replaced mid piece from count within =
     let front : length (take from mid) ≡ from = length-take-le from mid (omega arith) in
     let back : length (drop (from + count) mid) ≡ length mid - (from + count) = length-drop (from + count) mid in
     rw (length-append (take from mid) (piece ++ drop (from + count) mid), length-append piece (drop (from + count) mid)) (omega arith)

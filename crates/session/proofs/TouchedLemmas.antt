@@ -1,4 +1,4 @@
--- Where paragraphs start, and which of them a change touches: an interval, which two walks find.
+-- Where paragraphs start, and which of them an edit touches: an interval, which two walks find.
 use Rattle.std.proofs.Common.{◌≡◌, ℕ, zero, suc, ◌+◌, ◌-◌, ◌<◌, ◌≤◌, max, Bool, true, false, cond, List, [], ◌∷◌, ◌++◌, length, take, get_or, Some, unwrap_or, count_by, nat_le, sym, ap, ◌∙◌, inl, inr, arith}
 use Rattle.std.specs.List.{concat, range_with_len}
 use Rattle.std.proofs.lemmas.List.{append-nil, length-append, take_more, take_all}
@@ -6,8 +6,8 @@ use Rattle.std.proofs.lemmas.List.Folds.{concat-append}
 use Rattle.std.proofs.lemmas.List.Sums.{sum_by-cons}
 use Rattle.std.proofs.lemmas.Bool.{cond-true, cond-false, cases_eq, cases_lt, le-leb, lt-leb, and_left, and_right, and_from}
 use Rattle.bidi.specs.Least.{least}
-use Rattle.session.specs.Changes.{Change}
-use Rattle.session.specs.Touched.{AreTouched, region_change}
+use Rattle.session.specs.Edits.{Replacement}
+use Rattle.session.specs.Touched.{AreTouched, region_edit}
 use Rattle.session.specs.Touched.{start_of, is_touched, first_touched, touched_count}
 
 -- the first number of a range that passes
@@ -68,15 +68,15 @@ pub AreTouched-from_walks : (pars : List (List ℕ)) (pos end first last start s
     → ((i : ℕ) → first ≤ i → i < last → start_of pars i ≤ end) → (last < length pars → end < stop)
     → AreTouched pars pos end (record { first = first; end = last; start = start; stop = stop })
 AreTouched-from_walks pars pos end first last start stop order within at_first at_last rise few before next inside after =
-    let change : Change = region_change pos end [] in
+    let edit : Replacement = region_edit pos end [] in
     let reach : pos + (end - pos) ≡ end = omega arith in
-    let earlier : (k : ℕ) → k < first → is_touched pars change k ≡ false = λ k below.
+    let earlier : (k : ℕ) → k < first → is_touched pars edit k ≡ false = λ k below.
     let le = start_of-le pars (k + 1) first (omega arith) in
     and_right (nat_le (start_of pars k) (pos + (end - pos))) (nat_le pos (start_of pars (k + 1))) (lt-leb pos (start_of pars (k + 1)) (omega (arith, before (omega arith)))) in
-    let later : (k : ℕ) → last ≤ k → k < length pars → is_touched pars change k ≡ false = λ k above under.
+    let later : (k : ℕ) → last ≤ k → k < length pars → is_touched pars edit k ≡ false = λ k above under.
     let le = start_of-le pars last k above in
     and_left (nat_le (start_of pars k) (pos + (end - pos))) (nat_le pos (start_of pars (k + 1))) (lt-leb (start_of pars k) (pos + (end - pos)) (omega (arith, after (omega arith)))) in
-    let between : (k : ℕ) → first ≤ k → k < last → is_touched pars change k ≡ true = λ k above under.
+    let between : (k : ℕ) → first ≤ k → k < last → is_touched pars edit k ≡ true = λ k above under.
     let le = start_of-le pars (first + 1) (k + 1) (omega arith) in
     and_from (nat_le (start_of pars k) (pos + (end - pos))) (nat_le pos (start_of pars (k + 1)))
     (le-leb (start_of pars k) (pos + (end - pos)) (omega (arith, inside k above under)))
@@ -89,20 +89,20 @@ AreTouched-from_walks pars pos end first last start stop order within at_first a
       | inl more ↦ omega (arith, after more)
       | inr all ↦ omega (arith, start_of-end pars last all)
     ] in
-    let counted : touched_count pars change ≡ last - first =
-    count_of_interval (is_touched pars change) 0 (length pars) first last rise (omega arith)
+    let counted : touched_count pars edit ≡ last - first =
+    count_of_interval (is_touched pars edit) 0 (length pars) first last rise (omega arith)
     (λ k _ above under. between k above under) (λ k _ below. earlier k below) (λ k _ above under. later k above (omega arith)) ∙ omega arith in
-    let touched_at_first : first < length pars → is_touched pars change first ≡ true = λ some.
+    let touched_at_first : first < length pars → is_touched pars edit first ≡ true = λ some.
     and_from (nat_le (start_of pars first) (pos + (end - pos))) (nat_le pos (start_of pars (first + 1)))
     (le-leb (start_of pars first) (pos + (end - pos)) (omega arith))
     (le-leb pos (start_of pars (first + 1)) (next some)) in
-    let found : first_touched pars change ≡ first =
+    let found : first_touched pars edit ≡ first =
     elim (cases_lt first (length pars)) [
-      | inl some ↦ ap (λ o. unwrap_or o 0) (least_found (is_touched pars change) 0 (length pars) first (omega arith) (omega arith) (touched_at_first some) (λ k _ below. earlier k below))
+      | inl some ↦ ap (λ o. unwrap_or o 0) (least_found (is_touched pars edit) 0 (length pars) first (omega arith) (omega arith) (touched_at_first some) (λ k _ below. earlier k below))
       | inr none ↦ let whole : start_of pars first ≡ length (concat pars) = start_of-end pars first none in
           let nothing : first ≡ 0 = elim (cases_eq first 0) [ inl e ↦ e | inr ne ↦ absurd (omega (arith, before (omega arith))) ] in
           let empty : length pars ≡ 0 = omega arith in
-          ap (λ n. unwrap_or (least (is_touched pars change) 0 n) 0) empty ∙ sym nothing
+          ap (λ n. unwrap_or (least (is_touched pars edit) 0 n) 0) empty ∙ sym nothing
     ] in
     record {
       first = sym found;

@@ -8,7 +8,7 @@ use Rattle.lines.specs.Engine.{rules_of}
 use Rattle.lines.specs.Layouts.{Layout, Rules}
 use Rattle.lines.specs.declared.engine.Engine.{Engine}
 use Rattle.session.specs.Kept.{pars_of, text_of, layouts_of}
-use Rattle.session.specs.Sessions.{State, IsWholeLayout}
+use Rattle.session.specs.Sessions.{SessionState, IsWholeLayout}
 
 -- what holds anyway holds of an error, and what holds of an error holds where there is one
 pub on_err : {A E P : Type 0} (r : Result A E) → P → OnErr r P

@@ -8,12 +8,12 @@ use Rattle.std.proofs.lemmas.List.Sums.{sum_by_more, sum_by-cons, sum_by-take-le
 use Rattle.bidi.specs.Cuts.{paragraphs}
 use Rattle.bidi.specs.Pieces.{ArePieces, ParagraphsArePieces}
 use Rattle.lines.specs.Engine.{rules_of, analysed_of, filled_of, written_of, SameRules, FillsAtMost, FindsExtentsAtMost, RewritesAtMost}
-use Rattle.lines.specs.Extents.{extents_of, reflowed, Spans}
+use Rattle.lines.specs.Extents.{extents_of, reflowed, LineExtents}
 use Rattle.lines.specs.Layouts.{Layout, Rules, IsLaidOut, IsParagraph, cut_by, layout_of, lines_of}
 use Rattle.lines.specs.declared.engine.Engine.{Engine}
 use Rattle.store.specs.Exchanging.{pairwise, total_cost}
-use Rattle.session.specs.Sessions.{IsWholeLayout, Refills, RefillsNot}
-use Rattle.session.specs.Changes.{are_within, text_refusal, width_refusal}
+use Rattle.session.specs.Sessions.{IsWholeLayout, SetsWidth, SetsWidthNot}
+use Rattle.session.specs.Edits.{are_within, text_refusal, width_refusal}
 use Rattle.session.specs.Kept.{text_of, layouts_of, put_into, BringsTo, CanBePut, Writer}
 use Rattle.session.specs.declared.edits.EditFault.TheVariants.{WidthOutOfRange, NoMemory}
 use Rattle.session.proofs.EdgeLemmas.{chars_of, lines_of as line_number, length-text, length-lines}
@@ -48,7 +48,8 @@ all_laid_out : (rules : Rules) (width : ℕ) (pars : List (List ℕ)) → Each (
 all_laid_out rules width [] h = tt
 all_laid_out rules width (p ∷ pars) h = (record { width = width; paragraph = h.0; from_scratch = refl }, all_laid_out rules width pars h.1)
 
-pub each_laid_out : ParagraphsArePieces → (engine : Engine) (width : ℕ) (kept : List Layout) → IsWholeLayout (record { engine = engine; width = width; kept = kept }) → Each (IsLaidOut (rules_of engine)) kept
+pub each_laid_out : ParagraphsArePieces → (engine : Engine) (width : ℕ) (kept : List Layout)
+    → IsWholeLayout (record { engine = engine; width = width; kept = kept }) → Each (IsLaidOut (rules_of engine)) kept
 each_laid_out law engine width kept whole =
     let rules = rules_of engine in
     let pars = paragraphs (cut_by rules) (text_of kept) in
@@ -115,7 +116,7 @@ zip_push R (a ∷ xs) [] x y all more = absurd all
 zip_push R (a ∷ xs) (b ∷ ys) x y all more = (all.0, zip_push R xs ys x y all.1 more)
 
 -- for each of the first so many paragraphs there are the extents of its lines, or none
-pub record AreFilled (start : Engine) (width : ℕ) (kept : List Layout) (n : ℕ) (fills : List (Option Spans)) (now : Engine) : Type 0 where
+pub record AreFilled (start : Engine) (width : ℕ) (kept : List Layout) (n : ℕ) (fills : List (Option LineExtents)) (now : Engine) : Type 0 where
   pub made : AllZip (BringsTo (rules_of start) width) (take n kept) fills
   pub rules : SameRules start now
   pub analysed : analysed_of now ≡ analysed_of start
@@ -123,10 +124,10 @@ pub record AreFilled (start : Engine) (width : ℕ) (kept : List Layout) (n : �
   pub most : filled_of now ≤ filled_of start + sum_by chars_of (take n kept)
   pub written : written_of now ≡ written_of start
 
-pub none_filled : (start : Engine) (width : ℕ) (kept : List Layout) (fills : List (Option Spans)) → fills ≡ [] → AreFilled start width kept 0 fills start
+pub none_filled : (start : Engine) (width : ℕ) (kept : List Layout) (fills : List (Option LineExtents)) → fills ≡ [] → AreFilled start width kept 0 fills start
 none_filled start width kept fills e = rw e (record { made = tt; rules = refl; analysed = refl; least = omega arith; most = omega arith; written = refl })
 
-module _ (start now : Engine) (width : ℕ) (kept : List Layout) (n : ℕ) (fills : List (Option Spans)) (so_far : AreFilled start width kept n fills now) where
+module _ (start now : Engine) (width : ℕ) (kept : List Layout) (n : ℕ) (fills : List (Option LineExtents)) (so_far : AreFilled start width kept n fills now) where
   pub FindsExtentsAtMost-so_far : FindsExtentsAtMost (length (text_of kept)) start now
   FindsExtentsAtMost-so_far = record {
     analysed = so_far.analysed;
@@ -152,7 +153,9 @@ module _ (start now : Engine) (width : ℕ) (kept : List Layout) (n : ℕ) (fill
       written = counts.written ∙ so_far.written;
     }
 
-    pub AreFilled-next : (part : Option Spans) (more : List (Option Spans)) → BringsTo (rules_of now) width l part → more ≡ fills ++ part ∷ [] → AreFilled start width kept (n + 1) more next
+    pub AreFilled-next : (part : Option LineExtents) (more : List (Option LineExtents))
+        → BringsTo (rules_of now) width l part → more ≡ fills ++ part ∷ []
+        → AreFilled start width kept (n + 1) more next
     AreFilled-next part more brings more-is = record {
       made = rw (more-is, take_more kept n l here, item)
           (zip_push (BringsTo (rules_of start) width) (take n kept) fills l part so_far.made (subst (λ r. BringsTo r width l part) so_far.rules brings));
@@ -164,19 +167,19 @@ module _ (start now : Engine) (width : ℕ) (kept : List Layout) (n : ℕ) (fill
     }
 
 -- what an exchange asks, and what it makes
-abbrev pub fits_any : Writer → List Layout → List (Option Spans) → Type 0
+abbrev pub fits_any : Writer → List Layout → List (Option LineExtents) → Type 0
 fits_any writer kept parts = AllZip (λ l part. IfSome part (CanBePut writer l)) kept parts
 
 each_all : {A : Type 0} (P : A → Type 0) (xs : List A) → All P xs → Each P xs
 each_all P [] h = tt
 each_all P (x ∷ xs) h = (h 0 x (omega arith), each_all P xs (λ k d within. h (suc k) d (omega (arith, within))))
 
-one_fits : (rules : Rules) (width room : ℕ) (l : Layout) (part : Option Spans) → IsLaidOut rules l → HasRoom room l → BringsTo rules width l part
+one_fits : (rules : Rules) (width room : ℕ) (l : Layout) (part : Option LineExtents) → IsLaidOut rules l → HasRoom room l → BringsTo rules width l part
     → IfSome part (CanBePut (record { rules = rules; room = room }) l)
 one_fits rules width room l None laid has brings = tt
 one_fits rules width room l (Some extents) laid has brings = record { laid_out = laid; at_width = (width, brings); room = has }
 
-each_fit : (rules : Rules) (width room : ℕ) (kept : List Layout) (parts : List (Option Spans)) → Each (IsLaidOut rules) kept → Each (HasRoom room) kept
+each_fit : (rules : Rules) (width room : ℕ) (kept : List Layout) (parts : List (Option LineExtents)) → Each (IsLaidOut rules) kept → Each (HasRoom room) kept
     → AllZip (BringsTo rules width) kept parts → fits_any (record { rules = rules; room = room }) kept parts
 each_fit rules width room [] [] laid has made = tt
 each_fit rules width room [] (part ∷ parts) laid has made = absurd made
@@ -184,14 +187,14 @@ each_fit rules width room (l ∷ kept) [] laid has made = absurd made
 each_fit rules width room (l ∷ kept) (part ∷ parts) laid has made =
     (one_fits rules width room l part laid.0 has.0 made.0, each_fit rules width room kept parts laid.1 has.1 made.1)
 
-pub all_fit : (rules same : Rules) (width room : ℕ) (kept : List Layout) (parts : List (Option Spans)) → same ≡ rules → Each (IsLaidOut rules) kept → All (HasRoom room) kept
+pub all_fit : (rules same : Rules) (width room : ℕ) (kept : List Layout) (parts : List (Option LineExtents)) → same ≡ rules → Each (IsLaidOut rules) kept → All (HasRoom room) kept
     → AllZip (BringsTo rules width) kept parts → fits_any (record { rules = same; room = room }) kept parts
 all_fit rules same width room kept parts e laid has made =
     subst (λ (r : Rules). fits_any (record { rules = r; room = room }) kept parts) (sym e)
     (each_fit rules width room kept parts laid (each_all (HasRoom room) kept has) made)
 
 -- what it costs to write all lines
-cost_of_each : (kept : List Layout) (parts : List (Option Spans)) → total_cost {P = Layout} {Part = Option Spans} (λ l part. length l.text) kept parts ≤ sum_by chars_of kept
+cost_of_each : (kept : List Layout) (parts : List (Option LineExtents)) → total_cost {P = Layout} {Part = Option LineExtents} (λ l part. length l.text) kept parts ≤ sum_by chars_of kept
 cost_of_each [] parts = omega arith
 cost_of_each (l ∷ kept) [] = omega arith
 cost_of_each (l ∷ kept) (part ∷ parts) =
@@ -199,10 +202,10 @@ cost_of_each (l ∷ kept) (part ∷ parts) =
       arith,
       cost_of_each kept parts,
       sum_by-cons chars_of l kept,
-      sum_by-cons (λ (n : ℕ). n) (length l.text) (pairwise {P = Layout} {Part = Option Spans} {A = ℕ} (λ m part. length m.text) kept parts),
+      sum_by-cons (λ (n : ℕ). n) (length l.text) (pairwise {P = Layout} {Part = Option LineExtents} {A = ℕ} (λ m part. length m.text) kept parts),
     )
 
-pub cost_of_all : (kept : List Layout) (parts : List (Option Spans)) → total_cost {P = Layout} {Part = Option Spans} (λ l part. length l.text) kept parts ≤ length (text_of kept)
+pub cost_of_all : (kept : List Layout) (parts : List (Option LineExtents)) → total_cost {P = Layout} {Part = Option LineExtents} (λ l part. length l.text) kept parts ≤ length (text_of kept)
 cost_of_all kept parts = omega (arith, cost_of_each kept parts, length-text kept)
 
 -- the extents were found, and then the lines written
@@ -219,33 +222,34 @@ refilled_one rules width l = record l { lines = lines_of rules width l.text }
 abbrev pub refilled : Rules → ℕ → List Layout → List Layout
 refilled rules width kept = map (refilled_one rules width) kept
 
-one_brought : (rules : Rules) (width room : ℕ) (l : Layout) (part : Option Spans) → IsLaidOut rules l → BringsTo rules width l part
+one_brought : (rules : Rules) (width room : ℕ) (l : Layout) (part : Option LineExtents) → IsLaidOut rules l → BringsTo rules width l part
     → put_into (record { rules = rules; room = room }) l part ≡ refilled_one rules width l
 one_brought rules width room l None laid brings = ap (λ ls. record l { lines = ls }) brings
 one_brought rules width room l (Some extents) laid brings =
     ap (reflowed rules l) brings
     ∙ subst (λ (m : Layout). reflowed rules m (extents_of rules width m.text) ≡ refilled_one rules width m) (sym laid.from_scratch) refl
 
-each_brought : (rules : Rules) (width room : ℕ) (kept : List Layout) (parts : List (Option Spans)) → Each (IsLaidOut rules) kept → AllZip (BringsTo rules width) kept parts
-    → pairwise {P = Layout} {Part = Option Spans} {A = Layout} (put_into (record { rules = rules; room = room })) kept parts ≡ refilled rules width kept
+each_brought : (rules : Rules) (width room : ℕ) (kept : List Layout) (parts : List (Option LineExtents)) → Each (IsLaidOut rules) kept → AllZip (BringsTo rules width) kept parts
+    → pairwise {P = Layout} {Part = Option LineExtents} {A = Layout} (put_into (record { rules = rules; room = room })) kept parts ≡ refilled rules width kept
 each_brought rules width room [] [] laid made = refl
 each_brought rules width room [] (part ∷ parts) laid made = absurd made
 each_brought rules width room (l ∷ kept) [] laid made = absurd made
 each_brought rules width room (l ∷ kept) (part ∷ parts) laid made =
     ap₂ (λ (x : Layout) (xs : List Layout). x ∷ xs) (one_brought rules width room l part laid.0 made.0) (each_brought rules width room kept parts laid.1 made.1)
 
-pub all_brought : (rules same : Rules) (width room : ℕ) (kept : List Layout) (parts : List (Option Spans)) → same ≡ rules → Each (IsLaidOut rules) kept
+pub all_brought : (rules same : Rules) (width room : ℕ) (kept : List Layout) (parts : List (Option LineExtents)) → same ≡ rules → Each (IsLaidOut rules) kept
     → AllZip (BringsTo rules width) kept parts
-    → pairwise {P = Layout} {Part = Option Spans} {A = Layout} (put_into (record { rules = same; room = room })) kept parts ≡ refilled rules width kept
+    → pairwise {P = Layout} {Part = Option LineExtents} {A = Layout} (put_into (record { rules = same; room = room })) kept parts ≡ refilled rules width kept
 all_brought rules same width room kept parts e laid made =
-    ap (λ (r : Rules). pairwise {P = Layout} {Part = Option Spans} {A = Layout} (put_into (record { rules = r; room = room })) kept parts) e
+    ap (λ (r : Rules). pairwise {P = Layout} {Part = Option LineExtents} {A = Layout} (put_into (record { rules = r; room = room })) kept parts) e
     ∙ each_brought rules width room kept parts laid made
 
 refilled-pars : (rules : Rules) (old width : ℕ) (pars : List (List ℕ)) → refilled rules width (map (layout_of rules old) pars) ≡ map (layout_of rules width) pars
 refilled-pars rules old width [] = refl
 refilled-pars rules old width (p ∷ pars) = ap (λ ks. layout_of rules width p ∷ ks) (refilled-pars rules old width pars)
 
-module _ (law : ParagraphsArePieces) (few : LinesAreFew) (engine : Engine) (old width : ℕ) (kept : List Layout) (whole : IsWholeLayout (record { engine = engine; width = old; kept = kept })) (some : width ≡ 0 → ⊥) where
+module _ (law : ParagraphsArePieces) (few : LinesAreFew) (engine : Engine) (old width : ℕ) (kept : List Layout)
+    (whole : IsWholeLayout (record { engine = engine; width = old; kept = kept })) (some : width ≡ 0 → ⊥) where
   abbrev after : List Layout
   after = refilled (rules_of engine) width kept
 
@@ -269,8 +273,8 @@ module _ (law : ParagraphsArePieces) (few : LinesAreFew) (engine : Engine) (old 
       ∙ sym (ap length whole.kept ∙ length-map (paragraphs (cut_by (rules_of engine)) (text_of kept)) (layout_of (rules_of engine) old))
 
   module _ (new_engine : Engine) (same : SameRules engine new_engine) (counts : FillsAtMost (length (text_of kept)) engine new_engine) where
-    pub RefillsNot-no_memory : RefillsNot width (record { engine = engine; width = old; kept = kept }) (record { engine = new_engine; width = old; kept = kept }) NoMemory
-    RefillsNot-no_memory = record {
+    pub SetsWidthNot-no_memory : SetsWidthNot width (record { engine = engine; width = old; kept = kept }) (record { engine = new_engine; width = old; kept = kept }) NoMemory
+    SetsWidthNot-no_memory = record {
       answer = accepted;
       kept = refl;
       at_width = refl;
@@ -279,10 +283,10 @@ module _ (law : ParagraphsArePieces) (few : LinesAreFew) (engine : Engine) (old 
       counts = counts;
     }
 
-    pub Refills-after : (made : List Layout) (count lines lines_2 : ℕ) → made ≡ after → count ≡ length kept → lines ≡ sum_by line_number kept → lines_2 ≡ sum_by line_number made
-        → Refills width (record { engine = engine; width = old; kept = kept }) (record { engine = new_engine; width = width; kept = made })
+    pub SetsWidth-after : (made : List Layout) (count lines lines_2 : ℕ) → made ≡ after → count ≡ length kept → lines ≡ sum_by line_number kept → lines_2 ≡ sum_by line_number made
+        → SetsWidth width (record { engine = engine; width = old; kept = kept }) (record { engine = new_engine; width = width; kept = made })
         (record { first_line = 0; old_lines = lines; new_lines = lines_2; first_par = 0; old_pars = count; new_pars = count })
-    Refills-after made count lines lines_2 made-is count-is lines-is lines_2-is =
+    SetsWidth-after made count lines lines_2 made-is count-is lines-is lines_2-is =
         let text : text_of made ≡ text_of kept = ap text_of made-is ∙ text-after in
         record {
           accepted = accepted;

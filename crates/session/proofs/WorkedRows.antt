@@ -1,7 +1,8 @@
--- The definitions of touched paragraphs and of lists of changes, worked on rows.
+-- The definitions of touched paragraphs and of lists of edits, worked on rows.
 use Rattle.std.proofs.Common.{◌≡◌, ℕ, ◌==◌, Bool, List, [], ◌∷◌, refl}
-use Rattle.session.specs.Changes.{after_all, deletion, insertion}
+use Rattle.session.specs.Edits.{after_all, deletion, insertion}
 use Rattle.session.specs.Touched.{first_touched, touched_count, fresh}
+use Rattle.session.specs.declared.edits.TheConstants.{TEXT_LIMIT}
 use Rattle.session.specs.declared.edits.Edit.{Edit}
 use Rattle.session.specs.declared.edits.Edit.TheVariants.{Delete, SetWidth}
 
@@ -23,12 +24,16 @@ over-three = (refl, refl, refl)
 in-nothing : (first_touched [] (insertion 0 (120 ∷ [])) ≡ 0) × (touched_count [] (insertion 0 (120 ∷ [])) ≡ 0) × (fresh [] (insertion 0 (120 ∷ [])) ≡ 1)
 in-nothing = (refl, refl, refl)
 
--- changes that are refused change nothing
+-- edits that are refused change nothing
 abbrev after_newline : ℕ → ℕ → Bool
 after_newline before after = before == 10
 
-abbrev four_changes : List Edit
-four_changes = SetWidth 0 ∷ SetWidth 5 ∷ Delete 2 2 ∷ Delete 0 1 ∷ []
+abbrev four_edits : List Edit
+four_edits = SetWidth 0 ∷ SetWidth 5 ∷ Delete 2 2 ∷ Delete 0 1 ∷ []
 
-after-four : after_all after_newline (record { text = 97 ∷ 10 ∷ 98 ∷ []; width = 80 }) four_changes ≡ record { text = 10 ∷ 98 ∷ []; width = 5 }
+after-four : after_all after_newline (record { text = 97 ∷ 10 ∷ 98 ∷ []; width = 80 }) four_edits ≡ record { text = 10 ∷ 98 ∷ []; width = 5 }
 after-four = refl
+
+-- a text has at most so many characters
+text_limit : TEXT_LIMIT ≡ 16777216
+text_limit = refl

@@ -1,7 +1,7 @@
--- What a change names as replaced, among the lines and among the paragraphs.
+-- What an edit names as replaced, among the lines and among the paragraphs.
 use Rattle.std.specs.Prelude.{◌≡◌, ℕ, ◌+◌, List, length, take, drop, slice_range}
 use Rattle.lines.specs.Layouts.{Layout}
-use Rattle.session.specs.Changes.{Change}
+use Rattle.session.specs.Edits.{Replacement}
 use Rattle.session.specs.Kept.{pars_of, lines_in}
 use Rattle.session.specs.Touched.{first_touched, touched_count}
 use Rattle.session.specs.declared.edits.Damage.{Damage}
@@ -13,9 +13,9 @@ pub record Replaces {A : Type 0} (old new : List A) (first count fresh : ℕ) : 
   pub back : drop (first + fresh) new ≡ drop (first + count) old
 
 -- The damage of an edit names the touched paragraphs and their lines among the old ones, and how many stand in their place.
-pub record IsDamage (change : Change) (old new : List Layout) (damage : Damage) : Type 0 where
-  pub first_par : damage.first_par ≡ first_touched (pars_of old) change
-  pub old_pars : damage.old_pars ≡ touched_count (pars_of old) change
+pub record IsDamage (edit : Replacement) (old new : List Layout) (damage : Damage) : Type 0 where
+  pub first_par : damage.first_par ≡ first_touched (pars_of old) edit
+  pub old_pars : damage.old_pars ≡ touched_count (pars_of old) edit
   pub first_line : damage.first_line ≡ length (lines_in (take damage.first_par old))
   pub old_lines : damage.old_lines ≡ length (lines_in (slice_range old damage.first_par (damage.first_par + damage.old_pars)))
   pub pars : Replaces old new damage.first_par damage.old_pars damage.new_pars

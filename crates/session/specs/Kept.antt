@@ -2,7 +2,7 @@
 use Rattle.std.specs.Prelude.{◌≡◌, ℕ, ◌-◌, ◌<◌, ◌≤◌, Bool, true, List, length, map, slice_index, Option, Some, None, refl}
 use Rattle.std.specs.List.{concat, flat_map}
 use Rattle.bidi.specs.Cuts.{paragraphs}
-use Rattle.lines.specs.Extents.{extents_in, extents_of, reflowed, Spans}
+use Rattle.lines.specs.Extents.{extents_in, extents_of, reflowed, LineExtents}
 use Rattle.lines.specs.Layouts.{Layout, Rules, IsLaidOut, cut_by, layout_of, lines_of, visuals}
 use Rattle.lines.specs.Visual.{Visual}
 
@@ -30,30 +30,30 @@ pub record Writer : Type 0 where
   pub room : ℕ
 
 -- and of how many characters they were written
-pub record Writing : Type 0 where
+pub record ReflowState : Type 0 where
   pub by : Writer
   pub written : ℕ
 
 -- A layout with its lines written anew by their extents, where there are some, and the extents that come out then. Its characters stay.
-abbrev pub put_into : Writer → Layout → Option Spans → Layout
+abbrev pub put_into : Writer → Layout → Option LineExtents → Layout
 put_into writer kept None = kept
 put_into writer kept (Some extents) = reflowed writer.rules kept extents
 
-abbrev pub taken_from : Layout → Option Spans → Option Spans
+abbrev pub taken_from : Layout → Option LineExtents → Option LineExtents
 taken_from kept None = None
 taken_from kept (Some extents) = Some (extents_in kept.lines)
 
-pub chars_stay : (writer : Writer) (kept : Layout) (part : Option Spans) → length (put_into writer kept part).text ≡ length kept.text
+pub chars_stay : (writer : Writer) (kept : Layout) (part : Option LineExtents) → length (put_into writer kept part).text ≡ length kept.text
 chars_stay writer kept None = refl
 chars_stay writer kept (Some extents) = refl
 
 -- extents are those of a layout at some width, and there is room for it
-pub record CanBePut (writer : Writer) (kept : Layout) (extents : Spans) : Type 0 where
+pub record CanBePut (writer : Writer) (kept : Layout) (extents : LineExtents) : Type 0 where
   pub laid_out : IsLaidOut writer.rules kept
   pub at_width : (width : ℕ) × (extents ≡ extents_of writer.rules width kept.text)
   pub room : length kept.text ≤ writer.room
 
 -- with them a layout has the lines of its text at a width
-abbrev pub BringsTo : Rules → ℕ → Layout → Option Spans → Type 0
+abbrev pub BringsTo : Rules → ℕ → Layout → Option LineExtents → Type 0
 BringsTo rules width kept None = kept.lines ≡ lines_of rules width kept.text
 BringsTo rules width kept (Some extents) = extents ≡ extents_of rules width kept.text

@@ -1,5 +1,5 @@
 pub mod Carets
-pub mod Changes
+pub mod Edits
 pub mod Clusters
 pub mod Damage
 pub mod Edges

@@ -4,16 +4,16 @@ use Rattle.std.specs.List.{flat_map, slice_range}
 use Rattle.lines.specs.Bytes.{line_bytes}
 use Rattle.lines.specs.declared.print.Print.{Print}
 use Rattle.session.specs.Kept.{lines_in}
-use Rattle.session.specs.Sessions.{State}
+use Rattle.session.specs.Sessions.{SessionState}
 use Rattle.session.specs.declared.printing.RangeFault.{RangeFault}
 use Rattle.session.specs.declared.printing.RangeFault.TheVariants.{OutOfRange, Write}
 
 -- what is printed of so many lines, from one on
-abbrev pub lines_page : State → ℕ → ℕ → Print → List ℕ
+abbrev pub lines_page : SessionState → ℕ → ℕ → Print → List ℕ
 lines_page state first count print = flat_map (line_bytes state.width print) (slice_range (lines_in state.kept) first (first + count))
 
 -- there are so many
-abbrev pub HasLines : State → ℕ → ℕ → Type 0
+abbrev pub HasLines : SessionState → ℕ → ℕ → Type 0
 HasLines state first count = first + count ≤ length (lines_in state.kept)
 
 -- A range of so many that reaches past the end is not written, and nothing is touched; else the sink failed after so many bytes.
@@ -21,5 +21,5 @@ abbrev pub WritesNot : ℕ → ℕ → ℕ → Type 0 → (ℕ → Type 0) → R
 WritesNot size first count untouched stopped OutOfRange = (size < first + count) × untouched
 WritesNot size first count untouched stopped (Write fault) = (first + count ≤ size) × stopped fault.written
 
-abbrev pub PrintsNot : State → ℕ → ℕ → Type 0 → (ℕ → Type 0) → RangeFault → Type 0
+abbrev pub PrintsNot : SessionState → ℕ → ℕ → Type 0 → (ℕ → Type 0) → RangeFault → Type 0
 PrintsNot state = WritesNot (length (lines_in state.kept))

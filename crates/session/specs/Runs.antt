@@ -1,23 +1,23 @@
--- Where a list of changes ends for want of memory, and how much it works.
-use Rattle.std.specs.Prelude.{◌≡◌, ℕ, ◌+◌, Bool, List, [], ◌∷◌, ◌++◌, length, Option, None, is_none, if◌then◌else◌}
+-- Where a list of edits ends for want of memory, and how much it works.
+use Rattle.std.specs.Prelude.{◌≡◌, ℕ, ◌+◌, ◌<◌, Bool, List, [], ◌∷◌, ◌++◌, length, Option, None, is_none, if◌then◌else◌}
 use Rattle.std.specs.Str.{chars}
 use Rattle.bidi.specs.Cuts.{paragraphs}
 use Rattle.lines.specs.Engine.{analysed_of, filled_of, written_of, RisesBy}
 use Rattle.lines.specs.declared.engine.Engine.{Engine}
-use Rattle.session.specs.Changes.{Held, after_all, after_one, deletion, insertion, refusal, width_refusal}
+use Rattle.session.specs.Edits.{Held, after_all, after_one, deletion, insertion, refusal, width_refusal}
 use Rattle.session.specs.Touched.{fresh}
 use Rattle.session.specs.declared.edits.Edit.{Edit}
 use Rattle.session.specs.declared.edits.Edit.TheVariants.{Insert, Delete, SetWidth}
 use Rattle.session.specs.declared.edits.EditFault.{EditFault}
 
 module _ (is_cut : ℕ → ℕ → Bool) where
-  -- why a change is refused
+  -- why an edit is refused
   abbrev pub edit_refusal : Held → Edit → Option EditFault
   edit_refusal held (Insert pos text) = refusal is_cut held.text (insertion pos (chars text.now))
   edit_refusal held (Delete pos count) = refusal is_cut held.text (deletion pos count)
   edit_refusal held (SetWidth width) = width_refusal width
 
-  -- how many characters a change that isn't refused analyses at most, and how many it fills into lines and writes
+  -- how many characters an edit that isn't refused analyses at most, and how many it fills into lines and writes
   abbrev pub analysed_by : Held → Edit → ℕ
   analysed_by held (Insert pos text) = fresh (paragraphs is_cut held.text) (insertion pos (chars text.now))
   analysed_by held (Delete pos count) = fresh (paragraphs is_cut held.text) (deletion pos count)
@@ -42,7 +42,13 @@ module _ (is_cut : ℕ → ℕ → Bool) where
     pub filled : RisesBy (work_of_all filled_by start edits) (filled_of old) (filled_of new)
     pub written : RisesBy (work_of_all filled_by start edits) (written_of old) (written_of new)
 
-  -- All changes before one were made or refused, and there is no reason to refuse that one. It may have worked too.
+  -- what an edit takes memory for: the text, and what is put in
+  abbrev pub TakesMemory : Held → Edit → Type 0
+  TakesMemory held (Insert pos text) = 0 < length held.text + length (chars text.now)
+  TakesMemory held (Delete pos count) = 0 < length held.text
+  TakesMemory held (SetWidth width) = 0 < length held.text
+
+  -- All edits before one were made or refused, and there is no reason to refuse that one, which takes memory. It may have worked too.
   pub record StopsAt (start : Held) (edits : List Edit) (now : Held) (old new : Engine) : Type 0 where
     pub front : List Edit
     pub edit : Edit
@@ -50,4 +56,5 @@ module _ (is_cut : ℕ → ℕ → Bool) where
     pub place : edits ≡ front ++ edit ∷ after
     pub held : now ≡ after_all is_cut start front
     pub accepted : edit_refusal now edit ≡ None
+    pub takes : TakesMemory now edit
     pub works : WorksAtMost start (front ++ edit ∷ []) old new

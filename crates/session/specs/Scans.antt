@@ -1,7 +1,7 @@
 -- What a scan knows of the characters that it took.
 use Rattle.std.specs.Prelude.{◌≡◌, ℕ, ◌-◌, min, Bool, not, List, [], length, slice_get, slice_index_or}
 use Rattle.bidi.specs.Cuts.{paragraphs}
-use Rattle.session.specs.Changes.{are_within}
+use Rattle.session.specs.Edits.{are_within}
 use Rattle.session.specs.declared.scan.Scan.{Scan}
 use Rattle.lines.specs.declared.engine.TheConstants.{PARAGRAPH_LIMIT}
 

@@ -6,7 +6,7 @@ use Rattle.lines.specs.Layouts.{Layout, cut_by}
 use Rattle.lines.specs.Pages.{page}
 use Rattle.lines.specs.declared.engine.Engine.{Engine}
 use Rattle.lines.specs.declared.print.Print.{Print}
-use Rattle.session.specs.Changes.{Change, Held, changed, refusal, text_refusal, width_refusal}
+use Rattle.session.specs.Edits.{Replacement, Held, replaced, refusal, text_refusal, width_refusal}
 use Rattle.session.specs.Damage.{IsDamage, NamesAll}
 use Rattle.session.specs.Kept.{pars_of, text_of, layouts_of}
 use Rattle.session.specs.Touched.{fresh}
@@ -15,27 +15,27 @@ use Rattle.session.specs.declared.edits.EditFault.{EditFault}
 use Rattle.session.specs.declared.edits.EditFault.TheVariants.{WidthOutOfRange, NoMemory}
 
 -- what a session holds: its engine, its width, and the layout of each paragraph
-pub record State : Type 0 where
+pub record SessionState : Type 0 where
   pub engine : Engine
   pub width : ℕ
   pub kept : List Layout
 
 -- the text that a session holds, and where its engine cuts
-abbrev pub text_at : State → List ℕ
+abbrev pub text_at : SessionState → List ℕ
 text_at state = text_of state.kept
 
-abbrev pub cuts_at : State → ℕ → ℕ → Bool
+abbrev pub cuts_at : SessionState → ℕ → ℕ → Bool
 cuts_at state = cut_by (rules_of state.engine)
 
-abbrev pub held_at : State → Held
+abbrev pub held_at : SessionState → Held
 held_at state = record { text = text_at state; width = state.width }
 
 -- what is printed of the whole text, laid out from scratch
-abbrev pub page_at : State → Print → List ℕ
+abbrev pub page_at : SessionState → Print → List ℕ
 page_at state print = page (rules_of state.engine) state.width print (paragraphs (cuts_at state) (text_at state))
 
 -- what is kept is the layout of the text from scratch, and text and width are allowed
-pub record IsWholeLayout (state : State) : Type 0 where
+pub record IsWholeLayout (state : SessionState) : Type 0 where
   pub kept : state.kept ≡ layouts_of (rules_of state.engine) state.width (text_at state)
   pub allowed : text_refusal (cuts_at state) (text_at state) ≡ None
   pub filled : 0 < state.width
@@ -55,7 +55,7 @@ IsCountedFor NoMemory bound old new = bound old new
 IsCountedFor fault bound old new = new ≡ old
 
 -- a session was opened on a text at a width
-pub record Opens (engine : Engine) (whole : List ℕ) (width : ℕ) (state : State) : Type 0 where
+pub record Opens (engine : Engine) (whole : List ℕ) (width : ℕ) (state : SessionState) : Type 0 where
   pub allowed : opening_refusal (cut_by (rules_of engine)) whole width ≡ None
   pub text : text_at state ≡ whole
   pub at_width : state.width ≡ width
@@ -70,17 +70,17 @@ pub record OpensNot (engine : Engine) (whole : List ℕ) (width : ℕ) (back : E
   pub counts : IsCountedFor back.1 (LaysOutAtMost (length whole)) engine back.0
 
 -- an edit was made
-pub record Edits (change : Change) (old new : State) (answer : Damage) : Type 0 where
-  pub accepted : refusal (cuts_at old) (text_at old) change ≡ None
-  pub text : text_at new ≡ changed (text_at old) change
+pub record Edits (edit : Replacement) (old new : SessionState) (answer : Damage) : Type 0 where
+  pub accepted : refusal (cuts_at old) (text_at old) edit ≡ None
+  pub text : text_at new ≡ replaced (text_at old) edit
   pub at_width : new.width ≡ old.width
   pub laid_out : IsWholeLayout new
   pub rules : SameRules old.engine new.engine
-  pub damage : IsDamage change old.kept new.kept answer
-  pub counts : LaysOutAtMost (fresh (pars_of old.kept) change) old.engine new.engine
+  pub damage : IsDamage edit old.kept new.kept answer
+  pub counts : LaysOutAtMost (fresh (pars_of old.kept) edit) old.engine new.engine
 
 -- the lines were filled anew
-pub record Refills (width : ℕ) (old new : State) (answer : Damage) : Type 0 where
+pub record SetsWidth (width : ℕ) (old new : SessionState) (answer : Damage) : Type 0 where
   pub accepted : width_refusal width ≡ None
   pub text : text_at new ≡ text_at old
   pub at_width : new.width ≡ width
@@ -89,8 +89,8 @@ pub record Refills (width : ℕ) (old new : State) (answer : Damage) : Type 0 wh
   pub damage : NamesAll old.kept new.kept answer
   pub counts : FillsAtMost (length (text_at old)) old.engine new.engine
 
--- a change was refused, and all is as before
-pub record Stays (reason : Option EditFault) (bound : Engine → Engine → Type 0) (old new : State) (fault : EditFault) : Type 0 where
+-- an edit was refused, and all is as before
+pub record Stays (reason : Option EditFault) (bound : Engine → Engine → Type 0) (old new : SessionState) (fault : EditFault) : Type 0 where
   pub answer : IsAnswerFor reason fault
   pub kept : new.kept ≡ old.kept
   pub at_width : new.width ≡ old.width
@@ -98,8 +98,8 @@ pub record Stays (reason : Option EditFault) (bound : Engine → Engine → Type
   pub rules : SameRules old.engine new.engine
   pub counts : IsCountedFor fault bound old.engine new.engine
 
-abbrev pub EditsNot : Change → State → State → EditFault → Type 0
-EditsNot change old = Stays (refusal (cuts_at old) (text_at old) change) (LaysOutAtMost (fresh (pars_of old.kept) change)) old
+abbrev pub EditsNot : Replacement → SessionState → SessionState → EditFault → Type 0
+EditsNot edit old = Stays (refusal (cuts_at old) (text_at old) edit) (LaysOutAtMost (fresh (pars_of old.kept) edit)) old
 
-abbrev pub RefillsNot : ℕ → State → State → EditFault → Type 0
-RefillsNot width old = Stays (width_refusal width) (FillsAtMost (length (text_at old))) old
+abbrev pub SetsWidthNot : ℕ → SessionState → SessionState → EditFault → Type 0
+SetsWidthNot width old = Stays (width_refusal width) (FillsAtMost (length (text_at old))) old

@@ -1,17 +1,17 @@
--- Which paragraphs a change touches, how much there is to analyse, and where these stand.
+-- Which paragraphs an edit touches, how much there is to analyse, and where these stand.
 use Rattle.std.specs.Prelude.{◌≡◌, ℕ, ◌+◌, ◌-◌, ◌<◌, ◌≤◌, nat_le, Bool, ◌&&◌, List, [], length, take, count_by, unwrap_or}
 use Rattle.std.specs.List.{concat, range_with_len, slice_range}
 use Rattle.bidi.specs.Least.{least}
-use Rattle.session.specs.Changes.{Change}
+use Rattle.session.specs.Edits.{Replacement}
 
 -- where the paragraph at an index starts, which is where the one before it ends
 abbrev pub start_of : List (List ℕ) → ℕ → ℕ
 start_of pars i = length (concat (take i pars))
 
-module _ (pars : List (List ℕ)) (change : Change) where
-  -- the closed span of a paragraph meets the closed range of the change
+module _ (pars : List (List ℕ)) (edit : Replacement) where
+  -- the closed span of a paragraph meets the closed range of the edit
   abbrev pub is_touched : ℕ → Bool
-  is_touched i = nat_le (start_of pars i) (change.pos + change.count) && nat_le change.pos (start_of pars (i + 1))
+  is_touched i = nat_le (start_of pars i) (edit.pos + edit.count) && nat_le edit.pos (start_of pars (i + 1))
 
   -- the first that is touched, and how many are
   abbrev pub first_touched : ℕ
@@ -22,11 +22,11 @@ module _ (pars : List (List ℕ)) (change : Change) where
 
   -- how long the text is that stands in place of the touched paragraphs
   abbrev pub fresh : ℕ
-  fresh = length (concat (slice_range pars first_touched (first_touched + touched_count))) - change.count + length change.piece
+  fresh = length (concat (slice_range pars first_touched (first_touched + touched_count))) - edit.count + length edit.piece
 
 -- the characters from one place up to another, in place of which a piece is put
-abbrev pub region_change : ℕ → ℕ → List ℕ → Change
-region_change from to piece = record { pos = from; count = to - from; piece = piece }
+abbrev pub region_edit : ℕ → ℕ → List ℕ → Replacement
+region_edit from to piece = record { pos = from; count = to - from; piece = piece }
 
 -- paragraphs that stand one after another: from the first up to the end, with the characters from start up to stop
 pub record Span : Type 0 where
@@ -35,10 +35,10 @@ pub record Span : Type 0 where
   pub start : ℕ
   pub stop : ℕ
 
--- the paragraphs that a change of the characters from pos up to end touches: where others stand before or after them, a character stays at that side
+-- the paragraphs that an edit of the characters from pos up to end touches: where others stand before or after them, a character stays at that side
 pub record AreTouched (pars : List (List ℕ)) (pos end : ℕ) (touched : Span) : Type 0 where
-  pub first : touched.first ≡ first_touched pars (region_change pos end [])
-  pub count : touched.end ≡ touched.first + touched_count pars (region_change pos end [])
+  pub first : touched.first ≡ first_touched pars (region_edit pos end [])
+  pub count : touched.end ≡ touched.first + touched_count pars (region_edit pos end [])
   pub within : touched.end ≤ length pars
   pub start : touched.start ≡ start_of pars touched.first
   pub stop : touched.stop ≡ start_of pars touched.end

@@ -1,4 +1,4 @@
-//! Where a change lies among the paragraphs of a store: found by the store's sums.
+//! Where an edit lies among the paragraphs of a store: found by the store's sums.
 ghost use Rattle.std.specs.Prelude.{◌≡◌, ◌≤◌, ◌-◌, List, [], ℕ, length, take, drop, slice_index_or};
 ghost use Rattle.session.specs.Edges.{IsBackEdge, IsFrontEdge};
 ghost use Rattle.session.specs.Kept.{pars_of, text_of};
@@ -15,7 +15,7 @@ pub struct Edge {
     pub lines: usize,
 }
 
-/// Before the first paragraph that a change from `pos` on touches.
+/// Before the first paragraph that an edit from `pos` on touches.
 pub fn front_edge<S: ParagraphStore<Kept>>(store: &S, pos: usize) -> Edge
     requires { pos ≤ length (text_of (S.items store.now)) }
     ensures { IsFrontEdge (S.items store.now) pos result }
@@ -35,7 +35,7 @@ pub fn front_edge<S: ParagraphStore<Kept>>(store: &S, pos: usize) -> Edge
     }
 }
 
-/// After the last paragraph that a change up to `to` touches.
+/// After the last paragraph that an edit up to `to` touches.
 pub fn back_edge<S: ParagraphStore<Kept>>(store: &S, to: usize) -> Edge
     requires { to ≤ length (text_of (S.items store.now)) }
     ensures { IsBackEdge (S.items store.now) to result }

@@ -1,10 +1,10 @@
-//! Changes of a text, their damage and why they are refused.
+//! Edits of a text, their damage and why they are refused.
 use thiserror::Error;
 
 /// How many characters a text may have.
 pub const TEXT_LIMIT: usize = 16_777_216;
 
-/// A change of a text, or of the width at which it is laid out. Positions count characters (Unicode
+/// An edit of a text, or of the width at which it is laid out. Positions count characters (Unicode
 /// scalar values).
 #[derive(Clone, Copy, Debug)]
 pub enum Edit<'a> {
@@ -16,7 +16,7 @@ pub enum Edit<'a> {
     SetWidth(u16),
 }
 
-/// What a change has replaced: `old_lines` lines, from `first_line` on, by `new_lines` others, and so
+/// What an edit has replaced: `old_lines` lines, from `first_line` on, by `new_lines` others, and so
 /// with paragraphs. Lines and paragraphs count from 0.
 #[derive(Clone, Copy, Debug, PartialEq, Eq)]
 pub struct Damage {
@@ -28,10 +28,10 @@ pub struct Damage {
     pub new_pars: usize,
 }
 
-/// Why a change is refused, in the order in which the reasons are tested.
+/// Why an edit is refused, in the order in which the reasons are tested.
 #[derive(Clone, Copy, Debug, PartialEq, Eq, Error)]
 pub enum EditFault {
-    /// The change reaches past the end of the text.
+    /// The edit reaches past the end of the text.
     #[error("out of range")]
     OutOfRange,
     /// The width is 0.

@@ -1,4 +1,4 @@
-//! The paragraphs of a text that stands in three parts, laid out: what is before a change, the new
+//! The paragraphs of a text that stands in three parts, laid out: what is before an edit, the new
 //! piece, and what is after it.
 ghost use Rattle.std.specs.Prelude.{◌≡◌, ◌<◌, ◌++◌, true, false, not, List, [], ℕ, length};
 ghost use Rattle.std.specs.Prelude.{IfOk, IfErr, IsErrOf};
@@ -6,7 +6,7 @@ ghost use Rattle.std.specs.Str.{chars};
 ghost use Rattle.lines.specs.Engine.{rules_of, LaysOutAtMost, SameRules};
 ghost use Rattle.lines.specs.Layouts.{cut_by, layout_of, IsParagraph};
 ghost use Rattle.session.specs.Sessions.{IsCountedFor};
-ghost use Rattle.session.specs.Changes.{is_within_limit, paragraphs_refusal};
+ghost use Rattle.session.specs.Edits.{is_within_limit, paragraphs_refusal};
 ghost use Rattle.session.specs.Kept.{layouts_of};
 ghost use Rattle.session.specs.Sessions.{IsAnswerFor};
 ghost use Rattle.session.specs.declared.edits.EditFault.TheVariants.{NoMemory};

@@ -101,9 +101,9 @@ pub struct Reflow<'a> {
 
 impl<'a> Model for Reflow<'a> {
     ghost use Rattle.lines.specs.Engine.{rules_of};
-    ghost use Rattle.session.specs.Kept.{Writing};
+    ghost use Rattle.session.specs.Kept.{ReflowState};
 
-    ghost Value = { Writing };
+    ghost Value = { ReflowState };
 
     ghost view = { λ r. record {
       by = record { rules = rules_of r.engine.now; room = r.room.len };

@@ -11,7 +11,7 @@ ghost use Rattle.lines.specs.Engine.{analysed_of, filled_of, rules_of, written_o
 ghost use Rattle.lines.specs.Writing.{PassedOn, StoppedIn};
 ghost use Rattle.lines.specs.declared.print.Print.{Print};
 ghost use Rattle.session.specs.Carets.{caret_at};
-ghost use Rattle.session.specs.Changes.{after_all, changing, deletion, insertion};
+ghost use Rattle.session.specs.Edits.{after_all, replacing, deletion, insertion};
 ghost use Rattle.session.specs.Clusters.{cluster_at};
 ghost use Rattle.session.specs.Hits.{hit_at};
 ghost use Rattle.session.specs.Kept.{lines_in};
@@ -20,12 +20,12 @@ ghost use Rattle.session.specs.Printing.{lines_page, HasLines, PrintsNot, Writes
 ghost use Rattle.session.specs.Reading.{text_part, utf8_len, utf8_part};
 ghost use Rattle.session.specs.Runs.{StopsAt, WorksAtMost};
 ghost use Rattle.session.specs.Sessions.{cuts_at, held_at, page_at, text_at, IsWholeLayout};
-ghost use Rattle.session.specs.Sessions.{Edits, EditsNot, Opens, OpensNot, Refills, RefillsNot};
+ghost use Rattle.session.specs.Sessions.{Edits, EditsNot, Opens, OpensNot, SetsWidth, SetsWidthNot};
 ghost use Rattle.session.specs.declared.edits.EditFault.TheVariants.{NoMemory};
 
 use crate::carets::{Caret, caret_in};
 use crate::clusters::{Cluster, cluster_of};
-use crate::edit::edit;
+use crate::replace::replace;
 use crate::edits::{Damage, Edit, EditFault, TEXT_LIMIT};
 use crate::hits::{Hit, hit_in};
 use crate::joined::lay_out_joined;
@@ -33,7 +33,7 @@ use crate::kept::Kept;
 use crate::places::{Place, line_start, place_of};
 use crate::printing::{RangeFault, write_lines};
 use crate::reading::{text_part, utf8_len, write_text};
-use crate::width::change_width;
+use crate::width::set_width;
 use bidi::paragraphs_are_pieces;
 use device::Sink;
 use lines::{
@@ -63,9 +63,9 @@ impl<S: ParagraphStore<Kept> + Drop> Drop for Session<S> {
 }
 
 impl<S: ParagraphStore<Kept>> Model for Session<S> {
-    ghost use Rattle.session.specs.Sessions.{State, IsWholeLayout};
+    ghost use Rattle.session.specs.Sessions.{SessionState, IsWholeLayout};
 
-    ghost Value = { State };
+    ghost Value = { SessionState };
 
     ghost view = { λ s. record { engine = s.engine; width = s.width; kept = S.items s.store } };
 
@@ -361,7 +361,7 @@ impl<S: ParagraphStore<Kept>> Session<S> {
         ensures memory { IsErrOf result NoMemory
             → 0 < length (text_at self.old) + length (chars text.now) }
     {
-        self.change(pos, 0, text)
+        self.replace(pos, 0, text)
     }
 
     /// Takes `count` characters out, from `pos` on.
@@ -370,16 +370,16 @@ impl<S: ParagraphStore<Kept>> Session<S> {
         ensures err { IfErr result (EditsNot (deletion pos count) self.old self.new) }
         ensures memory { IsErrOf result NoMemory → 0 < length (text_at self.old) }
     {
-        self.change(pos, count, "")
+        self.replace(pos, count, "")
     }
 
     /// Brings all lines to another width, in columns.
     pub fn set_width(&mut self, width: u16) -> Result<Damage, EditFault>
-        ensures ok { IfOk result (Refills width self.old self.new) }
-        ensures err { IfErr result (RefillsNot width self.old self.new) }
+        ensures ok { IfOk result (SetsWidth width self.old self.new) }
+        ensures err { IfErr result (SetsWidthNot width self.old self.new) }
         ensures memory { IsErrOf result NoMemory → 0 < length (text_at self.old) }
     {
-        change_width(
+        set_width(
             self.alloc,
             &mut self.engine,
             &mut self.store,
@@ -488,7 +488,7 @@ impl<S: ParagraphStore<Kept>> Session<S> {
         let _ = &self.engine;
     }
 
-    /// Makes changes one after another. Those that are refused change nothing. It ends at the first that is
+    /// Makes edits one after another. Those that are refused change nothing. It ends at the first that is
     /// not refused and for which there is no memory. The counts rise by at most what each may raise them, up
     /// to that one.
     pub fn run(&mut self, edits: &[Edit<'_>]) -> Result<(), AllocError>
@@ -501,7 +501,7 @@ impl<S: ParagraphStore<Kept>> Session<S> {
         ensures laid_out { IsWholeLayout self.new }
         ensures rules { SameRules self.old.engine self.new.engine }
     {
-        // Shows that what is kept is laid out before the first change.
+        // Shows that what is kept is laid out before the first edit.
         let _ = &self.engine;
         for edit in edits {
             let result = match *edit {
@@ -517,9 +517,9 @@ impl<S: ParagraphStore<Kept>> Session<S> {
     }
 
     // Puts a piece in place of `count` characters.
-    fn change(&mut self, pos: usize, count: usize, piece: &str) -> Result<Damage, EditFault>
-        ensures ok { IfOk result (Edits (changing pos count (chars piece.now)) self.old self.new) }
-        ensures err { IfErr result (EditsNot (changing pos count (chars piece.now)) self.old self.new) }
+    fn replace(&mut self, pos: usize, count: usize, piece: &str) -> Result<Damage, EditFault>
+        ensures ok { IfOk result (Edits (replacing pos count (chars piece.now)) self.old self.new) }
+        ensures err { IfErr result (EditsNot (replacing pos count (chars piece.now)) self.old self.new) }
         ensures memory { IsErrOf result NoMemory
             → 0 < length (text_at self.old) + length (chars piece.now) }
     {

@@ -1,11 +1,11 @@
-//! A change of the width: of all lines that change it is known where they start and how much of each is
+//! A width change: of all lines that change it is known where they start and how much of each is
 //! shown, before the first of them is written over those at the old width.
 ghost use Rattle.std.specs.Prelude.{◌≡◌, ◌^◌, ◌<◌, ◌≤◌, ℕ, false, is_none, length, map, sum_by};
 ghost use Rattle.std.specs.Prelude.{IfOk, IfErr, IfSome, IsErrOf, OnErr};
 ghost use Rattle.std.specs.List.{All, AllZip};
 ghost use Rattle.lines.specs.Engine.{rules_of, FindsExtentsAtMost, RewritesAtMost, SameRules};
 ghost use Rattle.lines.specs.Layouts.{is_line_within, IsLaidOut};
-ghost use Rattle.session.specs.Sessions.{IsWholeLayout, Refills, RefillsNot};
+ghost use Rattle.session.specs.Sessions.{IsWholeLayout, SetsWidth, SetsWidthNot};
 ghost use Rattle.session.specs.Kept.{put_into, text_of, BringsTo, CanBePut};
 ghost use Rattle.session.specs.declared.edits.EditFault.TheVariants.{NoMemory};
 ghost use Rattle.store.specs.Exchanging.{pairwise, total_cost};
@@ -132,7 +132,7 @@ fn reflow_all<S: ParagraphStore<Kept>>(
 }
 
 /// Brings all lines to another width. What can fail is done before anything is changed.
-pub fn change_width<S: ParagraphStore<Kept>>(
+pub fn set_width<S: ParagraphStore<Kept>>(
     alloc: Global,
     engine: &mut Engine,
     store: &mut S,
@@ -140,10 +140,10 @@ pub fn change_width<S: ParagraphStore<Kept>>(
     new_width: u16,
 ) -> Result<Damage, EditFault>
     requires { IsWholeLayout (record { engine = engine.old; width = width.old; kept = S.items store.old }) }
-    ensures ok { IfOk result (Refills new_width
+    ensures ok { IfOk result (SetsWidth new_width
         (record { engine = engine.old; width = width.old; kept = S.items store.old })
         (record { engine = engine.new; width = width.new; kept = S.items store.new })) }
-    ensures err { IfErr result (RefillsNot new_width
+    ensures err { IfErr result (SetsWidthNot new_width
         (record { engine = engine.old; width = width.old; kept = S.items store.old })
         (record { engine = engine.new; width = width.new; kept = S.items store.new })) }
     ensures memory { IsErrOf result NoMemory → 0 < length (S.items store.old) }

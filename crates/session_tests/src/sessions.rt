@@ -1,5 +1,5 @@
-//! Worked rows, and long lists of changes against sessions made anew, over both stores. The tests pass
-//! too where one allocation is refused, whichever it is: a change that is refused for memory leaves all
+//! Worked rows, and long lists of edits against sessions made anew, over both stores. The tests pass
+//! too where one allocation is refused, whichever it is: an edit that is refused for memory leaves all
 //! as it was, and is made when it is asked for again. A `run` alone is asked for once.
 mod hits;
 mod parts;
@@ -57,7 +57,7 @@ fn make<S: ParagraphStore<Kept>>(
     }
 }
 
-// Makes the change, and once more where it was refused for memory.
+// Makes the edit, and once more where it was refused for memory.
 fn make_surely<S: ParagraphStore<Kept>>(
     edited: &mut Session<S>,
     edit: Edit<'_>,
@@ -68,7 +68,7 @@ fn make_surely<S: ParagraphStore<Kept>>(
     }
 }
 
-// Makes the changes one after another.
+// Makes the edits one after another.
 fn make_each<S: ParagraphStore<Kept>>(
     edited: &mut Session<S>,
     edits: &[Edit<'_>],
@@ -79,7 +79,7 @@ fn make_each<S: ParagraphStore<Kept>>(
     Ok(())
 }
 
-// Makes the change, by which the counts may rise by so much, and once more where it was refused for
+// Makes the edit, by which the counts may rise by so much, and once more where it was refused for
 // memory.
 fn make_within<S: ParagraphStore<Kept>>(
     rt: &impl Abort,
@@ -338,7 +338,7 @@ impl<S: ParagraphStore<Kept> + Drop, T: ParagraphStore<Kept> + Drop> Pair<S, T> 
             Check::Parts => Ok(parts::check_parts(rt, self)?),
             Check::Places => Ok(places::check_rows(rt, self, &places::ROWS)?),
             Check::Refusals => Ok(refusals::check_refused(rt, self)?),
-            Check::Random(seed) => random::check_changes(rt, alloc, self, seed),
+            Check::Random(seed) => random::check_edits(rt, alloc, self, seed),
         }
     }
 }

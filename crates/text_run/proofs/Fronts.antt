@@ -77,7 +77,8 @@ module _ (is_cut : ℕ → ℕ → Bool) where
           (a, after, is, parts, ap (λ k. take k text) (sym len) ∙ ap (take (length (take n text) + 1)) parts ∙ take-append-add (take n text) (a ∷ after) 1)
 
   -- the first cut after a front that has none
-  pub skip_some : (text : List ℕ) (n k : ℕ) → n < length text → paragraphs is_cut (take (n + 1) text) ≡ take (n + 1) text ∷ [] → SplitsAt is_cut (drop n text) (Some k) → SplitsAt is_cut text (Some (n + k))
+  pub skip_some : (text : List ℕ) (n k : ℕ) → n < length text → paragraphs is_cut (take (n + 1) text)
+      ≡ take (n + 1) text ∷ [] → SplitsAt is_cut (drop n text) (Some k) → SplitsAt is_cut text (Some (n + k))
   skip_some text n k within whole splits =
       let at = place text n within in
       let xs = take n text in
@@ -189,7 +190,9 @@ module _ (is_cut : ℕ → ℕ → Bool) where
           subst (λ (t : List ℕ). paragraphs is_cut t ≡ t ∷ []) (take_all seen text all ∙ sym (take_all (suc n + 1) text (omega (arith, same))))
           (uncut (omega (arith, ap length (take_all seen text all), is)))
 
-  pub skip_some_seen : (text : List ℕ) (seen n k : ℕ) → n ≡ min (length text) seen - 1 → SplitsAt is_cut (take seen text) None → SplitsAt is_cut (drop n text) (Some k) → SplitsAt is_cut text (Some (n + k))
+  pub skip_some_seen : (text : List ℕ) (seen n k : ℕ) → n ≡ min (length text) seen - 1
+      → SplitsAt is_cut (take seen text) None → SplitsAt is_cut (drop n text) (Some k)
+      → SplitsAt is_cut text (Some (n + k))
   skip_some_seen text seen zero k is uncut splits = let same : k ≡ 0 + k = omega arith in subst (λ j. SplitsAt is_cut text (Some j)) same splits
   skip_some_seen text seen (suc n) k is uncut splits = skip_some text (suc n) k (omega (arith, is)) (uncut_up_to text seen n is uncut) splits
 

@@ -7,3 +7,4 @@ pub mod PushLemmas
 pub mod StepLemmas
 pub mod StreamLemmas
 pub mod Utf8Lemmas
+mod WorkedRows

@@ -47,7 +47,8 @@ next_of (x ∷ all) zero c less is = ap (λ y. y ∷ all) (sym is)
 next_of (x ∷ all) (suc n) c less is = ap (λ t. x ∷ t) (next_of all n c (omega arith) is)
 
 -- the one at hand, where some were taken
-pub at_hand : (all taken : List ℕ) (c : ℕ) → map (λ x. x) taken ≡ take (length taken) all → (length taken < length all) × (c ≡ get_or all (length taken) c) → all ≡ taken ++ c ∷ drop (suc (length taken)) all
+pub at_hand : (all taken : List ℕ) (c : ℕ) → map (λ x. x) taken ≡ take (length taken) all → (length taken < length all)
+    × (c ≡ get_or all (length taken) c) → all ≡ taken ++ c ∷ drop (suc (length taken)) all
 at_hand all taken c so_far turn =
     next_of all (length taken) c turn.0 turn.1 ∙ ap (λ t. t ++ c ∷ drop (suc (length taken)) all) (sym so_far ∙ map-id taken)
 
@@ -89,7 +90,8 @@ module _ (is_cut : ℕ → ℕ → Bool) where
     pub len_is : len ≡ length text
     pub short : len ≤ 1048576
 
-  uncut_more : (text : List ℕ) (last : Option ℕ) (c : ℕ) → slice_get text (length text - 1) ≡ last → SplitsAt is_cut text None → MatchOption last ⊤ (λ a. is_cut a c ≡ false) → SplitsAt is_cut (text ++ c ∷ []) None
+  uncut_more : (text : List ℕ) (last : Option ℕ) (c : ℕ) → slice_get text (length text - 1) ≡ last
+      → SplitsAt is_cut text None → MatchOption last ⊤ (λ a. is_cut a c ≡ false) → SplitsAt is_cut (text ++ c ∷ []) None
   uncut_more text None c last_is uncut no_cut some = ap (λ t. paragraphs is_cut (t ++ c ∷ [])) none ∙ ap (λ t. (t ++ c ∷ []) ∷ []) (sym none)
     where
       none : text ≡ []
@@ -121,7 +123,8 @@ module _ (is_cut : ℕ → ℕ → Bool) where
       (long_uncut is_cut (text ++ c ∷ []) (uncut_more text last c (sym taken.last_is) taken.uncut no_cut) (omega (arith, full, taken.len_is, length-append text (c ∷ [])))))
 
   -- which begins a paragraph
-  pub cut_before : ParagraphsArePieces → (text more : List ℕ) (last : Option ℕ) (len c a : ℕ) → HasTaken text last len → last ≡ Some a → is_cut a c ≡ true → length (c ∷ more) ≤ 1048576 → IsEnded is_cut (text ++ c ∷ more)
+  pub cut_before : ParagraphsArePieces → (text more : List ℕ) (last : Option ℕ) (len c a : ℕ) → HasTaken text last len
+      → last ≡ Some a → is_cut a c ≡ true → length (c ∷ more) ≤ 1048576 → IsEnded is_cut (text ++ c ∷ more)
   cut_before law text more last len c a taken last_is cut few =
       let parts = last_some text a (sym taken.last_is ∙ last_is) in
       let xs = parts.0 in

@@ -19,7 +19,8 @@ use Rattle.text_run.proofs.CountLemmas.{at_most_more, prints_more}
 use Rattle.text_run.proofs.Fronts.{front_none, front_one, front_join}
 
 -- where the first of paragraphs that aren't too long ends, and the others
-pub first_within : (is_cut : ℕ → ℕ → Bool) (rest : List ℕ) (k : ℕ) → are_within (paragraphs is_cut rest) ≡ true → SplitsAt is_cut rest (Some k) → (k ≤ 1048576) × (are_within (paragraphs is_cut (drop k rest)) ≡ true)
+pub first_within : (is_cut : ℕ → ℕ → Bool) (rest : List ℕ) (k : ℕ) → are_within (paragraphs is_cut rest) ≡ true
+    → SplitsAt is_cut rest (Some k) → (k ≤ 1048576) × (are_within (paragraphs is_cut (drop k rest)) ≡ true)
 first_within is_cut rest k within splits =
     let both = and_parts (is_within (take k rest)) (are_within (paragraphs is_cut (drop k rest))) (sym (ap are_within splits.2) ∙ within) in
     (omega (arith, leb-true (length (take k rest)) 1048576 both.0, length-take-le k rest (omega (arith, splits.1))), both.1)
@@ -41,11 +42,14 @@ module _ (rules : Rules) (width : ℕ) (print : Print) (text : List ℕ) (before
     pub counts : Prints (length (concat pars)) print engine_old engine
     pub at_most : PrintsAtMost (length (concat pars)) print engine_old engine
 
-  pub pushed_none : (seen : ℕ) → SplitsAt (cut_by rules) (take seen text) None → are_within (paragraphs (cut_by rules) text) ≡ true → Prints 0 print engine_old engine_old → PrintsAtMost 0 print engine_old engine_old → PushedSoFar text seen before engine_old
+  pub pushed_none : (seen : ℕ) → SplitsAt (cut_by rules) (take seen text) None
+      → are_within (paragraphs (cut_by rules) text) ≡ true → Prints 0 print engine_old engine_old
+      → PrintsAtMost 0 print engine_old engine_old → PushedSoFar text seen before engine_old
   pushed_none seen uncut within counts at_most =
       record { pars = []; front = front_none (cut_by rules) text; lines = sym (append-nil before); uncut = uncut; within = within; counts = counts; at_most = at_most }
 
-  pub pushed_more : (rest paragraph after : List ℕ) (seen k : ℕ) (lines_old more : List ℕ) (engine engine_new : Engine) → SplitsAt (cut_by rules) rest (Some k) → paragraph ≡ take k rest → after ≡ drop k rest
+  pub pushed_more : (rest paragraph after : List ℕ) (seen k : ℕ) (lines_old more : List ℕ) (engine engine_new : Engine)
+      → SplitsAt (cut_by rules) rest (Some k) → paragraph ≡ take k rest → after ≡ drop k rest
       → more ≡ lines_old ++ paragraph_bytes rules width print paragraph → Prints (length paragraph) print engine engine_new → PrintsAtMost (length paragraph) print engine engine_new
       → PushedSoFar rest seen lines_old engine → PushedSoFar after 0 more engine_new
   pushed_more rest paragraph after seen k lines_old more engine engine_new splits paragraph_is after_is more_is counts at_most so_far =
@@ -66,18 +70,22 @@ module _ (rules : Rules) (width : ℕ) (print : Print) (text : List ℕ) (before
         at_most = at_most_more print engine_old engine engine_new (length (concat so_far.pars)) (length paragraph) _ so_far.at_most at_most (omega (arith, len));
       }
 
-  pub pushed_rest : (rest : List ℕ) (seen : ℕ) (after : List ℕ) (engine : Engine) → SplitsAt (cut_by rules) rest None → PushedSoFar rest seen after engine → Pushed rules width print text rest before after engine_old engine
+  pub pushed_rest : (rest : List ℕ) (seen : ℕ) (after : List ℕ) (engine : Engine) → SplitsAt (cut_by rules) rest None
+      → PushedSoFar rest seen after engine → Pushed rules width print text rest before after engine_old engine
   pushed_rest rest seen after engine splits so_far =
       record { pars = so_far.pars; front = so_far.front; lines = so_far.lines; counts = so_far.counts; left = record { uncut = splits; short = only_within (cut_by rules) rest so_far.within splits } }
 
   -- of the text no more is counted than was pushed, and the paragraph at which memory ran out
-  pub pushed_at_most : (rest : List ℕ) (seen n : ℕ) (after : List ℕ) (engine engine_new : Engine) → PushedSoFar rest seen after engine → PrintsAtMost n print engine engine_new → n ≤ length rest → PrintsAtMost (length text) print engine_old engine_new
+  pub pushed_at_most : (rest : List ℕ) (seen n : ℕ) (after : List ℕ) (engine engine_new : Engine)
+      → PushedSoFar rest seen after engine → PrintsAtMost n print engine engine_new → n ≤ length rest
+      → PrintsAtMost (length text) print engine_old engine_new
   pushed_at_most rest seen n after engine engine_new so_far at_most few =
       at_most_more print engine_old engine engine_new (length (concat so_far.pars)) n (length text) so_far.at_most at_most
       (omega (arith, few, ap length so_far.front.whole, length-append (concat so_far.pars) rest))
 
 -- a text of which a rest has a cut has one
-pub rest_uncut : ParagraphsArePieces → (is_cut : ℕ → ℕ → Bool) (text rest : List ℕ) (pars : List (List ℕ)) (k : ℕ) → IsFront is_cut pars text rest → SplitsAt is_cut rest (Some k) → SplitsAt is_cut text None → ⊥
+pub rest_uncut : ParagraphsArePieces → (is_cut : ℕ → ℕ → Bool) (text rest : List ℕ) (pars : List (List ℕ)) (k : ℕ)
+    → IsFront is_cut pars text rest → SplitsAt is_cut rest (Some k) → SplitsAt is_cut text None → ⊥
 rest_uncut law is_cut text rest pars k front splits none =
     let some : 0 < length text = omega (arith, splits.1, ap length front.whole, length-append (concat pars) rest) in
     let parts : text ∷ [] ≡ pars ++ paragraphs is_cut rest =

@@ -21,8 +21,8 @@ use Rattle.lines.specs.declared.print.Print.{Print}
 use Rattle.text_run.specs.declared.faults.RunFault.{RunFault}
 use Rattle.text_run.specs.declared.faults.RunFault.TheVariants as f
 use Rattle.text_run.specs.declared.text.Held.{Held}
-use Rattle.text_run.specs.declared.text.Ending.TheVariants.{AtEnd, AtFailure}
-use Rattle.text_run.specs.TextRun.{are_within, input_fault, front_of, front_paragraphs, is_bad, written_of, Gave, HasRead, PrintsNoMore, WantsMemory}
+use Rattle.text_run.specs.declared.text.TheConstants.{PIECE}
+use Rattle.text_run.specs.TextRun.{AtEnd, AtFailure, are_within, input_fault, front_of, front_paragraphs, is_bad, written_of, Gave, HasRead, PrintsNoMore, WantsMemory}
 use Rattle.text_run.specs.Counts.{PrintsAtMost}
 use Rattle.text_run.specs.Streaming.{Ends, FindsFault, Finishes, Gathers, IsAt, IsBeginning, IsFront, IsFaultAhead, IsOpen, IsRead, Stands, Steps, StopsWriting, Writes, last_lines}
 use Rattle.text_run.proofs.CountLemmas.{at_most_more, at_most_none, at_most_printed, prints_more}
@@ -70,11 +70,14 @@ some_bad (b ∷ bytes) bad = omega arith
 module _ (rules : Rules) (width : ℕ) (print : Print) (reader_old writer_old : Device) (engine_old : Engine) (reader writer : Device) (engine : Engine) (held : Held) where
   abbrev Holds : List ℕ → List ℕ → Type 0
   Holds waiting text =
-      (at : IsAt rules width print reader_old reader writer_old writer waiting text []) × (at.gathered ≡ []) × (held.decoded ≡ length at.decoded) × (held.written ≡ length (page rules width print at.sent))
+      (at : IsAt rules width print reader_old reader writer_old writer waiting text []) × (at.gathered ≡ [])
+          × (held.decoded ≡ length at.decoded) × (held.written ≡ length (page rules width print at.sent))
       × IsOpen (cut_by rules) text × IsBeginning waiting × Prints (length (concat at.sent)) print engine_old engine
 
   -- where it stands, by what it holds
-  stands_by : (waiting text : List ℕ) → Holds waiting text → Prints 0 print engine_old engine_old → take held.waiting held.piece.items ≡ waiting → held.text.items ≡ text → held.page.bytes.items ≡ [] → vec_len held.piece ≡ 65536
+  stands_by : (waiting text : List ℕ) → Holds waiting text → Prints 0 print engine_old engine_old
+      → take held.waiting held.piece.items ≡ waiting → held.text.items ≡ text → held.page.bytes.items ≡ []
+      → vec_len held.piece ≡ PIECE
       → length (take held.waiting held.piece.items) ≡ held.waiting → Stands rules width print reader_old writer_old engine_old reader writer engine held
   stands_by waiting text holds fits waiting_is text_is lines room waits =
       let here : Holds (take held.waiting held.piece.items) held.text.items =
@@ -105,8 +108,12 @@ module _ (rules : Rules) (width : ℕ) (print : Print) (reader_old writer_old : 
   ended reader_new writer_new engine_new fault stops no_more wants =
       record { run = stops.run engine_old engine_new; ahead = stops.ahead; at_most = no_more; wants = λ is. wants (cc is) }
 
-  no_more : (reader_new : Device) (engine_new : Engine) (bytes : List ℕ) (n : ℕ) → HasRead reader_old reader_new bytes → PrintsAtMost n print engine_old engine_new → n ≤ length (front_of bytes) → PrintsNoMore print reader_old reader_new engine_old engine_new
-  no_more reader_new engine_new bytes n has_read at_most few = (bytes, has_read, at_most_more print engine_old engine_old engine_new 0 n (length (front_of bytes)) (at_most_none print engine_old) at_most (omega (arith, few)))
+  no_more : (reader_new : Device) (engine_new : Engine) (bytes : List ℕ) (n : ℕ) → HasRead reader_old reader_new bytes
+      → PrintsAtMost n print engine_old engine_new → n ≤ length (front_of bytes)
+      → PrintsNoMore print reader_old reader_new engine_old engine_new
+  no_more reader_new engine_new bytes n has_read at_most few =
+      (bytes, has_read, at_most_more print engine_old engine_old engine_new 0 n (length (front_of bytes))
+      (at_most_none print engine_old) at_most (omega (arith, few)))
 
   -- what was counted until now, and how many characters before some bytes these are, with those that are held
   module _ (held : Held) (s : Stands rules width print reader_old writer_old engine_old reader writer engine held) where
@@ -132,15 +139,19 @@ module _ (rules : Rules) (width : ℕ) (print : Print) (reader_old writer_old : 
         is_bad-after s.is_at.decoded waiting s.is_at.utf8 ∙ ap (λ n. is_some (utf8_error_len (drop n waiting))) s.beginning.none ∙ ap is_some s.beginning.fault
 
   -- some bytes more were read
-  pub at_read : (reader_new : Device) (waiting text more : List ℕ) (at : IsAt rules width print reader_old reader writer_old writer waiting text []) → at.gathered ≡ [] → length text ≤ 1048576 → length waiting < 4
-      → Consumes reader.bytes reader_new.bytes more → reader_new.passed ≡ reader.passed + length more → reader_new.failures ≡ reader.failures → length more ≤ 65536
+  pub at_read : (reader_new : Device) (waiting text more : List ℕ)
+      (at : IsAt rules width print reader_old reader writer_old writer waiting text []) → at.gathered ≡ []
+      → length text ≤ 1048576 → length waiting < 4
+      → Consumes reader.bytes reader_new.bytes more → reader_new.passed ≡ reader.passed + length more → reader_new.failures ≡ reader.failures → length more ≤ PIECE
       → (next : IsAt rules width print reader_old reader_new writer_old writer (waiting ++ more) text []) × (next.gathered ≡ []) × (next.decoded ≡ at.decoded) × (next.sent ≡ at.sent)
   at_read reader_new waiting text more at sent short few consumed passed failures piece = (
     record {
       decoded = at.decoded;
       sent = at.sent;
       gathered = at.gathered;
-      read = subst (Consumes reader_old.bytes reader_new.bytes) (append_assoc at.decoded waiting more) (Consumes-append reader_old.bytes reader.bytes reader_new.bytes (at.decoded ++ waiting) more at.read consumed);
+      read = subst (Consumes reader_old.bytes reader_new.bytes) (append_assoc at.decoded waiting more)
+          (Consumes-append reader_old.bytes reader.bytes reader_new.bytes (at.decoded
+          ++ waiting) more at.read consumed);
       passed = omega (arith, passed, at.passed, length-append at.decoded waiting, length-append at.decoded (waiting ++ more), length-append waiting more);
       failures = failures ∙ at.failures;
       utf8 = at.utf8;
@@ -149,8 +160,11 @@ module _ (rules : Rules) (width : ℕ) (print : Print) (reader_old writer_old : 
       lines_are = at.lines_are;
       ahead =
           let text_is : chars at.decoded ≡ concat at.sent ++ text = at.front.whole ∙ ap (λ ps. concat (at.sent ++ ps) ++ text) sent ∙ ap (λ ps. concat ps ++ text) (append-nil at.sent) in
-          let bytes : at.decoded ≡ encode_utf8_all (concat at.sent) ++ encode_utf8_all text = sym (encodes-chars at.decoded at.utf8) ∙ ap encode_utf8_all text_is ∙ encodes-append (concat at.sent) text in
-          omega (arith, passed, at.passed, piece, few, short, encoded_len text, length-append at.decoded waiting, ap length bytes, length-append (encode_utf8_all (concat at.sent)) (encode_utf8_all text));
+          let bytes : at.decoded ≡ encode_utf8_all (concat at.sent)
+              ++ encode_utf8_all text = sym (encodes-chars at.decoded at.utf8) ∙ ap encode_utf8_all text_is
+              ∙ encodes-append (concat at.sent) text in
+          omega (arith, passed, at.passed, piece, few, short, encoded_len text, length-append at.decoded waiting, ap
+              length bytes, length-append (encode_utf8_all (concat at.sent)) (encode_utf8_all text));
     },
     sent,
     refl,
@@ -158,12 +172,16 @@ module _ (rules : Rules) (width : ℕ) (print : Print) (reader_old writer_old : 
   )
 
   -- a failed read, after the beginning of a character or none
-  pub ends_read : (reader_new : Device) (held : Held) → Stands rules width print reader_old writer_old engine_old reader writer engine held → Fails reader reader_new → Ends rules width print reader_old writer_old engine_old reader_new writer engine (Err f.Read)
+  pub ends_read : (reader_new : Device) (held : Held)
+      → Stands rules width print reader_old writer_old engine_old reader writer engine held → Fails reader reader_new
+      → Ends rules width print reader_old writer_old engine_old reader_new writer engine (Err f.Read)
   ends_read reader_new held s fails =
       let at = s.is_at in
       let waiting = take held.waiting held.piece.items in
       let good : is_bad (at.decoded ++ waiting) ≡ false = no_bad held s in
-      let has_read : HasRead reader_old reader_new (at.decoded ++ waiting) = (Consumes-kept reader_old.bytes reader.bytes reader_new.bytes (at.decoded ++ waiting) at.read fails.bytes, fails.passed ∙ at.passed) in
+      let has_read : HasRead reader_old reader_new (at.decoded ++ waiting) =
+          (Consumes-kept reader_old.bytes reader.bytes reader_new.bytes (at.decoded
+          ++ waiting) at.read fails.bytes, fails.passed ∙ at.passed) in
       ended reader_new writer engine f.Read
       (at_fault rules width print reader_old reader writer_old writer waiting held.text.items [] at s.all_sent reader_new AtFailure waiting f.Read (
         has_read.0,
@@ -177,7 +195,9 @@ module _ (rules : Rules) (width : ℕ) (print : Print) (reader_old writer_old : 
       (λ is. absurd (cc is))
 
   -- ---- the end of the text
-  module _ (reader_new : Device) (buffer : List ℕ) (held : Held) (s : Stands rules width print reader_old writer_old engine_old reader writer engine held) (gives : Gives reader reader_new 0 buffer) where
+  module _ (reader_new : Device) (buffer : List ℕ) (held : Held)
+      (s : Stands rules width print reader_old writer_old engine_old reader writer engine held)
+      (gives : Gives reader reader_new 0 buffer) where
     consumed_all : Consumes reader_old.bytes reader_new.bytes (s.is_at.decoded ++ take held.waiting held.piece.items)
     consumed_all =
         let bytes = s.is_at.decoded ++ take held.waiting held.piece.items in
@@ -241,7 +261,8 @@ module _ (rules : Rules) (width : ℕ) (print : Print) (reader_old writer_old : 
           within_more s.is_at.sent last (sent_within rules width print reader_old reader writer_old writer (take held.waiting held.piece.items) held.text.items [] s.is_at s.all_sent)
           ∙ last_within held.text.items s.text.short
 
-      written_last : written_of (front_paragraphs rules (s.is_at.decoded ++ take held.waiting held.piece.items)) (is_none (input_fault AtEnd (s.is_at.decoded ++ take held.waiting held.piece.items))) ≡ s.is_at.sent ++ last
+      written_last : written_of (front_paragraphs rules (s.is_at.decoded ++ take held.waiting held.piece.items))
+          (is_none (input_fault AtEnd (s.is_at.decoded ++ take held.waiting held.piece.items))) ≡ s.is_at.sent ++ last
       written_last =
           ap (λ (w : Option RunFault). written_of (front_paragraphs rules (s.is_at.decoded ++ take held.waiting held.piece.items)) (is_none w)) no_fault
           ∙ ap (λ ps. written_of ps true) pars_last ∙ written_whole (s.is_at.sent ++ last) within_last
@@ -258,7 +279,9 @@ module _ (rules : Rules) (width : ℕ) (print : Print) (reader_old writer_old : 
           let within_all : are_within pars ≡ true = ap are_within pars_last ∙ within_last in
           let wrote_all : Wrote (page rules width print (s.is_at.sent ++ last)) writer_old writer_new =
           subst (λ (t : List ℕ). Wrote t writer_old writer_new) (sym (flat_map-append (paragraph_bytes rules width print) s.is_at.sent last))
-          (Wrote-append writer_old writer writer_new (page rules width print s.is_at.sent) (page rules width print last) s.is_at.wrote (subst (λ (t : List ℕ). Wrote t writer writer_new) lines_last wrote)) in
+          (Wrote-append writer_old writer writer_new (page rules width print s.is_at.sent)
+              (page rules width print last) s.is_at.wrote
+              (subst (λ (t : List ℕ). Wrote t writer writer_new) lines_last wrote)) in
           let all : length (concat s.is_at.sent) + length held.text.items ≡ length (chars bytes) =
           sym (held_len held s) ∙ ap (λ t. length (chars t)) (sym (append-nil s.is_at.decoded) ∙ ap (λ t. s.is_at.decoded ++ t) (sym nothing_waits)) in
           record {
@@ -278,7 +301,9 @@ module _ (rules : Rules) (width : ℕ) (print : Print) (reader_old writer_old : 
             wants = λ is. absurd (cc is);
           }
 
-      finish_stopped : (writer_new : Device) (m n : ℕ) → StoppedAt m (last_lines rules width print held) writer writer_new → n ≡ held.written + m → Stops rules width print reader_old writer_old reader_new writer_new (f.Write n)
+      finish_stopped : (writer_new : Device) (m n : ℕ)
+          → StoppedAt m (last_lines rules width print held) writer writer_new → n ≡ held.written + m
+          → Stops rules width print reader_old writer_old reader_new writer_new (f.Write n)
       finish_stopped writer_new m n stopped n_is =
           let bytes = s.is_at.decoded ++ take held.waiting held.piece.items in
           ends_write rules width print reader_old writer_old reader_new writer writer_new AtEnd bytes s.is_at.sent last [] [] m n gave
@@ -305,9 +330,13 @@ module _ (rules : Rules) (width : ℕ) (print : Print) (reader_old writer_old : 
       ends_finish piece writer_new (Err (f.Write n)) is counts =
           ended reader_new writer_new engine_new (f.Write n) (finish_stopped is.0 writer_new is.1.0 n is.1.2 is.1.1) no_more_last (λ same. absurd (cc same))
       ends_finish piece writer_new (Err f.Memory) is counts =
-          let next = at_read reader_new (take held.waiting held.piece.items) held.text.items [] s.is_at s.all_sent s.text.short s.beginning.few gives.bytes (omega (arith, gives.passes.passed)) gives.passes.failures (omega arith) in
+          let next = at_read reader_new (take held.waiting held.piece.items) held.text.items [] s.is_at s.all_sent
+              s.text.short s.beginning.few gives.bytes (omega (arith, gives.passes.passed)) gives.passes.failures
+              (omega arith) in
           subst (λ (w : Device). Ends rules width print reader_old writer_old engine_old reader_new w engine_new (Err f.Memory)) (sym is.2)
-          (ended reader_new writer engine_new f.Memory (at_memory rules width print reader_old reader_new writer_old writer (take held.waiting held.piece.items ++ []) held.text.items [] next.0) no_more_last
+          (ended reader_new writer engine_new f.Memory
+              (at_memory rules width print reader_old reader_new writer_old writer (take held.waiting held.piece.items
+              ++ []) held.text.items [] next.0) no_more_last
           (λ same. (s.is_at.decoded ++ take held.waiting held.piece.items, has_read, (ap are_within (pars_last is.0) ∙ within_last is.0, λ bad. absurd (true≢false (sym bad ∙ no_bad held s))))))
       ends_finish piece writer_new (Err f.Read) is counts = absurd is
       ends_finish piece writer_new (Err f.ParagraphTooLong) is counts = absurd is
@@ -315,7 +344,9 @@ module _ (rules : Rules) (width : ℕ) (print : Print) (reader_old writer_old : 
       ends_finish piece writer_new (Err f.TextTooLong) is counts = absurd is
 
   -- ---- bytes that were read
-  module _ (reader_new : Device) (n : ℕ) (held held_read : Held) (s : Stands rules width print reader_old writer_old engine_old reader writer engine held) (read : IsRead n held held_read reader reader_new) where
+  module _ (reader_new : Device) (n : ℕ) (held held_read : Held)
+      (s : Stands rules width print reader_old writer_old engine_old reader writer engine held)
+      (read : IsRead n held held_read reader reader_new) where
     abbrev bytes_read : List ℕ
     bytes_read = take (held_read.waiting + n) held_read.piece.items
 
@@ -332,13 +363,17 @@ module _ (rules : Rules) (width : ℕ) (print : Print) (reader_old writer_old : 
         (subst (λ (h : Held). Finishes rules width print h writer writer_new result) read.same is)
         (subst (λ (h : Held). OnOk result (Prints (length h.text.items) print engine engine_new)) read.same counts)
 
-    next_is : (next : IsAt rules width print reader_old reader_new writer_old writer bytes_read held.text.items []) × (next.gathered ≡ []) × (next.decoded ≡ s.is_at.decoded) × (next.sent ≡ s.is_at.sent)
+    next_is : (next : IsAt rules width print reader_old reader_new writer_old writer bytes_read held.text.items [])
+        × (next.gathered ≡ []) × (next.decoded ≡ s.is_at.decoded) × (next.sent ≡ s.is_at.sent)
     next_is =
         let buffer = read.read.buffer in
         let gives = read.read.gives in
         let len : length (take n buffer) ≡ n = length-take-le n buffer read.read.within in
-        let next = at_read reader_new (take held.waiting held.piece.items) held.text.items (take n buffer) s.is_at s.all_sent s.text.short s.beginning.few gives.bytes (omega (arith, len, gives.passes.passed)) gives.passes.failures (omega (arith, len, read.small, s.room)) in
-        subst (λ (t : List ℕ). (next : IsAt rules width print reader_old reader_new writer_old writer t held.text.items []) × (next.gathered ≡ []) × (next.decoded ≡ s.is_at.decoded) × (next.sent ≡ s.is_at.sent)) (sym parts) next
+        let next = at_read reader_new (take held.waiting held.piece.items) held.text.items (take n buffer) s.is_at
+            s.all_sent s.text.short s.beginning.few gives.bytes (omega (arith, len, gives.passes.passed))
+            gives.passes.failures (omega (arith, len, read.small, s.room)) in
+        subst (λ (t : List ℕ). (next : IsAt rules width print reader_old reader_new writer_old writer t held.text.items
+            []) × (next.gathered ≡ []) × (next.decoded ≡ s.is_at.decoded) × (next.sent ≡ s.is_at.sent)) (sym parts) next
 
     abbrev same : held_read ≡ record held { piece = held_read.piece }
     same = read.same
@@ -346,7 +381,7 @@ module _ (rules : Rules) (width : ℕ) (print : Print) (reader_old writer_old : 
     bytes_len : length bytes_read ≡ held.waiting + n
     bytes_len = omega (arith, ap length parts, length-append (take held.waiting held.piece.items) (take n read.read.buffer), s.waits, length-take-le n read.read.buffer read.read.within)
 
-    room_is : vec_len held_read.piece ≡ 65536
+    room_is : vec_len held_read.piece ≡ PIECE
     room_is = read.room ∙ s.room
 
     -- whatever the engine did then
@@ -366,7 +401,9 @@ module _ (rules : Rules) (width : ℕ) (print : Print) (reader_old writer_old : 
           (omega (arith, len, front_len held s bytes_read))
 
       pub read_memory : are_within (paragraphs (cut_by rules) (held_read.text.items ++ front_of bytes_read)) ≡ true
-          → (is_bad bytes_read ≡ true → 1 < length (paragraphs (cut_by rules) (held_read.text.items ++ front_of bytes_read))) → Ends rules width print reader_old writer_old engine_old reader_new writer engine_new (Err f.Memory)
+          → (is_bad bytes_read ≡ true → 1 < length
+              (paragraphs (cut_by rules) (held_read.text.items ++ front_of bytes_read)))
+              → Ends rules width print reader_old writer_old engine_old reader_new writer engine_new (Err f.Memory)
       read_memory within ended_is =
           let sent = s.is_at.sent in
           let text = held.text.items ++ front_of bytes_read in
@@ -381,8 +418,12 @@ module _ (rules : Rules) (width : ℕ) (print : Print) (reader_old writer_old : 
               ap are_within pars ∙ within_more sent (paragraphs (cut_by rules) text) sent_is ∙ ap (λ t. are_within (paragraphs (cut_by rules) (t ++ front_of bytes_read))) (sym text_same) ∙ within,
               λ bad. (
                 length sent,
-                omega (arith, ended_is (sym (is_bad-after s.is_at.decoded bytes_read s.is_at.utf8) ∙ bad), ap length pars, length-append sent (paragraphs (cut_by rules) text), ap (λ t. length (paragraphs (cut_by rules) (t ++ front_of bytes_read))) text_same),
-                subst (λ (ps : List (List ℕ)). Wrote (page rules width print ps) writer_old writer) (sym (ap (take (length sent)) pars ∙ take-append_seam sent (paragraphs (cut_by rules) text))) s.is_at.wrote,
+                omega (arith, ended_is (sym (is_bad-after s.is_at.decoded bytes_read s.is_at.utf8)
+                    ∙ bad), ap length pars, length-append sent (paragraphs (cut_by rules) text), ap
+                    (λ t. length (paragraphs (cut_by rules) (t ++ front_of bytes_read))) text_same),
+                subst (λ (ps : List (List ℕ)). Wrote (page rules width print ps) writer_old writer)
+                    (sym (ap (take (length sent)) pars ∙ take-append_seam sent (paragraphs (cut_by rules) text)))
+                    s.is_at.wrote,
               ),
             ),
           ))
@@ -435,7 +476,9 @@ module _ (rules : Rules) (width : ℕ) (print : Print) (reader_old writer_old : 
     no_lines = ap (λ (h : Held). h.page.bytes.items) same ∙ s.lines
 
     -- the bytes after the front are bad
-    ends_bad : (writer_new : Device) (text_new : List ℕ) (at : IsAt rules width print reader_old reader_new writer_old writer_new left text_new []) → at.gathered ≡ [] → (place : ℕ) → length at.decoded ≡ place
+    ends_bad : (writer_new : Device) (text_new : List ℕ)
+        (at : IsAt rules width print reader_old reader_new writer_old writer_new left text_new []) → at.gathered ≡ []
+        → (place : ℕ) → length at.decoded ≡ place
         → IsOpen (cut_by rules) text_new → is_bad bytes_read ≡ true → Stops rules width print reader_old writer_old reader_new writer_new (f.NotUtf8 place)
     ends_bad writer_new text_new at sent place place_is is_open bad =
         let rest = unwrap_or reader_new.bytes [] in
@@ -448,7 +491,9 @@ module _ (rules : Rules) (width : ℕ) (print : Print) (reader_old writer_old : 
         at_fault rules width print reader_old reader_new writer_old writer_new left text_new [] at sent reader_new AtEnd after (f.NotUtf8 place)
         (gave_all rules width print reader_old reader_new writer_old writer_new left text_new [] at)
         (sent_ahead rules width print reader_old reader_new writer_old writer_new left text_new [] at) is_open none
-        (ap (λ (b : Bool). if b then None else Some (f.NotUtf8 (utf8_valid_len (at.decoded ++ after)))) (not_all (utf8_valid_len (at.decoded ++ after)) (length (at.decoded ++ after)) less) ∙ ap (λ k. Some (f.NotUtf8 k)) here)
+        (ap (λ (b : Bool). if b then None else Some (f.NotUtf8 (utf8_valid_len (at.decoded ++ after))))
+            (not_all (utf8_valid_len (at.decoded ++ after)) (length (at.decoded ++ after)) less)
+            ∙ ap (λ k. Some (f.NotUtf8 k)) here)
         (λ written wrong is wrote. (is, wrote))
 
     -- a fault is found before the first paragraph ends: its lines and those after it are not written, nor is anything more
@@ -473,11 +518,15 @@ module _ (rules : Rules) (width : ℕ) (print : Print) (reader_old writer_old : 
           (subst (λ (t : List ℕ). StoppedAt stops.0 t writer writer_new) page_is stops.2) count)
 
       module _ (writer_new : Device) (held_last : Held) (writes : Writes held_new held_last writer writer_new) where
-        found_written : (next : IsAt rules width print reader_old reader_new writer_old writer_new left text_ahead []) × (next.gathered ≡ []) × (next.decoded ≡ found_at.0.decoded) × (next.sent ≡ found_at.0.sent ++ found_at.0.gathered)
+        found_written : (next : IsAt rules width print reader_old reader_new writer_old writer_new left text_ahead [])
+            × (next.gathered ≡ []) × (next.decoded ≡ found_at.0.decoded)
+            × (next.sent ≡ found_at.0.sent ++ found_at.0.gathered)
         found_written = at_written rules width print reader_old reader_new writer_old writer left text_ahead [] found_at.0 writer_new
             (subst (λ (t : List ℕ). Wrote t writer writer_new) page_is writes.wrote)
 
-        found_ends : (wrong : RunFault) → IsFaultAhead (cut_by rules) text_ahead (is_bad bytes_read) (held.decoded + utf8_valid_len bytes_read) wrong → Stops rules width print reader_old writer_old reader_new writer_new wrong
+        found_ends : (wrong : RunFault)
+            → IsFaultAhead (cut_by rules) text_ahead (is_bad bytes_read) (held.decoded + utf8_valid_len bytes_read)
+            wrong → Stops rules width print reader_old writer_old reader_new writer_new wrong
         found_ends f.ParagraphTooLong long =
             at_long rules width print reader_old reader_new writer_old writer_new left text_ahead [] found_written.0 found_written.1 long
         found_ends (f.NotUtf8 n) is =
@@ -492,7 +541,9 @@ module _ (rules : Rules) (width : ℕ) (print : Print) (reader_old writer_old : 
         found_fault wrong is =
             let wrong_is : l.wrong ≡ wrong = cc (is, l.fault_is) in
             subst (λ (w : RunFault). Stops rules width print reader_old writer_old reader_new writer_new w) wrong_is
-            (found_ends l.wrong (subst (λ (h : Held). IsFaultAhead (cut_by rules) (h.text.items ++ front_of bytes_read) (is_bad bytes_read) (h.decoded + utf8_valid_len bytes_read) l.wrong) same l.ahead))
+            (found_ends l.wrong (subst (λ (h : Held). IsFaultAhead (cut_by rules) (h.text.items
+                ++ front_of bytes_read) (is_bad bytes_read) (h.decoded + utf8_valid_len bytes_read) l.wrong) same
+                l.ahead))
 
       found_goes_on : fault ≡ None → ⊥
       found_goes_on is = cc (is, l.fault_is)
@@ -516,7 +567,9 @@ module _ (rules : Rules) (width : ℕ) (print : Print) (reader_old writer_old : 
           (at_write rules width print reader_old reader_new writer_old writer left held_new.text.items held_new.page.bytes.items at writer_new stops.0 (held_new.written + stops.0) stops.2 count)
 
       module _ (writer_new : Device) (held_last : Held) (writes : Writes held_new held_last writer writer_new) where
-        written_is : (next : IsAt rules width print reader_old reader_new writer_old writer_new left held_new.text.items []) × (next.gathered ≡ []) × (next.decoded ≡ gathered_is.0.decoded) × (next.sent ≡ gathered_is.0.sent ++ gathered_is.0.gathered)
+        written_is : (next : IsAt rules width print reader_old reader_new writer_old writer_new left
+            held_new.text.items []) × (next.gathered ≡ []) × (next.decoded ≡ gathered_is.0.decoded)
+            × (next.sent ≡ gathered_is.0.sent ++ gathered_is.0.gathered)
         written_is = at_written rules width print reader_old reader_new writer_old writer left held_new.text.items held_new.page.bytes.items gathered_is.0 writer_new writes.wrote
 
         stands_on : IsOpen (cut_by rules) held_new.text.items → is_bad bytes_read ≡ false → Stands rules width print reader_old writer_old engine_old reader_new writer_new engine_new held_last
@@ -531,13 +584,17 @@ module _ (rules : Rules) (width : ℕ) (print : Print) (reader_old writer_old : 
             let lines_new : held_new.page.bytes.items ≡ page rules width print g.pushed.pars = gathered_is.0.lines_are ∙ ap (page rules width print) gathered_is.3 in
             let counts : Prints (length (concat at.sent)) print engine_old engine_new =
             subst (λ n. Prints n print engine_old engine_new)
-            (omega (arith, ap (λ ps. length (concat ps)) (written_is.3 ∙ ap₂ (λ x y. x ++ y) gathered_is.2 gathered_is.3), ap length (concat-append s.is_at.sent g.pushed.pars), length-append (concat s.is_at.sent) (concat g.pushed.pars)))
+            (omega (arith, ap (λ ps. length (concat ps)) (written_is.3
+                ∙ ap₂ (λ x y. x ++ y) gathered_is.2 gathered_is.3), ap length
+                (concat-append s.is_at.sent g.pushed.pars), length-append (concat s.is_at.sent) (concat g.pushed.pars)))
             (prints_more print engine_old engine engine_new (length (concat s.is_at.sent)) (length (concat g.pushed.pars)) s.counts g.pushed.counts) in
             stands_by rules width print reader_old writer_old engine_old reader_new writer_new engine_new held_last left held_new.text.items (
               at,
               written_is.1,
               omega (arith, ap (λ (h : Held). h.decoded) last, gathered_is.1, ap length written_is.2),
-              omega (arith, ap (λ (h : Held). h.written) last, g.written, ap (λ (h : Held). h.written) same, s.written, ap length lines_new, ap length pages, length-append (page rules width print s.is_at.sent) (page rules width print g.pushed.pars)),
+              omega (arith, ap (λ (h : Held). h.written) last, g.written, ap (λ (h : Held). h.written) same, s.written,
+                  ap length lines_new, ap length pages, length-append (page rules width print s.is_at.sent)
+                  (page rules width print g.pushed.pars)),
               is_open,
               record { none = left_none; fault = not_bad left good; few = omega (arith, left_len, g.beginning good) },
               counts,
@@ -558,7 +615,8 @@ module _ (rules : Rules) (width : ℕ) (print : Print) (reader_old writer_old : 
         gathers_on : fault ≡ None → Stands rules width print reader_old writer_old engine_old reader_new writer_new engine_new held_last
         gathers_on is = go (is_bad bytes_read) refl (sym is ∙ g.fault_is)
           where
-            go : (b : Bool) → is_bad bytes_read ≡ b → None ≡ (if b then Some (f.NotUtf8 held_new.decoded) else None) → Stands rules width print reader_old writer_old engine_old reader_new writer_new engine_new held_last
+            go : (b : Bool) → is_bad bytes_read ≡ b → None ≡ (if b then Some (f.NotUtf8 held_new.decoded) else None)
+                → Stands rules width print reader_old writer_old engine_old reader_new writer_new engine_new held_last
             go true bad same_fault = absurd cc
             go false good same_fault = stands_on g.pushed.left good
 
@@ -567,21 +625,25 @@ module _ (rules : Rules) (width : ℕ) (print : Print) (reader_old writer_old : 
       abbrev Found : Type 0
       Found = FindsFault rules bytes_read held_read held_new fault ⊎ Gathers rules width print bytes_read held_read held_new engine engine_new fault
 
-      pub read_stopped : PrintsAtMost (length (held_read.text.items ++ front_of bytes_read)) print engine engine_new → Found → (writer_new : Device) (wrong : RunFault) → StopsWriting held_new wrong writer writer_new
+      pub read_stopped : PrintsAtMost (length (held_read.text.items ++ front_of bytes_read)) print engine engine_new
+          → Found → (writer_new : Device) (wrong : RunFault) → StopsWriting held_new wrong writer writer_new
           → Ends rules width print reader_old writer_old engine_old reader_new writer_new engine_new (Err wrong)
       read_stopped at_most found writer_new wrong stops =
           ended reader_new writer_new engine_new wrong
           (⊎_elim (λ l. found_stopped held_new fault l writer_new wrong stops) (λ g. gathers_stopped held_new engine_new fault g writer_new wrong stops) found)
           (no_more_read engine_new at_most) (λ is. absurd (cc (is, stops.1)))
 
-      pub read_fault : PrintsAtMost (length (held_read.text.items ++ front_of bytes_read)) print engine engine_new → Found → (writer_new : Device) (held_last : Held) → Writes held_new held_last writer writer_new
+      pub read_fault : PrintsAtMost (length (held_read.text.items ++ front_of bytes_read)) print engine engine_new
+          → Found → (writer_new : Device) (held_last : Held) → Writes held_new held_last writer writer_new
           → (wrong : RunFault) → fault ≡ Some wrong → Ends rules width print reader_old writer_old engine_old reader_new writer_new engine_new (Err wrong)
       read_fault at_most found writer_new held_last writes wrong is =
           ended reader_new writer_new engine_new wrong
           (⊎_elim (λ l. found_fault held_new fault l writer_new held_last writes wrong is) (λ g. gathers_fault held_new engine_new fault g writer_new held_last writes wrong is) found)
           (no_more_read engine_new at_most) (λ memory. absurd (no_memory rules width print bytes_read held_read held_new engine engine_new fault wrong found is memory))
 
-      pub read_on : Found → (writer_new : Device) (held_last : Held) → Writes held_new held_last writer writer_new → fault ≡ None → Stands rules width print reader_old writer_old engine_old reader_new writer_new engine_new held_last
+      pub read_on : Found → (writer_new : Device) (held_last : Held) → Writes held_new held_last writer writer_new
+          → fault ≡ None → Stands rules width print reader_old writer_old engine_old reader_new writer_new engine_new
+          held_last
       read_on (inl l) writer_new held_last writes is = absurd (found_goes_on held_new fault l is)
       read_on (inr g) writer_new held_last writes is = gathers_on held_new engine_new fault g writer_new held_last writes is
 
@@ -616,22 +678,29 @@ module _ (rules : Rules) (width : ℕ) (print : Print) (reader writer : Device) 
         run = stops.run engine engine;
         ahead = stops.ahead;
         at_most = ([], read, at_most_more print engine engine engine 0 0 (length (front_of [])) (at_most_none print engine) (at_most_none print engine) (omega arith));
-        wants = λ is. ([], read, (ap (λ t. are_within (paragraphs (cut_by rules) t)) none, λ bad. absurd (true≢false (sym bad ∙ ap (λ n. is_some (utf8_error_len (drop n []))) (nothing_valid [] refl) ∙ ap is_some utf8_error_len-nil))));
+        wants = λ is. ([], read, (ap (λ t. are_within (paragraphs (cut_by rules) t)) none, λ bad. absurd
+            (true≢false (sym bad ∙ ap (λ n. is_some (utf8_error_len (drop n []))) (nothing_valid [] refl)
+            ∙ ap is_some utf8_error_len-nil))));
       }
 
-  pub stands_at_start : Prints 0 print engine engine → (held : Held) → held.waiting ≡ 0 → held.decoded ≡ 0 → held.written ≡ 0 → held.text.items ≡ [] → held.page.bytes.items ≡ [] → vec_len held.piece ≡ 65536
+  pub stands_at_start : Prints 0 print engine engine → (held : Held) → held.waiting ≡ 0 → held.decoded ≡ 0
+      → held.written ≡ 0 → held.text.items ≡ [] → held.page.bytes.items ≡ [] → vec_len held.piece ≡ PIECE
       → Stands rules width print reader writer engine reader writer engine held
   unfolding start_at
   stands_at_start fits held waiting decoded written text lines room =
       let none : take held.waiting held.piece.items ≡ [] = ap (λ n. take n held.piece.items) waiting in
       stands_by rules width print reader writer engine reader writer engine held [] []
-      (start_at, refl, decoded, written, record { uncut = λ some. absurd (omega arith); short = omega arith }, record { none = nothing_valid [] refl; fault = utf8_error_len-nil; few = omega arith }, fits)
+      (start_at, refl, decoded, written, record { uncut = λ some. absurd (omega arith); short = omega arith }, record
+          { none = nothing_valid [] refl; fault = utf8_error_len-nil; few = omega arith }, fits)
       fits none text lines room (omega (arith, ap length none, waiting))
 
 -- a step of a run under the rules that it began with
-module _ (rules now : Rules) (width : ℕ) (print : Print) (reader_old writer_old : Device) (engine_old : Engine) (reader writer : Device) (engine : Engine) (reader_new writer_new : Device) (engine_new : Engine) (held held_new : Held) (kept : now ≡ rules)
+module _ (rules now : Rules) (width : ℕ) (print : Print) (reader_old writer_old : Device) (engine_old : Engine)
+    (reader writer : Device) (engine : Engine) (reader_new writer_new : Device) (engine_new : Engine)
+    (held held_new : Held) (kept : now ≡ rules)
     (stands : Stands rules width print reader_old writer_old engine_old reader writer engine held) (result : Result Bool RunFault)
-    (steps : Stands now width print reader_old writer_old engine_old reader writer engine held → Steps now width print reader_old writer_old engine_old reader_new writer_new engine_new held_new result) where
+    (steps : Stands now width print reader_old writer_old engine_old reader writer engine held
+        → Steps now width print reader_old writer_old engine_old reader_new writer_new engine_new held_new result) where
   stepped : Steps rules width print reader_old writer_old engine_old reader_new writer_new engine_new held_new result
   stepped =
       subst (λ (r : Rules). Steps r width print reader_old writer_old engine_old reader_new writer_new engine_new held_new result) kept

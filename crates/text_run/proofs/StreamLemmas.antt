@@ -20,9 +20,7 @@ use Rattle.lines.specs.declared.engine.Engine.{Engine}
 use Rattle.lines.specs.declared.print.Print.{Print}
 use Rattle.text_run.specs.declared.faults.RunFault.{RunFault}
 use Rattle.text_run.specs.declared.faults.RunFault.TheVariants as f
-use Rattle.text_run.specs.declared.text.Ending.{Ending}
-use Rattle.text_run.specs.declared.text.Ending.TheVariants.{AtEnd}
-use Rattle.text_run.specs.TextRun.{are_within, is_within, written_of, ending_of, input_fault, front_of, front_paragraphs, read_ahead, Gave, EndsWith, IsTextRun, ReadsAhead}
+use Rattle.text_run.specs.TextRun.{Ending, AtEnd, are_within, is_within, written_of, ending_of, input_fault, front_of, front_paragraphs, read_ahead, Gave, EndsWith, IsTextRun, ReadsAhead}
 use Rattle.text_run.specs.Streaming.{IsAt, IsFront, IsOpen, StartsLong}
 use Rattle.text_run.proofs.Fronts.{first_paragraph}
 use Rattle.text_run.proofs.Utf8Lemmas.{take-valid-after}
@@ -134,8 +132,10 @@ module _ (rules : Rules) (width : ℕ) (print : Print) (reader_old writer_old : 
   }
 
   -- the first of them, and a beginning of the next one's lines
-  ahead_at : (reader_new writer_new : Device) (ending : Ending) (bytes : List ℕ) (sent others : List (List ℕ)) (n : ℕ) → Gave reader_old reader_new ending bytes → front_paragraphs rules bytes ≡ sent ++ others
-      → Took writer_old writer_new (page rules width print sent ++ take n (page rules width print (take 1 others))) → IsSent reader_new sent → ReadsAhead rules width print reader_old reader_new writer_old writer_new
+  ahead_at : (reader_new writer_new : Device) (ending : Ending) (bytes : List ℕ) (sent others : List (List ℕ)) (n : ℕ)
+      → Gave reader_old reader_new ending bytes → front_paragraphs rules bytes ≡ sent ++ others
+      → Took writer_old writer_new (page rules width print sent ++ take n (page rules width print (take 1 others)))
+          → IsSent reader_new sent → ReadsAhead rules width print reader_old reader_new writer_old writer_new
   ahead_at reader_new writer_new ending bytes sent others n gave pars took ahead =
       let first : take (length sent) (front_paragraphs rules bytes) ≡ sent = ap (take (length sent)) pars ∙ take-append_seam sent others in
       let rest : drop (length sent) (front_paragraphs rules bytes) ≡ others = ap (drop (length sent)) pars ∙ drop-append_seam sent others in (
@@ -145,24 +145,32 @@ module _ (rules : Rules) (width : ℕ) (print : Print) (reader_old writer_old : 
         (
           length sent,
           n,
-          subst (λ (ps : List (List ℕ)). Took writer_old writer_new (page rules width print ps ++ take n (page rules width print (take 1 (drop (length sent) (front_paragraphs rules bytes)))))) (sym first)
+          subst (λ (ps : List (List ℕ)). Took writer_old writer_new (page rules width print ps
+              ++ take n (page rules width print (take 1 (drop (length sent) (front_paragraphs rules bytes))))))
+              (sym first)
               (subst (λ (ps : List (List ℕ)). Took writer_old writer_new (page rules width print sent ++ take n (page rules width print (take 1 ps)))) (sym rest) took),
           subst (λ (ps : List (List ℕ)). reader_new.passed ≤ reader_old.passed + length (encode_utf8_all (concat ps)) + read_ahead) (sym first) ahead.ahead,
         ),
       )
 
   -- where the lines of these paragraphs and no more are written
-  ahead_done : (reader_new writer_new : Device) (ending : Ending) (bytes : List ℕ) (sent others : List (List ℕ)) → Gave reader_old reader_new ending bytes → front_paragraphs rules bytes ≡ sent ++ others
+  ahead_done : (reader_new writer_new : Device) (ending : Ending) (bytes : List ℕ) (sent others : List (List ℕ))
+      → Gave reader_old reader_new ending bytes → front_paragraphs rules bytes ≡ sent ++ others
       → Wrote (page rules width print sent) writer_old writer_new → IsSent reader_new sent → ReadsAhead rules width print reader_old reader_new writer_old writer_new
   ahead_done reader_new writer_new ending bytes sent others gave pars wrote ahead =
       ahead_at reader_new writer_new ending bytes sent others 0 gave pars (subst (Took writer_old writer_new) (sym (append-nil (page rules width print sent))) wrote.0) ahead
 
   -- memory ran out
-  pub ends_memory : (reader_new writer_new : Device) (ending : Ending) (bytes : List ℕ) (sent others more : List (List ℕ)) → Gave reader_old reader_new ending bytes → front_paragraphs rules bytes ≡ sent ++ others
+  pub ends_memory : (reader_new writer_new : Device) (ending : Ending) (bytes : List ℕ)
+      (sent others more : List (List ℕ)) → Gave reader_old reader_new ending bytes → front_paragraphs rules bytes
+      ≡ sent ++ others
       → written_of (front_paragraphs rules bytes) (is_none (input_fault ending bytes)) ≡ sent ++ more
       → Wrote (page rules width print sent) writer_old writer_new → IsSent reader_new sent → Stops rules width print reader_old writer_old reader_new writer_new f.Memory
   ends_memory reader_new writer_new ending bytes sent others more gave pars written wrote ahead = record {
-    run = λ engine_old engine_new. (ending, bytes, gave, tt, tt, (length sent, subst (λ (ps : List (List ℕ)). Wrote (page rules width print ps) writer_old writer_new) (sym (ap (take (length sent)) written ∙ take-append_seam sent more)) wrote));
+    run = λ engine_old engine_new.
+        (ending, bytes, gave, tt, tt, (length sent, subst
+        (λ (ps : List (List ℕ)). Wrote (page rules width print ps) writer_old writer_new)
+        (sym (ap (take (length sent)) written ∙ take-append_seam sent more)) wrote));
     ahead = ahead_done reader_new writer_new ending bytes sent others gave pars wrote ahead;
   }
 
@@ -211,7 +219,9 @@ module _ (rules : Rules) (width : ℕ) (print : Print) (reader_old writer_old : 
   pub ends_write : (reader_new writer_mid writer_new : Device) (ending : Ending) (bytes : List ℕ) (sent gathered others more : List (List ℕ)) (m n : ℕ) → Gave reader_old reader_new ending bytes
       → front_paragraphs rules bytes ≡ (sent ++ gathered) ++ others
       → written_of (front_paragraphs rules bytes) (is_none (input_fault ending bytes)) ≡ (sent ++ gathered) ++ more
-      → Wrote (page rules width print sent) writer_old writer_mid → IsSent reader_new sent → StoppedAt m (page rules width print gathered) writer_mid writer_new → n ≡ length (page rules width print sent) + m
+      → Wrote (page rules width print sent) writer_old writer_mid → IsSent reader_new sent
+          → StoppedAt m (page rules width print gathered) writer_mid writer_new → n
+          ≡ length (page rules width print sent) + m
       → Stops rules width print reader_old writer_old reader_new writer_new (f.Write n)
   ends_write reader_new writer_mid writer_new ending bytes sent gathered others more m n gave pars written wrote ahead stopped n_is =
       let front = page rules width print sent in
@@ -230,13 +240,16 @@ module _ (rules : Rules) (width : ℕ) (print : Print) (reader_old writer_old : 
       let at = within gathered m stopped.0 in
       let before = sent ++ at.before in
       let pars_2 : front_paragraphs rules bytes ≡ before ++ (at.next ∷ (at.after ++ others)) =
-      pars ∙ ap (λ t. (sent ++ t) ++ others) at.parts ∙ append_assoc sent (at.before ++ at.next ∷ at.after) others ∙ ap (λ t. sent ++ t) (append_assoc at.before (at.next ∷ at.after) others) ∙ sym (append_assoc sent at.before (at.next ∷ (at.after ++ others))) in
+      pars ∙ ap (λ t. (sent ++ t) ++ others) at.parts ∙ append_assoc sent (at.before ++ at.next ∷ at.after) others
+          ∙ ap (λ t. sent ++ t) (append_assoc at.before (at.next ∷ at.after) others)
+          ∙ sym (append_assoc sent at.before (at.next ∷ (at.after ++ others))) in
       let took_2 : front ++ take m lines ≡ page rules width print before ++ take at.n (page rules width print (at.next ∷ [])) =
       ap (λ t. front ++ t) at.lines ∙ sym (append_assoc front (page rules width print at.before) (take at.n (page rules width print (at.next ∷ []))))
       ∙ ap (λ t. t ++ take at.n (page rules width print (at.next ∷ []))) (sym (flat_map-append (paragraph_bytes rules width print) sent at.before)) in
       record {
         run = λ engine_old engine_new. (ending, bytes, gave, tt, tt, subst (λ (t : List ℕ). StoppedAt n t writer_old writer_new) (sym pages) stopped_all);
-        ahead = ahead_at reader_new writer_new ending bytes before (at.next ∷ (at.after ++ others)) at.n gave pars_2 (subst (Took writer_old writer_new) took_2 took) (ahead_more reader_new sent at.before ahead);
+        ahead = ahead_at reader_new writer_new ending bytes before (at.next ∷ (at.after ++ others)) at.n gave pars_2
+            (subst (Took writer_old writer_new) took_2 took) (ahead_more reader_new sent at.before ahead);
       }
 
 -- what is left of a text whose first paragraphs are known
@@ -251,7 +264,9 @@ gone_on is_cut ps (a ∷ text) rest front = inr (front.filled (omega arith))
 begins_in : (is_cut : ℕ → ℕ → Bool) (ps : List (List ℕ)) (rest : List ℕ) (whole : Bool) → are_within ps ≡ true → (ps ≡ []) ⊎ (0 < length rest)
     → (more : List ℕ) → (others : List (List ℕ)) × (written_of (ps ++ paragraphs is_cut (rest ++ more)) whole ≡ ps ++ others)
 begins_in is_cut ps rest whole all (inl none) more =
-    (written_of (paragraphs is_cut (rest ++ more)) whole, ap (λ qs. written_of (qs ++ paragraphs is_cut (rest ++ more)) whole) none ∙ ap (λ qs. qs ++ written_of (paragraphs is_cut (rest ++ more)) whole) (sym none))
+    (written_of (paragraphs is_cut (rest ++ more)) whole, ap
+        (λ qs. written_of (qs ++ paragraphs is_cut (rest ++ more)) whole) none
+        ∙ ap (λ qs. qs ++ written_of (paragraphs is_cut (rest ++ more)) whole) (sym none))
 begins_in is_cut ps [] whole all (inr some) more = absurd (omega arith)
 begins_in is_cut ps (a ∷ rest) whole all (inr some) more =
     let first = first_paragraph is_cut a (rest ++ more) in
@@ -289,14 +304,17 @@ module _ (rules : Rules) (width : ℕ) (print : Print) (reader_old reader_new wr
   pub at_memory : Stops rules width print reader_old writer_old reader_new writer_new f.Memory
   at_memory =
       let more = begins rest_of (is_none (input_fault AtEnd (at.decoded ++ rest_of))) in
-      ends_memory rules width print reader_old writer_old reader_new writer_new AtEnd (at.decoded ++ rest_of) at.sent (at.gathered ++ paragraphs (cut_by rules) (text ++ front_of rest_of)) (at.gathered ++ more.0) gave_all
+      ends_memory rules width print reader_old writer_old reader_new writer_new AtEnd (at.decoded
+          ++ rest_of) at.sent (at.gathered ++ paragraphs (cut_by rules) (text ++ front_of rest_of)) (at.gathered
+          ++ more.0) gave_all
       (pars_are rest_of ∙ append_assoc at.sent at.gathered _) (more.1 ∙ append_assoc at.sent at.gathered more.0) at.wrote sent_ahead
 
   pub at_write : (writer_last : Device) (m n : ℕ) → StoppedAt m lines writer_new writer_last → n ≡ length (page rules width print at.sent) + m
       → Stops rules width print reader_old writer_old reader_new writer_last (f.Write n)
   at_write writer_last m n stopped n_is =
       let more = begins rest_of (is_none (input_fault AtEnd (at.decoded ++ rest_of))) in
-      ends_write rules width print reader_old writer_old reader_new writer_new writer_last AtEnd (at.decoded ++ rest_of) at.sent at.gathered (paragraphs (cut_by rules) (text ++ front_of rest_of)) more.0 m n gave_all
+      ends_write rules width print reader_old writer_old reader_new writer_new writer_last AtEnd (at.decoded
+          ++ rest_of) at.sent at.gathered (paragraphs (cut_by rules) (text ++ front_of rest_of)) more.0 m n gave_all
       (pars_are rest_of) more.1 at.wrote sent_ahead (subst (λ (t : List ℕ). StoppedAt m t writer_new writer_last) at.lines_are stopped) n_is
 
   -- the lines are written
@@ -362,7 +380,9 @@ module _ (rules : Rules) (width : ℕ) (print : Print) (reader_old reader_new wr
         }
 
     -- the last paragraph of a text that isn't whole
-    open_part : (rest : List ℕ) → IsOpen (cut_by rules) rest → (0 < length rest) ⊎ (at.sent ≡ []) → (written_of (at.sent ++ paragraphs (cut_by rules) rest) false ≡ at.sent) × (are_within (at.sent ++ paragraphs (cut_by rules) rest) ≡ true)
+    open_part : (rest : List ℕ) → IsOpen (cut_by rules) rest → (0 < length rest) ⊎ (at.sent ≡ [])
+        → (written_of (at.sent ++ paragraphs (cut_by rules) rest) false ≡ at.sent)
+        × (are_within (at.sent ++ paragraphs (cut_by rules) rest) ≡ true)
     open_part [] is_open (inl some) = absurd (omega arith)
     open_part [] is_open (inr none) = (ap (λ ps. written_of (ps ++ []) false) none ∙ sym none, ap (λ ps. are_within (ps ++ [])) none)
     open_part (a ∷ rest) is_open some =
@@ -376,9 +396,14 @@ module _ (rules : Rules) (width : ℕ) (print : Print) (reader_old reader_new wr
     text_or_none = ⊎_elim (λ none. inr (sym sent_is ∙ none)) (λ some. inl some) (gone_on (cut_by rules) (at.sent ++ at.gathered) (chars at.decoded) text at.front)
 
     -- the fault of an input of which no more is text
-    pub at_fault : (reader_last : Device) (ending : Ending) (after : List ℕ) (fault : RunFault) → Gave reader_old reader_last ending (at.decoded ++ after) → IsSent rules width print reader_old writer_old reader_last at.sent → IsOpen (cut_by rules) text → utf8_valid_len after ≡ 0
+    pub at_fault : (reader_last : Device) (ending : Ending) (after : List ℕ) (fault : RunFault)
+        → Gave reader_old reader_last ending (at.decoded ++ after)
+        → IsSent rules width print reader_old writer_old reader_last at.sent → IsOpen (cut_by rules) text
+        → utf8_valid_len after ≡ 0
         → input_fault ending (at.decoded ++ after) ≡ Some fault
-        → ((written : List (List ℕ)) (wrong : Option RunFault) → Some fault ≡ wrong → Wrote (page rules width print written) writer_old writer_new → EndsWith (page rules width print) written wrong writer_old writer_new (Some fault))
+        → ((written : List (List ℕ)) (wrong : Option RunFault) → Some fault ≡ wrong
+            → Wrote (page rules width print written) writer_old writer_new
+            → EndsWith (page rules width print) written wrong writer_old writer_new (Some fault))
         → Stops rules width print reader_old writer_old reader_last writer_new fault
     at_fault reader_last ending after fault gave ahead is_open none wrong_is ends =
         let bytes = at.decoded ++ after in
@@ -391,6 +416,9 @@ module _ (rules : Rules) (width : ℕ) (print : Print) (reader_old reader_new wr
         let end_is : Some fault ≡ ending_of (front_paragraphs rules bytes) (input_fault ending bytes) =
         sym wrong_is ∙ sym (ap (λ (b : Bool). if b then input_fault ending bytes else Some f.ParagraphTooLong) within_is) in
         record {
-          run = λ engine_old engine_new. (ending, bytes, gave, tt, tt, ends _ _ end_is (subst (λ (ps : List (List ℕ)). Wrote (page rules width print ps) writer_old writer_new) (sym written) at.wrote));
+          run = λ engine_old engine_new.
+              (ending, bytes, gave, tt, tt, ends _ _ end_is
+              (subst (λ (ps : List (List ℕ)). Wrote (page rules width print ps) writer_old writer_new) (sym written)
+              at.wrote));
           ahead = ahead_done rules width print reader_old writer_old reader_last writer_new ending bytes at.sent (paragraphs (cut_by rules) text) gave pars at.wrote ahead;
         }

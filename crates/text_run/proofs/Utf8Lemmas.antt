@@ -183,7 +183,8 @@ second_of_3 c a b d valid least low high f g is = go (cases_lt 224 a) (cases_lt 
         subst (λ x. is_in_range (second_byte_min x) (second_byte_max x) b ≡ true) (sym a_is) (grind (arith, nat_tests))
     go (inl more) (inr low_2) (inr high_2) (inr above) = absurd (omega (arith, is, above.0))
 
-second_of_4 : (c a b d e : ℕ) → Scalar c → 65536 ≤ c → 240 ≤ a → Follows b → Follows d → Follows e → c + 63447168 ≡ a * 262144 + b * 4096 + d * 64 + e → (a ≤ 244) × (is_in_range (second_byte_min a) (second_byte_max a) b ≡ true)
+second_of_4 : (c a b d e : ℕ) → Scalar c → 65536 ≤ c → 240 ≤ a → Follows b → Follows d → Follows e → c + 63447168
+    ≡ a * 262144 + b * 4096 + d * 64 + e → (a ≤ 244) × (is_in_range (second_byte_min a) (second_byte_max a) b ≡ true)
 second_of_4 c a b d e valid least low f g h is = go (cases_lt 240 a) (cases_lt a 244)
   where
     top : c < 1114112

@@ -157,7 +157,8 @@ pub record Stands (rules : Rules) (width : ℕ) (print : Print) (reader_old writ
   pub counts : Prints (length (concat is_at.sent)) print engine_old engine_new
 
 -- the run ends so
-pub record Ends (rules : Rules) (width : ℕ) (print : Print) (reader_old writer_old : Device) (engine_old : Engine) (reader_new writer_new : Device) (engine_new : Engine) (result : Result (Unit {0}) RunFault) : Type 0 where
+pub record Ends (rules : Rules) (width : ℕ) (print : Print) (reader_old writer_old : Device) (engine_old : Engine)
+    (reader_new writer_new : Device) (engine_new : Engine) (result : Result (Unit {0}) RunFault) : Type 0 where
   pub run : IsTextRun rules width print reader_old reader_new writer_old writer_new engine_old engine_new result
   pub ahead : OnErr result (ReadsAhead rules width print reader_old reader_new writer_old writer_new)
   pub at_most : OnErr result (PrintsNoMore print reader_old reader_new engine_old engine_new)

@@ -15,8 +15,6 @@ use Rattle.text_run.specs.Counts.{PrintsAtMost}
 use Rattle.text_run.specs.declared.faults.RunFault.{RunFault}
 use Rattle.text_run.specs.declared.faults.RunFault.TheVariants as fault
 use Rattle.text_run.specs.declared.text.TheConstants.{PIECE}
-use Rattle.text_run.specs.declared.text.Ending.{Ending}
-use Rattle.text_run.specs.declared.text.Ending.TheVariants.{AtEnd, AtFailure}
 use Rattle.device.specs.Device.{Device, FailedLast, Took, Wrote, StoppedAt}
 
 -- the characters before the first byte that is not UTF-8
@@ -26,6 +24,11 @@ front_of bytes = chars (take (utf8_valid_len bytes) bytes)
 -- whether the bytes after the front can begin no character, whatever follows them
 abbrev pub is_bad : List ℕ → Bool
 is_bad bytes = is_some (utf8_error_len (drop (utf8_valid_len bytes) bytes))
+
+-- how an input ended: the source had no more, or it failed
+pub data Ending : Type 0 where
+  AtEnd : Ending
+  AtFailure : Ending
 
 -- What is wrong with an input: bytes that are not UTF-8, which a beginning of a character is too where the input ended, or a read that failed.
 abbrev pub input_fault : Ending → List ℕ → Option RunFault

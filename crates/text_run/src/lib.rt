@@ -9,4 +9,4 @@ mod text;
 
 pub use faults::RunFault;
 pub use pieces::front;
-pub use text::{PIECE, room, run_text};
+pub use text::{PIECE, run_text, zeroed};

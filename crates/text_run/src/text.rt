@@ -29,13 +29,6 @@ use std::io::ErrorKind;
 /// How many bytes are asked of a source at a time.
 pub const PIECE: usize = 65_536;
 
-/// How an input ended: the source had no more, or it failed.
-#[derive(Clone, Copy, Debug, PartialEq, Eq)]
-pub enum Ending {
-    AtEnd,
-    AtFailure,
-}
-
 /// What a run holds between two reads.
 #[derive(Debug)]
 struct Held {
@@ -65,7 +58,7 @@ impl Drop for Held {
 }
 
 /// Room for so many bytes.
-pub fn room(alloc: Global, len: usize) -> Result<Vec<u8>, AllocError>
+pub fn zeroed(alloc: Global, len: usize) -> Result<Vec<u8>, AllocError>
     ensures { IfOk result (λ piece. vec_len piece ≡ len) }
 {
     vec![in alloc; 0; len]
@@ -94,7 +87,7 @@ impl Held {
         ensures page { IfOk result (λ held. held.page.bytes.items ≡ []) }
     {
         Ok(Held {
-            piece: room(alloc, PIECE)?,
+            piece: zeroed(alloc, PIECE)?,
             waiting: 0,
             decoded: 0,
             text: Vec::new(alloc),

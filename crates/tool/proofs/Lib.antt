@@ -6,3 +6,4 @@ pub mod ScriptLemmas
 pub mod ScriptStepLemmas
 pub mod StartLemmas
 pub mod WorkLemmas
+mod WorkedRows

@@ -39,7 +39,8 @@ stops-after old mid new xs ys done n (f.BadLine m) first stopped = absurd stoppe
 stops-after old mid new xs ys done n f.Memory first stopped = absurd stopped
 stops-after old mid new xs ys done n f.TextTooLong first stopped = absurd stopped
 
-pub each_stops-after : (old mid new : Device) (xs ys : List ℕ) (done n : ℕ) (r : Result ℕ RunFault) → PassedOn xs done old mid n → IfErr r (Stops ys n mid new) → IfErr r (Stops (xs ++ ys) done old new)
+pub each_stops-after : (old mid new : Device) (xs ys : List ℕ) (done n : ℕ) (r : Result ℕ RunFault)
+    → PassedOn xs done old mid n → IfErr r (Stops ys n mid new) → IfErr r (Stops (xs ++ ys) done old new)
 each_stops-after old mid new xs ys done n (Ok m) first stops = tt
 each_stops-after old mid new xs ys done n (Err fault) first stops = stops-after old mid new xs ys done n fault first stops
 

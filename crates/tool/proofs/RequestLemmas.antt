@@ -1,4 +1,4 @@
--- What a session answers to a change is what a script answers.
+-- What a session answers to an edit is what a script answers.
 use Rattle.std.proofs.Common.{◌≡◌, ℕ, false, true, Option, Some, None, Result, Ok, Err, IfOk, IfErr, sym, subst, ap, ◌∙◌, if◌then◌else◌}
 use Rattle.std.specs.Prelude.{is_none}
 use Rattle.std.proofs.lemmas.Bool.{true≢false}
@@ -6,11 +6,11 @@ use Rattle.device.specs.Device.{Device}
 use Rattle.lines.specs.Layouts.{Rules}
 use Rattle.lines.specs.Writing.{PassedOn, StoppedIn}
 use Rattle.lines.specs.declared.print.Print.{Print}
-use Rattle.session.specs.Changes.{Held}
+use Rattle.session.specs.Edits.{Held}
 use Rattle.session.specs.declared.edits.Damage.{Damage}
 use Rattle.session.specs.declared.edits.EditFault.{EditFault}
 use Rattle.session.specs.declared.edits.EditFault.TheVariants as e
-use Rattle.tool.specs.Reading.{Changed, Obeys, ObeysNot, Stops, TakesMemory, change_text, lacks_memory}
+use Rattle.tool.specs.Reading.{Edited, Obeys, ObeysNot, Stops, TakesMemory, answer_text, lacks_memory}
 use Rattle.tool.specs.ScriptRun.{after_request, answer_by, answer_to, obeyed, obeyed_text, request_refusal}
 use Rattle.tool.specs.Scripts.{Request}
 use Rattle.text_run.specs.declared.faults.RunFault.{RunFault}
@@ -18,9 +18,9 @@ use Rattle.text_run.specs.declared.faults.RunFault.TheVariants as f
 
 module _ (rules : Rules) (print : Print) (request : Request) (old new : Held) where
   -- what became of the text and the width, and what is answered
-  record Told (change : Result Damage EditFault) : Type 0 where
+  record Told (edit : Result Damage EditFault) : Type 0 where
     pub held : new ≡ after_request rules old request
-    pub text : answer_to rules print old request ≡ change_text change
+    pub text : answer_to rules print old request ≡ answer_text edit
 
   refused : (reason : EditFault) → request_refusal rules old request ≡ Some reason → new ≡ old → Told (Err reason)
   refused reason is stays = record {
@@ -28,27 +28,27 @@ module _ (rules : Rules) (print : Print) (request : Request) (old new : Held) wh
     text = ap (λ (o : Option EditFault). answer_by o (obeyed_text rules print old request)) is;
   }
 
-  told : (change : Result Damage EditFault) → Changed rules request old new change → lacks_memory change ≡ false → Told change
+  told : (edit : Result Damage EditFault) → Edited rules request old new edit → lacks_memory edit ≡ false → Told edit
   told (Ok damage) (accepted, made, text) room = record {
     held = made ∙ sym (ap (λ (o : Option EditFault). if is_none o then obeyed old request else old) accepted);
     text = ap (λ (o : Option EditFault). answer_by o (obeyed_text rules print old request)) accepted ∙ text print;
   }
-  told (Err e.NoMemory) changed room = absurd (true≢false room)
+  told (Err e.NoMemory) replaced room = absurd (true≢false room)
   told (Err e.OutOfRange) (is, stays) room = refused e.OutOfRange is stays
   told (Err e.WidthOutOfRange) (is, stays) room = refused e.WidthOutOfRange is stays
   told (Err e.TextTooLong) (is, stays) room = refused e.TextTooLong is stays
   told (Err e.ParagraphTooLong) (is, stays) room = refused e.ParagraphTooLong is stays
 
-  module _ (change : Result Damage EditFault) (changed : Changed rules request old new change) (room : lacks_memory change ≡ false) (written : ℕ) (writer_old writer_new : Device) where
-    pub obeys : (r : Result ℕ RunFault) → IfOk r (PassedOn (change_text change) written writer_old writer_new) → IfOk r (Obeys rules print request written old new writer_old writer_new)
+  module _ (edit : Result Damage EditFault) (replaced : Edited rules request old new edit) (room : lacks_memory edit ≡ false) (written : ℕ) (writer_old writer_new : Device) where
+    pub obeys : (r : Result ℕ RunFault) → IfOk r (PassedOn (answer_text edit) written writer_old writer_new) → IfOk r (Obeys rules print request written old new writer_old writer_new)
     obeys (Ok n) passed =
-        let t = told change changed room in
+        let t = told edit replaced room in
         record { held = t.held; wrote = subst (λ text. PassedOn text written writer_old writer_new n) (sym t.text) passed }
     obeys (Err fault) passed = tt
 
-    stops_at : (fault : RunFault) → Stops (change_text change) written writer_old writer_new fault → ObeysNot rules print request written old new writer_old writer_new fault
+    stops_at : (fault : RunFault) → Stops (answer_text edit) written writer_old writer_new fault → ObeysNot rules print request written old new writer_old writer_new fault
     stops_at (f.Write n) stopped =
-        let t = told change changed room in (t.held, subst (λ text. StoppedIn text written writer_old writer_new n) (sym t.text) stopped)
+        let t = told edit replaced room in (t.held, subst (λ text. StoppedIn text written writer_old writer_new n) (sym t.text) stopped)
     stops_at f.Read stopped = absurd stopped
     stops_at (f.NotUtf8 n) stopped = absurd stopped
     stops_at f.ParagraphTooLong stopped = absurd stopped
@@ -56,15 +56,15 @@ module _ (rules : Rules) (print : Print) (request : Request) (old new : Held) wh
     stops_at f.Memory stopped = absurd stopped
     stops_at f.TextTooLong stopped = absurd stopped
 
-    pub stops : (r : Result ℕ RunFault) → IfErr r (Stops (change_text change) written writer_old writer_new) → IfErr r (ObeysNot rules print request written old new writer_old writer_new)
+    pub stops : (r : Result ℕ RunFault) → IfErr r (Stops (answer_text edit) written writer_old writer_new) → IfErr r (ObeysNot rules print request written old new writer_old writer_new)
     stops (Ok n) stopped = tt
     stops (Err fault) stopped = stops_at fault stopped
 
   -- where memory ran out nothing refuses what is asked, it takes some, and all stays
-  pub wants : (change : Result Damage EditFault) → Changed rules request old new change → lacks_memory change ≡ true → (request_refusal rules old request ≡ None) × TakesMemory old request × (new ≡ old)
-  wants (Ok damage) changed short = absurd (true≢false (sym short))
-  wants (Err e.NoMemory) changed short = changed
-  wants (Err e.OutOfRange) changed short = absurd (true≢false (sym short))
-  wants (Err e.WidthOutOfRange) changed short = absurd (true≢false (sym short))
-  wants (Err e.TextTooLong) changed short = absurd (true≢false (sym short))
-  wants (Err e.ParagraphTooLong) changed short = absurd (true≢false (sym short))
+  pub wants : (edit : Result Damage EditFault) → Edited rules request old new edit → lacks_memory edit ≡ true → (request_refusal rules old request ≡ None) × TakesMemory old request × (new ≡ old)
+  wants (Ok damage) replaced short = absurd (true≢false (sym short))
+  wants (Err e.NoMemory) replaced short = replaced
+  wants (Err e.OutOfRange) replaced short = absurd (true≢false (sym short))
+  wants (Err e.WidthOutOfRange) replaced short = absurd (true≢false (sym short))
+  wants (Err e.TextTooLong) replaced short = absurd (true≢false (sym short))
+  wants (Err e.ParagraphTooLong) replaced short = absurd (true≢false (sym short))

@@ -9,18 +9,16 @@ use Rattle.device.specs.Device.{Device, StoppedAt, Took, Wrote, greatest}
 use Rattle.lines.specs.Layouts.{Rules}
 use Rattle.lines.specs.Writing.{StoppedIn}
 use Rattle.tool.specs.declared.script.ScriptOptions.{ScriptOptions}
-use Rattle.session.specs.Changes.{Held}
-use Rattle.session.specs.Sessions.{State, held_at}
+use Rattle.session.specs.Edits.{Held}
+use Rattle.session.specs.Sessions.{SessionState, held_at}
 use Rattle.tool.specs.Reading.{FailsAt, NoEnd}
 use Rattle.tool.specs.Scripts.{is_line_end, lines_among, request_of_line, script_lines}
 use Rattle.tool.specs.ScriptRun.{after_line, after_lines, answer_line, answers, good_lines, input_fault, is_good, line_read_ahead, script_fault, with_ends}
 use Rattle.tool.specs.ScriptEnds.{Answered, EndsAfter, IsScriptRun, obeyed_lines}
 use Rattle.tool.specs.Work.{LineWorks, LinesWork}
-use Rattle.text_run.specs.TextRun.{Gave}
+use Rattle.text_run.specs.TextRun.{Ending, AtEnd, AtFailure, Gave}
 use Rattle.text_run.specs.declared.faults.RunFault.{RunFault}
 use Rattle.text_run.specs.declared.faults.RunFault.TheVariants as f
-use Rattle.text_run.specs.declared.text.Ending.{Ending}
-use Rattle.text_run.specs.declared.text.Ending.TheVariants.{AtEnd, AtFailure}
 use Rattle.text_run.proofs.StreamLemmas.{Took-append}
 use Rattle.tool.proofs.WorkLemmas.{lines_work_bad, lines_work_more}
 
@@ -33,7 +31,8 @@ parts_some (b ∷ bytes) =
     let later = parts_some bytes in
     go (is_line_end b) refl later.0 later.1 later.2
   where
-    go : (t : Bool) → is_line_end b ≡ t → (p : List ℕ) (ps : List (List ℕ)) → slice_split is_line_end bytes ≡ p ∷ ps → (q : List ℕ) × (qs : List (List ℕ)) × (slice_split is_line_end (b ∷ bytes) ≡ q ∷ qs)
+    go : (t : Bool) → is_line_end b ≡ t → (p : List ℕ) (ps : List (List ℕ)) → slice_split is_line_end bytes ≡ p ∷ ps
+        → (q : List ℕ) × (qs : List (List ℕ)) × (slice_split is_line_end (b ∷ bytes) ≡ q ∷ qs)
     go true is p ps parts = ([], slice_split is_line_end bytes, rw is refl)
     go false is p ps parts = (b ∷ p, ps, rw (is, parts) refl)
 
@@ -89,7 +88,8 @@ module _ (rules : Rules) (options : ScriptOptions) where
   after_more held [] ms = refl
   after_more held (l ∷ ls) ms = after_more (after_line rules held (request_of_line options.queries l)) ls ms
 
-  pub answers_more : (held : Held) (ls ms : List (List ℕ)) → answers rules options held (ls ++ ms) ≡ answers rules options held ls ++ answers rules options (after_lines rules options.queries held ls) ms
+  pub answers_more : (held : Held) (ls ms : List (List ℕ)) → answers rules options held (ls ++ ms)
+      ≡ answers rules options held ls ++ answers rules options (after_lines rules options.queries held ls) ms
   answers_more held [] ms = refl
   answers_more held (l ∷ ls) ms =
       let here = answer_line rules options.print held (request_of_line options.queries l) in
@@ -98,7 +98,7 @@ module _ (rules : Rules) (options : ScriptOptions) where
 
 -- ---- how the run ends
 
-module _ (rules : Rules) (options : ScriptOptions) (start now : State) (reader_old writer_old reader_new writer_new : Device) where
+module _ (rules : Rules) (options : ScriptOptions) (start now : SessionState) (reader_old writer_old reader_new writer_new : Device) where
   abbrev before : Held
   before = held_at start
 
@@ -176,10 +176,14 @@ module _ (rules : Rules) (options : ScriptOptions) (start now : State) (reader_o
       )
 
   -- a line is none
-  ends_bad : (ending : Ending) (bytes : List ℕ) (done : List (List ℕ)) (line : List ℕ) (others : List (List ℕ)) (n : ℕ) → Gave reader_old reader_new ending bytes → script_lines ending bytes ≡ done ++ line ∷ others → list_all (is_good options.queries) done ≡ true
+  ends_bad : (ending : Ending) (bytes : List ℕ) (done : List (List ℕ)) (line : List ℕ) (others : List (List ℕ)) (n : ℕ)
+      → Gave reader_old reader_new ending bytes → script_lines ending bytes ≡ done ++ line ∷ others
+      → list_all (is_good options.queries) done ≡ true
       → is_good options.queries line ≡ false → n ≡ length done + 1 → IsAll done → IsScriptRun rules options start now reader_old reader_new writer_old writer_new (Err (f.BadLine n))
   ends_bad ending bytes done line others n gave lines good bad number all =
-      let are : good_lines options.queries (script_lines ending bytes) ≡ done ++ [] = ap (good_lines options.queries) lines ∙ take_while_more options.queries done (line ∷ others) good ∙ ap (λ t. done ++ t) (good_none options.queries line others bad) in
+      let are : good_lines options.queries (script_lines ending bytes) ≡ done
+          ++ [] = ap (good_lines options.queries) lines ∙ take_while_more options.queries done (line ∷ others) good
+          ∙ ap (λ t. done ++ t) (good_none options.queries line others bad) in
       let not_all : list_all (is_good options.queries) (script_lines ending bytes) ≡ false = ap (list_all (is_good options.queries)) lines ∙ all_but options.queries done line others bad in
       let fault : Some (f.BadLine n) ≡ script_fault options.queries ending (script_lines ending bytes) =
       ap (λ k. Some (f.BadLine k)) (number ∙ ap (λ (ls : List (List ℕ)). length ls + 1) (sym (are ∙ append-nil done)))
@@ -192,12 +196,16 @@ module _ (rules : Rules) (options : ScriptOptions) (start now : State) (reader_o
       )
 
   -- memory was wanting, after these lines or for the next
-  pub ends_short : (ending : Ending) (bytes : List ℕ) (done others : List (List ℕ)) → Gave reader_old reader_new ending bytes → script_lines ending bytes ≡ done ++ others → list_all (is_good options.queries) done ≡ true
+  pub ends_short : (ending : Ending) (bytes : List ℕ) (done others : List (List ℕ))
+      → Gave reader_old reader_new ending bytes → script_lines ending bytes ≡ done ++ others
+      → list_all (is_good options.queries) done ≡ true
       → IsDone done → Wrote (answers rules options before done) writer_old writer_new → held_at now ≡ after_lines rules options.queries before done
       → LinesWork rules options.queries before (done ++ take 1 (good_lines options.queries others)) start.engine now.engine
       → IsScriptRun rules options start now reader_old reader_new writer_old writer_new (Err f.Memory)
   ends_short ending bytes done others gave lines good ahead wrote held works =
-      let are : good_lines options.queries (script_lines ending bytes) ≡ done ++ good_lines options.queries others = ap (good_lines options.queries) lines ∙ take_while_more options.queries done others good in
+      let are : good_lines options.queries (script_lines ending bytes) ≡ done
+          ++ good_lines options.queries others = ap (good_lines options.queries) lines
+          ∙ take_while_more options.queries done others good in
       let first : take (length done) (done ++ good_lines options.queries others) ≡ done = take-append_seam done (good_lines options.queries others) in (
         ending,
         bytes,
@@ -212,19 +220,29 @@ module _ (rules : Rules) (options : ScriptOptions) (start now : State) (reader_o
       )
 
   -- the answer to a line was written in part
-  ends_write : (ending : Ending) (bytes : List ℕ) (done : List (List ℕ)) (line : List ℕ) (others : List (List ℕ)) (held : Held) (written n : ℕ) (writer_mid : Device) → Gave reader_old reader_new ending bytes
-      → script_lines ending bytes ≡ done ++ line ∷ others → list_all (is_good options.queries) done ≡ true → is_good options.queries line ≡ true → held ≡ after_lines rules options.queries before done → written ≡ length (answers rules options before done)
-      → Wrote (answers rules options before done) writer_old writer_mid → StoppedIn (answer_line rules options.print held (request_of_line options.queries line)) written writer_mid writer_new n → IsDone done
+  ends_write : (ending : Ending) (bytes : List ℕ) (done : List (List ℕ)) (line : List ℕ) (others : List (List ℕ))
+      (held : Held) (written n : ℕ) (writer_mid : Device) → Gave reader_old reader_new ending bytes
+      → script_lines ending bytes ≡ done ++ line ∷ others → list_all (is_good options.queries) done ≡ true
+          → is_good options.queries line ≡ true → held ≡ after_lines rules options.queries before done → written
+          ≡ length (answers rules options before done)
+      → Wrote (answers rules options before done) writer_old writer_mid
+          → StoppedIn (answer_line rules options.print held (request_of_line options.queries line)) written writer_mid
+          writer_new n → IsDone done
       → held_at now ≡ after_line rules held (request_of_line options.queries line) → LinesWork rules options.queries before (done ++ line ∷ []) start.engine now.engine
       → IsScriptRun rules options start now reader_old reader_new writer_old writer_new (Err (f.Write n))
   ends_write ending bytes done line others held written n writer_mid gave lines good here held_is count wrote stopped ahead now_is works =
-      let are : good_lines options.queries (script_lines ending bytes) ≡ done ++ line ∷ good_lines options.queries others = ap (good_lines options.queries) lines ∙ take_while_more options.queries done (line ∷ others) good ∙ ap (λ t. done ++ t) (good_one options.queries line others here) in
+      let are : good_lines options.queries (script_lines ending bytes) ≡ done
+          ++ line ∷ good_lines options.queries others = ap (good_lines options.queries) lines
+          ∙ take_while_more options.queries done (line ∷ others) good
+          ∙ ap (λ t. done ++ t) (good_one options.queries line others here) in
       let first : take (length done) (done ++ line ∷ good_lines options.queries others) ≡ done = take-append_seam done (line ∷ good_lines options.queries others) in
       let both : take (length done + 1) (done ++ line ∷ good_lines options.queries others) ≡ done ++ line ∷ [] = take-append-add done (line ∷ good_lines options.queries others) 1 in
       let front = answers rules options before done in
       let next = answer_line rules options.print (after_lines rules options.queries before done) (request_of_line options.queries line) in
       let m = n - written in
-      let stopped_next : StoppedAt m next writer_mid writer_new = subst (λ (h : Held). StoppedAt m (answer_line rules options.print h (request_of_line options.queries line)) writer_mid writer_new) held_is stopped.stopped in
+      let stopped_next : StoppedAt m next writer_mid writer_new =
+          subst (λ (h : Held). StoppedAt m (answer_line rules options.print h (request_of_line options.queries line))
+          writer_mid writer_new) held_is stopped.stopped in
       let m_is : n ≡ length front + m = omega (arith, stopped.after, count) in
       let took : Took writer_old writer_new (front ++ take m next) = Took-append writer_old writer_mid writer_new front (take m next) wrote.0 stopped_next.1 in
       let text : answers rules options before (done ++ line ∷ []) ≡ front ++ next = answers_more rules options before done (line ∷ []) ∙ ap (λ t. front ++ t) (append-nil next) in
@@ -237,9 +255,13 @@ module _ (rules : Rules) (options : ScriptOptions) (start now : State) (reader_o
       in
       let whole : StoppedAt n (answers rules options before (take (length done + 1) (done ++ line ∷ good_lines options.queries others))) writer_old writer_new =
       subst (λ (t : List ℕ). StoppedAt n t writer_old writer_new) (sym (ap (answers rules options before) both ∙ text)) stopped_all in
-      let least : length (answers rules options before (take (length done) (done ++ line ∷ good_lines options.queries others))) ≤ n = omega (arith, ap (λ (ls : List (List ℕ)). length (answers rules options before ls)) first, m_is) in
+      let least : length (answers rules options before
+          (take (length done) (done ++ line ∷ good_lines options.queries others))) ≤ n =
+          omega (arith, ap (λ (ls : List (List ℕ)). length (answers rules options before ls)) first, m_is) in
       let held_now : held_at now ≡ after_lines rules options.queries before (take (length done + 1) (done ++ line ∷ good_lines options.queries others)) =
-      now_is ∙ ap (λ (h : Held). after_line rules h (request_of_line options.queries line)) held_is ∙ sym (after_more rules options before done (line ∷ [])) ∙ ap (after_lines rules options.queries before) (sym both) in (
+      now_is ∙ ap (λ (h : Held). after_line rules h (request_of_line options.queries line)) held_is
+          ∙ sym (after_more rules options before done (line ∷ []))
+          ∙ ap (after_lines rules options.queries before) (sym both) in (
         ending,
         bytes,
         gave,
@@ -248,8 +270,12 @@ module _ (rules : Rules) (options : ScriptOptions) (start now : State) (reader_o
       )
 
   -- a line fails
-  pub ends_line : (ending : Ending) (bytes : List ℕ) (done : List (List ℕ)) (line : List ℕ) (others : List (List ℕ)) (mid : State) (lines written : ℕ) (writer_mid : Device) (fault : RunFault) → Gave reader_old reader_new ending bytes
-      → script_lines ending bytes ≡ done ++ line ∷ others → list_all (is_good options.queries) done ≡ true → held_at mid ≡ after_lines rules options.queries before done → lines ≡ length done → written ≡ length (answers rules options before done)
+  pub ends_line : (ending : Ending) (bytes : List ℕ) (done : List (List ℕ)) (line : List ℕ) (others : List (List ℕ))
+      (mid : SessionState) (lines written : ℕ) (writer_mid : Device) (fault : RunFault)
+      → Gave reader_old reader_new ending bytes
+      → script_lines ending bytes ≡ done ++ line ∷ others → list_all (is_good options.queries) done ≡ true
+          → held_at mid ≡ after_lines rules options.queries before done → lines ≡ length done → written
+          ≡ length (answers rules options before done)
       → Wrote (answers rules options before done) writer_old writer_mid → LinesWork rules options.queries before done start.engine mid.engine
       → FailsAt rules options line lines written (held_at mid) (held_at now) writer_mid writer_new fault → LineWorks rules options.queries (held_at mid) line mid.engine now.engine → IsDone done
       → IsScriptRun rules options start now reader_old reader_new writer_old writer_new (Err fault)
@@ -266,7 +292,9 @@ module _ (rules : Rules) (options : ScriptOptions) (start now : State) (reader_o
       ends_write ending bytes done line others (held_at mid) written n writer_mid gave parts good here held_is written_is wrote stopped ahead now_is
       (lines_work_more rules options.queries before (held_at mid) done line start.engine mid.engine now.engine held_is before_works works)
   ends_line ending bytes done line others mid lines written writer_mid f.Memory gave parts good held_is count written_is wrote before_works (text, stays, same) works ahead =
-      ends_short ending bytes done (line ∷ others) gave parts good ahead (subst (λ w. Wrote (answers rules options before done) writer_old w) (sym same) wrote) (stays ∙ held_is) (all_works (is_good options.queries line) refl)
+      ends_short ending bytes done (line ∷ others) gave parts good ahead
+          (subst (λ w. Wrote (answers rules options before done) writer_old w) (sym same) wrote) (stays
+          ∙ held_is) (all_works (is_good options.queries line) refl)
     where
       all_works : (t : Bool) → is_good options.queries line ≡ t → LinesWork rules options.queries before (done ++ take 1 (good_lines options.queries (line ∷ others))) start.engine now.engine
       all_works true is =

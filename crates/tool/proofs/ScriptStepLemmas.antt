@@ -11,19 +11,17 @@ use Rattle.std.proofs.lemmas.List.Splits.{slice_split_at, slice_split_none}
 use Rattle.device.specs.Device.{Device, Fails, Gives, Wrote, greatest}
 use Rattle.lines.specs.Layouts.{Rules}
 use Rattle.tool.specs.declared.script.ScriptOptions.{ScriptOptions}
-use Rattle.session.specs.Changes.{Held}
-use Rattle.session.specs.Sessions.{State, held_at}
+use Rattle.session.specs.Edits.{Held}
+use Rattle.session.specs.Sessions.{SessionState, held_at}
 use Rattle.tool.specs.Reading.{EndsIn, EndsLine, FailsAt, FailsIn, FailsLine, GoesOn, GrowsNot, IsAt, NoEnd, ObeysLine, Steps, Takes}
 use Rattle.tool.specs.Scripts.{is_last_line, is_line_end, lines_among, request_of_line, script_lines}
 use Rattle.tool.specs.ScriptEnds.{IsScriptRun}
 use Rattle.tool.specs.ScriptRun.{after_line, after_lines, answer_line, answers, good_lines, is_good, with_ends}
 use Rattle.tool.specs.Work.{LineWorks, LinesWork}
-use Rattle.text_run.specs.TextRun.{Gave}
+use Rattle.text_run.specs.TextRun.{Ending, AtEnd, AtFailure, Gave}
 use Rattle.text_run.specs.declared.faults.RunFault.{RunFault}
 use Rattle.text_run.specs.declared.faults.RunFault.TheVariants as f
 use Rattle.tool.specs.declared.script.Reading.{Reading}
-use Rattle.text_run.specs.declared.text.Ending.{Ending}
-use Rattle.text_run.specs.declared.text.Ending.TheVariants.{AtEnd, AtFailure}
 use Rattle.text_run.proofs.Devices.{Took-nothing}
 use Rattle.tool.proofs.WorkLemmas.{lines_work_front, lines_work_more, works_none}
 use Rattle.tool.proofs.ScriptLemmas.{IsDone, after_more, answers_more, ends_at_failure, ends_line, ends_short, ends_whole, first_part, lines_after, parts_some}
@@ -36,7 +34,8 @@ with_ends_more [] l = omega (arith, length-append (l ++ 10 ∷ []) [], length-ap
 with_ends_more (m ∷ ls) l = omega (arith, with_ends_more ls l, length-append (m ++ 10 ∷ []) (with_ends (ls ++ l ∷ [])), length-append (m ++ 10 ∷ []) (with_ends ls))
 
 -- an ended line is the first part, after the bytes before the piece
-pub ended_first : (line piece front after more : List ℕ) → NoEnd line → EndsIn piece front after → slice_split is_line_end (line ++ (piece ++ more)) ≡ (line ++ front) ∷ slice_split is_line_end (after ++ more)
+pub ended_first : (line piece front after more : List ℕ) → NoEnd line → EndsIn piece front after
+    → slice_split is_line_end (line ++ (piece ++ more)) ≡ (line ++ front) ∷ slice_split is_line_end (after ++ more)
 ended_first line piece front after more none ends =
     let place : line ++ (piece ++ more) ≡ (line ++ front) ++ 10 ∷ (after ++ more) =
     ap (λ t. line ++ (t ++ more)) ends.whole ∙ ap (λ t. line ++ t) (append_assoc front (10 ∷ after) more) ∙ sym (append_assoc line front (10 ∷ (after ++ more))) in
@@ -56,13 +55,15 @@ long_line p (q ∷ ps) long = (lines_among AtEnd (q ∷ ps), refl)
 long_is_bad : (queries : Bool) (p : List ℕ) → LINE_LIMIT < length p → is_good queries p ≡ false
 long_is_bad queries p long = rw (over p long) refl
 
-module _ (rules : Rules) (options : ScriptOptions) (start : State) (reader_old reader writer_old writer : Device) where
+module _ (rules : Rules) (options : ScriptOptions) (start : SessionState) (reader_old reader writer_old writer : Device) where
   abbrev before : Held
   before = held_at start
 
-  module _ (now : State) (reading : Reading) where
+  module _ (now : SessionState) (reading : Reading) where
     -- ---- a piece is read
-    pub at_read : (reader_new : Device) (n : ℕ) (buffer : List ℕ) → IsAt rules options start reader_old reader writer_old writer now reading [] → Gives reader reader_new n buffer → n ≤ length buffer → n ≤ PIECE
+    pub at_read : (reader_new : Device) (n : ℕ) (buffer : List ℕ)
+        → IsAt rules options start reader_old reader writer_old writer now reading []
+        → Gives reader reader_new n buffer → n ≤ length buffer → n ≤ PIECE
         → IsAt rules options start reader_old reader_new writer_old writer now reading (take n buffer)
     at_read reader_new n buffer at gives within small =
         let piece = take n buffer in
@@ -88,7 +89,7 @@ module _ (rules : Rules) (options : ScriptOptions) (start : State) (reader_old r
 
     module _ (waiting : List ℕ) (at : IsAt rules options start reader_old reader writer_old writer now reading waiting) where
       -- ---- of what waits, a part is taken
-      pub at_more : (n : ℕ) (state : State) (new : Reading) (writer_new : Device) → GoesOn waiting n now state reading new writer writer_new
+      pub at_more : (n : ℕ) (state : SessionState) (new : Reading) (writer_new : Device) → GoesOn waiting n now state reading new writer writer_new
           → IsAt rules options start reader_old reader writer_old writer_new state new []
       at_more n state new writer_new more = record {
         bytes = at.bytes;
@@ -102,16 +103,18 @@ module _ (rules : Rules) (options : ScriptOptions) (start : State) (reader_old r
         size = omega (arith, at.size, ap length more.grows.line, length-append reading.line.items waiting);
         wrote = subst (Wrote (answers rules options before at.done) writer_old) (sym more.writer) at.wrote;
         held_is = ap held_at more.state ∙ at.held_is;
-        works = subst (λ (s : State). LinesWork rules options.queries before at.done start.engine s.engine) (sym more.state) at.works;
+        works = subst (λ (s : SessionState). LinesWork rules options.queries before at.done start.engine s.engine) (sym more.state) at.works;
         lines = more.grows.lines ∙ at.lines;
         written = more.grows.written ∙ at.written;
         ahead = omega (arith, at.ahead, ap length more.grows.line, length-append reading.line.items waiting);
         short = more.grows.short;
       }
 
-      module _ (line : List ℕ) (state : State) (new : Reading) (writer_new : Device) (obeys : ObeysLine rules options line (held_at now) (held_at state) reading new writer writer_new) where
+      module _ (line : List ℕ) (state : SessionState) (new : Reading) (writer_new : Device) (obeys : ObeysLine rules options line (held_at now) (held_at state) reading new writer writer_new) where
         next_answer : answer_line rules options.print (held_at now) (request_of_line options.queries line) ≡ answers rules options (after_lines rules options.queries before at.done) (line ∷ [])
-        next_answer = ap (λ h. answer_line rules options.print h (request_of_line options.queries line)) at.held_is ∙ sym (append-nil (answer_line rules options.print (after_lines rules options.queries before at.done) (request_of_line options.queries line)))
+        next_answer = ap (λ h. answer_line rules options.print h (request_of_line options.queries line)) at.held_is
+            ∙ sym (append-nil (answer_line rules options.print (after_lines rules options.queries before at.done)
+            (request_of_line options.queries line)))
 
         answers_are : answers rules options before (at.done ++ line ∷ []) ≡ answers rules options before at.done ++ answer_line rules options.print (held_at now) (request_of_line options.queries line)
         answers_are = answers_more rules options before at.done (line ∷ []) ∙ ap (λ t. answers rules options before at.done ++ t) (sym next_answer)
@@ -120,7 +123,10 @@ module _ (rules : Rules) (options : ScriptOptions) (start : State) (reader_old r
         obeyed_good = list_all-append (is_good options.queries) at.done (line ∷ []) ∙ ap (λ (b : Bool). b && (is_good options.queries line && true)) at.good ∙ ap (λ (b : Bool). b && true) obeys.good
 
         pub obeyed_wrote : Wrote (answers rules options before (at.done ++ line ∷ [])) writer_old writer_new
-        obeyed_wrote = subst (λ t. Wrote t writer_old writer_new) (sym answers_are) (Wrote-append writer_old writer writer_new (answers rules options before at.done) (answer_line rules options.print (held_at now) (request_of_line options.queries line)) at.wrote obeys.wrote.wrote)
+        obeyed_wrote = subst (λ t. Wrote t writer_old writer_new) (sym answers_are)
+            (Wrote-append writer_old writer writer_new (answers rules options before at.done)
+            (answer_line rules options.print (held_at now) (request_of_line options.queries line)) at.wrote
+            obeys.wrote.wrote)
 
         pub obeyed_held : held_at state ≡ after_lines rules options.queries before (at.done ++ line ∷ [])
         obeyed_held = obeys.held ∙ ap (λ h. after_line rules h (request_of_line options.queries line)) at.held_is ∙ sym (after_more rules options before at.done (line ∷ []))
@@ -129,9 +135,11 @@ module _ (rules : Rules) (options : ScriptOptions) (start : State) (reader_old r
         obeyed_works works = lines_work_more rules options.queries before (held_at now) at.done line start.engine now.engine state.engine at.held_is at.works works
 
         pub obeyed_written : new.written ≡ length (answers rules options before (at.done ++ line ∷ []))
-        obeyed_written = omega (arith, obeys.wrote.count, at.written, ap length answers_are, length-append (answers rules options before at.done) (answer_line rules options.print (held_at now) (request_of_line options.queries line)))
+        obeyed_written = omega (arith, obeys.wrote.count, at.written, ap length answers_are, length-append
+            (answers rules options before at.done)
+            (answer_line rules options.print (held_at now) (request_of_line options.queries line)))
 
-      pub at_line : (n : ℕ) (state : State) (new : Reading) (writer_new : Device) (taken : EndsLine rules options waiting n now state reading new writer writer_new)
+      pub at_line : (n : ℕ) (state : SessionState) (new : Reading) (writer_new : Device) (taken : EndsLine rules options waiting n now state reading new writer writer_new)
           → IsAt rules options start reader_old reader writer_old writer_new state new taken.after
       at_line n state new writer_new taken =
           let line = reading.line.items ++ taken.front in
@@ -159,17 +167,19 @@ module _ (rules : Rules) (options : ScriptOptions) (start : State) (reader_old r
             short = omega (arith, ap length obeys.empty);
           }
 
-      pub at_taken : (n : ℕ) (state : State) (new : Reading) (writer_new : Device) → Takes rules options waiting n now state reading new writer writer_new
+      pub at_taken : (n : ℕ) (state : SessionState) (new : Reading) (writer_new : Device) → Takes rules options waiting n now state reading new writer writer_new
           → IsAt rules options start reader_old reader writer_old writer_new state new (drop n waiting)
       at_taken n state new writer_new (inl more) =
-          subst (IsAt rules options start reader_old reader writer_old writer_new state new) (sym (ap (λ k. drop k waiting) more.all ∙ drop_all (length waiting) waiting (omega arith))) (at_more n state new writer_new more)
+          subst (IsAt rules options start reader_old reader writer_old writer_new state new)
+              (sym (ap (λ k. drop k waiting) more.all ∙ drop_all (length waiting) waiting (omega arith)))
+              (at_more n state new writer_new more)
       at_taken n state new writer_new (inr taken) =
           let place : drop n waiting ≡ taken.after =
           ap (λ k. drop k waiting) taken.taken ∙ ap (drop (length taken.front + 1)) taken.ends.whole ∙ drop-append-add taken.front (10 ∷ taken.after) 1 in
           subst (IsAt rules options start reader_old reader writer_old writer_new state new) (sym place) (at_line n state new writer_new taken)
 
       -- ---- the run ends within it
-      ahead_now : (state : State) (writer_new : Device) → IsDone rules options start state reader_old writer_old reader writer_new at.done
+      ahead_now : (state : SessionState) (writer_new : Device) → IsDone rules options start state reader_old writer_old reader writer_new at.done
       ahead_now state writer_new = record { ahead = omega (arith, at.passed, at.size, at.ahead) }
 
       abbrev rest : List ℕ
@@ -178,7 +188,8 @@ module _ (rules : Rules) (options : ScriptOptions) (start : State) (reader_old r
       gave : Gave reader_old reader AtEnd (at.bytes ++ rest)
       gave = (had reader_old.bytes reader.bytes at.bytes at.read, at.failures)
 
-      lines_are : (p : List ℕ) (ps : List (List ℕ)) → slice_split is_line_end (reading.line.items ++ (waiting ++ rest)) ≡ p ∷ ps → script_lines AtEnd (at.bytes ++ rest) ≡ at.done ++ lines_among AtEnd (p ∷ ps)
+      lines_are : (p : List ℕ) (ps : List (List ℕ)) → slice_split is_line_end (reading.line.items ++ (waiting ++ rest))
+          ≡ p ∷ ps → script_lines AtEnd (at.bytes ++ rest) ≡ at.done ++ lines_among AtEnd (p ∷ ps)
       lines_are p ps parts = ap (lines_among AtEnd) (at.parts rest ∙ ap (λ t. at.done ++ t) parts) ∙ lines_after AtEnd at.done p ps
 
       -- for want of memory
@@ -186,17 +197,22 @@ module _ (rules : Rules) (options : ScriptOptions) (start : State) (reader_old r
       ends_memory =
           let some = parts_some (reading.line.items ++ (waiting ++ rest)) in
           let others = lines_among AtEnd (some.0 ∷ some.1) in
-          ends_short rules options start now reader_old writer_old reader writer AtEnd (at.bytes ++ rest) at.done others gave (lines_are some.0 some.1 some.2) at.good (ahead_now now writer) at.wrote at.held_is
+          ends_short rules options start now reader_old writer_old reader writer AtEnd (at.bytes
+              ++ rest) at.done others gave (lines_are some.0 some.1 some.2) at.good (ahead_now now writer) at.wrote
+              at.held_is
           (lines_work_front rules options.queries before at.done (take 1 (good_lines options.queries others)) start.engine now.engine at.works)
 
       -- at a line that is ended
-      ends_ended : (state : State) (writer_new : Device) (fault : RunFault) → FailsLine rules options waiting now state reading writer writer_new fault
+      ends_ended : (state : SessionState) (writer_new : Device) (fault : RunFault) → FailsLine rules options waiting now state reading writer writer_new fault
           → IsScriptRun rules options start state reader_old reader writer_old writer_new (Err fault)
       ends_ended state writer_new fault failed =
           let line = reading.line.items ++ failed.front in
           let some = parts_some (failed.after ++ rest) in
-          let parts : slice_split is_line_end (reading.line.items ++ (waiting ++ rest)) ≡ line ∷ (some.0 ∷ some.1) = ended_first reading.line.items waiting failed.front failed.after rest at.none failed.ends ∙ ap (λ t. line ∷ t) some.2 in
-          ends_line rules options start state reader_old writer_old reader writer_new AtEnd (at.bytes ++ rest) at.done line (lines_among AtEnd (some.0 ∷ some.1)) now reading.lines reading.written writer fault
+          let parts : slice_split is_line_end (reading.line.items ++ (waiting ++ rest))
+              ≡ line ∷ (some.0 ∷ some.1) = ended_first reading.line.items waiting failed.front failed.after rest
+              at.none failed.ends ∙ ap (λ t. line ∷ t) some.2 in
+          ends_line rules options start state reader_old writer_old reader writer_new AtEnd (at.bytes
+              ++ rest) at.done line (lines_among AtEnd (some.0 ∷ some.1)) now reading.lines reading.written writer fault
           gave (lines_are line (some.0 ∷ some.1) parts) at.good at.held_is at.lines at.written at.wrote at.works failed.fails failed.works (ahead_now state writer_new)
 
       -- at one that is too long, wherever it ends
@@ -214,7 +230,9 @@ module _ (rules : Rules) (options : ScriptOptions) (start : State) (reader_old r
           let is_line = long_line first some.1 more in
           let bad : is_good options.queries first ≡ false = long_is_bad options.queries first more in
           ends_line rules options start now reader_old writer_old reader writer AtEnd (at.bytes ++ rest) at.done first is_line.0 now reading.lines reading.written writer (f.BadLine n)
-          gave (lines_are first some.1 parts ∙ ap (λ t. at.done ++ t) is_line.1) at.good at.held_is at.lines at.written at.wrote at.works (bad, number, refl, refl) (works_none rules _ now.engine now.engine refl) (ahead_now now writer)
+          gave (lines_are first some.1 parts ∙ ap (λ t. at.done ++ t) is_line.1) at.good at.held_is at.lines at.written
+              at.wrote at.works (bad, number, refl, refl) (works_none rules _ now.engine now.engine refl)
+              (ahead_now now writer)
 
       ends_unkept : (front after : List ℕ) → waiting ≡ front ++ after → NoEnd front → (fault : RunFault) → GrowsNot front reading fault
           → IsScriptRun rules options start now reader_old reader writer_old writer (Err fault)
@@ -226,10 +244,12 @@ module _ (rules : Rules) (options : ScriptOptions) (start : State) (reader_old r
       ends_unkept front after whole none f.ParagraphTooLong fails = absurd fails
       ends_unkept front after whole none f.TextTooLong fails = absurd fails
 
-      pub ends_in : (state : State) (writer_new : Device) (fault : RunFault) → FailsIn rules options waiting now state reading writer writer_new fault → IsScriptRun rules options start state reader_old reader writer_old writer_new (Err fault)
+      pub ends_in : (state : SessionState) (writer_new : Device) (fault : RunFault)
+          → FailsIn rules options waiting now state reading writer writer_new fault
+          → IsScriptRun rules options start state reader_old reader writer_old writer_new (Err fault)
       ends_in state writer_new fault (inl failed) = ends_ended state writer_new fault failed
       ends_in state writer_new fault (inr not) =
-          subst (λ (s : State). IsScriptRun rules options start s reader_old reader writer_old writer_new (Err fault)) (sym not.state)
+          subst (λ (s : SessionState). IsScriptRun rules options start s reader_old reader writer_old writer_new (Err fault)) (sym not.state)
           (subst (λ w. IsScriptRun rules options start now reader_old reader writer_old w (Err fault)) (sym not.writer) (ends_unkept not.front not.after not.whole not.none fault not.grows))
 
     -- ---- nothing waits
@@ -272,11 +292,13 @@ module _ (rules : Rules) (options : ScriptOptions) (start : State) (reader_old r
               let is_some : nat_lt 0 (length reading.line.items) ≡ true = grind (arith, nat_tests, some) in
               all_lines AtEnd ∙ ap (λ (b : Bool). at.done ++ (if b then reading.line.items ∷ [] else [])) is_some
 
-          pub ends_last : (state : State) (new : Reading) (writer_new : Device) → ObeysLine rules options reading.line.items (held_at now) (held_at state) reading new writer writer_new
+          pub ends_last : (state : SessionState) (new : Reading) (writer_new : Device) → ObeysLine rules options reading.line.items (held_at now) (held_at state) reading new writer writer_new
               → LineWorks rules options.queries (held_at now) reading.line.items now.engine state.engine → IsScriptRun rules options start state reader_old reader writer_old writer_new (Ok tt)
           ends_last state new writer_new obeys works =
               let line = reading.line.items in
-              ends_whole rules options start state reader_old writer_old reader writer_new at.bytes (at.done ++ line ∷ []) gave_all last_line (obeyed_good [] at line state new writer_new obeys) finished at.passed
+              ends_whole rules options start state reader_old writer_old reader writer_new at.bytes (at.done
+                  ++ line ∷ []) gave_all last_line (obeyed_good [] at line state new writer_new obeys) finished
+                  at.passed
               (record {
                 done_is = record { ahead = omega (arith, at.passed, at.size, with_ends_more at.done line) };
                 wrote = obeyed_wrote [] at line state new writer_new obeys;
@@ -284,10 +306,14 @@ module _ (rules : Rules) (options : ScriptOptions) (start : State) (reader_old r
                 works = obeyed_works [] at line state new writer_new obeys works;
               })
 
-          pub ends_last_not : (state : State) (writer_new : Device) (fault : RunFault) → FailsAt rules options reading.line.items reading.lines reading.written (held_at now) (held_at state) writer writer_new fault
+          pub ends_last_not : (state : SessionState) (writer_new : Device) (fault : RunFault)
+              → FailsAt rules options reading.line.items reading.lines reading.written (held_at now) (held_at state)
+              writer writer_new fault
               → LineWorks rules options.queries (held_at now) reading.line.items now.engine state.engine → IsScriptRun rules options start state reader_old reader writer_old writer_new (Err fault)
           ends_last_not state writer_new fault fails works =
-              ends_line rules options start state reader_old writer_old reader writer_new AtEnd at.bytes at.done reading.line.items [] now reading.lines reading.written writer fault gave_all last_line at.good at.held_is at.lines at.written at.wrote at.works fails works
+              ends_line rules options start state reader_old writer_old reader writer_new AtEnd at.bytes at.done
+                  reading.line.items [] now reading.lines reading.written writer fault gave_all last_line at.good
+                  at.held_is at.lines at.written at.wrote at.works fails works
               (ahead_now [] at state writer_new)
 
 nothing_read : (known : Option (List ℕ)) → Consumes known known []
@@ -295,7 +321,9 @@ nothing_read None = tt
 nothing_read (Some xs) = refl
 
 -- the run begins
-pub at_start : (rules : Rules) (options : ScriptOptions) (start : State) (reader writer : Device) (reading : Reading) → reading.line.items ≡ [] → reading.lines ≡ 0 → reading.written ≡ 0 → IsAt rules options start reader reader writer writer start reading []
+pub at_start : (rules : Rules) (options : ScriptOptions) (start : SessionState) (reader writer : Device)
+    (reading : Reading) → reading.line.items ≡ [] → reading.lines ≡ 0 → reading.written ≡ 0
+    → IsAt rules options start reader reader writer writer start reading []
 at_start rules options start reader writer reading line lines written = record {
   bytes = [];
   done = [];
@@ -320,7 +348,9 @@ done_short : (done : List (List ℕ)) → length done ≤ length (with_ends done
 done_short [] = omega arith
 done_short (l ∷ done) = omega (arith, done_short done, length-append (l ++ 10 ∷ []) (with_ends done), length-append l (10 ∷ []))
 
-module _ (rules : Rules) (options : ScriptOptions) (start : State) (reader_old reader writer_old writer : Device) (now : State) (reading : Reading) (waiting : List ℕ) (at : IsAt rules options start reader_old reader writer_old writer now reading waiting) where
+module _ (rules : Rules) (options : ScriptOptions) (start : SessionState)
+    (reader_old reader writer_old writer : Device) (now : SessionState) (reading : Reading) (waiting : List ℕ)
+    (at : IsAt rules options start reader_old reader writer_old writer now reading waiting) where
   pub lines_fit : reader.passed ≤ greatest → 0 < length reading.line.items + length waiting → reading.lines < greatest
   lines_fit counted some = omega (arith, counted, some, at.passed, at.size, at.lines, done_short at.done)
 
@@ -328,8 +358,12 @@ module _ (rules : Rules) (options : ScriptOptions) (start : State) (reader_old r
   written_fits = omega (arith, at.written, at.wrote.0.passed)
 
 -- the last line was obeyed, or failed
-pub ends_finish : (rules : Rules) (options : ScriptOptions) (start : State) (reader_old reader writer_old writer : Device) (now state : State) (reading new : Reading) (writer_new : Device) → IsAt rules options start reader_old reader writer_old writer now reading []
-    → IsAtEnd reader.bytes → 0 < length reading.line.items → (r : Result (Unit {0}) RunFault) → OnOk r (ObeysLine rules options reading.line.items (held_at now) (held_at state) reading new writer writer_new)
+pub ends_finish : (rules : Rules) (options : ScriptOptions) (start : SessionState)
+    (reader_old reader writer_old writer : Device) (now state : SessionState) (reading new : Reading)
+    (writer_new : Device) → IsAt rules options start reader_old reader writer_old writer now reading []
+    → IsAtEnd reader.bytes → 0 < length reading.line.items → (r : Result (Unit {0}) RunFault)
+        → OnOk r (ObeysLine rules options reading.line.items (held_at now) (held_at state) reading new writer
+        writer_new)
     → IfErr r (FailsAt rules options reading.line.items reading.lines reading.written (held_at now) (held_at state) writer writer_new)
     → LineWorks rules options.queries (held_at now) reading.line.items now.engine state.engine → IsScriptRun rules options start state reader_old reader writer_old writer_new r
 ends_finish rules options start reader_old reader writer_old writer now state reading new writer_new at finished some (Ok tt) obeys fails works =
@@ -338,36 +372,48 @@ ends_finish rules options start reader_old reader writer_old writer now state re
     ends_last_not rules options start reader_old reader writer_old writer now reading at finished some state writer_new fault fails works
 
 -- ---- a part of a piece, under the rules that the run began with
-module _ (rules held_rules : Rules) (options : ScriptOptions) (start : State) (reader_old reader writer_old writer writer_new : Device) (now state : State) (reading new : Reading) (piece part : List ℕ) (n at : ℕ)
+module _ (rules held_rules : Rules) (options : ScriptOptions) (start : SessionState)
+    (reader_old reader writer_old writer writer_new : Device) (now state : SessionState) (reading new : Reading)
+    (piece part : List ℕ) (n at : ℕ)
     (same : held_rules ≡ rules) (part_is : part ≡ drop at piece) (stands : IsAt rules options start reader_old reader writer_old writer now reading (drop at piece)) where
   pub took_part : Takes held_rules options part n now state reading new writer writer_new → IsAt rules options start reader_old reader writer_old writer_new state new (drop (at + n) piece)
   took_part takes =
       let taken : Takes rules options (drop at piece) n now state reading new writer writer_new =
-      subst (λ (p : List ℕ). Takes rules options p n now state reading new writer writer_new) part_is (subst (λ (r : Rules). Takes r options part n now state reading new writer writer_new) same takes) in
+      subst (λ (p : List ℕ). Takes rules options p n now state reading new writer writer_new) part_is
+          (subst (λ (r : Rules). Takes r options part n now state reading new writer writer_new) same takes) in
       subst (IsAt rules options start reader_old reader writer_old writer_new state new) (drop-drop n at piece)
       (at_taken rules options start reader_old reader writer_old writer now reading (drop at piece) stands n state new writer_new taken)
 
-  pub failed_part : (fault : RunFault) → FailsIn held_rules options part now state reading writer writer_new fault → IsScriptRun rules options start state reader_old reader writer_old writer_new (Err fault)
+  pub failed_part : (fault : RunFault) → FailsIn held_rules options part now state reading writer writer_new fault
+      → IsScriptRun rules options start state reader_old reader writer_old writer_new (Err fault)
   failed_part fault fails =
       let failed : FailsIn rules options (drop at piece) now state reading writer writer_new fault =
-      subst (λ (p : List ℕ). FailsIn rules options p now state reading writer writer_new fault) part_is (subst (λ (r : Rules). FailsIn r options part now state reading writer writer_new fault) same fails) in
+      subst (λ (p : List ℕ). FailsIn rules options p now state reading writer writer_new fault) part_is
+          (subst (λ (r : Rules). FailsIn r options part now state reading writer writer_new fault) same fails) in
       ends_in rules options start reader_old reader writer_old writer now reading (drop at piece) stands state writer_new fault failed
 
 -- of the first n of a list that is longer, some are taken
-pub takes_some : (rules : Rules) (options : ScriptOptions) (piece : List ℕ) (n : ℕ) (now state : State) (reading new : Reading) (writer writer_new : Device) → 0 < length piece → Takes rules options piece n now state reading new writer writer_new → (0 < n) × (n ≤ length piece)
+pub takes_some : (rules : Rules) (options : ScriptOptions) (piece : List ℕ) (n : ℕ) (now state : SessionState)
+    (reading new : Reading) (writer writer_new : Device) → 0 < length piece
+    → Takes rules options piece n now state reading new writer writer_new → (0 < n) × (n ≤ length piece)
 takes_some rules options piece n now state reading new writer writer_new some (inl more) = (omega (arith, some, more.all), omega (arith, more.all))
 takes_some rules options piece n now state reading new writer writer_new some (inr ended) =
     (omega (arith, ended.taken), omega (arith, ended.taken, ap length ended.ends.whole, length-append ended.front (10 ∷ ended.after)))
 
 -- a read that gave nothing leaves the run where it stands
-pub at_none : (rules : Rules) (options : ScriptOptions) (start : State) (reader_old reader writer_old writer : Device) (now : State) (reading : Reading) (reader_new : Device) (n : ℕ) (buffer : List ℕ)
-    → IsAt rules options start reader_old reader writer_old writer now reading [] → Gives reader reader_new n buffer → n ≡ 0 → IsAt rules options start reader_old reader_new writer_old writer now reading []
+pub at_none : (rules : Rules) (options : ScriptOptions) (start : SessionState)
+    (reader_old reader writer_old writer : Device) (now : SessionState) (reading : Reading) (reader_new : Device)
+    (n : ℕ) (buffer : List ℕ)
+    → IsAt rules options start reader_old reader writer_old writer now reading [] → Gives reader reader_new n buffer
+        → n ≡ 0 → IsAt rules options start reader_old reader_new writer_old writer now reading []
 at_none rules options start reader_old reader writer_old writer now reading reader_new n buffer at gives none =
     subst (IsAt rules options start reader_old reader_new writer_old writer now reading) (ap (λ k. take k buffer) none)
     (at_read rules options start reader_old reader writer_old writer now reading reader_new n buffer at gives (omega (arith, none)) (omega (arith, none)))
 
 -- a step of a run under the rules that it began with
-module _ (rules held_rules : Rules) (options : ScriptOptions) (start : State) (reader_old writer_old reader writer reader_new writer_new : Device) (now state : State) (reading new : Reading) (kept : held_rules ≡ rules)
+module _ (rules held_rules : Rules) (options : ScriptOptions) (start : SessionState)
+    (reader_old writer_old reader writer reader_new writer_new : Device) (now state : SessionState)
+    (reading new : Reading) (kept : held_rules ≡ rules)
     (stands : IsAt rules options start reader_old reader writer_old writer now reading []) (result : Result Bool RunFault)
     (steps : IsAt held_rules options start reader_old reader writer_old writer now reading [] → Steps held_rules options start reader_old writer_old reader_new writer_new state new result) where
   stepped : Steps rules options start reader_old writer_old reader_new writer_new state new result
@@ -379,7 +425,7 @@ module _ (rules held_rules : Rules) (options : ScriptOptions) (start : State) (r
   script_stepped is same = subst (Steps rules options start reader_old writer_old reader_new writer_new state new) same stepped
 
 -- memory ran out before anything was read
-pub ends_at_once : (rules : Rules) (options : ScriptOptions) (start : State) (reader writer : Device) → IsScriptRun rules options start start reader reader writer writer (Err f.Memory)
+pub ends_at_once : (rules : Rules) (options : ScriptOptions) (start : SessionState) (reader writer : Device) → IsScriptRun rules options start start reader reader writer writer (Err f.Memory)
 ends_at_once rules options start reader writer =
     let some = parts_some (unwrap_or reader.bytes []) in
     ends_short rules options start start reader writer reader writer AtEnd (unwrap_or reader.bytes []) [] (lines_among AtEnd (some.0 ∷ some.1))

@@ -4,7 +4,7 @@ use Rattle.std.specs.Str.{chars}
 use Rattle.std.specs.Str.Lossy.{utf8_valid_len}
 use Rattle.std.proofs.lemmas.Bool.Decides.{nat_tests}
 use Rattle.lines.specs.Layouts.{Rules, cut_by}
-use Rattle.session.specs.Changes.{is_within_limit, text_refusal}
+use Rattle.session.specs.Edits.{is_within_limit, text_refusal}
 use Rattle.session.specs.Sessions.{IsAnswerFor, opening_refusal}
 use Rattle.session.specs.declared.edits.EditFault.{EditFault}
 use Rattle.session.specs.declared.edits.EditFault.TheVariants as e
@@ -31,9 +31,10 @@ module _ (rules : Rules) (bytes : List ℕ) (width : ℕ) (wide : 0 < width) (va
       go false true = refl
       go false false = refl
 
-  pub start_fault_is : (fault : EditFault) → IsAnswerFor (opening_refusal (cut_by rules) (chars bytes) width) fault → IsStartFault rules bytes (start_fault fault)
-  start_fault_is e.TextTooLong reason = (valid, sym reason_is ∙ reason)
-  start_fault_is e.ParagraphTooLong reason = (valid, sym reason_is ∙ reason)
-  start_fault_is e.NoMemory reason = (valid, sym reason_is ∙ reason)
-  start_fault_is e.WidthOutOfRange reason = let wrong : true ≡ false = ap is_width (sym (sym reason_is ∙ reason)) ∙ no_width in cc
-  start_fault_is e.OutOfRange reason = let wrong : true ≡ false = ap is_width (sym (sym reason_is ∙ reason)) ∙ no_width in cc
+  pub start_fault_is : (fault : EditFault) → IsAnswerFor (opening_refusal (cut_by rules) (chars bytes) width) fault
+      → (fault ≡ e.NoMemory → 0 < length (chars bytes)) → IsStartFault rules bytes (start_fault fault)
+  start_fault_is e.TextTooLong reason some = (valid, sym reason_is ∙ reason)
+  start_fault_is e.ParagraphTooLong reason some = (valid, sym reason_is ∙ reason)
+  start_fault_is e.NoMemory reason some = (valid, sym reason_is ∙ reason, some refl)
+  start_fault_is e.WidthOutOfRange reason some = let wrong : true ≡ false = ap is_width (sym (sym reason_is ∙ reason)) ∙ no_width in cc
+  start_fault_is e.OutOfRange reason some = let wrong : true ≡ false = ap is_width (sym (sym reason_is ∙ reason)) ∙ no_width in cc

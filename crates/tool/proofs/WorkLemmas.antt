@@ -6,9 +6,9 @@ use Rattle.bidi.specs.Cuts.{paragraphs}
 use Rattle.lines.specs.Engine.{LaysOutAtMost, FillsAtMost, RisesBy, analysed_of, filled_of, written_of, rules_of}
 use Rattle.lines.specs.Layouts.{Rules, layout_of}
 use Rattle.lines.specs.declared.engine.Engine.{Engine}
-use Rattle.session.specs.Changes.{Change, Held, refusal, width_refusal}
+use Rattle.session.specs.Edits.{Replacement, Held, refusal, width_refusal}
 use Rattle.session.specs.Kept.{pars_of}
-use Rattle.session.specs.Sessions.{State, IsWholeLayout, IsAnswerFor, IsCountedFor, Edits, EditsNot, Refills, RefillsNot, cuts_at, held_at, text_at}
+use Rattle.session.specs.Sessions.{SessionState, IsWholeLayout, IsAnswerFor, IsCountedFor, Edits, EditsNot, SetsWidth, SetsWidthNot, cuts_at, held_at, text_at}
 use Rattle.session.specs.Touched.{fresh}
 use Rattle.session.specs.declared.edits.Damage.{Damage}
 use Rattle.session.specs.declared.edits.EditFault.{EditFault}
@@ -77,23 +77,23 @@ pars_of_layouts : (rules : Rules) (width : ℕ) (pars : List (List ℕ)) → par
 pars_of_layouts rules width [] = refl
 pars_of_layouts rules width (p ∷ pars) = ap (λ ps. p ∷ ps) (pars_of_layouts rules width pars)
 
-pars_kept : (state : State) → IsWholeLayout state → pars_of state.kept ≡ paragraphs (cuts_at state) (text_at state)
+pars_kept : (state : SessionState) → IsWholeLayout state → pars_of state.kept ≡ paragraphs (cuts_at state) (text_at state)
 pars_kept state whole = ap pars_of whole.kept ∙ pars_of_layouts (rules_of state.engine) state.width (paragraphs (cuts_at state) (text_at state))
 
-pub edit_works : (change : Change) (old new : State) (result : Result Damage EditFault) → IsWholeLayout old → IfOk result (Edits change old new) → IfErr result (EditsNot change old new)
-    → Worked (refusal (cuts_at old) (text_at old) change) (fresh (paragraphs (cuts_at old) (text_at old)) change) (fresh (paragraphs (cuts_at old) (text_at old)) change) old.engine new.engine
-edit_works change old new (Ok damage) whole m r =
-    let n = fresh (paragraphs (cuts_at old) (text_at old)) change in
-    laid_out (refusal (cuts_at old) (text_at old) change) n old.engine new.engine m.accepted
-    (subst (λ ps. LaysOutAtMost (fresh ps change) old.engine new.engine) (pars_kept old whole) m.counts)
-edit_works change old new (Err fault) whole m r =
-    let n = fresh (paragraphs (cuts_at old) (text_at old)) change in
-    let reason = refusal (cuts_at old) (text_at old) change in
+pub edit_works : (edit : Replacement) (old new : SessionState) (result : Result Damage EditFault) → IsWholeLayout old → IfOk result (Edits edit old new) → IfErr result (EditsNot edit old new)
+    → Worked (refusal (cuts_at old) (text_at old) edit) (fresh (paragraphs (cuts_at old) (text_at old)) edit) (fresh (paragraphs (cuts_at old) (text_at old)) edit) old.engine new.engine
+edit_works edit old new (Ok damage) whole m r =
+    let n = fresh (paragraphs (cuts_at old) (text_at old)) edit in
+    laid_out (refusal (cuts_at old) (text_at old) edit) n old.engine new.engine m.accepted
+    (subst (λ ps. LaysOutAtMost (fresh ps edit) old.engine new.engine) (pars_kept old whole) m.counts)
+edit_works edit old new (Err fault) whole m r =
+    let n = fresh (paragraphs (cuts_at old) (text_at old)) edit in
+    let reason = refusal (cuts_at old) (text_at old) edit in
     counted_for reason n n (LaysOutAtMost n) old.engine new.engine fault r.answer
-    (subst (λ ps. IsCountedFor fault (LaysOutAtMost (fresh ps change)) old.engine new.engine) (pars_kept old whole) r.counts)
+    (subst (λ ps. IsCountedFor fault (LaysOutAtMost (fresh ps edit)) old.engine new.engine) (pars_kept old whole) r.counts)
     (λ e counts. laid_out reason n old.engine new.engine e counts)
 
-width_worked : (width : ℕ) (old new : State) (result : Result Damage EditFault) → IfOk result (Refills width old new) → IfErr result (RefillsNot width old new)
+width_worked : (width : ℕ) (old new : SessionState) (result : Result Damage EditFault) → IfOk result (SetsWidth width old new) → IfErr result (SetsWidthNot width old new)
     → Worked (width_refusal width) 0 (length (text_at old)) old.engine new.engine
 width_worked width old new (Ok damage) m r = filled_anew (width_refusal width) (length (text_at old)) old.engine new.engine m.accepted m.counts
 width_worked width old new (Err fault) m r =
@@ -101,7 +101,8 @@ width_worked width old new (Err fault) m r =
     counted_for (width_refusal width) 0 n (FillsAtMost n) old.engine new.engine fault r.answer r.counts
     (λ e counts. filled_anew (width_refusal width) n old.engine new.engine e counts)
 
-pub width_works : (width : ℕ) (old new : State) (result : Result Damage EditFault) → nat_lt 65535 width ≡ false → IfOk result (Refills width old new) → IfErr result (RefillsNot width old new)
+pub width_works : (width : ℕ) (old new : SessionState) (result : Result Damage EditFault) → nat_lt 65535 width ≡ false
+    → IfOk result (SetsWidth width old new) → IfErr result (SetsWidthNot width old new)
     → RequestWorks (rules_of old.engine) (held_at old) (SetWidth width) old.engine new.engine
 width_works width old new result small m r =
     let w = width_worked width old new result m r in
@@ -115,7 +116,9 @@ width_works width old new result small m r =
 -- ---- lines, one after another
 module _ (rules : Rules) (queries : Bool) where
   work_more : (work : Held → Request → ℕ) (held : Held) (lines : List (List ℕ)) (line : List ℕ)
-      → work_of_lines rules queries work held (lines ++ line ∷ []) ≡ work_of_lines rules queries work held lines + work_of_line rules work (after_lines rules queries held lines) (request_of_line queries line)
+      → work_of_lines rules queries work held (lines ++ line ∷ [])
+          ≡ work_of_lines rules queries work held lines + work_of_line rules work
+          (after_lines rules queries held lines) (request_of_line queries line)
   work_more work held [] line = omega arith
   work_more work held (first ∷ lines) line = omega (arith, work_more work (after_line rules held (request_of_line queries first)) lines line)
 
@@ -133,7 +136,9 @@ module _ (rules : Rules) (queries : Bool) where
   pub lines_work_more : (start held : Held) (lines : List (List ℕ)) (line : List ℕ) (old now new : Engine) → held ≡ after_lines rules queries start lines
       → LinesWork rules queries start lines old now → LineWorks rules queries held line now new → LinesWork rules queries start (lines ++ line ∷ []) old new
   lines_work_more start held lines line old now new held_is before works =
-      let sum = λ (work : Held → Request → ℕ). work_more work start lines line ∙ ap (λ (h : Held). work_of_lines rules queries work start lines + work_of_line rules work h (request_of_line queries line)) (sym held_is) in
+      let sum = λ (work : Held → Request → ℕ). work_more work start lines line
+          ∙ ap (λ (h : Held). work_of_lines rules queries work start lines + work_of_line rules work h
+          (request_of_line queries line)) (sym held_is) in
       record {
         analysed = more_rise _ _ _ _ _ _ before.analysed works.analysed (sum (analysed_by rules));
         filled = more_rise _ _ _ _ _ _ before.filled works.filled (sum (filled_by rules));
@@ -149,7 +154,10 @@ module _ (rules : Rules) (queries : Bool) where
       → LinesWork rules queries start lines old now → LineWorks rules queries held line now new → LinesWork rules queries start (lines ++ []) old new
   lines_work_bad start held lines line old now new bad before works =
       let sum = λ (work : Held → Request → ℕ).
-      ap (work_of_lines rules queries work start) (append-nil lines) ∙ sum_is (work_of_lines rules queries work start lines) (work_of_line rules work held (request_of_line queries line)) (no_work work held (request_of_line queries line) bad) in
+      ap (work_of_lines rules queries work start) (append-nil lines)
+          ∙ sum_is (work_of_lines rules queries work start lines)
+          (work_of_line rules work held (request_of_line queries line))
+          (no_work work held (request_of_line queries line) bad) in
       record {
         analysed = more_rise _ _ _ _ _ _ before.analysed works.analysed (sum (analysed_by rules));
         filled = more_rise _ _ _ _ _ _ before.filled works.filled (sum (filled_by rules));

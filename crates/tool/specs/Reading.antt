@@ -7,8 +7,8 @@ use Rattle.device.specs.Device.{Device, Wrote, greatest}
 use Rattle.lines.specs.Layouts.{Rules}
 use Rattle.lines.specs.Writing.{PassedOn, StoppedIn}
 use Rattle.lines.specs.declared.print.Print.{Print}
-use Rattle.session.specs.Changes.{Held}
-use Rattle.session.specs.Sessions.{State, held_at}
+use Rattle.session.specs.Edits.{Held}
+use Rattle.session.specs.Sessions.{SessionState, held_at}
 use Rattle.session.specs.declared.edits.Damage.{Damage}
 use Rattle.session.specs.declared.edits.EditFault.{EditFault}
 use Rattle.session.specs.declared.edits.EditFault.TheVariants.{NoMemory}
@@ -24,7 +24,7 @@ use Rattle.text_run.specs.declared.faults.RunFault.TheVariants as f
 use Rattle.tool.specs.declared.script.Reading.{Reading}
 use Rattle.tool.specs.declared.script.ScriptOptions.{ScriptOptions}
 
--- what memory may be wanted for: a change where there is a text or a piece, and the cluster of a character that is there
+-- what memory may be wanted for: an edit where there is a text or a piece, and the cluster of a character that is there
 abbrev pub TakesMemory : Held → Request → Type 0
 TakesMemory held (Insert pos piece) = 0 < length held.text + length piece
 TakesMemory held (Delete pos count) = 0 < length held.text
@@ -32,23 +32,23 @@ TakesMemory held (SetWidth width) = 0 < length held.text
 TakesMemory held Show = ⊥
 TakesMemory held (Ask question) = AsksMemory held.text question
 
--- a change was made, and this is its damage; or it was refused, and all stays; which it does for want of memory too, but then
+-- an edit was made, and this is its damage; or it was refused, and all stays; which it does for want of memory too, but then
 -- there was no reason to refuse it
-abbrev pub Changed : Rules → Request → Held → Held → Result Damage EditFault → Type 0
-Changed rules request old new (Ok damage) =
+abbrev pub Edited : Rules → Request → Held → Held → Result Damage EditFault → Type 0
+Edited rules request old new (Ok damage) =
     (request_refusal rules old request ≡ None) × (new ≡ obeyed old request)
     × ((print : Print) → obeyed_text rules print old request ≡ damage_text damage.first_line damage.old_lines damage.new_lines)
-Changed rules request old new (Err NoMemory) = (request_refusal rules old request ≡ None) × TakesMemory old request × (new ≡ old)
-Changed rules request old new (Err reason) = (request_refusal rules old request ≡ Some reason) × (new ≡ old)
+Edited rules request old new (Err NoMemory) = (request_refusal rules old request ≡ None) × TakesMemory old request × (new ≡ old)
+Edited rules request old new (Err reason) = (request_refusal rules old request ≡ Some reason) × (new ≡ old)
 
 abbrev pub lacks_memory : Result Damage EditFault → Bool
 lacks_memory (Err NoMemory) = true
-lacks_memory change = false
+lacks_memory edit = false
 
--- what is answered to a change
-abbrev pub change_text : Result Damage EditFault → List ℕ
-change_text (Ok damage) = damage_text damage.first_line damage.old_lines damage.new_lines
-change_text (Err reason) = refusal_text reason
+-- what is answered to an edit
+abbrev pub answer_text : Result Damage EditFault → List ℕ
+answer_text (Ok damage) = damage_text damage.first_line damage.old_lines damage.new_lines
+answer_text (Err reason) = refusal_text reason
 
 -- an answer was written only in part, or not at all
 abbrev pub Stops : List ℕ → ℕ → Device → Device → RunFault → Type 0
@@ -106,18 +106,18 @@ pub record Grows (bytes : List ℕ) (old new : Reading) : Type 0 where
 -- or they were not, since the line would be too long, or else for want of memory
 abbrev pub GrowsNot : List ℕ → Reading → RunFault → Type 0
 GrowsNot bytes reading (f.BadLine n) = (LINE_LIMIT < length (reading.line.items ++ bytes)) × (n ≡ reading.lines + 1)
-GrowsNot bytes reading f.Memory = length (reading.line.items ++ bytes) ≤ LINE_LIMIT
+GrowsNot bytes reading f.Memory = (length (reading.line.items ++ bytes) ≤ LINE_LIMIT) × (0 < length bytes)
 GrowsNot bytes reading fault = ⊥
 
 -- Of a piece, the first n bytes were taken: all of it goes on with the line, or a line ended and was obeyed.
-pub record GoesOn (piece : List ℕ) (n : ℕ) (state_old state_new : State) (old new : Reading) (writer_old writer_new : Device) : Type 0 where
+pub record GoesOn (piece : List ℕ) (n : ℕ) (state_old state_new : SessionState) (old new : Reading) (writer_old writer_new : Device) : Type 0 where
   pub all : n ≡ length piece
   pub none : NoEnd piece
   pub grows : Grows piece old new
   pub state : state_new ≡ state_old
   pub writer : writer_new ≡ writer_old
 
-pub record EndsLine (rules : Rules) (options : ScriptOptions) (piece : List ℕ) (n : ℕ) (state_old state_new : State) (old new : Reading) (writer_old writer_new : Device) : Type 0 where
+pub record EndsLine (rules : Rules) (options : ScriptOptions) (piece : List ℕ) (n : ℕ) (state_old state_new : SessionState) (old new : Reading) (writer_old writer_new : Device) : Type 0 where
   pub front : List ℕ
   pub after : List ℕ
   pub ends : EndsIn piece front after
@@ -125,12 +125,12 @@ pub record EndsLine (rules : Rules) (options : ScriptOptions) (piece : List ℕ)
   pub obeys : ObeysLine rules options (old.line.items ++ front) (held_at state_old) (held_at state_new) old new writer_old writer_new
   pub works : LineWorks rules options.queries (held_at state_old) (old.line.items ++ front) state_old.engine state_new.engine
 
-abbrev pub Takes : Rules → ScriptOptions → List ℕ → ℕ → State → State → Reading → Reading → Device → Device → Type 0
+abbrev pub Takes : Rules → ScriptOptions → List ℕ → ℕ → SessionState → SessionState → Reading → Reading → Device → Device → Type 0
 Takes rules options piece n state_old state_new old new writer_old writer_new =
     GoesOn piece n state_old state_new old new writer_old writer_new ⊎ EndsLine rules options piece n state_old state_new old new writer_old writer_new
 
 -- a line that ends in a piece fails
-pub record FailsLine (rules : Rules) (options : ScriptOptions) (piece : List ℕ) (state_old state_new : State) (reading : Reading) (old new : Device) (fault : RunFault) : Type 0 where
+pub record FailsLine (rules : Rules) (options : ScriptOptions) (piece : List ℕ) (state_old state_new : SessionState) (reading : Reading) (old new : Device) (fault : RunFault) : Type 0 where
   pub front : List ℕ
   pub after : List ℕ
   pub ends : EndsIn piece front after
@@ -138,7 +138,7 @@ pub record FailsLine (rules : Rules) (options : ScriptOptions) (piece : List ℕ
   pub works : LineWorks rules options.queries (held_at state_old) (reading.line.items ++ front) state_old.engine state_new.engine
 
 -- or its beginning, up to the end of the piece or to its own, can't be kept
-pub record IsNotKept (piece : List ℕ) (state_old state_new : State) (reading : Reading) (old new : Device) (fault : RunFault) : Type 0 where
+pub record IsNotKept (piece : List ℕ) (state_old state_new : SessionState) (reading : Reading) (old new : Device) (fault : RunFault) : Type 0 where
   pub front : List ℕ
   pub after : List ℕ
   pub whole : piece ≡ front ++ after
@@ -147,13 +147,15 @@ pub record IsNotKept (piece : List ℕ) (state_old state_new : State) (reading :
   pub state : state_new ≡ state_old
   pub writer : new ≡ old
 
-abbrev pub FailsIn : Rules → ScriptOptions → List ℕ → State → State → Reading → Device → Device → RunFault → Type 0
+abbrev pub FailsIn : Rules → ScriptOptions → List ℕ → SessionState → SessionState → Reading → Device → Device → RunFault → Type 0
 FailsIn rules options piece state_old state_new reading old new fault =
     FailsLine rules options piece state_old state_new reading old new fault ⊎ IsNotKept piece state_old state_new reading old new fault
 
 -- Between two states of its devices and of its session a run has read some bytes and obeyed some lines. After these it holds the
 -- beginning of a line, and bytes that wait.
-pub record IsAt (rules : Rules) (options : ScriptOptions) (start : State) (reader_old reader_new writer_old writer_new : Device) (now : State) (reading : Reading) (waiting : List ℕ) : Type 0 where
+pub record IsAt (rules : Rules) (options : ScriptOptions) (start : SessionState)
+    (reader_old reader_new writer_old writer_new : Device) (now : SessionState) (reading : Reading)
+    (waiting : List ℕ) : Type 0 where
   pub bytes : List ℕ
   pub done : List (List ℕ)
   pub read : Consumes reader_old.bytes reader_new.bytes bytes
@@ -172,13 +174,13 @@ pub record IsAt (rules : Rules) (options : ScriptOptions) (start : State) (reade
   pub short : length reading.line.items ≤ LINE_LIMIT
 
 -- a run stands somewhere, and its counts fit
-abbrev pub CanFeed : Rules → ScriptOptions → State → Reading → Device → List ℕ → Type 0
+abbrev pub CanFeed : Rules → ScriptOptions → SessionState → Reading → Device → List ℕ → Type 0
 CanFeed rules options now reading writer_new waiting =
-    (start : State) × (reader_old : Device) × (writer_old : Device) × (reader_new : Device)
+    (start : SessionState) × (reader_old : Device) × (writer_old : Device) × (reader_new : Device)
     × IsAt rules options start reader_old reader_new writer_old writer_new now reading waiting × (reader_new.passed ≤ greatest)
 
 -- a step goes on, or ends the run
-abbrev pub Steps : Rules → ScriptOptions → State → Device → Device → Device → Device → State → Reading → Result Bool RunFault → Type 0
+abbrev pub Steps : Rules → ScriptOptions → SessionState → Device → Device → Device → Device → SessionState → Reading → Result Bool RunFault → Type 0
 Steps rules options start reader_old writer_old reader_new writer_new now reading (Ok true) =
     IsAt rules options start reader_old reader_new writer_old writer_new now reading []
 Steps rules options start reader_old writer_old reader_new writer_new now reading (Ok false) =
@@ -187,7 +189,7 @@ Steps rules options start reader_old writer_old reader_new writer_new now readin
     IsScriptRun rules options start now reader_old reader_new writer_old writer_new (Err fault)
 
 -- the piece that was read was taken, or the run ends within it
-abbrev pub Feeds : Rules → ScriptOptions → State → Device → Device → Device → Device → State → Reading → Result (Unit {0}) RunFault → Type 0
+abbrev pub Feeds : Rules → ScriptOptions → SessionState → Device → Device → Device → Device → SessionState → Reading → Result (Unit {0}) RunFault → Type 0
 Feeds rules options start reader_old writer_old reader_new writer_new now reading (Ok done) =
     IsAt rules options start reader_old reader_new writer_old writer_new now reading []
 Feeds rules options start reader_old writer_old reader_new writer_new now reading (Err fault) =

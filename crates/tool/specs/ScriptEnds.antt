@@ -3,12 +3,11 @@ use Rattle.std.specs.Prelude.{◌≡◌, ℕ, ◌+◌, ◌≤◌, List, length, 
 use Rattle.device.specs.Device.{Device, StoppedAt, Wrote}
 use Rattle.lines.specs.Layouts.{Rules}
 use Rattle.tool.specs.declared.script.ScriptOptions.{ScriptOptions}
-use Rattle.session.specs.Changes.{Held}
-use Rattle.session.specs.Sessions.{State, held_at}
-use Rattle.text_run.specs.TextRun.{Gave, HasReadAll, fault_of}
+use Rattle.session.specs.Edits.{Held}
+use Rattle.session.specs.Sessions.{SessionState, held_at}
+use Rattle.text_run.specs.TextRun.{Ending, Gave, HasReadAll, fault_of}
 use Rattle.text_run.specs.declared.faults.RunFault.{RunFault}
 use Rattle.text_run.specs.declared.faults.RunFault.TheVariants as fault
-use Rattle.text_run.specs.declared.text.Ending.{Ending}
 use Rattle.tool.specs.ScriptRun.{after_lines, answers, good_lines, line_read_ahead, script_fault, with_ends}
 use Rattle.tool.specs.Scripts.{script_lines}
 use Rattle.tool.specs.Work.{LinesWork}
@@ -28,7 +27,9 @@ obeyed_lines lines k stop = take k lines
 
 -- A run ended after the first k lines. No more lines than these were obeyed, but for the one whose answer was being written; so
 -- much was read ahead; and the session worked no more than these lines ask for, and the next one, at which the run ended.
-pub record EndsAfter (rules : Rules) (options : ScriptOptions) (old new : State) (lines : List (List ℕ)) (wrong : Option RunFault) (k : ℕ) (reader_old reader_new writer_old writer_new : Device) (stop : Option RunFault) : Type 0 where
+pub record EndsAfter (rules : Rules) (options : ScriptOptions) (old new : SessionState) (lines : List (List ℕ))
+    (wrong : Option RunFault) (k : ℕ) (reader_old reader_new writer_old writer_new : Device)
+    (stop : Option RunFault) : Type 0 where
   pub wrote : Answered rules options (held_at old) lines wrong k writer_old writer_new stop
   pub held : held_at new ≡ after_lines rules options.queries (held_at old) (obeyed_lines lines k stop)
   pub ahead : reader_new.passed ≤ reader_old.passed + length (with_ends (take k lines)) + line_read_ahead
@@ -36,7 +37,7 @@ pub record EndsAfter (rules : Rules) (options : ScriptOptions) (old new : State)
 
 -- The run of a script over a session: what the reader gave has lines, which are obeyed and answered one after another, up to the
 -- first that is none.
-abbrev pub IsScriptRun : Rules → ScriptOptions → State → State → Device → Device → Device → Device → Result (Unit {0}) RunFault → Type 0
+abbrev pub IsScriptRun : Rules → ScriptOptions → SessionState → SessionState → Device → Device → Device → Device → Result (Unit {0}) RunFault → Type 0
 IsScriptRun rules options old new reader_old reader_new writer_old writer_new result =
     (ending : Ending) × (bytes : List ℕ) × Gave reader_old reader_new ending bytes
     × HasReadAll (fault_of result) reader_old reader_new bytes

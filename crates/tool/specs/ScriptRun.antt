@@ -6,17 +6,16 @@ use Rattle.bidi.specs.Cuts.{paragraphs}
 use Rattle.lines.specs.Layouts.{Layout, Rules, cut_by}
 use Rattle.lines.specs.Pages.{page}
 use Rattle.lines.specs.declared.print.Print.{Print}
-use Rattle.session.specs.Changes.{Change, Held, changed, deletion, insertion, refusal, width_refusal}
+use Rattle.session.specs.Edits.{Replacement, Held, replaced, deletion, insertion, refusal, width_refusal}
 use Rattle.session.specs.Kept.{layouts_of, lines_in, pars_of}
 use Rattle.session.specs.Touched.{first_touched, touched_count}
 use Rattle.session.specs.declared.edits.EditFault.{EditFault}
 use Rattle.session.specs.declared.edits.EditFault.TheVariants as refused
 use Rattle.tool.specs.Queries.{question_text}
 use Rattle.tool.specs.Scripts.{Request, Insert, Delete, SetWidth, Show, Ask, request_of_line}
+use Rattle.text_run.specs.TextRun.{Ending, AtEnd, AtFailure}
 use Rattle.text_run.specs.declared.faults.RunFault.{RunFault}
 use Rattle.text_run.specs.declared.faults.RunFault.TheVariants as fault
-use Rattle.text_run.specs.declared.text.Ending.{Ending}
-use Rattle.text_run.specs.declared.text.Ending.TheVariants.{AtEnd, AtFailure}
 use Rattle.text_run.specs.declared.text.TheConstants.{PIECE}
 use Rattle.tool.specs.declared.script.ScriptOptions.{ScriptOptions}
 use Rattle.tool.specs.declared.script.TheConstants.{LINE_LIMIT}
@@ -33,8 +32,8 @@ request_refusal rules held (Ask question) = None
 
 -- what it makes of a text and a width
 abbrev pub obeyed : Held → Request → Held
-obeyed held (Insert pos piece) = record { text = changed held.text (insertion pos piece); width = held.width }
-obeyed held (Delete pos count) = record { text = changed held.text (deletion pos count); width = held.width }
+obeyed held (Insert pos piece) = record { text = replaced held.text (insertion pos piece); width = held.width }
+obeyed held (Delete pos count) = record { text = replaced held.text (deletion pos count); width = held.width }
 obeyed held (SetWidth width) = record { text = held.text; width = width }
 obeyed held Show = held
 obeyed held (Ask question) = held
@@ -51,10 +50,10 @@ abbrev pub damage_text : ℕ → ℕ → ℕ → List ℕ
 damage_text first old new = codes "@ " ++ decimal first ++ codes " " ++ decimal old ++ codes " " ++ decimal new ++ codes "\n"
 
 -- those of the touched paragraphs, and the lines in their place
-abbrev pub edit_text : (old new : List Layout) → Change → List ℕ
-edit_text old new change =
-    let first = first_touched (pars_of old) change in
-    let touched = slice_range old first (first + touched_count (pars_of old) change) in
+abbrev pub edit_text : (old new : List Layout) → Replacement → List ℕ
+edit_text old new edit =
+    let first = first_touched (pars_of old) edit in
+    let touched = slice_range old first (first + touched_count (pars_of old) edit) in
     damage_text (length (lines_in (take first old))) (length (lines_in touched)) (length (lines_in touched) + length (lines_in new) - length (lines_in old))
 
 -- what is answered where it isn't refused

@@ -5,11 +5,10 @@ use Rattle.std.specs.Cmp.Lexicographic.{pointwise}
 use Rattle.std.specs.List.{after_first, before_first, list_all, position_or_len, slice_split}
 use Rattle.std.specs.Str.{chars}
 use Rattle.std.specs.Str.Lossy.{utf8_valid_len}
-use Rattle.text_run.specs.declared.text.Ending.{Ending}
-use Rattle.text_run.specs.declared.text.Ending.TheVariants.{AtEnd, AtFailure}
 use Rattle.tool.specs.declared.queries.Question.{Question}
 use Rattle.tool.specs.declared.queries.Question.TheVariants as ask
 use Rattle.tool.specs.declared.script.TheConstants.{LINE_LIMIT}
+use Rattle.text_run.specs.TextRun.{Ending, AtEnd, AtFailure}
 
 -- ---- lines
 

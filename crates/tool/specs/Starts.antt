@@ -4,26 +4,27 @@ use Rattle.std.specs.Str.{chars}
 use Rattle.std.specs.Str.Lossy.{utf8_valid_len}
 use Rattle.lines.specs.Layouts.{Rules, cut_by}
 use Rattle.lines.specs.declared.engine.Engine.{Engine}
-use Rattle.session.specs.Changes.{text_refusal}
-use Rattle.session.specs.Sessions.{State, Opens}
+use Rattle.session.specs.Edits.{text_refusal}
+use Rattle.session.specs.Sessions.{SessionState, Opens}
 use Rattle.session.specs.declared.edits.EditFault.{EditFault}
 use Rattle.session.specs.declared.edits.EditFault.TheVariants as e
 use Rattle.text_run.specs.declared.faults.RunFault.{RunFault}
 use Rattle.text_run.specs.declared.faults.RunFault.TheVariants as f
 
 -- the bytes are UTF-8, and a session was opened on their characters
-pub record Starts (engine : Engine) (bytes : List ℕ) (width : ℕ) (state : State) : Type 0 where
+pub record Starts (engine : Engine) (bytes : List ℕ) (width : ℕ) (state : SessionState) : Type 0 where
   pub valid : utf8_valid_len bytes ≡ length bytes
   pub opens : Opens engine (chars bytes) width state
 
 -- why none was: the bytes aren't UTF-8, or else the text is too long, or else one of its paragraphs is; where memory ran out none of
--- these is so
+-- these is so, and there is a text
 abbrev pub IsStartFault : Rules → List ℕ → RunFault → Type 0
 IsStartFault rules bytes (f.NotUtf8 n) = (n ≡ utf8_valid_len bytes) × (n < length bytes)
 IsStartFault rules bytes f.TextTooLong = (utf8_valid_len bytes ≡ length bytes) × (text_refusal (cut_by rules) (chars bytes) ≡ Some e.TextTooLong)
 IsStartFault rules bytes f.ParagraphTooLong =
     (utf8_valid_len bytes ≡ length bytes) × (text_refusal (cut_by rules) (chars bytes) ≡ Some e.ParagraphTooLong)
-IsStartFault rules bytes f.Memory = (utf8_valid_len bytes ≡ length bytes) × (text_refusal (cut_by rules) (chars bytes) ≡ None)
+IsStartFault rules bytes f.Memory =
+    (utf8_valid_len bytes ≡ length bytes) × (text_refusal (cut_by rules) (chars bytes) ≡ None) × (0 < length (chars bytes))
 IsStartFault rules bytes fault = ⊥
 
 abbrev pub start_fault : EditFault → RunFault

@@ -1,10 +1,10 @@
--- How much work the lines of a script ask for at most: each request what its change asks of a session, one that is refused nothing.
+-- How much work the lines of a script ask for at most: each request what its edit asks of a session, one that is refused nothing.
 use Rattle.std.specs.Prelude.{ℕ, ◌+◌, Bool, List, [], ◌∷◌, length, Option, Some, None, is_none, if◌then◌else◌}
 use Rattle.bidi.specs.Cuts.{paragraphs}
 use Rattle.lines.specs.Engine.{analysed_of, filled_of, written_of, RisesBy}
 use Rattle.lines.specs.Layouts.{Rules, cut_by}
 use Rattle.lines.specs.declared.engine.Engine.{Engine}
-use Rattle.session.specs.Changes.{Held, deletion, insertion}
+use Rattle.session.specs.Edits.{Held, deletion, insertion}
 use Rattle.session.specs.Touched.{fresh}
 use Rattle.tool.specs.ScriptRun.{after_line, request_refusal}
 use Rattle.tool.specs.Scripts.{Request, Insert, Delete, SetWidth, Show, Ask, request_of_line}

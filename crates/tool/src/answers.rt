@@ -5,7 +5,7 @@ ghost use Rattle.std.specs.Fmt.{decimal};
 ghost use Rattle.arrayvec.specs.ArrayVec.{array_vec_len};
 ghost use Rattle.lines.specs.Writing.{PassedOn};
 ghost use Rattle.tool.specs.Queries.{out_of_range, told};
-ghost use Rattle.tool.specs.Reading.{change_text, Stops};
+ghost use Rattle.tool.specs.Reading.{answer_text, Stops};
 ghost use Rattle.tool.specs.ScriptRun.{damage_text, refusal_text};
 
 use arrayvec::ArrayVec;
@@ -20,11 +20,11 @@ pub const ANSWER_ROOM: usize = 65;
 /// The bytes of an answer.
 pub type Answer = ArrayVec<u8, ANSWER_ROOM>;
 
-/// The answer to a change: which lines gave way to how many, or why it was refused.
-pub fn answer_of(change: &Result<Damage, EditFault>) -> Answer
-    ensures { result.items ≡ change_text change.now }
+/// The answer to an edit: which lines gave way to how many, or why it was refused.
+pub fn answer_of(edit: &Result<Damage, EditFault>) -> Answer
+    ensures { result.items ≡ answer_text edit.now }
 {
-    match change {
+    match edit {
         Ok(damage) => damage_answer(damage.first_line, damage.old_lines, damage.new_lines),
         Err(reason) => refusal_answer(*reason),
     }
@@ -108,7 +108,7 @@ fn push(answer: &mut Answer, bytes: &[u8])
     }
 }
 
-// Want of memory is no reason to refuse a change, and has no words.
+// Want of memory is no reason to refuse an edit, and has no words.
 fn reason_text(reason: EditFault) -> &'static str
     ensures value { result.now ≡ refusal_text reason }
     ensures short { length result.now ≤ 65 }

@@ -8,14 +8,14 @@ ghost use Rattle.std.specs.Str.Lossy.{utf8_valid_len};
 ghost use Rattle.device.specs.Device.{Device};
 ghost use Rattle.lines.specs.Engine.{rules_of, SameRules};
 ghost use Rattle.lines.specs.Writing.{PassedOn};
-ghost use Rattle.session.specs.Sessions.{State, held_at, page_at, IsWholeLayout};
+ghost use Rattle.session.specs.Sessions.{SessionState, held_at, page_at, IsWholeLayout};
 ghost use Rattle.std.specs.Io.KnownBytes.{IsAtEnd};
 ghost use Rattle.text_run.specs.TextRun.{TellsReads};
 ghost use Rattle.text_run.specs.declared.text.TheConstants.{PIECE};
 ghost use Rattle.tool.specs.Requests.{request_of};
-ghost use Rattle.tool.specs.Reading.{CanFeed, Changed, EndsIn, FailsAt, FailsIn, Feeds, Grows};
+ghost use Rattle.tool.specs.Reading.{CanFeed, Edited, EndsIn, FailsAt, FailsIn, Feeds, Grows};
 ghost use Rattle.tool.specs.Reading.{GrowsNot, IsAt, NoEnd, Obeys, ObeysLine, ObeysNot, Steps, Stops};
-ghost use Rattle.tool.specs.Reading.{Takes, change_text, lacks_memory};
+ghost use Rattle.tool.specs.Reading.{Takes, answer_text, lacks_memory};
 ghost use Rattle.tool.specs.ScriptEnds.{IsScriptRun};
 ghost use Rattle.tool.specs.Scripts.{Ask, Delete, SetWidth, Insert, request_of_line};
 ghost use Rattle.tool.specs.Work.{LineWorks, RequestWorks};
@@ -28,7 +28,7 @@ use lines::Print;
 use session::{Damage, EditFault, Kept, Session};
 use std::alloc::{AllocError, Global};
 use store::ParagraphStore;
-use text_run::{PIECE, RunFault, front, room};
+use text_run::{PIECE, RunFault, front, zeroed};
 
 /// How many bytes a line may have, without its end.
 pub const LINE_LIMIT: usize = 1_048_576;
@@ -70,7 +70,7 @@ fn set_width<S: ParagraphStore<Kept>>(
     session: &mut Session<S>,
     width: usize,
 ) -> Result<Damage, EditFault>
-    ensures changed { Changed (rules_of session.old.engine) (SetWidth width)
+    ensures edited { Edited (rules_of session.old.engine) (SetWidth width)
         (held_at session.old) (held_at session.new) result }
     ensures works { RequestWorks (rules_of session.old.engine) (held_at session.old) (SetWidth width)
         session.old.engine session.new.engine }
@@ -89,7 +89,7 @@ fn insert<S: ParagraphStore<Kept>>(
     pos: usize,
     piece: &str,
 ) -> Result<Damage, EditFault>
-    ensures changed { Changed (rules_of session.old.engine) (Insert pos (chars piece.now))
+    ensures edited { Edited (rules_of session.old.engine) (Insert pos (chars piece.now))
         (held_at session.old) (held_at session.new) result }
     ensures works { RequestWorks (rules_of session.old.engine) (held_at session.old)
         (Insert pos (chars piece.now)) session.old.engine session.new.engine }
@@ -105,7 +105,7 @@ fn delete<S: ParagraphStore<Kept>>(
     pos: usize,
     count: usize,
 ) -> Result<Damage, EditFault>
-    ensures changed { Changed (rules_of session.old.engine) (Delete pos count)
+    ensures edited { Edited (rules_of session.old.engine) (Delete pos count)
         (held_at session.old) (held_at session.new) result }
     ensures works { RequestWorks (rules_of session.old.engine) (held_at session.old) (Delete pos count)
         session.old.engine session.new.engine }
@@ -116,20 +116,20 @@ fn delete<S: ParagraphStore<Kept>>(
     session.delete(pos, count)
 }
 
-// Writes the answer to a change after so many bytes.
+// Writes the answer to an edit after so many bytes.
 fn write_answer<W: Sink>(
     writer: &mut W,
     written: u64,
-    change: &Result<Damage, EditFault>,
+    edit: &Result<Damage, EditFault>,
 ) -> Result<u64, RunFault>
     requires { written ≤ (W.state writer.old).passed }
-    ensures ok { IfOk result (PassedOn (change_text change.now) written
+    ensures ok { IfOk result (PassedOn (answer_text edit.now) written
         (W.state writer.old) (W.state writer.new)) }
-    ensures err { IfErr result (Stops (change_text change.now) written
+    ensures err { IfErr result (Stops (answer_text edit.now) written
         (W.state writer.old) (W.state writer.new)) }
     ensures counted { IfOk result (λ n. n ≤ (W.state writer.new).passed) }
 {
-    write_bytes(writer, written, &answer_of(change))
+    write_bytes(writer, written, &answer_of(edit))
 }
 
 // Writes all lines after so many bytes.
@@ -172,10 +172,10 @@ fn ask<W: Sink, S: ParagraphStore<Kept>>(
     write_query(session, writer, written, print, question)
 }
 
-fn lacks_memory(change: &Result<Damage, EditFault>) -> bool
-    ensures { result ≡ lacks_memory change.now }
+fn lacks_memory(edit: &Result<Damage, EditFault>) -> bool
+    ensures { result ≡ lacks_memory edit.now }
 {
-    match change {
+    match edit {
         Err(EditFault::NoMemory) => true,
         _ => false,
     }
@@ -199,17 +199,17 @@ fn obey<W: Sink, S: ParagraphStore<Kept>>(
     ensures counted { IfOk result (λ n. n ≤ (W.state writer.new).passed) }
     ensures rules { SameRules session.old.engine session.new.engine }
 {
-    let change = match request {
+    let edit = match request {
         Request::Insert(pos, piece) => insert(session, *pos, piece),
         Request::Delete(pos, count) => delete(session, *pos, *count),
         Request::SetWidth(width) => set_width(session, *width),
         Request::Show => return show(session, writer, written, print),
         Request::Ask(question) => return ask(session, writer, written, print, question),
     };
-    if lacks_memory(&change) {
+    if lacks_memory(&edit) {
         return Err(RunFault::Memory);
     }
-    write_answer(writer, written, &change)
+    write_answer(writer, written, &edit)
 }
 
 // What the bytes of a line ask for, if they are a line of a script. Whether they are UTF-8 is told
@@ -360,7 +360,7 @@ fn feed<W: Sink, S: ParagraphStore<Kept>>(
 ) -> Result<(), RunFault>
     requires { CanFeed (rules_of session.old.engine) options.now session.old reading.old
         (W.state writer.old) piece.now }
-    ensures feeds { (start : State) (reader_start writer_start reader_now : Device)
+    ensures feeds { (start : SessionState) (reader_start writer_start reader_now : Device)
         → IsAt (rules_of session.old.engine) options.now start reader_start reader_now
         writer_start (W.state writer.old) session.old reading.old piece.now
         → Feeds (rules_of session.old.engine) options.now start reader_start writer_start reader_now
@@ -387,7 +387,7 @@ fn finish<W: Sink, S: ParagraphStore<Kept>>(
 ) -> Result<(), RunFault>
     requires { CanFeed (rules_of session.old.engine) options.now session.old reading.old
         (W.state writer.old) [] }
-    ensures ends { (start : State) (reader_start writer_start reader_now : Device)
+    ensures ends { (start : SessionState) (reader_start writer_start reader_now : Device)
         → IsAt (rules_of session.old.engine) options.now start reader_start reader_now
         writer_start (W.state writer.old) session.old reading.old []
         → IsAtEnd reader_now.bytes
@@ -412,10 +412,10 @@ fn step<R: Source, W: Sink, S: ParagraphStore<Kept>>(
     reading: &mut Reading,
 ) -> Result<bool, RunFault>
     requires room { length piece.old ≡ PIECE }
-    requires stands { (start : State) × (reader_start : Device) × (writer_start : Device)
+    requires stands { (start : SessionState) × (reader_start : Device) × (writer_start : Device)
         × IsAt (rules_of session.old.engine) options.now start reader_start (R.state reader.old)
         writer_start (W.state writer.old) session.old reading.old [] }
-    ensures steps { (start : State) (reader_start writer_start : Device)
+    ensures steps { (start : SessionState) (reader_start writer_start : Device)
         → IsAt (rules_of session.old.engine) options.now start reader_start (R.state reader.old)
         writer_start (W.state writer.old) session.old reading.old []
         → Steps (rules_of session.old.engine) options.now start reader_start writer_start
@@ -444,9 +444,9 @@ fn step<R: Source, W: Sink, S: ParagraphStore<Kept>>(
 
 /// Obeys the lines of a script over a session. Each line is obeyed as soon as its end was read, and its
 /// answer is written before more is read: of the script, no more is held than a line and one piece.
-/// However the run ends, the session has made the changes of the lines that were answered, and worked no
+/// However the run ends, the session has made the edits of the lines that were answered, and worked no
 /// more than these ask for; where a write failed, also that of the line whose answer it was. Memory runs
-/// out only while a line is read or its change is made, and that line changes nothing then.
+/// out only while a line is read or its edit is made, and that line changes nothing then.
 pub fn run_script<R: Source, W: Sink, S: ParagraphStore<Kept>>(
     alloc: Global,
     reader: &mut R,
@@ -478,7 +478,7 @@ fn run_over<R: Source, W: Sink, S: ParagraphStore<Kept>>(
     ensures reads { TellsReads result (R.state reader.old) (R.state reader.new) }
     ensures rules { SameRules session.old.engine session.new.engine }
 {
-    let Ok(mut piece) = room(alloc, PIECE) else {
+    let Ok(mut piece) = zeroed(alloc, PIECE) else {
         return Err(RunFault::Memory);
     };
     let mut reading = Reading {

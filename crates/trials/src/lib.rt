@@ -8,7 +8,7 @@ pub mod sessions;
 pub mod stores;
 pub mod tables;
 
-pub use page::{Page, Writer};
+pub use page::{Printed, Writer};
 
 /// What is wrong with an answer.
 pub type Wrong = &'static str;

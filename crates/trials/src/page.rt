@@ -7,15 +7,15 @@ const ROOM: usize = 512;
 
 /// What was written.
 #[derive(Clone, Copy)]
-pub struct Page {
+pub struct Printed {
     room: [u8; ROOM],
     len: usize,
 }
 
-impl Page {
+impl Printed {
     /// Nothing as yet.
-    pub fn new() -> Page {
-        Page {
+    pub fn new() -> Printed {
+        Printed {
             room: [0; ROOM],
             len: 0,
         }
@@ -39,7 +39,7 @@ impl Page {
 /// Writes on a page, and fails after its end.
 #[derive(Drop)]
 pub struct Writer<'a> {
-    pub page: &'a mut Page,
+    pub page: &'a mut Printed,
 }
 
 impl Write for Writer<'_> {

@@ -1,6 +1,6 @@
 //! The calls of a session: each is made in a session of its own, beside one in which nothing was asked for.
 use crate::Wrong;
-use crate::page::{Page, Writer};
+use crate::page::{Printed, Writer};
 use crate::tables::{engine, let_go};
 use device::ToWrite;
 use lines::{Engine, Laid, Print, VisualLine};
@@ -11,26 +11,26 @@ use store::ParagraphStore;
 /// The text on which the sessions are opened.
 pub const TEXT: &str = "ab\ncd\nef";
 
-// A change; where its lines begin, how many there were and how many there are; and by how much it may raise
+// An edit; where its lines begin, how many there were and how many there are; and by how much it may raise
 // both counts.
-struct Change {
+struct Row {
     edit: Edit<'static>,
     lines: [usize; 3],
     most: [u64; 2],
 }
 
-const CHANGES: [Change; 3] = [
-    Change {
+const ROWS: [Row; 3] = [
+    Row {
         edit: Edit::Insert(4, "x\ny"),
         lines: [1, 1, 2],
         most: [6, 6],
     },
-    Change {
+    Row {
         edit: Edit::Delete(2, 4),
         lines: [0, 3, 1],
         most: [4, 4],
     },
-    Change {
+    Row {
         edit: Edit::SetWidth(1),
         lines: [0, 3, 6],
         most: [0, 8],
@@ -80,11 +80,11 @@ fn check_refusal(engine: &Engine, fault: EditFault) -> Result<(), Wrong> {
     Ok(())
 }
 
-/// Makes each change, and compares what a refused one leaves with what was there. The calls that show it take
+/// Makes each edit, and compares what a refused one leaves with what was there. The calls that show it take
 /// no memory, so they are made where nothing was refused as well.
 pub fn try_calls<S: ParagraphStore<Kept> + Drop>(alloc: Global) -> Result<(), Wrong> {
     let untouched: Session<S> = open(alloc)?;
-    let answer = try_changes(alloc, &untouched);
+    let answer = try_edits(alloc, &untouched);
     close(untouched);
     answer
 }
@@ -94,61 +94,61 @@ fn close<S: ParagraphStore<Kept> + Drop>(_session: Session<S>) {}
 
 // Each function here holds one session at most, since all that is held where a call may fail makes the proof
 // longer.
-fn try_changes<S: ParagraphStore<Kept> + Drop>(
+fn try_edits<S: ParagraphStore<Kept> + Drop>(
     alloc: Global,
     untouched: &Session<S>,
 ) -> Result<(), Wrong> {
-    for change in &CHANGES {
-        try_change(alloc, untouched, change)?;
+    for row in &ROWS {
+        try_edit(alloc, untouched, row)?;
     }
     Ok(())
 }
 
-fn try_change<S: ParagraphStore<Kept> + Drop>(
+fn try_edit<S: ParagraphStore<Kept> + Drop>(
     alloc: Global,
     untouched: &Session<S>,
-    change: &Change,
+    row: &Row,
 ) -> Result<(), Wrong> {
     let mut session: Session<S> = open(alloc)?;
-    let answer = try_change_in(&mut session, untouched, change);
+    let answer = try_edit_in(&mut session, untouched, row);
     close(session);
     answer
 }
 
-fn try_change_in<S: ParagraphStore<Kept>>(
+fn try_edit_in<S: ParagraphStore<Kept>>(
     session: &mut Session<S>,
     untouched: &Session<S>,
-    change: &Change,
+    row: &Row,
 ) -> Result<(), Wrong> {
     if !is_same(session, untouched) {
         return Err("two sessions on one text differ");
     }
-    let damage = make_twice(session, untouched, change)?;
-    if [damage.first_line, damage.old_lines, damage.new_lines] != change.lines {
+    let damage = make_twice(session, untouched, row)?;
+    if [damage.first_line, damage.old_lines, damage.new_lines] != row.lines {
         return Err("another damage");
     }
     Ok(())
 }
 
-// What a change that has to be made answers.
-fn made(change: Result<Damage, EditFault>) -> Result<Damage, Wrong> {
-    match change {
+// What an edit that has to be made answers.
+fn made(answer: Result<Damage, EditFault>) -> Result<Damage, Wrong> {
+    match answer {
         Ok(damage) => Ok(damage),
         Err(_) => Err("refused twice"),
     }
 }
 
-// Makes a change, and once more where it was refused.
+// Makes an edit, and once more where it was refused.
 fn make_twice<S: ParagraphStore<Kept>>(
     session: &mut Session<S>,
     untouched: &Session<S>,
-    change: &Change,
+    row: &Row,
 ) -> Result<Damage, Wrong> {
     let before = [session.analysed(), session.filled()];
-    let result = make(session, change.edit);
+    let result = make(session, row.edit);
     if result == Err(EditFault::NoMemory) {
-        check_unchanged(session, untouched, before, change.most)?;
-        return made(make(session, change.edit));
+        check_unchanged(session, untouched, before, row.most)?;
+        return made(make(session, row.edit));
     }
     made(result)
 }
@@ -243,14 +243,14 @@ pub const ALL: Print = Print {
 };
 
 fn is_same_page<S: ParagraphStore<Kept>>(left: &Session<S>, right: &Session<S>) -> bool {
-    let (mut left_page, mut right_page) = (Page::new(), Page::new());
+    let (mut left_page, mut right_page) = (Printed::new(), Printed::new());
     let left_result = print(left, &mut left_page);
     let right_result = print(right, &mut right_page);
     left_result && right_result && left_page.bytes() == right_page.bytes()
 }
 
 // Whether the whole page was printed.
-fn print<S: ParagraphStore<Kept>>(session: &Session<S>, page: &mut Page) -> bool {
+fn print<S: ParagraphStore<Kept>>(session: &Session<S>, page: &mut Printed) -> bool {
     session
         .print(&mut ToWrite::new(Writer { page }), &ALL)
         .is_ok()

@@ -210,7 +210,9 @@ holds_file form lines k es held all = record {
 }
 
 -- the text that is left has a first line, and the rest
-module _ {V : Type 0} (form : Form V) (file : List ℕ) (k : ℕ) (es : List (Entry V)) (text front : List ℕ) (rest : Option (List ℕ)) (held : HoldsLines form (lines_of file) k es) (left : drop k (lines_of file) ≡ lines_of text) (parts : lines_of text ≡ parts_of 10 front rest) where
+module _ {V : Type 0} (form : Form V) (file : List ℕ) (k : ℕ) (es : List (Entry V)) (text front : List ℕ)
+    (rest : Option (List ℕ)) (held : HoldsLines form (lines_of file) k es) (left : drop k (lines_of file)
+    ≡ lines_of text) (parts : lines_of text ≡ parts_of 10 front rest) where
   line_here : (k < length (lines_of file)) × (line_at form (lines_of file) k ≡ front) × (drop (k + 1) (lines_of file) ≡ lines_left rest)
   line_here = at_drop (lines_of file) k [] front (lines_left rest) (left ∙ first_left text front rest parts)
 

@@ -5,7 +5,7 @@ use Rattle.std.specs.BTreeMap.{BTreeMap, get}
 use Rattle.std.specs.Ordering.{nat_cmp}
 use Rattle.std.proofs.lemmas.Bool.{cases_lt}
 use Rattle.std.proofs.lemmas.Bool.Decides.{nat_tests}
-use Rattle.ucd.specs.Answers.{Answers}
+use Rattle.ucd.specs.Answers.{PropertyAnswers}
 use Rattle.ucd.specs.Entries.{value_at}
 use Rattle.ucd.specs.Pages.{answers_at, single, singles, category_in, width_in, pictograph_in}
 use Rattle.ucd.specs.Paged.{contents_in, AreSound}
@@ -92,11 +92,11 @@ some_mirror : (m : Option Mirror) → is_some (mirror_by m) ≡ is_some m
 some_mirror None = refl
 some_mirror (Some m) = refl
 
-module _ (index : List ℕ) (entries : List Answers) (brackets : BTreeMap ℕ Bracket) (mirrors : BTreeMap ℕ Mirror) (c : ℕ) (lt : c < 1114112) where
+module _ (index : List ℕ) (entries : List PropertyAnswers) (brackets : BTreeMap ℕ Bracket) (mirrors : BTreeMap ℕ Mirror) (c : ℕ) (lt : c < 1114112) where
   abbrev tables : Tables
   tables = contents_in index entries brackets mirrors
 
-  abbrev answers : Answers
+  abbrev answers : PropertyAnswers
   answers = answers_at index entries c
 
   pub class_is : class_of tables c ≡ answers.bidi_class

@@ -36,12 +36,15 @@ points_last x y = elim (cases_lt (position_or_len (is_mark 46) y) (length y)) [
   | inr ge ↦ rw (slice_split_none (is_mark 46) y (All-from_get_or (λ b. is_mark 46 b ≡ false) y 0 (λ k lt. fails_before_first (is_mark 46) y k 0 (omega arith)))) refl
 ]
 
-third_or_more : {V : Type 0} (form : Form V) (x y z : List ℕ) (rest : List (List ℕ)) → form.has_third ≡ false → Err cause.FieldCount ≡ by_fields form (map (trimmed (is_one_of spaces)) (x ∷ y ∷ z ∷ rest))
+third_or_more : {V : Type 0} (form : Form V) (x y z : List ℕ) (rest : List (List ℕ)) → form.has_third ≡ false
+    → Err cause.FieldCount ≡ by_fields form (map (trimmed (is_one_of spaces)) (x ∷ y ∷ z ∷ rest))
 third_or_more form x y z [] third = rw third refl
 third_or_more form x y z (w ∷ rest) third = refl
 
 -- more fields than a line of any file has
-pub too_many : {V B : Type 0} (form : Form V) (x y z : List ℕ) (f : B → List ℕ) (more : Option B) → is_some more ≡ true → Err cause.FieldCount ≡ by_fields form (map (trimmed (is_one_of spaces)) (x ∷ y ∷ parts_of 59 z (option_map f more)))
+pub too_many : {V B : Type 0} (form : Form V) (x y z : List ℕ) (f : B → List ℕ) (more : Option B) → is_some more ≡ true
+    → Err cause.FieldCount ≡ by_fields form
+    (map (trimmed (is_one_of spaces)) (x ∷ y ∷ parts_of 59 z (option_map f more)))
 too_many form x y z f None some = absurd (false≢true some)
 too_many form x y z f (Some more) some = let first = first_part (is_mark 59) (f more) in rw first.2 refl
 
@@ -50,7 +53,8 @@ pub one_missing : {V : Type 0} (form : Form V) (x y : List ℕ) → form.has_thi
 one_missing form x y third = rw third refl
 
 -- three fields or more, where a line has two
-pub one_more : {V : Type 0} (form : Form V) (x y more : List ℕ) → form.has_third ≡ false → Err cause.FieldCount ≡ by_fields form (map (trimmed (is_one_of spaces)) (x ∷ y ∷ slice_split (is_mark 59) more))
+pub one_more : {V : Type 0} (form : Form V) (x y more : List ℕ) → form.has_third ≡ false → Err cause.FieldCount
+    ≡ by_fields form (map (trimmed (is_one_of spaces)) (x ∷ y ∷ slice_split (is_mark 59) more))
 one_more form x y more third =
     let first = first_part (is_mark 59) more in
     rw first.2 (third_or_more form x y first.0 first.1 third)

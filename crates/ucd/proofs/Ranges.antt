@@ -6,7 +6,7 @@ use Rattle.std.proofs.lemmas.Grind.{common_steps}
 use Rattle.std.proofs.lemmas.List.{take-append-le, take_more}
 use Rattle.std.proofs.Math.Seq.{take-append_seam}
 use Rattle.std.proofs.lemmas.Option.{slice_get_within, get_or_from_slice_get}
-use Rattle.ucd.specs.Answers.{Answers}
+use Rattle.ucd.specs.Answers.{PropertyAnswers}
 use Rattle.ucd.specs.Puts.{put_by}
 use Rattle.ucd.specs.declared.grammar.Entry.{Entry}
 use Rattle.ucd.specs.Entries.{covers, value_at, AddsEntry, AreApart, AreNamed, IsFree}
@@ -60,20 +60,24 @@ module _ {V : Type 0} where
       ];
     }
 
-    pub named_push : (new : List Bool) → length new ≡ length named → ((c : ℕ) → get_or new c false ≡ (if nat_le e.first c && nat_lt c (e.last + 1) then true else get_or named c false)) → AreNamed (es ++ e ∷ []) new
+    pub named_push : (new : List Bool) → length new ≡ length named
+        → ((c : ℕ) → get_or new c false
+        ≡ (if nat_le e.first c && nat_lt c (e.last + 1) then true else get_or named c false))
+        → AreNamed (es ++ e ∷ []) new
     named_push new len each = record {
       len = len ∙ are.len;
       each = λ c lt. rw (value_push es e c (free c)) (grind (arith, nat_tests, common_steps, each c, are.each c lt));
     }
 
   -- the value of a code point with one more entry of a list
-  pub value_more : (es : List (Entry V)) → AreApart es → (i : ℕ) (e : Entry V) → slice_get es i ≡ Some e → (c : ℕ) → value_at (take (i + 1) es) c ≡ (if covers e c then Some e.value else value_at (take i es) c)
+  pub value_more : (es : List (Entry V)) → AreApart es → (i : ℕ) (e : Entry V) → slice_get es i ≡ Some e → (c : ℕ)
+      → value_at (take (i + 1) es) c ≡ (if covers e c then Some e.value else value_at (take i es) c)
   value_more es apart i e is c =
       let more : take (i + 1) es ≡ take i es ++ e ∷ [] = take_more es i e (slice_get_within es i e is) ∙ ap (λ x. take i es ++ x ∷ []) (get_or_from_slice_get es i e e is) in
       rw more (value_push (take i es) e c (apart.apart i e is c))
 
   -- what is said of a code point with one more
-  pub put_more : (put : V → Answers → Answers) (es : List (Entry V)) → AreApart es → (i : ℕ) (e : Entry V) → slice_get es i ≡ Some e → (c : ℕ) (old mid new : Answers) →
+  pub put_more : (put : V → PropertyAnswers → PropertyAnswers) (es : List (Entry V)) → AreApart es → (i : ℕ) (e : Entry V) → slice_get es i ≡ Some e → (c : ℕ) (old mid new : PropertyAnswers) →
       mid ≡ put_by put (value_at (take i es) c) old → new ≡ (if nat_le e.first c && nat_lt c (e.last + 1) then put e.value mid else mid) → new ≡ put_by put (value_at (take (i + 1) es) c) old
   put_more put es apart i e is c old mid new before after =
       let here : Bool = nat_le e.first c && nat_lt c (e.last + 1) in

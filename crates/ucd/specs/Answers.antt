@@ -12,7 +12,7 @@ use Rattle.ucd.specs.contracts.bidi_class.BidiClass as bidi_type
 use Rattle.ucd.specs.contracts.line_class.LineClass as line_type
 use denote.Enum.Declared.{tag_of}
 
-pub record Answers : Type 0 where
+pub record PropertyAnswers : Type 0 where
   pub bidi_class : BidiClass
   pub line_class : LineClass
   pub is_wide : Bool
@@ -22,7 +22,7 @@ pub record Answers : Type 0 where
   pub has_mirror : Bool
 
 -- what holds of a character that no line names
-abbrev pub unnamed : Answers
+abbrev pub unnamed : PropertyAnswers
 unnamed = record {
   bidi_class = L;
   line_class = XX;
@@ -51,11 +51,11 @@ line_class_at place = slice_index_or line.all_classes place BK
 abbrev pub bit : Bool → ℕ
 bit b = if b then 1 else 0
 
-abbrev pub bits_of : Answers → ℕ
+abbrev pub bits_of : PropertyAnswers → ℕ
 bits_of a = bidi_tag a.bidi_class + 32 * bit a.has_bracket + 64 * bit a.has_mirror + 128 * bit a.is_future_pictograph
     + 256 * bit a.is_mark + 512 * bit a.is_wide + 1024 * line_tag a.line_class
 
-abbrev pub answers_in : ℕ → Answers
+abbrev pub answers_in : ℕ → PropertyAnswers
 answers_in bits = record {
   bidi_class = bidi_class_at (bits % 32);
   has_bracket = bits / 32 % 2 == 1;
@@ -72,6 +72,6 @@ pub record AreBits (bits : ℕ) : Type 0 where
   pub line : bits / 1024 < LINE_CLASS_COUNT
 
 -- what line breaking reads, as one number
-abbrev pub line_index : Answers → ℕ
+abbrev pub line_index : PropertyAnswers → ℕ
 line_index a =
     line_tag a.line_class * 8 + (if a.is_wide then 4 else 0) + (if a.is_mark then 2 else 0) + (if a.is_future_pictograph then 1 else 0)

@@ -9,7 +9,7 @@ use Rattle.ucd.specs.declared.grammar.Entry.{Entry}
 use Rattle.ucd.specs.declared.line_class.LineClass.{LineClass}
 use Rattle.ucd.specs.declared.width.Width.{Width}
 
-pub record Contents : Type 0 where
+pub record TableContents : Type 0 where
   pub bidi_classes : List (Entry BidiClass)
   pub brackets : List (Entry Bracket)
   pub mirrors : List (Entry Mirror)

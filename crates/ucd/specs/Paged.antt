@@ -2,14 +2,14 @@
 use Rattle.std.specs.Prelude.{◌≡◌, ℕ, ◌<◌, ◌&&◌, false, List, Some, is_some}
 use Rattle.std.specs.BTreeMap.{BTreeMap, get}
 use Rattle.std.specs.Ordering.{nat_cmp}
-use Rattle.ucd.specs.Answers.{Answers}
-use Rattle.ucd.specs.Contents.{Contents}
+use Rattle.ucd.specs.Answers.{PropertyAnswers}
+use Rattle.ucd.specs.Contents.{TableContents}
 use Rattle.ucd.specs.Pages.{answers_at, singles, category_in, width_in, pictograph_in}
 use Rattle.ucd.specs.declared.bracket.Bracket.{Bracket}
 use Rattle.ucd.specs.declared.bracket.Mirror.{Mirror}
 
-module _ (index : List ℕ) (entries : List Answers) (brackets : BTreeMap ℕ Bracket) (mirrors : BTreeMap ℕ Mirror) where
-  abbrev pub contents_in : Contents
+module _ (index : List ℕ) (entries : List PropertyAnswers) (brackets : BTreeMap ℕ Bracket) (mirrors : BTreeMap ℕ Mirror) where
+  abbrev pub contents_in : TableContents
   contents_in = record {
     bidi_classes = singles (λ c. Some (answers_at index entries c).bidi_class) 1114112;
     brackets = singles (get nat_cmp brackets) 1114112;

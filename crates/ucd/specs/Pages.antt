@@ -1,6 +1,6 @@
 -- Pages of 256 code points, and the entries that stand for what they hold.
 use Rattle.std.specs.Prelude.{◌≡◌, ℕ, zero, suc, ◌+◌, ◌*◌, ◌/◌, ◌%◌, ◌<◌, ◌≤◌, length, List, [], ◌∷◌, ◌++◌, slice_index, slice_index_or, Option, Some, None, if◌then◌else◌}
-use Rattle.ucd.specs.Answers.{Answers, unnamed}
+use Rattle.ucd.specs.Answers.{PropertyAnswers, unnamed}
 use Rattle.ucd.specs.declared.category.Category.{Category}
 use Rattle.ucd.specs.declared.category.Category.TheVariants as category
 use Rattle.ucd.specs.declared.emoji.Pictograph.{Pictograph}
@@ -9,7 +9,7 @@ use Rattle.ucd.specs.declared.width.Width.{Width}
 use Rattle.ucd.specs.declared.width.Width.TheVariants as width
 
 -- the answers for a code point: those at its place in the page that the index names for it
-abbrev pub answers_at : List ℕ → List Answers → ℕ → Answers
+abbrev pub answers_at : List ℕ → List PropertyAnswers → ℕ → PropertyAnswers
 answers_at index entries c = slice_index_or entries (slice_index index (c / 256) * 256 + c % 256) unnamed
 
 -- the entries of single code points below n that say of each what a function does
@@ -22,17 +22,17 @@ singles f zero = []
 singles f (suc n) = singles f n ++ single n (f n)
 
 -- the values that answers stand for
-abbrev pub category_in : Answers → Category
+abbrev pub category_in : PropertyAnswers → Category
 category_in a = if a.is_future_pictograph then category.Unassigned else (if a.is_mark then category.Mark else category.Other)
 
-abbrev pub width_in : Answers → Width
+abbrev pub width_in : PropertyAnswers → Width
 width_in a = if a.is_wide then width.Wide else width.Other
 
-abbrev pub pictograph_in : Answers → Option Pictograph
+abbrev pub pictograph_in : PropertyAnswers → Option Pictograph
 pictograph_in a = if a.is_future_pictograph then Some (record {}) else None
 
 -- the pages, to which one more may have been added, have this page by this number
-pub record HasPage (old new page : List Answers) (number : ℕ) : Type 0 where
+pub record HasPage (old new page : List PropertyAnswers) (number : ℕ) : Type 0 where
   pub whole : length new % 256 ≡ 0
   pub room : length new ≤ length old + 256
   pub within : number * 256 + 256 ≤ length new

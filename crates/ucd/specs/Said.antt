@@ -1,12 +1,12 @@
 -- What some entries say of all code points.
 use Rattle.std.specs.Prelude.{◌≡◌, ℕ, ◌<◌, List, length, slice_index_or}
-use Rattle.ucd.specs.Answers.{Answers, unnamed}
-use Rattle.ucd.specs.Contents.{Contents}
+use Rattle.ucd.specs.Answers.{PropertyAnswers, unnamed}
+use Rattle.ucd.specs.Contents.{TableContents}
 use Rattle.ucd.specs.Entries.{value_at}
 use Rattle.ucd.specs.Puts.{put_by, put_bidi_class, put_bracket, put_mirror, put_line_class, put_width, put_category, put_pictograph}
 use Rattle.ucd.specs.declared.tables.Entries.{Entries}
 
-abbrev pub contents_of : Entries → Contents
+abbrev pub contents_of : Entries → TableContents
 contents_of e = record {
   bidi_classes = e.bidi.classes;
   brackets = e.bidi.brackets;
@@ -18,13 +18,13 @@ contents_of e = record {
 }
 
 -- what they say of one
-abbrev pub said : Contents → ℕ → Answers
+abbrev pub said : TableContents → ℕ → PropertyAnswers
 said k c =
     put_by put_category (value_at k.categories c) (put_by put_pictograph (value_at k.pictographs c)
     (put_by put_width (value_at k.widths c) (put_by put_line_class (value_at k.line_classes c)
     (put_by put_mirror (value_at k.mirrors c) (put_by put_bracket (value_at k.brackets c)
     (put_by put_bidi_class (value_at k.bidi_classes c) unnamed))))))
 
-pub record AreSaid (k : Contents) (points : List Answers) : Type 0 where
+pub record AreSaid (k : TableContents) (points : List PropertyAnswers) : Type 0 where
   pub len : length points ≡ 1114112
   pub each : (c : ℕ) → c < 1114112 → slice_index_or points c unnamed ≡ said k c

@@ -25,13 +25,13 @@ impl<V: Copy> Clone for Entry<V> {
 
 /// What a file says of a character, and how its lines say it.
 pub trait Property: Copy + Drop {
-    ghost use Rattle.ucd.specs.Answers.{Answers};
+    ghost use Rattle.ucd.specs.Answers.{PropertyAnswers};
     ghost use Rattle.ucd.specs.Grammar.{Form};
 
     ghost form: { Form Self };
 
     /// What a character's properties are with a value of the file.
-    ghost put: { Self → Answers → Answers };
+    ghost put: { Self → PropertyAnswers → PropertyAnswers };
 
     /// Whether the first field may be a range.
     fn has_ranges() -> bool

@@ -21,11 +21,11 @@ pub struct Properties {
 }
 
 impl Model for Properties {
-    ghost use Rattle.ucd.specs.Answers.{Answers, AreBits, answers_in, bits_of};
+    ghost use Rattle.ucd.specs.Answers.{PropertyAnswers, AreBits, answers_in, bits_of};
     ghost use Rattle.ucd.specs.Bits.{bits_of-answers_in};
     ghost use Rattle.std.proofs.Common.{ap};
 
-    ghost Value = { Answers };
+    ghost Value = { PropertyAnswers };
 
     ghost view = { λ p. answers_in p.bits };
 

@@ -62,10 +62,10 @@ impl Drop for Tables {
 }
 
 impl Model for Tables {
-    ghost use Rattle.ucd.specs.Contents.{Contents};
+    ghost use Rattle.ucd.specs.Contents.{TableContents};
     ghost use Rattle.ucd.specs.Paged.{contents_in, AreSound};
 
-    ghost Value = { Contents };
+    ghost Value = { TableContents };
 
     ghost view = { λ t. contents_in t.pages.index.items t.pages.entries.items t.brackets t.mirrors };
 
@@ -222,6 +222,20 @@ impl Tables {
         let pages = pages_of(alloc, &points)?;
         let brackets = points_of(alloc, entries.bidi.brackets.as_slice())?;
         let mirrors = points_of(alloc, entries.bidi.mirrors.as_slice())?;
+        Ok(Tables {
+            pages,
+            brackets,
+            mirrors,
+        })
+    }
+
+    /// Other tables that say the same, unless memory is wanting.
+    pub fn copy(&self, alloc: Global) -> Result<Tables, AllocError>
+        ensures { IfOk result (λ tables. tables ≡ self.now) }
+    {
+        let pages = self.pages.copy(alloc)?;
+        let brackets = self.brackets.clone()?;
+        let mirrors = self.mirrors.clone()?;
         Ok(Tables {
             pages,
             brackets,

@@ -1,4 +1,4 @@
-//! Changes at random places, over both stores. Each is compared with a session whose whole text gives
+//! Edits at random places, over both stores. Each is compared with a session whose whole text gives
 //! way to the new one at once, and some with one that is opened on it.
 use super::{Check, Pair, check_in_tree, check_over, make_within, same_lines, same_paragraphs};
 use session::{Damage, Edit, EditFault, Kept, Session};
@@ -53,7 +53,7 @@ fn parts(edit: Edit<'_>) -> (usize, usize, &str) {
     }
 }
 
-// Why the change is refused.
+// Why the edit is refused.
 fn refusal(text: &str, edit: Edit<'_>) -> Option<EditFault> {
     let (pos, count, _) = parts(edit);
     match edit {
@@ -63,8 +63,8 @@ fn refusal(text: &str, edit: Edit<'_>) -> Option<EditFault> {
     }
 }
 
-// The text after the change.
-fn changed(alloc: Global, text: &str, edit: Edit<'_>) -> Result<String, AllocError> {
+// The text after the edit.
+fn text_after(alloc: Global, text: &str, edit: Edit<'_>) -> Result<String, AllocError> {
     let (pos, count, piece) = parts(edit);
     let mut new = String::new(alloc);
     push_part(&mut new, text, 0, pos)?;
@@ -81,7 +81,7 @@ fn push_part(new: &mut String, text: &str, start: usize, count: usize) -> Result
     Ok(())
 }
 
-// What a change names that touches the paragraphs whose closed spans meet the closed range from `pos` to
+// What an edit names that touches the paragraphs whose closed spans meet the closed range from `pos` to
 // `end`, without what stands in their place; and how many characters these have.
 fn touched<T: ParagraphStore<Kept>>(old: &Session<T>, pos: usize, end: usize) -> (Damage, usize) {
     let (mut first_line, mut old_lines, mut first_par, mut old_pars) = (0, 0, 0, 0);
@@ -175,7 +175,7 @@ fn stays<S: ParagraphStore<Kept>, T: ParagraphStore<Kept>>(
         && same_paragraphs(old, new, after_pars, rest_pars)
 }
 
-// Whether a change was to be answered so, beside the session of the text as it was.
+// Whether an edit was to be answered so, beside the session of the text as it was.
 fn is_right<S: ParagraphStore<Kept>, T: ParagraphStore<Kept>>(
     edited: &Session<S>,
     old: &Session<T>,
@@ -193,8 +193,8 @@ fn is_right<S: ParagraphStore<Kept>, T: ParagraphStore<Kept>>(
     }
 }
 
-// Makes a change in a session of this text, which becomes the text after it.
-fn check_change<S: ParagraphStore<Kept> + Drop, T: ParagraphStore<Kept> + Drop>(
+// Makes an edit in a session of this text, which becomes the text after it.
+fn check_edit<S: ParagraphStore<Kept> + Drop, T: ParagraphStore<Kept> + Drop>(
     rt: &impl Abort,
     alloc: Global,
     pair: &mut Pair<S, T>,
@@ -213,21 +213,21 @@ fn check_change<S: ParagraphStore<Kept> + Drop, T: ParagraphStore<Kept> + Drop>(
         "{edit:?}"
     );
     if refusal.is_none() {
-        change(alloc, text, edit)?;
+        advance(alloc, text, edit)?;
     }
     Ok(pair.check_same(rt, text.as_str())?)
 }
 
-// Puts the text after the change in its place.
-fn change(alloc: Global, text: &mut String, edit: Edit<'_>) -> Result<(), AllocError> {
-    *text = match changed(alloc, text.as_str(), edit) {
+// Puts the text after the edit in its place.
+fn advance(alloc: Global, text: &mut String, edit: Edit<'_>) -> Result<(), AllocError> {
+    *text = match text_after(alloc, text.as_str(), edit) {
         Ok(new) => new,
-        Err(_) => changed(alloc, text.as_str(), edit)?,
+        Err(_) => text_after(alloc, text.as_str(), edit)?,
     };
     Ok(())
 }
 
-// Makes the next change in a session of this text.
+// Makes the next edit in a session of this text.
 fn check_next<S: ParagraphStore<Kept> + Drop, T: ParagraphStore<Kept> + Drop>(
     rt: &impl Abort,
     alloc: Global,
@@ -240,7 +240,7 @@ fn check_next<S: ParagraphStore<Kept> + Drop, T: ParagraphStore<Kept> + Drop>(
         Err(_) => random_piece(alloc, numbers)?,
     };
     let edit = random_edit(numbers, pair.edited.char_count(), piece.as_str());
-    let result = check_change(rt, alloc, pair, text, edit);
+    let result = check_edit(rt, alloc, pair, text, edit);
     drop(piece);
     result
 }
@@ -262,7 +262,7 @@ fn check_each<S: ParagraphStore<Kept> + Drop, T: ParagraphStore<Kept> + Drop>(
     Ok(())
 }
 
-pub(super) fn check_changes<S: ParagraphStore<Kept> + Drop, T: ParagraphStore<Kept> + Drop>(
+pub(super) fn check_edits<S: ParagraphStore<Kept> + Drop, T: ParagraphStore<Kept> + Drop>(
     rt: &impl Abort,
     alloc: Global,
     pair: &mut Pair<S, T>,
@@ -275,11 +275,11 @@ pub(super) fn check_changes<S: ParagraphStore<Kept> + Drop, T: ParagraphStore<Ke
 }
 
 #[test]
-fn changes_at_random_in_a_tree(rt: HostRuntime) -> Result<(), Fail> {
+fn edits_at_random_in_a_tree(rt: HostRuntime) -> Result<(), Fail> {
     check_in_tree(&rt, rt.alloc(), Check::Random(15))
 }
 
 #[test]
-fn changes_at_random_in_a_list(rt: HostRuntime) -> Result<(), Fail> {
+fn edits_at_random_in_a_list(rt: HostRuntime) -> Result<(), Fail> {
     check_over::<VecStore<Kept>, VecStore<Kept>>(&rt, rt.alloc(), Check::Random(16))
 }

@@ -1,4 +1,4 @@
-//! Changes and sessions that are refused.
+//! Edits and sessions that are refused.
 use super::{Check, Pair, check_in_tree, make, make_each, renew, session, without_engine};
 use crate::files::{FILES, engine};
 use lines::{Engine, Options};
@@ -18,7 +18,7 @@ static REFUSED: [(Edit<'_>, EditFault); 7] = [
     (Edit::SetWidth(0), EditFault::WidthOutOfRange),
 ];
 
-// Whether each change is refused so.
+// Whether each edit is refused so.
 fn refuses<S: ParagraphStore<Kept>>(
     edited: &mut Session<S>,
     rows: &[(Edit<'_>, EditFault)],
@@ -30,7 +30,7 @@ fn refuses<S: ParagraphStore<Kept>>(
     all_right
 }
 
-// A session refuses the changes, and is as before.
+// A session refuses the edits, and is as before.
 pub(super) fn check_refused<S: ParagraphStore<Kept> + Drop, T: ParagraphStore<Kept> + Drop>(
     rt: &impl Abort,
     pair: &mut Pair<S, T>,
@@ -44,7 +44,7 @@ pub(super) fn check_refused<S: ParagraphStore<Kept> + Drop, T: ParagraphStore<Ke
 }
 
 #[test]
-fn changes_that_are_refused(rt: HostRuntime) -> Result<(), Fail> {
+fn edits_that_are_refused(rt: HostRuntime) -> Result<(), Fail> {
     check_in_tree(&rt, rt.alloc(), Check::Refusals)
 }
 
@@ -124,7 +124,7 @@ fn becomes_full<S: ParagraphStore<Kept>>(
 }
 
 #[test]
-fn changes_of_long_paragraphs(rt: HostRuntime) -> Result<(), Fail> {
+fn edits_of_long_paragraphs(rt: HostRuntime) -> Result<(), Fail> {
     let mut edited: Session<VecStore<Kept>> = session(rt.alloc(), "ab\ncd", 80)?;
     let result = becomes_full(rt.alloc(), &mut edited);
     drop(edited);

@@ -1,4 +1,4 @@
-//! Worked rows of changes, one by one and one after another.
+//! Worked rows of edits, one by one and one after another.
 use super::{Check, Pair, check_in_tree, make_surely, make_within, print, renew};
 use lines::Print;
 use session::{Damage, Edit, EditFault, Kept, Session};
@@ -6,10 +6,10 @@ use std::process::Abort;
 use std::test::Fail;
 use store::ParagraphStore;
 
-// A text, its width, a change, the damage, by how much the counts may rise, and the text after it.
+// A text, its width, an edit, the damage, by how much the counts may rise, and the text after it.
 type Row<'a> = (&'a str, u16, Edit<'a>, [usize; 6], [u64; 2], &'a str);
 
-// Whether the change is answered as it should be, and the session is of the text after it.
+// Whether the edit is answered as it should be, and the session is of the text after it.
 fn is_row<S: ParagraphStore<Kept> + Drop, T: ParagraphStore<Kept> + Drop>(
     rt: &impl Abort,
     pair: &mut Pair<S, T>,
@@ -205,11 +205,11 @@ pub(super) fn check_rows<S: ParagraphStore<Kept> + Drop, T: ParagraphStore<Kept>
 }
 
 #[test]
-fn changes_of_rows(rt: HostRuntime) -> Result<(), Fail> {
+fn edits_of_rows(rt: HostRuntime) -> Result<(), Fail> {
     check_in_tree(&rt, rt.alloc(), Check::Rows)
 }
 
-// A change, what its answer says of lines, and what is printed then.
+// An edit, what its answer says of lines, and what is printed then.
 type Step<'a> = (Edit<'a>, Result<[usize; 3], EditFault>, &'a str);
 
 // Lines as they are shown, with their levels or without.
@@ -228,7 +228,7 @@ const SHOWN: Print = Print {
     ..LEVELS
 };
 
-// Whether the change is answered as it should be, and this is printed then.
+// Whether the edit is answered as it should be, and this is printed then.
 fn is_step<S: ParagraphStore<Kept>>(
     rt: &impl Abort,
     edited: &mut Session<S>,
@@ -249,7 +249,7 @@ fn is_step<S: ParagraphStore<Kept>>(
     (lines == answer) & (print(edited, room, form) == Some(page.as_bytes()))
 }
 
-// Makes the changes in a session of a text.
+// Makes the edits in a session of a text.
 fn check_steps<S: ParagraphStore<Kept> + Drop, T: ParagraphStore<Kept> + Drop>(
     rt: &impl Abort,
     pair: &mut Pair<S, T>,
@@ -301,7 +301,7 @@ pub(super) fn check_all_steps<S: ParagraphStore<Kept> + Drop, T: ParagraphStore<
 }
 
 #[test]
-fn changes_one_after_another(rt: HostRuntime) -> Result<(), Fail> {
+fn edits_one_after_another(rt: HostRuntime) -> Result<(), Fail> {
     check_in_tree(&rt, rt.alloc(), Check::Steps)
 }
 
@@ -337,10 +337,10 @@ pub(super) static CHANGES: [Edit<'_>; 6] = [
 // Asked for once, so that a body that refuses for no reason fails.
 fn run<S: ParagraphStore<Kept>>(
     edited: &mut Session<S>,
-    changes: &[Edit<'_>],
+    edits: &[Edit<'_>],
 ) -> Result<(), EditFault> {
     renew(edited, "ab\ncd", 80)?;
-    match edited.run(changes) {
+    match edited.run(edits) {
         Ok(_) => Ok(()),
         Err(_) => Err(EditFault::NoMemory),
     }
@@ -349,14 +349,14 @@ fn run<S: ParagraphStore<Kept>>(
 pub(super) fn check_run<S: ParagraphStore<Kept> + Drop, T: ParagraphStore<Kept> + Drop>(
     rt: &impl Abort,
     pair: &mut Pair<S, T>,
-    changes: &[Edit<'_>],
+    edits: &[Edit<'_>],
 ) -> Result<(), EditFault> {
-    run(&mut pair.edited, changes)?;
+    run(&mut pair.edited, edits)?;
     assert!(rt; pair.edited.width() == 2);
     pair.check_same(rt, "\u{5d0}cd\ne")
 }
 
 #[test]
-fn runs_of_changes(rt: HostRuntime) -> Result<(), Fail> {
+fn runs_of_edits(rt: HostRuntime) -> Result<(), Fail> {
     check_in_tree(&rt, rt.alloc(), Check::Run)
 }

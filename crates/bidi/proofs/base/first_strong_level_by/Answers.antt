@@ -11,7 +11,8 @@ use Rattle.bidi.proofs.base.first_strong_level_by.Goals as goal
 use Rattle.bidi.proofs.base.first_strong_level_by.Goals.{else-depth-eq0-via-then-depth-eq0+else-is_some, else-depth-eq0-via-else-depth-eq0}
 
 -- the class of the character at k
-class_there : (properties : List Properties) (k : ℕ) (d : Properties) (class : BidiClass) → k < length properties → class ≡ (get_or properties k d).bidi_class → class ≡ class_at (map class_in properties) k
+class_there : (properties : List Properties) (k : ℕ) (d : Properties) (class : BidiClass) → k < length properties
+    → class ≡ (get_or properties k d).bidi_class → class ≡ class_at (map class_in properties) k
 class_there properties k d class within e = e ∙ sym (get_or-map class_in properties k d ON within)
 
 -- a class with a level is strong, and one without is not

@@ -14,7 +14,9 @@ newest_within openers closer m e = (greatest_found (λ i. canonical (pair_of ope
 read : (openers : List Opener) (m : ℕ) → (get_or openers m (record { place = 0; pair = 0 })).place ≡ place_of openers m
 read openers m = sym (get_or-map (λ (o : Opener). o.place) openers m (record { place = 0; pair = 0 }))
 
-known : (c : After-as_slice-in-Some) → (c.in-Some.held < length c.args.openers.now.items) × ((get_or c.as_slice-in-Some.result.now c.in-Some.held (record { place = 0; pair = 0 })).place < length c.args.closers.now)
+known : (c : After-as_slice-in-Some) → (c.in-Some.held < length c.args.openers.now.items)
+    × ((get_or c.as_slice-in-Some.result.now c.in-Some.held (record { place = 0; pair = 0 })).place < length
+    c.args.closers.now)
 known c =
     let h : c.in-Some.held < length c.args.openers.now.items = newest_within c.args.openers.now.items c.args.closer c.in-Some.held (rw c.as_slice.ensures.value at c.in-Some.ensures) in
     let e = read c.args.openers.now.items c.in-Some.held in

@@ -4,7 +4,9 @@ use Rattle.bidi.proofs.LevelLemmas.{Resolves}
 use Rattle.bidi.proofs.sequence_levels.resolve_runs.Given as goal
 
 abbrev pub invariant-loop-start : goal.invariant-loop-start
-invariant-loop-start l = Resolves (bracket_of l.paragraph.text.tables.now) l.paragraph.base l.paragraph.text.characters.now l.paragraph.stayed.now.classes.items l.paragraph.stayed.now.levels.items l.paragraph.stayed.now.types.items l.start l.continued l.done
+invariant-loop-start l = Resolves (bracket_of l.paragraph.text.tables.now) l.paragraph.base
+    l.paragraph.text.characters.now l.paragraph.stayed.now.classes.items l.paragraph.stayed.now.levels.items
+    l.paragraph.stayed.now.types.items l.start l.continued l.done
 
 abbrev pub decreases-loop-start : goal.decreases-loop-start
 decreases-loop-start l = length l.paragraph.stayed.now.levels.items - l.start

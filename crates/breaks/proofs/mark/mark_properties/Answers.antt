@@ -22,7 +22,10 @@ pub loop-i-preserved : goal.loop-i-preserved
 loop-i-preserved c =
     let lt : c.loop-i.i < length c.loop-i.marks = omega arith in
     record {
-      walks = steps character_by c.in-Some.rest.now _ c.args.whole_numbers c.loop-i.i _ _ _ _ c.loop-i.marks _ c.mark_before.result c.pass-decided.result (omega arith) c.read.ensures refl c.loop-i.invariant.walks c.pass-decided.ensures.passes c.mark_before.ensures (take_more_set c.loop-i.marks c.loop-i.i c.mark_before.result lt);
+      walks = steps character_by c.in-Some.rest.now _ c.args.whole_numbers c.loop-i.i _ _ _ _ c.loop-i.marks _
+          c.mark_before.result c.pass-decided.result (omega arith) c.read.ensures refl c.loop-i.invariant.walks
+          c.pass-decided.ensures.passes c.mark_before.ensures
+          (take_more_set c.loop-i.marks c.loop-i.i c.mark_before.result lt);
       len = length-set c.loop-i.marks c.loop-i.i c.mark_before.result ∙ c.loop-i.invariant.len;
       within = c.pass-decided.ensures.within;
     }

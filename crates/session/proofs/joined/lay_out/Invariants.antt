@@ -1,7 +1,7 @@
 use Rattle.std.proofs.Common.{◌≡◌, ◌≤◌, ◌+◌, ◌++◌, true, length}
 use Rattle.lines.specs.Engine.{rules_of, analysed_of, filled_of, written_of, SameRules}
 use Rattle.lines.specs.Layouts.{cut_by}
-use Rattle.session.specs.Changes.{is_within_limit}
+use Rattle.session.specs.Edits.{is_within_limit}
 use Rattle.session.specs.Kept.{layouts_of}
 use Rattle.session.proofs.joined.lay_out.Given as goal
 

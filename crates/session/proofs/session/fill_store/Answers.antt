@@ -6,7 +6,7 @@ use Rattle.std.proofs.lemmas.List.{append-nil}
 use Rattle.lines.specs.Engine.{rules_of, LaysOutAtMost}
 use Rattle.lines.specs.Layouts.{cut_by}
 use Rattle.session.specs.Sessions.{IsCountedFor}
-use Rattle.session.specs.Changes.{is_within_limit, paragraphs_refusal}
+use Rattle.session.specs.Edits.{is_within_limit, paragraphs_refusal}
 use Rattle.session.specs.Kept.{layouts_of}
 use Rattle.session.specs.Sessions.{IsAnswerFor}
 use Rattle.session.proofs.EditLemmas.{at_ok}
@@ -42,7 +42,8 @@ replace-requires-clause-chars_fit g c =
     let laid = c.in-Ok.ensures.ok ∙ ap (layouts_of by c.args.width) part in
     let allowed = subst (λ t. is_within_limit (cut_by by) t ≡ true) part c.in-Ok.ensures.allowed in
     let counts = subst (λ t. LaysOutAtMost (length t) engine c.lay_out_joined.new.engine) part c.lay_out_joined.ensures.counts in
-    opening-chars c.paragraphs_are_pieces.ensures c.lines_are_few.ensures engine whole c.args.width c.in-Ok.paragraphs.items laid short (g.S.ParagraphStore.items c.new-store.result) c.new-store.ensures
+    opening-chars c.paragraphs_are_pieces.ensures c.lines_are_few.ensures engine whole c.args.width
+        c.in-Ok.paragraphs.items laid short (g.S.ParagraphStore.items c.new-store.result) c.new-store.ensures
 
 pub replace-requires-clause-lines_fit : goal.replace-requires-clause-lines_fit
 replace-requires-clause-lines_fit g c =
@@ -55,7 +56,8 @@ replace-requires-clause-lines_fit g c =
     let laid = c.in-Ok.ensures.ok ∙ ap (layouts_of by c.args.width) part in
     let allowed = subst (λ t. is_within_limit (cut_by by) t ≡ true) part c.in-Ok.ensures.allowed in
     let counts = subst (λ t. LaysOutAtMost (length t) engine c.lay_out_joined.new.engine) part c.lay_out_joined.ensures.counts in
-    opening-lines c.paragraphs_are_pieces.ensures c.lines_are_few.ensures engine whole c.args.width c.in-Ok.paragraphs.items laid short (g.S.ParagraphStore.items c.new-store.result) c.new-store.ensures
+    opening-lines c.paragraphs_are_pieces.ensures c.lines_are_few.ensures engine whole c.args.width
+        c.in-Ok.paragraphs.items laid short (g.S.ParagraphStore.items c.new-store.result) c.new-store.ensures
 
 pub returns-then-is_err-clause-err : goal.returns-then-is_err-clause-err
 returns-then-is_err-clause-err g c =

@@ -5,23 +5,33 @@ use Rattle.text_run.proofs.text.run_text.Goals as goal
 
 -- memory ran out before anything was read
 pub returns-in_default-clause-run : goal.returns-in_default-clause-run
-returns-in_default-clause-run g c = (ends_at_once (rules_of c.args.engine.now) c.args.width c.args.print.now (g.R.Source.state c.args.reader.now) (g.W.Sink.state c.args.writer.now) c.args.engine.now).run
+returns-in_default-clause-run g c =
+    (ends_at_once (rules_of c.args.engine.now) c.args.width c.args.print.now (g.R.Source.state c.args.reader.now)
+    (g.W.Sink.state c.args.writer.now) c.args.engine.now).run
 
 pub returns-in_default-clause-ahead : goal.returns-in_default-clause-ahead
-returns-in_default-clause-ahead g c = (ends_at_once (rules_of c.args.engine.now) c.args.width c.args.print.now (g.R.Source.state c.args.reader.now) (g.W.Sink.state c.args.writer.now) c.args.engine.now).ahead
+returns-in_default-clause-ahead g c =
+    (ends_at_once (rules_of c.args.engine.now) c.args.width c.args.print.now (g.R.Source.state c.args.reader.now)
+    (g.W.Sink.state c.args.writer.now) c.args.engine.now).ahead
 
 pub returns-in_default-clause-at_most : goal.returns-in_default-clause-at_most
-returns-in_default-clause-at_most g c = (ends_at_once (rules_of c.args.engine.now) c.args.width c.args.print.now (g.R.Source.state c.args.reader.now) (g.W.Sink.state c.args.writer.now) c.args.engine.now).at_most
+returns-in_default-clause-at_most g c =
+    (ends_at_once (rules_of c.args.engine.now) c.args.width c.args.print.now (g.R.Source.state c.args.reader.now)
+    (g.W.Sink.state c.args.writer.now) c.args.engine.now).at_most
 
 pub returns-in_default-clause-memory : goal.returns-in_default-clause-memory
-returns-in_default-clause-memory g c = (ends_at_once (rules_of c.args.engine.now) c.args.width c.args.print.now (g.R.Source.state c.args.reader.now) (g.W.Sink.state c.args.writer.now) c.args.engine.now).wants
+returns-in_default-clause-memory g c =
+    (ends_at_once (rules_of c.args.engine.now) c.args.width c.args.print.now (g.R.Source.state c.args.reader.now)
+    (g.W.Sink.state c.args.writer.now) c.args.engine.now).wants
 
 pub loop-held-init : goal.loop-held-init
 loop-held-init g c =
     let start = c.in-Ok.ensures in
     record {
       kept = refl;
-      stands = stands_at_start (rules_of c.args.engine.now) c.args.width c.args.print.now (g.R.Source.state c.args.reader.now) (g.W.Sink.state c.args.writer.now) c.args.engine.now (c.counts_fit.ensures c.args.print.now) c.in-Ok.held
+      stands = stands_at_start (rules_of c.args.engine.now) c.args.width c.args.print.now
+          (g.R.Source.state c.args.reader.now) (g.W.Sink.state c.args.writer.now) c.args.engine.now
+          (c.counts_fit.ensures c.args.print.now) c.in-Ok.held
           start.waiting.0 start.waiting.1 start.waiting.2 start.text start.page start.room;
     }
 
@@ -30,33 +40,47 @@ loop-held-preserved g c =
     let kept = c.loop-held.invariant.kept in
     record {
       kept = c.step.ensures.rules ∙ kept;
-      stands = stepped_as (rules_of c.args.engine.now) (rules_of c.loop-held.engine) c.args.width c.args.print.now _ _ c.args.engine.now _ _ c.loop-held.engine _ _ c.step.new.engine c.loop-held.held c.step.new.held c.loop-held.invariant.kept c.loop-held.invariant.stands c.step.result
-          (c.step.ensures.steps (g.R.Source.state c.args.reader.now) (g.W.Sink.state c.args.writer.now) c.args.engine.now) (Ok true) (c.in-Ok-true.is ∙ ap (λ (b : Bool). Ok b) c.in-Ok-true.field-0-test);
+      stands = stepped_as (rules_of c.args.engine.now) (rules_of c.loop-held.engine) c.args.width c.args.print.now _ _
+          c.args.engine.now _ _ c.loop-held.engine _ _ c.step.new.engine c.loop-held.held c.step.new.held
+          c.loop-held.invariant.kept c.loop-held.invariant.stands c.step.result
+          (c.step.ensures.steps (g.R.Source.state c.args.reader.now) (g.W.Sink.state c.args.writer.now)
+              c.args.engine.now) (Ok true) (c.in-Ok-true.is ∙ ap (λ (b : Bool). Ok b) c.in-Ok-true.field-0-test);
     }
 
 pub returns-in-Ok-false-clause-run : goal.returns-in-Ok-false-clause-run
 returns-in-Ok-false-clause-run g c =
-    (stepped_as (rules_of c.args.engine.now) (rules_of c.loop-held.engine) c.args.width c.args.print.now _ _ c.args.engine.now _ _ c.loop-held.engine _ _ c.step.new.engine c.loop-held.held c.step.new.held c.loop-held.invariant.kept c.loop-held.invariant.stands c.step.result
-    (c.step.ensures.steps (g.R.Source.state c.args.reader.now) (g.W.Sink.state c.args.writer.now) c.args.engine.now) (Ok false) (c.in-Ok-false.is ∙ ap (λ (b : Bool). Ok b) c.in-Ok-false.field-0-test)).run
+    (stepped_as (rules_of c.args.engine.now) (rules_of c.loop-held.engine) c.args.width c.args.print.now _ _
+        c.args.engine.now _ _ c.loop-held.engine _ _ c.step.new.engine c.loop-held.held c.step.new.held
+        c.loop-held.invariant.kept c.loop-held.invariant.stands c.step.result
+    (c.step.ensures.steps (g.R.Source.state c.args.reader.now) (g.W.Sink.state c.args.writer.now) c.args.engine.now)
+        (Ok false) (c.in-Ok-false.is ∙ ap (λ (b : Bool). Ok b) c.in-Ok-false.field-0-test)).run
 
 pub returns-in-Err-clause-run : goal.returns-in-Err-clause-run
 returns-in-Err-clause-run g c =
-    (stepped_as (rules_of c.args.engine.now) (rules_of c.loop-held.engine) c.args.width c.args.print.now _ _ c.args.engine.now _ _ c.loop-held.engine _ _ c.step.new.engine c.loop-held.held c.step.new.held c.loop-held.invariant.kept c.loop-held.invariant.stands c.step.result
+    (stepped_as (rules_of c.args.engine.now) (rules_of c.loop-held.engine) c.args.width c.args.print.now _ _
+        c.args.engine.now _ _ c.loop-held.engine _ _ c.step.new.engine c.loop-held.held c.step.new.held
+        c.loop-held.invariant.kept c.loop-held.invariant.stands c.step.result
     (c.step.ensures.steps (g.R.Source.state c.args.reader.now) (g.W.Sink.state c.args.writer.now) c.args.engine.now) (Err c.in-Err.fault) c.in-Err.is).run
 
 pub returns-in-Err-clause-ahead : goal.returns-in-Err-clause-ahead
 returns-in-Err-clause-ahead g c =
-    (stepped_as (rules_of c.args.engine.now) (rules_of c.loop-held.engine) c.args.width c.args.print.now _ _ c.args.engine.now _ _ c.loop-held.engine _ _ c.step.new.engine c.loop-held.held c.step.new.held c.loop-held.invariant.kept c.loop-held.invariant.stands c.step.result
+    (stepped_as (rules_of c.args.engine.now) (rules_of c.loop-held.engine) c.args.width c.args.print.now _ _
+        c.args.engine.now _ _ c.loop-held.engine _ _ c.step.new.engine c.loop-held.held c.step.new.held
+        c.loop-held.invariant.kept c.loop-held.invariant.stands c.step.result
     (c.step.ensures.steps (g.R.Source.state c.args.reader.now) (g.W.Sink.state c.args.writer.now) c.args.engine.now) (Err c.in-Err.fault) c.in-Err.is).ahead
 
 pub returns-in-Err-clause-at_most : goal.returns-in-Err-clause-at_most
 returns-in-Err-clause-at_most g c =
-    (stepped_as (rules_of c.args.engine.now) (rules_of c.loop-held.engine) c.args.width c.args.print.now _ _ c.args.engine.now _ _ c.loop-held.engine _ _ c.step.new.engine c.loop-held.held c.step.new.held c.loop-held.invariant.kept c.loop-held.invariant.stands c.step.result
+    (stepped_as (rules_of c.args.engine.now) (rules_of c.loop-held.engine) c.args.width c.args.print.now _ _
+        c.args.engine.now _ _ c.loop-held.engine _ _ c.step.new.engine c.loop-held.held c.step.new.held
+        c.loop-held.invariant.kept c.loop-held.invariant.stands c.step.result
     (c.step.ensures.steps (g.R.Source.state c.args.reader.now) (g.W.Sink.state c.args.writer.now) c.args.engine.now) (Err c.in-Err.fault) c.in-Err.is).at_most
 
 pub returns-in-Err-clause-memory : goal.returns-in-Err-clause-memory
 returns-in-Err-clause-memory g c =
-    (stepped_as (rules_of c.args.engine.now) (rules_of c.loop-held.engine) c.args.width c.args.print.now _ _ c.args.engine.now _ _ c.loop-held.engine _ _ c.step.new.engine c.loop-held.held c.step.new.held c.loop-held.invariant.kept c.loop-held.invariant.stands c.step.result
+    (stepped_as (rules_of c.args.engine.now) (rules_of c.loop-held.engine) c.args.width c.args.print.now _ _
+        c.args.engine.now _ _ c.loop-held.engine _ _ c.step.new.engine c.loop-held.held c.step.new.held
+        c.loop-held.invariant.kept c.loop-held.invariant.stands c.step.result
     (c.step.ensures.steps (g.R.Source.state c.args.reader.now) (g.W.Sink.state c.args.writer.now) c.args.engine.now) (Err c.in-Err.fault) c.in-Err.is).wants
 
 -- a step that ends otherwise than by a failed read adds no failure, and those before it added none

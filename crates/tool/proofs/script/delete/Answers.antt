@@ -1,4 +1,4 @@
-use Rattle.session.specs.Changes.{deletion}
+use Rattle.session.specs.Edits.{deletion}
 use Rattle.tool.proofs.WorkLemmas.{edit_works}
 use Rattle.tool.proofs.script.delete.Goals as goal
 

@@ -1,7 +1,7 @@
 use Rattle.std.proofs.Common.{◌≤◌, ◌-◌, length, drop}
 use Rattle.device.specs.Device.{Device}
 use Rattle.lines.specs.Engine.{rules_of, SameRules}
-use Rattle.session.specs.Sessions.{State}
+use Rattle.session.specs.Sessions.{SessionState}
 use Rattle.tool.specs.Reading.{IsAt}
 use Rattle.tool.proofs.script.feed.Given as goal
 
@@ -12,7 +12,9 @@ invariant-loop-at g l =
     let rules = rules_of l.fn.session.engine in
     record {
       within : l.at ≤ length l.piece;
-      stands : (start : State) (reader_start writer_start reader_now : Device) → IsAt rules l.options start reader_start reader_now writer_start (state l.fn.writer) l.fn.session l.fn.reading l.piece
+      stands : (start : SessionState) (reader_start writer_start reader_now : Device)
+          → IsAt rules l.options start reader_start reader_now writer_start (state l.fn.writer) l.fn.session
+          l.fn.reading l.piece
           → IsAt rules l.options start reader_start reader_now writer_start (state l.writer) l.session l.reading (drop l.at l.piece);
       rules : SameRules l.fn.session.engine l.session.engine;
     }

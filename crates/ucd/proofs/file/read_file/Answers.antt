@@ -14,7 +14,9 @@ loop-rest-preserved g c =
     let count = rw c.in-Some.is at c.loop-rest.invariant.count in
     let falls : size_left rest ≤ length c.in-Some.text.now = size_falls (λ rest. rest.now) c.cut.result.1 _ c.cut.ensures.shorter in
     record {
-      held = next_held g.V.Property.form c.args.file.now c.loop-rest.line c.loop-rest.table c.in-Some.text.now c.cut.result.0.now rest c.loop-rest.invariant.held left c.cut.ensures.parts _ c.in_default-add_line.ensures.ok;
+      held = next_held g.V.Property.form c.args.file.now c.loop-rest.line c.loop-rest.table c.in-Some.text.now
+          c.cut.result.0.now rest c.loop-rest.invariant.held left c.cut.ensures.parts _
+          c.in_default-add_line.ensures.ok;
       left = next_left g.V.Property.form c.args.file.now c.loop-rest.line c.loop-rest.table c.in-Some.text.now c.cut.result.0.now rest c.loop-rest.invariant.held left c.cut.ensures.parts;
       count = omega (arith, count, falls);
     }

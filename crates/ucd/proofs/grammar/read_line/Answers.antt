@@ -11,7 +11,9 @@ all_ascii : (bytes : List ℕ) → ((i : ℕ) → get_or bytes i 0 < 128) → li
 all_ascii bytes low = list_all-from_AllPass is_ascii bytes (All-from_get_or (λ b. is_ascii b ≡ true) bytes 0 (λ i lt. lt-ltb _ _ (low i)))
 
 -- what an ASCII line says, by its content
-reads : {V : Type 0} (form : Form V) (line front content : List ℕ) → front ≡ before_comment line → ((i : ℕ) → get_or front i 0 < 128) → content ≡ trimmed (is_one_of blanks) front → reading_of form line ≡ (if length content == 0 then Ok None else by_fields form (fields_of content))
+reads : {V : Type 0} (form : Form V) (line front content : List ℕ) → front ≡ before_comment line
+    → ((i : ℕ) → get_or front i 0 < 128) → content ≡ trimmed (is_one_of blanks) front → reading_of form line
+    ≡ (if length content == 0 then Ok None else by_fields form (fields_of content))
 reads form line front content is low trim = rw (trim, is) (let all : list_all is_ascii (before_comment line) ≡ true = rw is at (all_ascii front low) in rw all refl)
 
 pub returns-then-is_empty : goal.returns-then-is_empty

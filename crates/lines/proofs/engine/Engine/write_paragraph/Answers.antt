@@ -3,7 +3,7 @@ use Rattle.device.specs.Device.{Wrote}
 use Rattle.breaks.specs.Marks.{marks_of}
 use Rattle.lines.specs.Bytes.{direction_line}
 use Rattle.lines.specs.Engine.{rules_of}
-use Rattle.lines.specs.Layouts.{State, base_of}
+use Rattle.lines.specs.Layouts.{EngineState, base_of}
 use Rattle.lines.specs.Pages.{paragraph_bytes}
 use Rattle.lines.specs.Printing.{FailedAs}
 use Rattle.lines.proofs.SkippedLemmas.{direction_only}
@@ -23,7 +23,7 @@ returns-then-skips_lines-clause-ok g c =
     let text = c.args.text.now in
     let print = c.args.print.now in
     let rules = rules_of c.args.self.now in
-    let marks = subst (λ (e : State). length (marks_of (rules_of e).tables (rules_of e).options.whole_numbers text) ≡ length text) c.self.view_is c.marks_are_as_many.ensures in
+    let marks = subst (λ (e : EngineState). length (marks_of (rules_of e).tables (rules_of e).options.whole_numbers text) ≡ length text) c.self.view_is c.marks_are_as_many.ensures in
     let same = direction_only rules c.args.width print text (sym c.skips_lines.ensures ∙ c.if-skips_lines.true) c.requires.paragraph marks in
     subst (λ (bytes : List ℕ). OnOk c.write_base.result (Wrote bytes (g.W.Sink.state c.args.writer.now) (g.W.Sink.state c.write_base.new.writer))) same c.write_base.ensures.ok
 
@@ -32,6 +32,6 @@ returns-then-skips_lines-clause-err g c =
     let text = c.args.text.now in
     let print = c.args.print.now in
     let rules = rules_of c.args.self.now in
-    let marks = subst (λ (e : State). length (marks_of (rules_of e).tables (rules_of e).options.whole_numbers text) ≡ length text) c.self.view_is c.marks_are_as_many.ensures in
+    let marks = subst (λ (e : EngineState). length (marks_of (rules_of e).tables (rules_of e).options.whole_numbers text) ≡ length text) c.self.view_is c.marks_are_as_many.ensures in
     let same = direction_only rules c.args.width print text (sym c.skips_lines.ensures ∙ c.if-skips_lines.true) c.requires.paragraph marks in
     subst (λ (bytes : List ℕ). IfErr c.write_base.result (λ fault. FailedAs fault bytes (g.W.Sink.state c.args.writer.now) (g.W.Sink.state c.write_base.new.writer))) same c.write_base.ensures.err

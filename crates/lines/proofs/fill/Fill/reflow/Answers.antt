@@ -1,6 +1,6 @@
 use Rattle.std.proofs.Common.{◌≡◌, ℕ, Global, Vec, length, map, ap, sym, ◌∙◌, arith}
 use Rattle.std.proofs.lemmas.List.{with_items_is}
-use Rattle.lines.specs.Extents.{shown_in, Spans}
+use Rattle.lines.specs.Extents.{shown_in, LineExtents}
 use Rattle.lines.specs.Kept.{lines_in}
 use Rattle.lines.specs.Layouts.{start_of, Filled}
 use Rattle.lines.specs.Showing.{nothing_shown}
@@ -12,8 +12,8 @@ use Rattle.lines.proofs.fill.Fill.reflow.Goals as goal
 
 pub invariant_of-self : goal.invariant_of-self
 invariant_of-self c =
-    let starts : c.swap.new.x.items ≡ c.args.extents.now.starts = ap (λ (v : Vec ℕ Global). v.items) c.swap.ensures.x_after ∙ ap (λ (s : Spans). s.starts) c.extents.view_is in
-    let parts : c.swap-2.new.x.items ≡ c.args.extents.now.shown = ap (λ (v : Vec Shown Global). v.items) c.swap-2.ensures.x_after ∙ ap (λ (s : Spans). s.shown) c.extents.view_is in
+    let starts : c.swap.new.x.items ≡ c.args.extents.now.starts = ap (λ (v : Vec ℕ Global). v.items) c.swap.ensures.x_after ∙ ap (λ (s : LineExtents). s.starts) c.extents.view_is in
+    let parts : c.swap-2.new.x.items ≡ c.args.extents.now.shown = ap (λ (v : Vec Shown Global). v.items) c.swap-2.ensures.x_after ∙ ap (λ (s : LineExtents). s.shown) c.extents.view_is in
     let len : length c.self.inside.levels.items ≡ length c.args.text.now.characters.now = ap (λ (f : Filled). f.len) c.self.view_is ∙ c.requires.len in
     let l = with_items_is c.copy_from_slice.new.self c.show_each.new.levels (omega arith) in
     let t = with_items_is c.self.inside.ltov c.show_each.new.ltov (omega arith) in
@@ -33,8 +33,8 @@ invariant_of-self c =
 
 pub returns-clause-lines : goal.returns-clause-lines
 returns-clause-lines c places is =
-    let starts : c.swap.new.x.items ≡ c.args.extents.now.starts = ap (λ (v : Vec ℕ Global). v.items) c.swap.ensures.x_after ∙ ap (λ (s : Spans). s.starts) c.extents.view_is in
-    let parts : c.swap-2.new.x.items ≡ c.args.extents.now.shown = ap (λ (v : Vec Shown Global). v.items) c.swap-2.ensures.x_after ∙ ap (λ (s : Spans). s.shown) c.extents.view_is in
+    let starts : c.swap.new.x.items ≡ c.args.extents.now.starts = ap (λ (v : Vec ℕ Global). v.items) c.swap.ensures.x_after ∙ ap (λ (s : LineExtents). s.starts) c.extents.view_is in
+    let parts : c.swap-2.new.x.items ≡ c.args.extents.now.shown = ap (λ (v : Vec Shown Global). v.items) c.swap-2.ensures.x_after ∙ ap (λ (s : LineExtents). s.shown) c.extents.view_is in
     let len : length c.self.inside.levels.items ≡ length c.args.text.now.characters.now = ap (λ (f : Filled). f.len) c.self.view_is ∙ c.requires.len in
     let l = with_items_is c.copy_from_slice.new.self c.show_each.new.levels (omega arith) in
     let t = with_items_is c.self.inside.ltov c.show_each.new.ltov (omega arith) in
@@ -48,8 +48,8 @@ returns-clause-lines c places is =
 
 pub returns-clause-within : goal.returns-clause-within
 returns-clause-within c =
-    let starts : c.swap.new.x.items ≡ c.args.extents.now.starts = ap (λ (v : Vec ℕ Global). v.items) c.swap.ensures.x_after ∙ ap (λ (s : Spans). s.starts) c.extents.view_is in
-    let parts : c.swap-2.new.x.items ≡ c.args.extents.now.shown = ap (λ (v : Vec Shown Global). v.items) c.swap-2.ensures.x_after ∙ ap (λ (s : Spans). s.shown) c.extents.view_is in
+    let starts : c.swap.new.x.items ≡ c.args.extents.now.starts = ap (λ (v : Vec ℕ Global). v.items) c.swap.ensures.x_after ∙ ap (λ (s : LineExtents). s.starts) c.extents.view_is in
+    let parts : c.swap-2.new.x.items ≡ c.args.extents.now.shown = ap (λ (v : Vec Shown Global). v.items) c.swap-2.ensures.x_after ∙ ap (λ (s : LineExtents). s.shown) c.extents.view_is in
     let len : length c.self.inside.levels.items ≡ length c.args.text.now.characters.now = ap (λ (f : Filled). f.len) c.self.view_is ∙ c.requires.len in
     let l = with_items_is c.copy_from_slice.new.self c.show_each.new.levels (omega arith) in
     let t = with_items_is c.self.inside.ltov c.show_each.new.ltov (omega arith) in

@@ -1,5 +1,5 @@
 use Rattle.std.proofs.Common.{◌≡◌, ℕ, List, length, ap, ap₂, subst, sym, ◌∙◌}
-use Rattle.lines.specs.Extents.{extents_of, shown_from, Spans}
+use Rattle.lines.specs.Extents.{extents_of, shown_from, LineExtents}
 use Rattle.lines.specs.Kept.{AreStarts}
 use Rattle.lines.specs.Layouts.{Layout, Rules}
 use Rattle.lines.specs.Places.{places_of}
@@ -11,7 +11,7 @@ reflow-requires-clause-starts c =
     let rules : Rules = record { tables = c.args.tables.now; options = c.args.options } in
     let text = c.args.self.now.text in
     let len : length text ≡ length c.as_slice-text.result.now = sym (ap length (c.as_slice-text.ensures.value ∙ ap (λ (l : Layout). l.text) c.self.view_is)) in
-    subst (λ (s : Spans). AreStarts (length c.as_slice-text.result.now) s.starts) (sym c.requires.extents.1)
+    subst (λ (s : LineExtents). AreStarts (length c.as_slice-text.result.now) s.starts) (sym c.requires.extents.1)
     (subst (λ (n : ℕ). AreStarts n (extents_of rules c.requires.extents.0 text).starts) len (starts_within rules c.requires.extents.0 text))
 
 pub reflow-requires-clause-shown : goal.reflow-requires-clause-shown
@@ -20,6 +20,6 @@ reflow-requires-clause-shown c =
     let places = places_of c.args.tables.now c.args.options.whole_numbers text in
     let len : length text ≡ length c.as_slice-text.result.now = sym (ap length (c.as_slice-text.ensures.value ∙ ap (λ (l : Layout). l.text) c.self.view_is)) in (
       places,
-      ap (λ (s : Spans). s.shown) c.requires.extents.1
-          ∙ ap₂ (λ (n : ℕ) (starts : List ℕ). shown_from n places starts) len (sym (ap (λ (s : Spans). s.starts) c.requires.extents.1)),
+      ap (λ (s : LineExtents). s.shown) c.requires.extents.1
+          ∙ ap₂ (λ (n : ℕ) (starts : List ℕ). shown_from n places starts) len (sym (ap (λ (s : LineExtents). s.starts) c.requires.extents.1)),
     )

@@ -9,7 +9,10 @@ use Rattle.session.proofs.session.Session.print_lines_after.Goals.{then-first-li
 
 pub returns-then-first-lines-clause-err : goal.returns-then-first-lines-clause-err
 returns-then-first-lines-clause-err g c =
-    let size : c.total_lines-lines.result ≡ length (lines_in c.args.self.now.kept) = rw (← c.self.view_is) (c.total_lines-lines.ensures ∙ sym (length-lines (g.S.ParagraphStore.items c.self.inside.store))) in
+    let size : c.total_lines-lines.result
+        ≡ length (lines_in c.args.self.now.kept) =
+        rw (← c.self.view_is) (c.total_lines-lines.ensures
+        ∙ sym (length-lines (g.S.ParagraphStore.items c.self.inside.store))) in
     elim c.then-first-lines.branch [
       | then-first-lines-via-then-first-lines w ↦ (omega (arith, size, w.if-first-lines.true), refl)
       | then-first-lines-via-else-first-lines+then-count-lines w ↦ (omega (arith, size, w.if-first-lines.false, w.if-count-lines.true), refl)
@@ -29,5 +32,7 @@ returns-in-Err-clause-err g c =
     let count : c.args.count ≡ c.args.first + c.args.count - c.args.first = omega arith in
     rw (← c.self.view_is) (
       omega (arith, c.if-first-lines.false, c.if-count-lines.false, c.total_lines-lines.ensures, length-lines kept),
-      subst (λ n. StoppedIn (flat_map (line_bytes c.self.inside.width c.args.print.now) (take n (drop c.args.first (lines_in kept)))) c.args.done (g.W.Sink.state c.args.writer.now) (g.W.Sink.state c.write_lines.new.writer) c.in-Err.fault.written) count c.in-Err.ensures.err,
+      subst (λ n. StoppedIn (flat_map (line_bytes c.self.inside.width c.args.print.now)
+          (take n (drop c.args.first (lines_in kept)))) c.args.done (g.W.Sink.state c.args.writer.now)
+          (g.W.Sink.state c.write_lines.new.writer) c.in-Err.fault.written) count c.in-Err.ensures.err,
     )

@@ -1,6 +1,6 @@
 use Rattle.std.proofs.Common.{refl, sym, ap, ◌∙◌, arith}
 use Rattle.std.proofs.lemmas.List.{take_all}
-use Rattle.session.specs.Changes.{after_all}
+use Rattle.session.specs.Edits.{after_all}
 use Rattle.session.specs.Sessions.{cuts_at, held_at}
 use Rattle.session.proofs.RunLemmas.{HasRun-next, HasRun-rules, HasRun-stops, edited, refilled_to, stays, edit_works, width_works, next_works, whole_works, lacks_memory, has_memory}
 use Rattle.session.proofs.session.Session.run.Goals as goal
@@ -11,7 +11,9 @@ loop-edit-init g c = record {
   held = refl;
   laid_out = rw (← c.self.view_is) c.self.invariant;
   rules = refl;
-  works = record { analysed = record { least = omega arith; most = omega arith }; filled = record { least = omega arith; most = omega arith }; written = record { least = omega arith; most = omega arith } };
+  works = record { analysed = record { least = omega arith; most = omega arith }; filled =
+      record { least = omega arith; most = omega arith }; written =
+      record { least = omega arith; most = omega arith } };
 }
 
 pub returns-then-eq-clause-err : goal.returns-then-eq-clause-err
@@ -19,18 +21,43 @@ returns-then-eq-clause-err g c =
     let whole = c.loop-edit.invariant.laid_out in
     let out = lacks_memory _ _ refl refl refl refl c.match-edit.result (sym c.eq.ensures ∙ c.if-eq.true) in
     elim c.match-edit.branch [
-      | in-Insert w ↦ rw w.self-is (HasRun-stops _ _ _ _ _ _ _ c.loop-edit-test.true w.in-Insert.is c.loop-edit.invariant (stays _ _ _ _ _ w.insert-result.ensures.err (sym w.result-is ∙ out)) (edit_works _ c.loop-edit.self w.insert-result.new.self _ whole w.insert-result.ensures.ok w.insert-result.ensures.err))
-      | in-Delete w ↦ rw w.self-is (HasRun-stops _ _ _ _ _ _ _ c.loop-edit-test.true w.in-Delete.is c.loop-edit.invariant (stays _ _ _ _ _ w.delete-result.ensures.err (sym w.result-is ∙ out)) (edit_works _ c.loop-edit.self w.delete-result.new.self _ whole w.delete-result.ensures.ok w.delete-result.ensures.err))
-      | in-SetWidth w ↦ rw w.self-is (HasRun-stops _ _ _ _ _ _ _ c.loop-edit-test.true w.in-SetWidth.is c.loop-edit.invariant (stays _ _ _ _ _ w.set_width-result.ensures.err (sym w.result-is ∙ out)) (width_works _ c.loop-edit.self w.set_width-result.new.self _ w.set_width-result.ensures.ok w.set_width-result.ensures.err))
+      | in-Insert w ↦ rw w.self-is (HasRun-stops _ _ _ _ _ _ _ c.loop-edit-test.true w.in-Insert.is
+          c.loop-edit.invariant (w.insert-result.ensures.memory (sym w.result-is ∙ out)) (stays _ _ _ _ _ w.insert-result.ensures.err (sym w.result-is ∙ out))
+          (edit_works _ c.loop-edit.self w.insert-result.new.self _ whole w.insert-result.ensures.ok
+          w.insert-result.ensures.err))
+      | in-Delete w ↦ rw w.self-is (HasRun-stops _ _ _ _ _ _ _ c.loop-edit-test.true w.in-Delete.is
+          c.loop-edit.invariant (w.delete-result.ensures.memory (sym w.result-is ∙ out)) (stays _ _ _ _ _ w.delete-result.ensures.err (sym w.result-is ∙ out))
+          (edit_works _ c.loop-edit.self w.delete-result.new.self _ whole w.delete-result.ensures.ok
+          w.delete-result.ensures.err))
+      | in-SetWidth w ↦ rw w.self-is
+          (HasRun-stops _ _ _ _ _ _ _ c.loop-edit-test.true w.in-SetWidth.is c.loop-edit.invariant
+          (w.set_width-result.ensures.memory (sym w.result-is ∙ out)) (stays _ _ _ _ _ w.set_width-result.ensures.err (sym w.result-is ∙ out))
+          (width_works _ c.loop-edit.self w.set_width-result.new.self _ w.set_width-result.ensures.ok
+          w.set_width-result.ensures.err))
     ]
 
 pub returns-then-eq-clause-counts : goal.returns-then-eq-clause-counts
 returns-then-eq-clause-counts g c =
     let whole = c.loop-edit.invariant.laid_out in
     elim c.match-edit.branch [
-      | in-Insert w ↦ rw w.self-is (whole_works c.args.self.now _ _ c.args.self.now.engine w.insert-result.new.self.engine (next_works c.args.self.now c.loop-edit.self w.insert-result.new.self _ _ _ _ c.loop-edit-test.true w.in-Insert.is c.loop-edit.invariant (edit_works _ c.loop-edit.self w.insert-result.new.self _ whole w.insert-result.ensures.ok w.insert-result.ensures.err)))
-      | in-Delete w ↦ rw w.self-is (whole_works c.args.self.now _ _ c.args.self.now.engine w.delete-result.new.self.engine (next_works c.args.self.now c.loop-edit.self w.delete-result.new.self _ _ _ _ c.loop-edit-test.true w.in-Delete.is c.loop-edit.invariant (edit_works _ c.loop-edit.self w.delete-result.new.self _ whole w.delete-result.ensures.ok w.delete-result.ensures.err)))
-      | in-SetWidth w ↦ rw w.self-is (whole_works c.args.self.now _ _ c.args.self.now.engine w.set_width-result.new.self.engine (next_works c.args.self.now c.loop-edit.self w.set_width-result.new.self _ _ _ _ c.loop-edit-test.true w.in-SetWidth.is c.loop-edit.invariant (width_works _ c.loop-edit.self w.set_width-result.new.self _ w.set_width-result.ensures.ok w.set_width-result.ensures.err)))
+      | in-Insert w ↦ rw w.self-is (whole_works c.args.self.now _ _ c.args.self.now.engine
+          w.insert-result.new.self.engine
+          (next_works c.args.self.now c.loop-edit.self w.insert-result.new.self _ _ _ _ c.loop-edit-test.true
+          w.in-Insert.is c.loop-edit.invariant
+          (edit_works _ c.loop-edit.self w.insert-result.new.self _ whole w.insert-result.ensures.ok
+          w.insert-result.ensures.err)))
+      | in-Delete w ↦ rw w.self-is (whole_works c.args.self.now _ _ c.args.self.now.engine
+          w.delete-result.new.self.engine
+          (next_works c.args.self.now c.loop-edit.self w.delete-result.new.self _ _ _ _ c.loop-edit-test.true
+          w.in-Delete.is c.loop-edit.invariant
+          (edit_works _ c.loop-edit.self w.delete-result.new.self _ whole w.delete-result.ensures.ok
+          w.delete-result.ensures.err)))
+      | in-SetWidth w ↦ rw w.self-is
+          (whole_works c.args.self.now _ _ c.args.self.now.engine w.set_width-result.new.self.engine
+          (next_works c.args.self.now c.loop-edit.self w.set_width-result.new.self _ _ _ _ c.loop-edit-test.true
+          w.in-SetWidth.is c.loop-edit.invariant
+          (width_works _ c.loop-edit.self w.set_width-result.new.self _ w.set_width-result.ensures.ok
+          w.set_width-result.ensures.err)))
     ]
 
 pub returns-then-eq-clause-rules : goal.returns-then-eq-clause-rules
@@ -47,9 +74,16 @@ loop-edit-preserved g c =
     let other = has_memory _ _ refl c.match-edit.result (sym c.eq.ensures ∙ c.if-eq.false) in
     let whole = c.loop-edit.invariant.laid_out in
     elim c.match-edit.branch [
-      | in-Insert w ↦ rw w.self-is (HasRun-next _ _ _ _ _ _ _ c.loop-edit-test.true w.in-Insert.is c.loop-edit.invariant (edited _ _ _ _ w.insert-result.ensures.ok w.insert-result.ensures.err (rw w.result-is at other)) (edit_works _ _ _ _ whole w.insert-result.ensures.ok w.insert-result.ensures.err))
-      | in-Delete w ↦ rw w.self-is (HasRun-next _ _ _ _ _ _ _ c.loop-edit-test.true w.in-Delete.is c.loop-edit.invariant (edited _ _ _ _ w.delete-result.ensures.ok w.delete-result.ensures.err (rw w.result-is at other)) (edit_works _ _ _ _ whole w.delete-result.ensures.ok w.delete-result.ensures.err))
-      | in-SetWidth w ↦ rw w.self-is (HasRun-next _ _ _ _ _ _ _ c.loop-edit-test.true w.in-SetWidth.is c.loop-edit.invariant (refilled_to _ _ _ _ w.set_width-result.ensures.ok w.set_width-result.ensures.err (rw w.result-is at other)) (width_works _ _ _ _ w.set_width-result.ensures.ok w.set_width-result.ensures.err))
+      | in-Insert w ↦ rw w.self-is (HasRun-next _ _ _ _ _ _ _ c.loop-edit-test.true w.in-Insert.is
+          c.loop-edit.invariant (edited _ _ _ _ w.insert-result.ensures.ok w.insert-result.ensures.err
+          (rw w.result-is at other)) (edit_works _ _ _ _ whole w.insert-result.ensures.ok w.insert-result.ensures.err))
+      | in-Delete w ↦ rw w.self-is (HasRun-next _ _ _ _ _ _ _ c.loop-edit-test.true w.in-Delete.is
+          c.loop-edit.invariant (edited _ _ _ _ w.delete-result.ensures.ok w.delete-result.ensures.err
+          (rw w.result-is at other)) (edit_works _ _ _ _ whole w.delete-result.ensures.ok w.delete-result.ensures.err))
+      | in-SetWidth w ↦ rw w.self-is
+          (HasRun-next _ _ _ _ _ _ _ c.loop-edit-test.true w.in-SetWidth.is c.loop-edit.invariant
+          (refilled_to _ _ _ _ w.set_width-result.ensures.ok w.set_width-result.ensures.err (rw w.result-is at other))
+          (width_works _ _ _ _ w.set_width-result.ensures.ok w.set_width-result.ensures.err))
     ]
 
 pub returns-clause-ok : goal.returns-clause-ok

@@ -9,7 +9,9 @@ invariant_of-self g c =
     let new = c.name_all.new.named in
     let len : length new ≡ length c.self.inside.named.items = c.name_all.auto.named ∙ ap length c.deref_mut.ensures.value in
     let is : take c.self.inside.named.len (new ++ drop (length new) c.self.inside.named.items) ≡ new =
-    rw (drop_all (length new) c.self.inside.named.items (omega arith), append-nil new) (take_all c.self.inside.named.len new (omega (arith, len, c.deref_mut.ensures.len, ap length c.deref_mut.ensures.value))) in
+    rw (drop_all (length new) c.self.inside.named.items (omega arith), append-nil new)
+        (take_all c.self.inside.named.len new
+        (omega (arith, len, c.deref_mut.ensures.len, ap length c.deref_mut.ensures.value))) in
     rw (c.in-Ok.ensures.items, is) (
       apart_push _ _ c.args.entry before.0 before.1 (omega arith) (omega arith) (rw (← c.self.view_is) at c.requires.free),
       named_push _ _ c.args.entry before.0 before.1 (omega arith) (omega arith) (rw (← c.self.view_is) at c.requires.free) new len (λ k. c.name_all.ensures k ∙ rw c.deref_mut.ensures.value refl),

@@ -27,10 +27,19 @@ returns c x character =
     rw c.deref.ensures.value at (c.in_ok-pages.ensures x lt) ∙ c.in_ok-points.ensures.each x lt in
     record {
       bidi_class = class_is c.in_ok-pages.pages.index.items c.in_ok-pages.pages.entries.items c.in_ok-brackets.brackets c.in_ok-mirrors.mirrors x lt ∙ ap (λ a. a.bidi_class) is ∙ said_class k x;
-      bracket = bracket_is c.in_ok-pages.pages.index.items c.in_ok-pages.pages.entries.items c.in_ok-brackets.brackets c.in_ok-mirrors.mirrors x lt ∙ c.in_ok-brackets.ensures x ∙ ap (λ es. value_at es x) c.as_slice.ensures.entries;
-      mirror = mirror_is c.in_ok-pages.pages.index.items c.in_ok-pages.pages.entries.items c.in_ok-brackets.brackets c.in_ok-mirrors.mirrors x lt ∙ ap mirror_by (c.in_ok-mirrors.ensures x ∙ ap (λ es. value_at es x) c.as_slice-2.ensures.entries);
-      line_class = line_class_is c.in_ok-pages.pages.index.items c.in_ok-pages.pages.entries.items c.in_ok-brackets.brackets c.in_ok-mirrors.mirrors x lt ∙ ap (λ a. a.line_class) is ∙ said_line_class k x;
+      bracket = bracket_is c.in_ok-pages.pages.index.items c.in_ok-pages.pages.entries.items c.in_ok-brackets.brackets
+          c.in_ok-mirrors.mirrors x lt ∙ c.in_ok-brackets.ensures x
+          ∙ ap (λ es. value_at es x) c.as_slice.ensures.entries;
+      mirror = mirror_is c.in_ok-pages.pages.index.items c.in_ok-pages.pages.entries.items c.in_ok-brackets.brackets
+          c.in_ok-mirrors.mirrors x lt ∙ ap mirror_by (c.in_ok-mirrors.ensures x
+          ∙ ap (λ es. value_at es x) c.as_slice-2.ensures.entries);
+      line_class = line_class_is c.in_ok-pages.pages.index.items c.in_ok-pages.pages.entries.items
+          c.in_ok-brackets.brackets c.in_ok-mirrors.mirrors x lt ∙ ap (λ a. a.line_class) is ∙ said_line_class k x;
       is_wide = wide_is c.in_ok-pages.pages.index.items c.in_ok-pages.pages.entries.items c.in_ok-brackets.brackets c.in_ok-mirrors.mirrors x lt ∙ ap (λ a. a.is_wide) is ∙ said_wide k x;
-      is_mark = mark_is c.in_ok-pages.pages.index.items c.in_ok-pages.pages.entries.items c.in_ok-brackets.brackets c.in_ok-mirrors.mirrors x lt (ap (λ a. a.is_mark && a.is_future_pictograph) is ∙ said_apart k x) ∙ ap (λ a. a.is_mark) is ∙ said_mark k x;
-      is_future_pictograph = future_is c.in_ok-pages.pages.index.items c.in_ok-pages.pages.entries.items c.in_ok-brackets.brackets c.in_ok-mirrors.mirrors x lt ∙ ap (λ a. a.is_future_pictograph) is ∙ said_future k x;
+      is_mark = mark_is c.in_ok-pages.pages.index.items c.in_ok-pages.pages.entries.items c.in_ok-brackets.brackets
+          c.in_ok-mirrors.mirrors x lt (ap (λ a. a.is_mark && a.is_future_pictograph) is ∙ said_apart k x)
+          ∙ ap (λ a. a.is_mark) is ∙ said_mark k x;
+      is_future_pictograph = future_is c.in_ok-pages.pages.index.items c.in_ok-pages.pages.entries.items
+          c.in_ok-brackets.brackets c.in_ok-mirrors.mirrors x lt ∙ ap (λ a. a.is_future_pictograph) is
+          ∙ said_future k x;
     }

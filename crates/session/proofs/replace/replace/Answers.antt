@@ -5,8 +5,8 @@ use Rattle.std.proofs.lemmas.Iterator.{YieldsList-from_chars}
 use Rattle.std.proofs.lemmas.Iterator.Consumers.{count_from_yields_List}
 use Rattle.lines.specs.Engine.{rules_of, LaysOutAtMost}
 use Rattle.lines.specs.Layouts.{cut_by}
-use Rattle.session.specs.Sessions.{State, Edits, EditsNot, IsCountedFor}
-use Rattle.session.specs.Changes.{changing, is_within_limit, paragraphs_refusal}
+use Rattle.session.specs.Sessions.{SessionState, Edits, EditsNot, IsCountedFor}
+use Rattle.session.specs.Edits.{replacing, is_within_limit, paragraphs_refusal}
 use Rattle.session.specs.Kept.{text_of, layouts_of}
 use Rattle.session.specs.Sessions.{IsAnswerFor}
 use Rattle.session.specs.declared.edits.EditFault.TheVariants.{OutOfRange, TextTooLong, ParagraphTooLong, NoMemory}
@@ -15,8 +15,8 @@ use Rattle.session.proofs.EditLemmas.{rise, chars_fit, lines_fit, refusal-past, 
 use Rattle.session.proofs.RefusalLemmas.{allowed-length, refusal-too_long}
 use Rattle.session.specs.declared.edits.TheConstants.{TEXT_LIMIT}
 use Rattle.session.proofs.WantLemmas.{of_err, some_put}
-use Rattle.session.proofs.edit.edit.Goals as goal
-use Rattle.session.proofs.edit.edit.Goals.{then-pos-len-via-then-pos-len, then-pos-len-via-else-pos-len+then-count-len}
+use Rattle.session.proofs.replace.replace.Goals as goal
+use Rattle.session.proofs.replace.replace.Goals.{then-pos-len-via-then-pos-len, then-pos-len-via-else-pos-len+then-count-len}
 
 pub returns-then-pos-len-clause-err : goal.returns-then-pos-len-clause-err
 returns-then-pos-len-clause-err g c =
@@ -27,9 +27,9 @@ returns-then-pos-len-clause-err g c =
       | then-pos-len-via-then-pos-len w ↦ omega (arith, size, w.if-pos-len.true)
       | then-pos-len-via-else-pos-len+then-count-len w ↦ omega (arith, size, w.if-pos-len.false, w.if-count-len.true)
     ] in
-    let state : State = record { engine = c.args.engine.now; width = c.args.width; kept = kept } in
-    EditsNot-unchanged (changing c.args.pos c.args.count piece) state OutOfRange c.requires
-    (refusal-past (cut_by (rules_of c.args.engine.now)) (text_of kept) (changing c.args.pos c.args.count piece) past) refl
+    let state : SessionState = record { engine = c.args.engine.now; width = c.args.width; kept = kept } in
+    EditsNot-unchanged (replacing c.args.pos c.args.count piece) state OutOfRange c.requires
+    (refusal-past (cut_by (rules_of c.args.engine.now)) (text_of kept) (replacing c.args.pos c.args.count piece) past) refl
 
 pub overflow_add-len : goal.overflow_add-len
 overflow_add-len g c =
@@ -46,8 +46,8 @@ returns-then-len-count-gt-TEXT_LIMIT-clause-err g c =
     let size : c.total_chars-len.result ≡ length (text_of kept) = c.total_chars-len.ensures ∙ sym (length-text kept) in
     let within : c.args.pos + c.args.count ≤ length (text_of kept) = omega (arith, size) in
     let n : c.count.result ≡ length piece = count_from_yields_List c.chars.result c.count.result c.count.ensures.ran (YieldsList-from_chars c.args.piece.now c.utf8.piece cc) in
-    let state : State = record { engine = c.args.engine.now; width = c.args.width; kept = kept } in
-    EditsNot-unchanged (changing c.args.pos c.args.count piece) state TextTooLong c.requires
+    let state : SessionState = record { engine = c.args.engine.now; width = c.args.width; kept = kept } in
+    EditsNot-unchanged (replacing c.args.pos c.args.count piece) state TextTooLong c.requires
     (refusal-too_long (cut_by (rules_of c.args.engine.now)) (text_of kept) piece c.args.pos c.args.count within (omega (arith, size, n))) refl
 
 pub front_edge-front-requires : goal.front_edge-front-requires
@@ -81,7 +81,9 @@ returns-in-Err-clause-err g c =
     let by = rules_of c.args.engine.now in
     let answer = subst (λ t. IsAnswerFor (paragraphs_refusal (cut_by by) t) c.in-Err.fault) parts c.in-Err.ensures.err in
     let counts = subst (λ t. IsCountedFor c.in-Err.fault (LaysOutAtMost (length t)) c.args.engine.now c.lay_out_joined.new.engine) parts c.in-Err.ensures.refused in
-    EditsNot-by_region law few c.args.engine.now c.args.width kept c.requires c.args.pos c.args.count piece within c.front_edge-front.result c.back_edge-back.result f b c.lay_out_joined.new.engine c.in-Err.fault short answer c.lay_out_joined.ensures.rules counts
+    EditsNot-by_region law few c.args.engine.now c.args.width kept c.requires c.args.pos c.args.count piece within
+        c.front_edge-front.result c.back_edge-back.result f b c.lay_out_joined.new.engine c.in-Err.fault short answer
+        c.lay_out_joined.ensures.rules counts
 
 pub put-requires-clause-order : goal.put-requires-clause-order
 put-requires-clause-order g c =
@@ -89,7 +91,9 @@ put-requires-clause-order g c =
     let piece = chars c.args.piece.now in
     let size : c.total_chars-len.result ≡ length (text_of kept) = c.total_chars-len.ensures ∙ sym (length-text kept) in
     let within : c.args.pos + c.args.count ≤ length (text_of kept) = omega (arith, size) in
-    rise c.paragraphs_are_pieces.ensures c.lines_are_few.ensures c.args.engine.now c.args.width kept c.requires c.args.pos c.args.count piece within c.front_edge-front.result c.back_edge-back.result c.front_edge-front.ensures c.back_edge-back.ensures
+    rise c.paragraphs_are_pieces.ensures c.lines_are_few.ensures c.args.engine.now c.args.width kept c.requires
+        c.args.pos c.args.count piece within c.front_edge-front.result c.back_edge-back.result
+        c.front_edge-front.ensures c.back_edge-back.ensures
 
 pub put-requires-clause-chars_fit : goal.put-requires-clause-chars_fit
 put-requires-clause-chars_fit g c =
@@ -137,12 +141,16 @@ returns-clause-ok g c =
     let law = c.paragraphs_are_pieces.ensures in
     let few = c.lines_are_few.ensures in
     let by = rules_of c.args.engine.now in
-    let old : State = record { engine = c.args.engine.now; width = c.args.width; kept = kept } in
+    let old : SessionState = record { engine = c.args.engine.now; width = c.args.width; kept = kept } in
     let laid = c.in-Ok.ensures.ok ∙ ap (layouts_of by c.args.width) parts in
     let allowed = subst (λ t. is_within_limit (cut_by by) t ≡ true) parts c.in-Ok.ensures.allowed in
     let counts = subst (λ t. LaysOutAtMost (length t) c.args.engine.now c.lay_out_joined.new.engine) parts c.lay_out_joined.ensures.counts in
-    ends_ok (λ ks. Edits (changing c.args.pos c.args.count piece) old (record { engine = c.lay_out_joined.new.engine; width = c.args.width; kept = ks })) c.put.result _ _ _ c.put.ensures.ok c.put.ensures.damage
-    (Edits-after law few c.args.engine.now c.args.width kept c.requires c.args.pos c.args.count piece within c.front_edge-front.result c.back_edge-back.result f b c.in-Ok.new.items laid short c.lay_out_joined.new.engine allowed c.lay_out_joined.ensures.rules counts)
+    ends_ok (λ ks. Edits (replacing c.args.pos c.args.count piece) old
+        (record { engine = c.lay_out_joined.new.engine; width = c.args.width; kept = ks })) c.put.result _ _ _
+        c.put.ensures.ok c.put.ensures.damage
+    (Edits-after law few c.args.engine.now c.args.width kept c.requires c.args.pos c.args.count piece within
+        c.front_edge-front.result c.back_edge-back.result f b c.in-Ok.new.items laid short c.lay_out_joined.new.engine
+        allowed c.lay_out_joined.ensures.rules counts)
 
 pub returns-clause-err : goal.returns-clause-err
 returns-clause-err g c =
@@ -158,11 +166,15 @@ returns-clause-err g c =
     let law = c.paragraphs_are_pieces.ensures in
     let few = c.lines_are_few.ensures in
     let by = rules_of c.args.engine.now in
-    let old : State = record { engine = c.args.engine.now; width = c.args.width; kept = kept } in
+    let old : SessionState = record { engine = c.args.engine.now; width = c.args.width; kept = kept } in
     let allowed = subst (λ t. is_within_limit (cut_by by) t ≡ true) parts c.in-Ok.ensures.allowed in
     let counts = subst (λ t. LaysOutAtMost (length t) c.args.engine.now c.lay_out_joined.new.engine) parts c.lay_out_joined.ensures.counts in
-    ends_err (λ ks. EditsNot (changing c.args.pos c.args.count piece) old (record { engine = c.lay_out_joined.new.engine; width = c.args.width; kept = ks })) c.put.result _ _ c.put.ensures.err c.put.ensures.fault
-    (EditsNot-by_region law few c.args.engine.now c.args.width kept c.requires c.args.pos c.args.count piece within c.front_edge-front.result c.back_edge-back.result f b c.lay_out_joined.new.engine NoMemory short (cond-true _ None (Some ParagraphTooLong) allowed) c.lay_out_joined.ensures.rules counts)
+    ends_err (λ ks. EditsNot (replacing c.args.pos c.args.count piece) old
+        (record { engine = c.lay_out_joined.new.engine; width = c.args.width; kept = ks })) c.put.result _ _
+        c.put.ensures.err c.put.ensures.fault
+    (EditsNot-by_region law few c.args.engine.now c.args.width kept c.requires c.args.pos c.args.count piece within
+        c.front_edge-front.result c.back_edge-back.result f b c.lay_out_joined.new.engine NoMemory short
+        (cond-true _ None (Some ParagraphTooLong) allowed) c.lay_out_joined.ensures.rules counts)
 
 pub returns-clause-memory : goal.returns-clause-memory
 returns-clause-memory g c wants =

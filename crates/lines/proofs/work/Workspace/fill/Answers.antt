@@ -3,7 +3,7 @@ use Rattle.bidi.specs.Levels.{levels_of}
 use Rattle.lines.specs.Layouts.{fill_of, Layout}
 use Rattle.lines.specs.Paragraphs.{rules_in}
 use Rattle.lines.proofs.LayoutLemmas.{filled_as}
-use Rattle.lines.proofs.work.Work.fill.Goals as goal
+use Rattle.lines.proofs.work.Workspace.fill.Goals as goal
 
 pub put_lines-requires-clause-levels : goal.put_lines-requires-clause-levels
 put_lines-requires-clause-levels c =

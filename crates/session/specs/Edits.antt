@@ -1,4 +1,4 @@
--- What a change makes of a text, and which changes are refused.
+-- What an edit makes of a text, and which edits are refused.
 use Rattle.std.specs.Prelude.{ℕ, ◌+◌, nat_lt, nat_le, ◌==◌, Bool, List, [], ◌∷◌, ◌++◌, length, take, drop, Option, Some, None, is_none, if◌then◌else◌}
 use Rattle.std.specs.List.{list_all}
 use Rattle.std.specs.Str.{chars}
@@ -11,22 +11,22 @@ use Rattle.lines.specs.declared.engine.TheConstants.{PARAGRAPH_LIMIT}
 use Rattle.session.specs.declared.edits.TheConstants.{TEXT_LIMIT}
 
 -- `count` characters from `pos` on are taken out, and a piece is put in their place
-pub record Change : Type 0 where
+pub record Replacement : Type 0 where
   pub pos : ℕ
   pub count : ℕ
   pub piece : List ℕ
 
-abbrev pub changed : List ℕ → Change → List ℕ
-changed text change = take change.pos text ++ (change.piece ++ drop (change.pos + change.count) text)
+abbrev pub replaced : List ℕ → Replacement → List ℕ
+replaced text edit = take edit.pos text ++ (edit.piece ++ drop (edit.pos + edit.count) text)
 
-abbrev pub changing : ℕ → ℕ → List ℕ → Change
-changing pos count piece = record { pos = pos; count = count; piece = piece }
+abbrev pub replacing : ℕ → ℕ → List ℕ → Replacement
+replacing pos count piece = record { pos = pos; count = count; piece = piece }
 
 -- an insert takes nothing out, and a delete puts nothing in
-abbrev pub insertion : ℕ → List ℕ → Change
+abbrev pub insertion : ℕ → List ℕ → Replacement
 insertion pos piece = record { pos = pos; count = 0; piece = piece }
 
-abbrev pub deletion : ℕ → ℕ → Change
+abbrev pub deletion : ℕ → ℕ → Replacement
 deletion pos count = record { pos = pos; count = count; piece = [] }
 
 -- no paragraph is longer than its limit
@@ -47,11 +47,11 @@ text_refusal is_cut text =
     if nat_lt TEXT_LIMIT (length text) then Some TextTooLong
     else (if is_within_limit is_cut text then None else Some ParagraphTooLong)
 
--- why a change is refused: it reaches past the end of the text, or makes a text that can't be kept
-abbrev pub refusal : (ℕ → ℕ → Bool) → List ℕ → Change → Option EditFault
-refusal is_cut text change =
-    if nat_lt (length text) (change.pos + change.count) then Some OutOfRange
-    else text_refusal is_cut (changed text change)
+-- why an edit is refused: it reaches past the end of the text, or makes a text that can't be kept
+abbrev pub refusal : (ℕ → ℕ → Bool) → List ℕ → Replacement → Option EditFault
+refusal is_cut text edit =
+    if nat_lt (length text) (edit.pos + edit.count) then Some OutOfRange
+    else text_refusal is_cut (replaced text edit)
 
 -- a text, and the width at which it is laid out
 pub record Held : Type 0 where
@@ -62,16 +62,16 @@ pub record Held : Type 0 where
 abbrev pub width_refusal : ℕ → Option EditFault
 width_refusal width = if width == 0 then Some WidthOutOfRange else None
 
--- the text after a change, and the width, of which one that is refused changes nothing
-abbrev pub after_change : (ℕ → ℕ → Bool) → List ℕ → Change → List ℕ
-after_change is_cut text change = if is_none (refusal is_cut text change) then changed text change else text
+-- the text after an edit, and the width, of which one that is refused changes nothing
+abbrev pub after_edit : (ℕ → ℕ → Bool) → List ℕ → Replacement → List ℕ
+after_edit is_cut text edit = if is_none (refusal is_cut text edit) then replaced text edit else text
 
 abbrev pub after_width : ℕ → ℕ → ℕ
 after_width old width = if is_none (width_refusal width) then width else old
 
 abbrev pub after_one : (ℕ → ℕ → Bool) → Held → Edit → Held
-after_one is_cut held (Insert pos text) = record { text = after_change is_cut held.text (insertion pos (chars text.now)); width = held.width }
-after_one is_cut held (Delete pos count) = record { text = after_change is_cut held.text (deletion pos count); width = held.width }
+after_one is_cut held (Insert pos text) = record { text = after_edit is_cut held.text (insertion pos (chars text.now)); width = held.width }
+after_one is_cut held (Delete pos count) = record { text = after_edit is_cut held.text (deletion pos count); width = held.width }
 after_one is_cut held (SetWidth width) = record { text = held.text; width = after_width held.width width }
 
 -- and after a list of them

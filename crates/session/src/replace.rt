@@ -4,7 +4,7 @@ ghost use Rattle.std.specs.Prelude.{IfOk, IfErr, IsErrOf, OnOk, OnErr};
 ghost use Rattle.std.specs.List.{splice};
 ghost use Rattle.std.specs.Str.{chars};
 ghost use Rattle.session.specs.Sessions.{Edits, EditsNot, IsWholeLayout};
-ghost use Rattle.session.specs.Changes.{changing};
+ghost use Rattle.session.specs.Edits.{replacing};
 ghost use Rattle.session.specs.Kept.{text_of};
 ghost use Rattle.session.specs.Edges.{damage_between, IsEdge};
 ghost use Rattle.session.specs.declared.edits.EditFault.TheVariants.{NoMemory};
@@ -65,10 +65,10 @@ pub fn edit<S: ParagraphStore<Kept>>(
     piece: &str,
 ) -> Result<Damage, EditFault>
     requires { IsWholeLayout (record { engine = engine.old; width = width; kept = S.items store.old }) }
-    ensures ok { IfOk result (Edits (changing pos count (chars piece.now))
+    ensures ok { IfOk result (Edits (replacing pos count (chars piece.now))
         (record { engine = engine.old; width = width; kept = S.items store.old })
         (record { engine = engine.new; width = width; kept = S.items store.new })) }
-    ensures err { IfErr result (EditsNot (changing pos count (chars piece.now))
+    ensures err { IfErr result (EditsNot (replacing pos count (chars piece.now))
         (record { engine = engine.old; width = width; kept = S.items store.old })
         (record { engine = engine.new; width = width; kept = S.items store.new })) }
     ensures memory { IsErrOf result NoMemory

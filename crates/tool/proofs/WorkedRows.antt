@@ -1,0 +1,7 @@
+-- Rows of the definitions, worked.
+use Rattle.std.proofs.Common.{◌≡◌, refl}
+use Rattle.tool.specs.declared.script.TheConstants.{LINE_LIMIT}
+
+-- a line of a script has at most so many bytes
+line_limit : LINE_LIMIT ≡ 1048576
+line_limit = refl
