@@ -89,7 +89,8 @@ test:
 	@log=$$(mktemp) && bash -o pipefail -c "RT_JOBS=$$(.ci/lanes) rt ci | tee $$log && .ci/names $$log | tee -a $$log \
 		&& cases/run $$log | tee -a $$log && faults/run $$log"; status=$$?; rm -f $$log; exit $$status
 
-c: lib-hordguli_c
+c:
+	$(MAKE) --no-print-directory --jobs=$(JOBS) lib-hordguli_c
 	c/build
 
 # (by the environment, so that a path may have spaces)

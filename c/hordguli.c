@@ -180,9 +180,10 @@ PUBLIC hordguli_status hordguli_cluster_at(hordguli_session *session, size_t pos
 
 PUBLIC hordguli_status hordguli_line(hordguli_session *session, size_t line, hordguli_line_info *info, size_t room,
                                      uint32_t *characters, uint8_t *levels, uint32_t *ltov, uint32_t *vtol,
-                                     uint32_t *columns) {
+                                     size_t *columns) {
     uint32_t none[1];
     uint8_t no_levels[1];
+    size_t no_columns[1];
     uint32_t wanted = (characters != NULL ? HORDGULI_CORE_CHARACTERS : 0) | (levels != NULL ? HORDGULI_CORE_LEVELS : 0)
                       | (ltov != NULL ? HORDGULI_CORE_LTOV : 0) | (vtol != NULL ? HORDGULI_CORE_VTOL : 0)
                       | (columns != NULL ? HORDGULI_CORE_COLUMNS : 0);
@@ -193,7 +194,7 @@ PUBLIC hordguli_status hordguli_line(hordguli_session *session, size_t line, hor
     return (hordguli_status)hordguli_core_line(
         session, line, info, wanted, ROOM(uint32_t, characters, none), LENGTH(characters, room),
         ROOM(uint8_t, levels, no_levels), LENGTH(levels, room), ROOM(uint32_t, ltov, none), LENGTH(ltov, room),
-        ROOM(uint32_t, vtol, none), LENGTH(vtol, room), ROOM(uint32_t, columns, none), LENGTH(columns, room));
+        ROOM(uint32_t, vtol, none), LENGTH(vtol, room), ROOM(size_t, columns, no_columns), LENGTH(columns, room));
 }
 
 PUBLIC hordguli_status hordguli_lines_utf8(hordguli_session *session, size_t first, size_t count, uint32_t print,

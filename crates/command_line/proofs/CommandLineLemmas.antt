@@ -101,7 +101,7 @@ module _ (c : Command) (same : app_of c ≡ program) where
         let least : 1 ≤ least_values a = subst (λ o. 1 ≤ (unwrap_or_range o).start_inclusive) (sym range) (omega arith) in
         let only : (j : ℕ) (e : Arg) → j < length (args_of c) → bytes_eq (slice_index_or (args_of c) j e).id.now a.id.now ≡ true → j ≡ 0 =
         λ j e low twice. only_first (codes "ucd") ucd_rule (rule_of e) (drop 1 program.top.rules) refl j
-            (omega (arith, count)) (sym (ap₂ bytes_eq (ap (λ (r : Rule). r.id) (rule_at j e)) id) ∙ twice) in
+        (omega (arith, count)) (sym (ap₂ bytes_eq (ap (λ (r : Rule). r.id) (rule_at j e)) id) ∙ twice) in
         let has = required_has_value c m parsed plain simple.globals negates 0 d lt (ap (λ (r : Rule). r.required) rule) (ap (λ (r : Rule). r.action) rule) delim least only
         (λ empty. let bad : codes "ucd" ≡ [] = sym id ∙ empty in cc)
         (λ auto. elim auto [
@@ -125,7 +125,7 @@ module _ (c : Command) (same : app_of c ≡ program) where
         let wants : WantsDefault a = ((simple.args 1 d lt).default_ifs, omega (arith, one_default)) in
         let only : (j : ℕ) (e : Arg) → j < length (args_of c) → bytes_eq (slice_index_or (args_of c) j e).id.now a.id.now ≡ true → j ≡ 1 =
         λ j e low twice. only_second (codes "width") ucd_rule width_rule (rule_of e) (drop 2 program.top.rules) refl
-            refl j (omega (arith, count)) (sym (ap₂ bytes_eq (ap (λ (r : Rule). r.id) (rule_at j e)) id) ∙ twice) in
+        refl j (omega (arith, count)) (sym (ap₂ bytes_eq (ap (λ (r : Rule). r.id) (rule_at j e)) id) ∙ twice) in
         width_of (found_of m) a id (default_value c m parsed plain simple.globals 1 d lt wants (ap (λ (r : Rule). r.action) rule) (simple.args 1 d lt).delimiter least only
         (λ empty. let bad : codes "width" ≡ [] = sym id ∙ empty in cc)
         (λ auto. elim auto [

@@ -1,9 +1,8 @@
 //! The table files that are installed with the program: `../share/hordguli/ucd`, from its own folder.
 use std::alloc::{AllocError, Global};
-use std::env;
-use std::fs;
 use std::io::ErrorKind;
 use std::path::{Path, PathBuf};
+use std::{env, fs};
 use text_run::RunFault;
 use tool::ProgramFault;
 
@@ -13,7 +12,9 @@ const FOLDER: &str = "../share/hordguli/ucd";
 pub fn installed_folder(rt: &HostRuntime) -> Result<Option<PathBuf>, ProgramFault> {
     match env::current_exe(rt) {
         Ok(program) => folder_beside(rt, program.as_path()),
-        Err(error) if error.kind() == ErrorKind::OutOfMemory => Err(ProgramFault::Run(RunFault::Memory)),
+        Err(error) if error.kind() == ErrorKind::OutOfMemory => Err(ProgramFault::Run(
+            RunFault::Memory,
+        )),
         Err(_) => Ok(None),
     }
 }
@@ -33,7 +34,11 @@ fn folder_beside(rt: &HostRuntime, program: Path<'_>) -> Result<Option<PathBuf>,
 }
 
 /// Words of the command line, with a folder of table files before them.
-pub fn with_folder<'a>(alloc: Global, folder: &'a str, words: &[&'a str]) -> Result<Vec<&'a str>, AllocError> {
+pub fn with_folder<'a>(
+    alloc: Global,
+    folder: &'a str,
+    words: &[&'a str],
+) -> Result<Vec<&'a str>, AllocError> {
     let mut all = vec![in alloc; "--ucd", folder]?;
     all.extend_from_slice(words)?;
     Ok(all)

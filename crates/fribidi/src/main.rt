@@ -60,7 +60,11 @@ fn run_words(rt: &HostRuntime, words: &[&str]) -> Result<(), ProgramFault> {
 }
 
 // Words that name no folder ask for what they ask for with the installed one before them, where there is one.
-fn run_installed(rt: &HostRuntime, words: &[&str], fault: SettingsFault) -> Result<(), ProgramFault> {
+fn run_installed(
+    rt: &HostRuntime,
+    words: &[&str],
+    fault: SettingsFault,
+) -> Result<(), ProgramFault> {
     match installed_folder(rt)? {
         Some(folder) => run_over(rt, folder.as_str(), words),
         None => Err(ProgramFault::Line(fault)),

@@ -47,8 +47,8 @@ unreachable-requires-in_default-get_one c =
     let found = found_of c.args.matches.now in
     let width = c.requires.1.width in
     let none = sym (ap (option_map number_of) width.first)
-        ∙ read_width _ (λ t r. ParsesUnsigned 16 10 t r × ExplainsUnsignedError 10 t r
-        × HasUnsignedDigitsIfOk t r) (λ t r gives. gives.0) found None width c.in_default-get_one.ensures.value in
+    ∙ read_width _ (λ t r. ParsesUnsigned 16 10 t r × ExplainsUnsignedError 10 t r
+    × HasUnsignedDigitsIfOk t r) (λ t r gives. gives.0) found None width c.in_default-get_one.ensures.value in
     true≢false (ap is_some none)
 
 pub returns-clause-ok : goal.returns-clause-ok
@@ -56,8 +56,8 @@ returns-clause-ok c = λ words m.
     let found = found_of c.args.matches.now in
     let given = λ (name : Text). ap (is_given name) m.rows in
     let width = read_width _ (λ t r. ParsesUnsigned 16 10 t r × ExplainsUnsignedError 10 t r
-        × HasUnsignedDigitsIfOk t r) (λ t r gives. gives.0) found (Some c.in-Some-get_one.width) m.width
-        c.in-Some-get_one.ensures.value in
+    × HasUnsignedDigitsIfOk t r) (λ t r gives. gives.0) found (Some c.in-Some-get_one.width) m.width
+    c.in-Some-get_one.ensures.value in
     let is_width : number_of m.width.text ≡ c.in-Some-get_one.width = ap (λ o. unwrap_or o 0) (sym (ap (option_map number_of) m.width.first) ∙ width) in
     let script = c.get_str-script.ensures ∙ first_value-rows found (codes "script") ∙ ap (first_of (codes "script")) m.rows in
     let files = ap (map (λ s. s.now)) c.in-Ok.ensures.items ∙ ap (λ (s : Bor (List (Bor Text))). map (λ v. v.now) s.now) c.unwrap_or.ensures
@@ -98,11 +98,14 @@ returns-then-not-fits_script-clause-err c = λ words m.
     let files = ap (map (λ s. s.now)) c.in-Ok.ensures.items ∙ ap (λ (s : Bor (List (Bor Text))). map (λ v. v.now) s.now) c.unwrap_or.ensures
     ∙ texts_or_none c.get_strs.result _ refl
     ∙ ap (λ texts. unwrap_or texts []) (c.get_strs.ensures ∙ raw_values-rows found (codes "files") ∙ ap (all_of (codes "files")) m.rows) in
-    let isnt : c.fits_script.result ≡ false = search rules in
-    (m.taken, ap is_some (sym (c.in-Some.ensures.base ∙ ap base_of m.rows)), script_one c.get_str-script.result
-        c.len.result (matches_of program _) script
-        (omega (arith, c.len.ensures, ap length files, length-map c.in-Ok.files.items (λ (s : Bor Text). s.now)))
-        ∙ sym c.fits_script.ensures ∙ isnt)
+    let isnt : c.fits_script.result ≡ false = search rules in (
+      m.taken,
+      ap is_some (sym (c.in-Some.ensures.base ∙ ap base_of m.rows)),
+      script_one c.get_str-script.result
+          c.len.result (matches_of program _) script
+          (omega (arith, c.len.ensures, ap length files, length-map c.in-Ok.files.items (λ (s : Bor Text). s.now)))
+          ∙ sym c.fits_script.ensures ∙ isnt,
+    )
 
 pub returns-then-not-fits_queries-clause-err : goal.returns-then-not-fits_queries-clause-err
 returns-then-not-fits_queries-clause-err c = λ words m.
