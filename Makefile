@@ -116,4 +116,5 @@ bench: bench-program ucd
 	bench/store
 	bench/stream
 	bench/script
+	@[ ! -f bin/libhordguli.a ] || bench/c
 	bench/hostile
