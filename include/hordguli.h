@@ -161,9 +161,9 @@ typedef struct hordguli_bytes {
 
 /* The first line at fault, in the order of the files and of their lines. */
 typedef struct hordguli_table_fault {
-    uint32_t file;   /* 0 to 6, as above */
-    uint32_t cause;  /* 1 to 6, as above; 0 where the file cannot be read */
-    size_t line;     /* counted from 1; 0 where the file cannot be read */
+    size_t file;   /* 0 to 6, as above */
+    size_t line;   /* counted from 1; 0 where the file cannot be read */
+    size_t cause;  /* 1 to 6, as above; 0 where the file cannot be read */
 } hordguli_table_fault;
 
 /* Opens tables of the contents of the seven files. `fault` may be null; it is set where the status is
