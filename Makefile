@@ -107,7 +107,7 @@ attack:
 conformance: bench-program ucd
 	conformance/run
 
-bench: bench-program ucd
+bench: bench-program c ucd
 	bench/compare
 	bench/edits
 	bench/levels
@@ -116,5 +116,5 @@ bench: bench-program ucd
 	bench/store
 	bench/stream
 	bench/script
-	@[ ! -f bin/libhordguli.a ] || bench/c
+	bench/c
 	bench/hostile
