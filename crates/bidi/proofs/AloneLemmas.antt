@@ -67,7 +67,7 @@ module _ (bracket : ℕ → Option Bracket) (base : ℕ) (characters : List ℕ)
       ∙ ap (λ k. sequence_levels bracket (slice_index levels start) (before start) (after k) cs ts) (last_of-range start end above)
       ∙ ap (λ xs. sequence_levels bracket (slice_index levels start) (before start) (after (end - 1)) xs ts) (range-part characters 0 start n (omega (arith, above, within, characters_size)))
       ∙ ap (sequence_levels bracket (slice_index levels start) (before start) (after (end - 1))
-          (take n (drop start characters))) (range-part types ON start n (omega (arith, above, within, types_size)))
+      (take n (drop start characters))) (range-part types ON start n (omega (arith, above, within, types_size)))
 
   -- written where it stands
   pub written_alone : (done values : List ℕ) → length done ≡ length levels → length values ≡ n

@@ -214,7 +214,7 @@ module _ (classes : List BidiClass) (i : ℕ) (within : i < length classes) (ope
       let here = class-is at walk.after before in
       let reached = walk.inside (omega arith) in
       let next = Reached-next (span_of classes i) (at - (i + 1)) 0 (omega (arith, length-is)) reached
-          (λ strong. absurd (both_ways (is_strong (class_at classes at)) weak (ap is_strong (sym here) ∙ strong))) in
+      (λ strong. absurd (both_ways (is_strong (class_at classes at)) weak (ap is_strong (sym here) ∙ strong))) in
       let flat : cond (is_initiator (class_at (span_of classes i) (at - (i + 1)))) (0 + 1) (cond (is_pdi (class_at (span_of classes i) (at - (i + 1)))) (0 - 1) 0) ≡ 0 =
       cond-false (is_initiator (class_at (span_of classes i) (at - (i + 1)))) (0 + 1) (cond (is_pdi (class_at (span_of classes i) (at - (i + 1)))) (0 - 1) 0) (ap is_initiator here ∙ other)
       ∙ cond_both (is_pdi (class_at (span_of classes i) (at - (i + 1)))) (0 - 1) 0 (λ n. n ≡ 0) (λ e. refl) (λ e. refl) in

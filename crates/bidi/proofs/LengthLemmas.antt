@@ -53,5 +53,5 @@ length-levels_of tables text base =
     let places = stayed classes in
     let level = base_level_of (map (class_of tables) text) base in
     length-put_back level classes (resolved (bracket_of tables) level (map (slice_index text) places)
-        (map (class_at classes) places) (map (level_at level classes) places) (map (type_at level classes) places))
+    (map (class_at classes) places) (map (level_at level classes) places) (map (type_at level classes) places))
     ∙ length-directed (map (class_of tables) text) ∙ length-map text (class_of tables)

@@ -68,8 +68,8 @@ module _ (bracket_of : ℕ → Option Bracket) (base : ℕ) (characters : List �
       ap (λ j. list_any (λ before. is_initiator (class_at classes (last_of before)) && is_match (match_of classes (last_of before)) j) now.earlier) begins
       ∙ sym (now.told start (omega arith) (λ some. now.edge some (omega arith))) in
       let split : sequences_from classes now.earlier (runs_from levels start)
-          ≡ (if test then rest else joined classes first later ∷ rest) =
-          ap (sequences_from classes now.earlier) (runs_from-run levels start end run) in
+      ≡ (if test then rest else joined classes first later ∷ rest) =
+      ap (sequences_from classes now.earlier) (runs_from-run levels start end run) in
       let here : sequence_at classes levels start ≡ joined classes first later = ap (joined_first classes) (runs_from-run levels start end run) in
       record {
         earlier = first ∷ now.earlier;

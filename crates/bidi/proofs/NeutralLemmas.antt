@@ -43,8 +43,8 @@ module _ (level : ℕ) (sos eos : BidiClass) where
         | inr other ↦
             let is_here : here ≡ type = cond-false (is_neutral type) (between (direction level) (side_of sos front) (side_of eos types)) type other in
             cond-false (is_neutral type) (levels_after level eos (n + 1) before types)
-                (replicate n (row_level level before type)
-                ++ implicit_level level type ∷ levels_after level eos 0 type types) other
+            (replicate n (row_level level before type)
+            ++ implicit_level level type ∷ levels_after level eos 0 type types) other
             ∙ ap (λ xs. replicate n (row_level level before type) ++ implicit_level level type ∷ xs) (after-is 0 type (type ∷ front) types (sym (side-other sos type front other)))
             ∙ ap (λ b. replicate n (row_level level before type) ++ (implicit_level level b ∷ rules (type ∷ front) types)) (sym is_here)
             ∙ ap (λ b. replicate n (row_level level before b) ++ (implicit_level level here ∷ rules (type ∷ front) types)) (sym (side-other eos type types other))

@@ -26,20 +26,20 @@ module _ (bracket : ℕ → Option Bracket) (characters : List ℕ) (types : Lis
   no_pairs zero within = refl
   no_pairs (suc j) within =
       ap (λ pairs. pairs ++ (if is_closer bracket characters types j then paired_with bracket characters types
-          (greatest (λ i. is_live bracket characters types pairs i && fits bracket characters types i j) j) j else []))
-          (no_pairs j (omega arith))
+      (greatest (λ i. is_live bracket characters types pairs i && fits bracket characters types i j) j) j else []))
+      (no_pairs j (omega arith))
       ∙ cond-false (is_closer bracket characters types j)
-          (paired_with bracket characters types
-          (greatest (λ i. is_live bracket characters types [] i && fits bracket characters types i j) j) j) []
-          (no_closer j (omega arith))
+      (paired_with bracket characters types
+      (greatest (λ i. is_live bracket characters types [] i && fits bracket characters types i j) j) j) []
+      (no_closer j (omega arith))
 
   pub brackets-none : (embedding sos : BidiClass) (explicit : List BidiClass) → length characters ≡ length types → brackets bracket embedding sos characters explicit types ≡ types
   brackets-none embedding sos explicit sizes =
       let full : least (is_full bracket characters types) 0 (length types) ≡ None =
       least_none (is_full bracket characters types) 0 (length types) (λ m above below.
       and_left (is_opener bracket characters types m)
-          (nat_le 63 (count_by (is_live bracket characters types (pairs_before bracket characters types m))
-          (range_with_len 0 m))) (no_opener m (omega arith))) in
+      (nat_le 63 (count_by (is_live bracket characters types (pairs_before bracket characters types m))
+      (range_with_len 0 m))) (no_opener m (omega arith))) in
       let pairs : pairs_of bracket characters types ≡ [] =
       ap (λ o. pairs_before bracket characters types (unwrap_or o (length types))) full ∙ no_pairs (length types) (omega arith) in
       ap (λ ps. resolve_pairs embedding sos (map is_mark explicit) (closer_of ps) types) pairs

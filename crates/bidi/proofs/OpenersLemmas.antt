@@ -50,9 +50,9 @@ popped_isolate front entries rest status h popped isolate =
           let same : status ≡ w.1 = sym (item-last entries rest status status popped) ∙ item-last entries (front ++ h.isolate ∷ w.0) w.1 status split in
           let none = sym (list_any-append (λ (s : Status). s.is_isolate) w.0 (w.1 ∷ [])) ∙ sym (ap (list_any (λ (s : Status). s.is_isolate)) w.2) ∙ h.none in
           absurd (both_ways w.1.is_isolate
-              (or_parts w.1.is_isolate false
-              (or_parts (list_any (λ (s : Status). s.is_isolate) w.0) (w.1.is_isolate || false) none).1).0
-              (sym (ap (λ (s : Status). s.is_isolate) same) ∙ isolate))
+          (or_parts w.1.is_isolate false
+          (or_parts (list_any (λ (s : Status). s.is_isolate) w.0) (w.1.is_isolate || false) none).1).0
+          (sym (ap (λ (s : Status). s.is_isolate) same) ∙ isolate))
     ]
 
 -- or it stands above it

@@ -118,8 +118,8 @@ lives-greatest live fit test (suc k) same =
           let e = lives-yes live k passed in
           let size : length (lives live (suc k)) ≡ length (lives live k) + 1 = ap length e ∙ length_push (lives live k) k in
           let top : get_or (lives live (suc k)) (length (lives live k)) 0
-              ≡ k = ap (λ (l : List ℕ). get_or l (length (lives live k)) 0) e
-              ∙ get_or_push (lives live k) k 0 (length (lives live k)) refl in
+          ≡ k = ap (λ (l : List ℕ). get_or l (length (lives live k)) 0) e
+          ∙ get_or_push (lives live k) k 0 (length (lives live k)) refl in
           let last : fit k ≡ test (length (lives live k)) = ap fit (sym top) ∙ same (length (lives live k)) (omega arith) in
           elim (cases_Bool (fit k)) [
             | inl fits ↦
@@ -485,9 +485,9 @@ module _ (bracket_of : ℕ → Option Bracket) (characters : List ℕ) (types : 
           | inr ne ↦
               let lt : m < length openers = omega (arith, length_push openers opener) in
               let a : place_of (openers ++ opener ∷ []) m ≡ place_of openers m = ap (λ l. get_or l m 0) places
-                  ∙ get_or_append_left (map (λ (o : Opener). o.place) openers) (k ∷ []) 0 m (omega arith) in
+              ∙ get_or_append_left (map (λ (o : Opener). o.place) openers) (k ∷ []) 0 m (omega arith) in
               let b : pair_of (openers ++ opener ∷ []) m ≡ pair_of openers m = ap (λ l. get_or l m 0) pairs
-                  ∙ get_or_append_left (map (λ (o : Opener). o.pair) openers) (bracket.pair ∷ []) 0 m (omega arith) in
+              ∙ get_or_append_left (map (λ (o : Opener). o.pair) openers) (bracket.pair ∷ []) 0 m (omega arith) in
               ap (λ i. is_pair_of (bracket_of (get_or characters i 0)) c) a ∙ now.fit m lt c ∙ ap (λ p. canonical p == canonical c) (sym b)
         ];
         found = now.found ∙ ap (λ l. closers_of l (length types)) (sym same);
@@ -534,11 +534,11 @@ module _ (bracket_of : ℕ → Option Bracket) (characters : List ℕ) (types : 
         fit = λ x lt c.
             let short : x < m = omega (arith, length-take-le m openers (omega arith)) in
             let a : place_of (take m openers) x
-                ≡ place_of openers x = ap (λ l. get_or l x 0) (sym (take-map (λ (o : Opener). o.place) m openers))
-                ∙ get_or-take m (map (λ (o : Opener). o.place) openers) x 0 short in
+            ≡ place_of openers x = ap (λ l. get_or l x 0) (sym (take-map (λ (o : Opener). o.place) m openers))
+            ∙ get_or-take m (map (λ (o : Opener). o.place) openers) x 0 short in
             let b : pair_of (take m openers) x
-                ≡ pair_of openers x = ap (λ l. get_or l x 0) (sym (take-map (λ (o : Opener). o.pair) m openers))
-                ∙ get_or-take m (map (λ (o : Opener). o.pair) openers) x 0 short in
+            ≡ pair_of openers x = ap (λ l. get_or l x 0) (sym (take-map (λ (o : Opener). o.pair) m openers))
+            ∙ get_or-take m (map (λ (o : Opener). o.pair) openers) x 0 short in
             ap (λ j. is_pair_of (bracket_of (get_or characters j 0)) c) a ∙ now.fit x (omega arith) c ∙ ap (λ p. canonical p == canonical c) (sym b);
         found =
             ap (λ l. set l i k) now.found

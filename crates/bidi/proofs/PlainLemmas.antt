@@ -242,9 +242,9 @@ plain_levels bracket text classes base plain sizes whole =
     ap (λ cs. levels_by bracket text cs base) same
     ∙ ap (λ ps. put_back base classes (resolved bracket base (map (slice_index text) ps) (map (class_at classes) ps) (map (level_at base classes) ps) (map (type_at base classes) ps))) places
     ∙ ap (λ xs. put_back base classes
-        (resolved bracket base xs (map (class_at classes) (range_with_len 0 n))
-        (map (level_at base classes) (range_with_len 0 n)) (map (type_at base classes) (range_with_len 0 n))))
-        characters
+    (resolved bracket base xs (map (class_at classes) (range_with_len 0 n))
+    (map (level_at base classes) (range_with_len 0 n)) (map (type_at base classes) (range_with_len 0 n))))
+    characters
     ∙ ap (λ xs. put_back base classes (resolved bracket base text xs (map (level_at base classes) (range_with_len 0 n)) (map (type_at base classes) (range_with_len 0 n)))) read
     ∙ ap (λ xs. put_back base classes (resolved bracket base text classes xs (map (type_at base classes) (range_with_len 0 n)))) levels
     ∙ ap (λ xs. put_back base classes (resolved bracket base text classes (replicate n base) xs)) types

@@ -58,8 +58,8 @@ module _ (levels : List ℕ) where
       let e : start + (m - 1) ≡ start + m - 1 = omega arith in
       ap (λ j. changes levels j (slice_index text m)) (item (m - 1) (omega arith) ∙ e) ∙ ap (changes levels (start + m - 1)) (item m (omega arith))
       ∙ not_from_true (slice_index levels (start + m - 1) == slice_index levels (start + m))
-          (eq-eqb (slice_index levels (start + m - 1)) (slice_index levels (start + m))
-          (run.same (start + m) (omega arith) (omega arith))) in
+      (eq-eqb (slice_index levels (start + m - 1)) (slice_index levels (start + m))
+      (run.same (start + m) (omega arith) (omega arith))) in
       elim (cases_lt end (length levels)) [
         | inl inside ↦
             let last : start + (end - start - 1) ≡ end - 1 = omega arith in
@@ -192,8 +192,8 @@ module _ (classes : List BidiClass) (levels : List ℕ) (sizes : length classes 
           | inl same ↦ split ∙ joined-none (length levels) end l first (omega arith) last (λ k within e. subst (λ (m : ℕ). slice_index levels m ≡ slice_index levels (m - 1)) e same) run.other
               ∙ sym (append-nil first) ∙ ap (λ o. first ++ rest_of o) (sym (cond-false (nat_lt j (length levels) && not (slice_index levels j == slice_index levels (j - 1))) (Some j) None
               (and_right (nat_lt j (length levels)) (not (slice_index levels j == slice_index levels (j - 1)))
-                  (not_from_true (slice_index levels j == slice_index levels (j - 1))
-                  (eq-eqb (slice_index levels j) (slice_index levels (j - 1)) same)))))
+              (not_from_true (slice_index levels j == slice_index levels (j - 1))
+              (eq-eqb (slice_index levels j) (slice_index levels (j - 1)) same)))))
           | inr ne ↦ split ∙ joined-some (length levels) end l j first (omega arith) last refl (omega arith) inside ne
               ∙ ap (λ o. first ++ rest_of o) (sym (cond-true (nat_lt j (length levels) && not (slice_index levels j == slice_index levels (j - 1))) (Some j) None
               (and_from (nat_lt j (length levels)) (not (slice_index levels j == slice_index levels (j - 1))) (lt-ltb j (length levels) inside)

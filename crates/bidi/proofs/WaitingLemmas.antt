@@ -154,13 +154,13 @@ module _ (sos : BidiClass) (old current : List BidiClass) (before strong : BidiC
       ap (λ xs. xs ++ (if waits (row_after row type) then types_after (row_after row type) 1 (w3_type nearest_strong) later
       else value ∷ types_after (row_after row type) 0 (w3_type nearest_strong) later)) front
       ∙ append_assoc (take start current) (replicate (at - start) (if completes row type then value else ON))
-          (if waits (row_after row type) then types_after (row_after row type) 1 (w3_type nearest_strong) later
+      (if waits (row_after row type) then types_after (row_after row type) 1 (w3_type nearest_strong) later
       else value ∷ types_after (row_after row type) 0 (w3_type nearest_strong) later)
       ∙ ap (λ s. take start current ++ (replicate (at - start) (if completes row type then value else ON) ++ (if waits (row_after row type) then types_after (row_after row type) 1 s later
       else value ∷ types_after (row_after row type) 0 s later))) strong-next
       ∙ ap (λ v. take start current ++ (replicate (at - start) (if completes row type then v else ON)
-          ++ (if waits (row_after row type) then types_after (row_after row type) 1
-          (if is_strong type then type else w3_type strong) later
+      ++ (if waits (row_after row type) then types_after (row_after row type) 1
+      (if is_strong type then type else w3_type strong) later
       else v ∷ types_after (row_after row type) 0 (if is_strong type then type else w3_type strong) later))) value-is
       ∙ ap (λ xs. take start current ++ xs) (sym (cond-false (lengthens row type) (types_after row ((at - start) + 1) (w3_type strong) later)
       (replicate (at - start) (if completes row type then written row (is_left (w3_type strong)) type else ON)

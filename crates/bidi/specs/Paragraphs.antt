@@ -31,8 +31,8 @@ sequence_in p start = sequence_at p.stayed.now.classes.items p.stayed.now.levels
 abbrev pub write_by : Paragraph → List ℕ → ℕ → List ℕ
 write_by p done start =
     put done (sequence_in p start)
-        (levels_in (bracket_of p.text.tables.now) p.base p.text.characters.now p.stayed.now.classes.items
-        p.stayed.now.levels.items p.stayed.now.types.items (sequence_in p start))
+    (levels_in (bracket_of p.text.tables.now) p.base p.text.characters.now p.stayed.now.classes.items
+    p.stayed.now.levels.items p.stayed.now.types.items (sequence_in p start))
 
 abbrev pub resolved_by : Paragraph → List ℕ
 resolved_by p = resolved (bracket_of p.text.tables.now) p.base p.text.characters.now p.stayed.now.classes.items p.stayed.now.levels.items p.stayed.now.types.items

@@ -74,9 +74,9 @@ given whole_numbers state symbol outcome true is_pictograph before_digit free ea
     let joined : (is unattached (bases_at state) || (both_of whole_numbers state symbol outcome true false && both_of whole_numbers state symbol outcome true true)) ≡ true = (both _ _ each).1 in
     let whole : (both_of whole_numbers state symbol outcome true false && both_of whole_numbers state symbol outcome true true) ≡ true = rw (free refl) at joined in
     elim is_pictograph as (λ p. mark_of whole_numbers (decided_at outcome true p) before_digit
-        ≡ decide (marks_by_row whole_numbers)
-        (answered_with whole_numbers true p (answers whole_numbers (bases_at state)))
-        (answers_after whole_numbers (shown symbol) before_digit)) [
+    ≡ decide (marks_by_row whole_numbers)
+    (answered_with whole_numbers true p (answers whole_numbers (bases_at state)))
+    (answers_after whole_numbers (shown symbol) before_digit)) [
       | false ↦ given_both whole_numbers state symbol outcome true false before_digit (both _ _ whole).0
       | true ↦ given_both whole_numbers state symbol outcome true true before_digit (both _ _ whole).1
     ]
@@ -136,8 +136,12 @@ beginning whole_numbers state symbol outcome next led =
 pub begins : (whole_numbers : Bool) (state symbol entry : ℕ) (c : Character) (before : List Base)
     → symbol < SYMBOL_COUNT → shown symbol ≡ told c → Leads whole_numbers state symbol entry → stays state symbol
     ≡ false → carried before ≡ carried (bases_at state)
-    → Stands whole_numbers (record { row = entry / PARTS; is_joined = symbol == JOINER; is_pictograph =
-    c.is_future_pictograph }) (alone c) before
+    → Stands whole_numbers (record {
+      row = entry / PARTS;
+      is_joined = symbol == JOINER;
+      is_pictograph =
+          c.is_future_pictograph;
+    }) (alone c) before
 begins whole_numbers state symbol entry c before symbol_lt shows entry_leads begun carry =
     let says : Begins whole_numbers state symbol (entry % PARTS) entry_leads.next = beginning _ _ _ _ _ (rw begun at entry_leads.leads) in
     record {
@@ -159,8 +163,12 @@ begins whole_numbers state symbol entry c before symbol_lt shows entry_leads beg
 attached : (whole_numbers : Bool) (walk : Walk) (last : Base) (others : List Base)
     (stands : Stands whole_numbers walk last others) (symbol entry : ℕ) (c : Character) → symbol < SYMBOL_COUNT
     → shown symbol ≡ told c → Leads whole_numbers stands.state symbol entry → stays stands.state symbol ≡ true
-    → Stands whole_numbers (record { row = entry / PARTS; is_joined = symbol == JOINER; is_pictograph =
-    walk.is_pictograph }) (with_attached last c) others
+    → Stands whole_numbers (record {
+      row = entry / PARTS;
+      is_joined = symbol == JOINER;
+      is_pictograph =
+          walk.is_pictograph;
+    }) (with_attached last c) others
 attached whole_numbers walk last others stands symbol entry c symbol_lt shows entry_leads stay =
     let led : leads whole_numbers true stands.state symbol (entry % PARTS) entry_leads.next ≡ true = rw stay at entry_leads.leads in
     let here : List Base = bases_at stands.state in
@@ -291,12 +299,12 @@ marks_begun whole_numbers walk last others stands symbol entry c text shows entr
     ∙ given whole_numbers stands.state symbol (entry % PARTS) walk.is_joined walk.is_pictograph digit free says.gives
     ∙ ap (λ row. decide (marks_by_row whole_numbers) (answered_with whole_numbers walk.is_joined walk.is_pictograph row) (answers_after whole_numbers (shown symbol) digit)) (sym stands.answered)
     ∙ ap (λ joined. decide (marks_by_row whole_numbers)
-        (answered_with whole_numbers joined walk.is_pictograph (answers whole_numbers (last ∷ others)))
-        (answers_after whole_numbers (shown symbol) digit)) stands.is_joined
+    (answered_with whole_numbers joined walk.is_pictograph (answers whole_numbers (last ∷ others)))
+    (answers_after whole_numbers (shown symbol) digit)) stands.is_joined
     ∙ ap (λ pictograph. decide (marks_by_row whole_numbers)
-        (answered_with whole_numbers (is_same (end_of last).class ZWJ) pictograph
-        (answers whole_numbers (last ∷ others))) (answers_after whole_numbers (shown symbol) digit))
-        stands.is_pictograph
+    (answered_with whole_numbers (is_same (end_of last).class ZWJ) pictograph
+    (answers whole_numbers (last ∷ others))) (answers_after whole_numbers (shown symbol) digit))
+    stands.is_pictograph
     ∙ ap (λ row. decide (marks_by_row whole_numbers) (answered_with whole_numbers (is_same (end_of last).class ZWJ) last.first.is_future_pictograph (answers whole_numbers (last ∷ others))) row)
     (ap (λ d. answers_after whole_numbers d digit) shows ∙ sym (answers_after_told whole_numbers c digit) ∙ sym (read_text whole_numbers c text))
     ∙ sym (marked whole_numbers last others (bases_of (c ∷ text)))
@@ -346,8 +354,12 @@ never_stays whole_numbers outcome false is_pictograph before_digit stay =
 pub passes : (whole_numbers : Bool) (walk : Walk) (symbol entry : ℕ) (c : Character) → symbol < SYMBOL_COUNT
     → shown symbol ≡ told c → entry ≡ get_or TABLE (walk.row + symbol) 0 → (last : Base) (others : List Base)
     → Stands whole_numbers walk last others
-    → Passes whole_numbers (record { row = entry / PARTS; is_joined = symbol == JOINER; is_pictograph =
-    kept walk (entry % PARTS) c }) last others c (decided_at (entry % PARTS) walk.is_joined walk.is_pictograph)
+    → Passes whole_numbers (record {
+      row = entry / PARTS;
+      is_joined = symbol == JOINER;
+      is_pictograph =
+          kept walk (entry % PARTS) c;
+    }) last others c (decided_at (entry % PARTS) walk.is_joined walk.is_pictograph)
 passes whole_numbers walk symbol entry c symbol_lt shows reads last others stands =
     let entry_leads : Leads whole_numbers stands.state symbol entry = entry_is_right whole_numbers stands.state symbol walk.row entry stands.below symbol_lt stands.row reads in
     let whether = stays_is whole_numbers walk last others stands symbol c shows in
@@ -368,8 +380,12 @@ passes whole_numbers walk symbol entry c symbol_lt shows reads last others stand
 -- a text's start is to what follows as BK is
 pub starts : (symbol entry : ℕ) (c : Character) → symbol < SYMBOL_COUNT → shown symbol ≡ told c → entry
     ≡ get_or TABLE (0 + symbol) 0 → (whole_numbers : Bool)
-    → Stands whole_numbers (record { row = entry / PARTS; is_joined = symbol == JOINER; is_pictograph =
-    c.is_future_pictograph }) (alone c) []
+    → Stands whole_numbers (record {
+      row = entry / PARTS;
+      is_joined = symbol == JOINER;
+      is_pictograph =
+          c.is_future_pictograph;
+    }) (alone c) []
 starts symbol entry c symbol_lt shows reads whole_numbers =
     begins whole_numbers 0 symbol entry c [] symbol_lt shows (entry_is_right whole_numbers 0 symbol 0 entry (omega arith) symbol_lt refl reads) (and_false _) refl
 
@@ -379,8 +395,12 @@ pub passes_as : (walk : Walk) (symbol entry : ℕ) (c : Character) (is_pictograp
     → kept walk (entry % PARTS) c ≡ is_pictograph → decided
     ≡ decided_at (entry % PARTS) walk.is_joined walk.is_pictograph
     → (whole_numbers : Bool) (last : Base) (others : List Base) → Stands whole_numbers walk last others
-    → Passes whole_numbers (record { row = entry / PARTS; is_joined = symbol == JOINER; is_pictograph =
-    is_pictograph }) last others c decided
+    → Passes whole_numbers (record {
+      row = entry / PARTS;
+      is_joined = symbol == JOINER;
+      is_pictograph =
+          is_pictograph;
+    }) last others c decided
 passes_as walk symbol entry c is_pictograph decided symbol_lt shows reads keeps is whole_numbers last others stands =
     rw (← keeps, is) (passes whole_numbers walk symbol entry c symbol_lt shows reads last others stands)
 

@@ -161,8 +161,17 @@ answers_same_plain : (whole_numbers : Bool) (b : Base) (p q : List Base) → car
     → map (λ row. row.before (b ∷ p)) (rows whole_numbers) ≡ map (λ row. row.before (b ∷ q)) (rows whole_numbers)
 unfolding rows rows_before_numbers rows_of_numbers rows_after_numbers
 answers_same_plain true b p q carry =
-    rw (zw b p q carry, op b p q carry, qu b p q carry, after_closing b p q carry, dash b p q carry, odd b p q carry,
-    pair_same b p q carry (BA ∷ HY ∷ []), digits b p q carry, closed_digits b p q carry) refl
+    rw (
+      zw b p q carry,
+      op b p q carry,
+      qu b p q carry,
+      after_closing b p q carry,
+      dash b p q carry,
+      odd b p q carry,
+      pair_same b p q carry (BA ∷ HY ∷ []),
+      digits b p q carry,
+      closed_digits b p q carry,
+    ) refl
 answers_same_plain false b p q carry = rw (zw b p q carry, op b p q carry, qu b p q carry, after_closing b p q carry, dash b p q carry, odd b p q carry, pair_same b p q carry (BA ∷ HY ∷ [])) refl
 
 pub answers_same : (whole_numbers : Bool) (b : Base) (p q : List Base) → carried p ≡ carried q → answers whole_numbers (b ∷ p) ≡ answers whole_numbers (b ∷ q)

@@ -113,8 +113,8 @@ passes_on whole_numbers before after marks mark decided c text whole last others
           (with_attached last c, others, stayed.1, rw (append_assoc, seen ∙ stayed.0 (is_before_digit text)) (rw stays at is))
       | inr begins ↦
           let begun : ((text : List Character) → mark_of whole_numbers decided (is_before_digit text)
-              ≡ mark_by (rules whole_numbers) (last ∷ others) (bases_of (c ∷ text)))
-              × Stands whole_numbers after (alone c) (last ∷ others) = rw begins at passes in
+          ≡ mark_by (rules whole_numbers) (last ∷ others) (bases_of (c ∷ text)))
+          × Stands whole_numbers after (alone c) (last ∷ others) = rw begins at passes in
           (alone c, last ∷ others, begun.1, rw (append_assoc, seen ∙ begun.0 text) (rw begins at is))
     ]
 
@@ -169,7 +169,7 @@ module _ {X : Type 0} (read : X → Character) (rest : List X) (whole : List Mar
   steps whole_numbers i x c before after marks new mark decided lt is reads (last, others, stands, so_far) passes seen written =
       let here : drop i rest ≡ x ∷ drop (i + 1) rest = at_drop_more (λ xs. xs) rest i x lt ∙ ap (λ y. y ∷ drop (i + 1) rest) (sym is) in
       rw written (passes_on whole_numbers before after (take i marks) mark decided c (map read (drop (i + 1) rest))
-          whole last others (rw (here, ← reads) at so_far) (passes whole_numbers last others stands) seen)
+      whole last others (rw (here, ← reads) at so_far) (passes whole_numbers last others stands) seen)
 
   -- the last mark, after the whole text
   pub ends : (whole_numbers : Bool) (i : ℕ) (before : Walk) (marks : List Mark) → i ≡ length rest → length marks
@@ -179,9 +179,9 @@ module _ {X : Type 0} (read : X → Character) (rest : List X) (whole : List Mar
       let none : drop i rest ≡ [] = drop_all i rest (omega arith) in
       let written : take (length rest + 1) (set marks (length rest) Must) ≡ take (length rest) marks ++ Must ∷ [] = take_more_set marks (length rest) Must (omega arith) in
       let all_of_it : take (length rest + 1) (set marks (length rest) Must)
-          ≡ set marks (length rest) Must =
-          take_all (length rest + 1) (set marks (length rest) Must)
-          (omega (arith, length-set marks (length rest) Must)) in
+      ≡ set marks (length rest) Must =
+      take_all (length rest + 1) (set marks (length rest) Must)
+      (omega (arith, length-set marks (length rest) Must)) in
       sym all_of_it ∙ written ∙ ap (λ n. take n marks ++ Must ∷ []) (sym last_place) ∙ rw none at so_far
 
 -- the walk finds a mark for each character

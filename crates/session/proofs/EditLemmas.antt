@@ -86,8 +86,12 @@ IsWholeLayout-same old new width kept same whole = record {
 
 -- a refusal, with the engine as it was
 pub LaysOutAtMost-none : (n : ℕ) (engine : Engine) → LaysOutAtMost n engine engine
-LaysOutAtMost-none n engine = record { analysed = record { least = omega arith; most = omega arith }; filled =
-    record { least = omega arith; most = omega arith }; written = record { least = omega arith; most = omega arith } }
+LaysOutAtMost-none n engine = record {
+  analysed = record { least = omega arith; most = omega arith };
+  filled =
+      record { least = omega arith; most = omega arith };
+  written = record { least = omega arith; most = omega arith };
+}
 
 pub EditsNot-unchanged : (edit : Replacement) (state : SessionState) (fault : EditFault) → IsWholeLayout state → IsAnswerFor (refusal (cuts_at state) (text_at state) edit) fault
     → IsCountedFor fault (LaysOutAtMost (fresh (pars_of state.kept) edit)) state.engine state.engine → EditsNot edit state state fault

@@ -55,7 +55,7 @@ module _ (law : ParagraphsArePieces) (rules : Rules) (text : List ℕ) (within :
 -- the layouts so far with one more
 pub layouts_more : (rules : Rules) (width : ℕ) (text rest first after : List ℕ) (kept more : List Layout) (one : Layout) → paragraphs (cut_by rules) rest ≡ first ∷ paragraphs (cut_by rules) after
     → one ≡ layout_of rules width first → more ≡ kept ++ one ∷ [] → kept ++ layouts_of rules width rest
-        ≡ layouts_of rules width text → more ++ layouts_of rules width after ≡ layouts_of rules width text
+    ≡ layouts_of rules width text → more ++ layouts_of rules width after ≡ layouts_of rules width text
 layouts_more rules width text rest first after kept more one split one-is more-is so_far =
     ap (λ ks. ks ++ layouts_of rules width after) more-is
     ∙ append_assoc kept (one ∷ []) (layouts_of rules width after)

@@ -75,9 +75,9 @@ module _ (engine : Engine) (whole : List ℕ) (width : ℕ) (some : width ≡ 0 
 -- the sums fit
 module _ (law : ParagraphsArePieces) (few : LinesAreFew) (engine : Engine) (whole : List ℕ) (width : ℕ)
     (new : List Layout) (laid : new ≡ layouts_of (rules_of engine) width whole) (short : length whole ≤ TEXT_LIMIT)
-    where
-  pub opening-chars : (before : List Layout) → before ≡ [] → sum_by chars_of (splice before 0 0 new) < 2 ^ 64
-  opening-chars before none = rw (ap (λ ks. splice ks 0 0 new) none ∙ splice_all new) (omega (arith, chars-laid law few (rules_of engine) width whole new laid))
+  where
+    pub opening-chars : (before : List Layout) → before ≡ [] → sum_by chars_of (splice before 0 0 new) < 2 ^ 64
+    opening-chars before none = rw (ap (λ ks. splice ks 0 0 new) none ∙ splice_all new) (omega (arith, chars-laid law few (rules_of engine) width whole new laid))
 
-  pub opening-lines : (before : List Layout) → before ≡ [] → sum_by lines_of (splice before 0 0 new) < 2 ^ 64
-  opening-lines before none = rw (ap (λ ks. splice ks 0 0 new) none ∙ splice_all new) (omega (arith, few-laid law few (rules_of engine) width whole new laid))
+    pub opening-lines : (before : List Layout) → before ≡ [] → sum_by lines_of (splice before 0 0 new) < 2 ^ 64
+    opening-lines before none = rw (ap (λ ks. splice ks 0 0 new) none ∙ splice_all new) (omega (arith, few-laid law few (rules_of engine) width whole new laid))

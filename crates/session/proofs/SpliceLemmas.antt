@@ -115,8 +115,8 @@ first-replaced mid piece from count some within =
 
 pub last-replaced : (mid piece : List ℕ) (from count : ℕ) → from + count < length mid
     → (0 < length mid) × (0 < length (replaced mid (replacing from count piece)))
-        × (slice_index (replaced mid (replacing from count piece))
-        (length (replaced mid (replacing from count piece)) - 1) ≡ slice_index mid (length mid - 1))
+    × (slice_index (replaced mid (replacing from count piece))
+    (length (replaced mid (replacing from count piece)) - 1) ≡ slice_index mid (length mid - 1))
 last-replaced mid piece from count within =
     let back : length (drop (from + count) mid) ≡ length mid - (from + count) = length-drop (from + count) mid in
     let tail : 0 < length (piece ++ drop (from + count) mid) = rw (length-append piece (drop (from + count) mid)) (omega arith) in

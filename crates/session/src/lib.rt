@@ -5,7 +5,6 @@
 mod carets;
 mod clusters;
 mod edge;
-mod edit;
 mod edits;
 mod hits;
 mod joined;
@@ -14,6 +13,7 @@ mod laws;
 mod places;
 mod printing;
 mod reading;
+mod replace;
 mod scan;
 mod session;
 mod width;

@@ -55,7 +55,7 @@ fn put<S: ParagraphStore<Kept>>(
 }
 
 /// Puts a piece in place of `count` characters.
-pub fn edit<S: ParagraphStore<Kept>>(
+pub fn replace<S: ParagraphStore<Kept>>(
     alloc: Global,
     engine: &mut Engine,
     store: &mut S,

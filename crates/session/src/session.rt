@@ -25,7 +25,6 @@ ghost use Rattle.session.specs.declared.edits.EditFault.TheVariants.{NoMemory};
 
 use crate::carets::{Caret, caret_in};
 use crate::clusters::{Cluster, cluster_of};
-use crate::replace::replace;
 use crate::edits::{Damage, Edit, EditFault, TEXT_LIMIT};
 use crate::hits::{Hit, hit_in};
 use crate::joined::lay_out_joined;
@@ -33,6 +32,7 @@ use crate::kept::Kept;
 use crate::places::{Place, line_start, place_of};
 use crate::printing::{RangeFault, write_lines};
 use crate::reading::{text_part, utf8_len, write_text};
+use crate::replace::replace;
 use crate::width::set_width;
 use bidi::paragraphs_are_pieces;
 use device::Sink;
@@ -373,6 +373,24 @@ impl<S: ParagraphStore<Kept>> Session<S> {
         self.replace(pos, count, "")
     }
 
+    /// Puts a piece in place of `count` characters from `pos` on: both at once, with one damage.
+    pub fn replace(&mut self, pos: usize, count: usize, piece: &str) -> Result<Damage, EditFault>
+        ensures ok { IfOk result (Edits (replacing pos count (chars piece.now)) self.old self.new) }
+        ensures err { IfErr result (EditsNot (replacing pos count (chars piece.now)) self.old self.new) }
+        ensures memory { IsErrOf result NoMemory
+            → 0 < length (text_at self.old) + length (chars piece.now) }
+    {
+        replace(
+            self.alloc,
+            &mut self.engine,
+            &mut self.store,
+            self.width,
+            pos,
+            count,
+            piece,
+        )
+    }
+
     /// Brings all lines to another width, in columns.
     pub fn set_width(&mut self, width: u16) -> Result<Damage, EditFault>
         ensures ok { IfOk result (SetsWidth width self.old self.new) }
@@ -514,23 +532,5 @@ impl<S: ParagraphStore<Kept>> Session<S> {
             }
         }
         Ok(())
-    }
-
-    // Puts a piece in place of `count` characters.
-    fn replace(&mut self, pos: usize, count: usize, piece: &str) -> Result<Damage, EditFault>
-        ensures ok { IfOk result (Edits (replacing pos count (chars piece.now)) self.old self.new) }
-        ensures err { IfErr result (EditsNot (replacing pos count (chars piece.now)) self.old self.new) }
-        ensures memory { IsErrOf result NoMemory
-            → 0 < length (text_at self.old) + length (chars piece.now) }
-    {
-        edit(
-            self.alloc,
-            &mut self.engine,
-            &mut self.store,
-            self.width,
-            pos,
-            count,
-            piece,
-        )
     }
 }

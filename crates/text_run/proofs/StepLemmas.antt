@@ -71,7 +71,7 @@ module _ (rules : Rules) (width : ℕ) (print : Print) (reader_old writer_old : 
   abbrev Holds : List ℕ → List ℕ → Type 0
   Holds waiting text =
       (at : IsAt rules width print reader_old reader writer_old writer waiting text []) × (at.gathered ≡ [])
-          × (held.decoded ≡ length at.decoded) × (held.written ≡ length (page rules width print at.sent))
+      × (held.decoded ≡ length at.decoded) × (held.written ≡ length (page rules width print at.sent))
       × IsOpen (cut_by rules) text × IsBeginning waiting × Prints (length (concat at.sent)) print engine_old engine
 
   -- where it stands, by what it holds
@@ -111,9 +111,12 @@ module _ (rules : Rules) (width : ℕ) (print : Print) (reader_old writer_old : 
   no_more : (reader_new : Device) (engine_new : Engine) (bytes : List ℕ) (n : ℕ) → HasRead reader_old reader_new bytes
       → PrintsAtMost n print engine_old engine_new → n ≤ length (front_of bytes)
       → PrintsNoMore print reader_old reader_new engine_old engine_new
-  no_more reader_new engine_new bytes n has_read at_most few =
-      (bytes, has_read, at_most_more print engine_old engine_old engine_new 0 n (length (front_of bytes))
-      (at_most_none print engine_old) at_most (omega (arith, few)))
+  no_more reader_new engine_new bytes n has_read at_most few = (
+    bytes,
+    has_read,
+    at_most_more print engine_old engine_old engine_new 0 n (length (front_of bytes))
+        (at_most_none print engine_old) at_most (omega (arith, few)),
+  )
 
   -- what was counted until now, and how many characters before some bytes these are, with those that are held
   module _ (held : Held) (s : Stands rules width print reader_old writer_old engine_old reader writer engine held) where
@@ -161,10 +164,21 @@ module _ (rules : Rules) (width : ℕ) (print : Print) (reader_old writer_old : 
       ahead =
           let text_is : chars at.decoded ≡ concat at.sent ++ text = at.front.whole ∙ ap (λ ps. concat (at.sent ++ ps) ++ text) sent ∙ ap (λ ps. concat ps ++ text) (append-nil at.sent) in
           let bytes : at.decoded ≡ encode_utf8_all (concat at.sent)
-              ++ encode_utf8_all text = sym (encodes-chars at.decoded at.utf8) ∙ ap encode_utf8_all text_is
-              ∙ encodes-append (concat at.sent) text in
-          omega (arith, passed, at.passed, piece, few, short, encoded_len text, length-append at.decoded waiting, ap
-              length bytes, length-append (encode_utf8_all (concat at.sent)) (encode_utf8_all text));
+          ++ encode_utf8_all text = sym (encodes-chars at.decoded at.utf8) ∙ ap encode_utf8_all text_is
+          ∙ encodes-append (concat at.sent) text in
+          omega (
+            arith,
+            passed,
+            at.passed,
+            piece,
+            few,
+            short,
+            encoded_len text,
+            length-append at.decoded waiting,
+            ap
+                length bytes,
+            length-append (encode_utf8_all (concat at.sent)) (encode_utf8_all text),
+          );
     },
     sent,
     refl,
@@ -179,9 +193,11 @@ module _ (rules : Rules) (width : ℕ) (print : Print) (reader_old writer_old : 
       let at = s.is_at in
       let waiting = take held.waiting held.piece.items in
       let good : is_bad (at.decoded ++ waiting) ≡ false = no_bad held s in
-      let has_read : HasRead reader_old reader_new (at.decoded ++ waiting) =
-          (Consumes-kept reader_old.bytes reader.bytes reader_new.bytes (at.decoded
-          ++ waiting) at.read fails.bytes, fails.passed ∙ at.passed) in
+      let has_read : HasRead reader_old reader_new (at.decoded ++ waiting) = (
+        Consumes-kept reader_old.bytes reader.bytes reader_new.bytes (at.decoded
+            ++ waiting) at.read fails.bytes,
+        fails.passed ∙ at.passed,
+      ) in
       ended reader_new writer engine f.Read
       (at_fault rules width print reader_old reader writer_old writer waiting held.text.items [] at s.all_sent reader_new AtFailure waiting f.Read (
         has_read.0,
@@ -280,8 +296,8 @@ module _ (rules : Rules) (width : ℕ) (print : Print) (reader_old writer_old : 
           let wrote_all : Wrote (page rules width print (s.is_at.sent ++ last)) writer_old writer_new =
           subst (λ (t : List ℕ). Wrote t writer_old writer_new) (sym (flat_map-append (paragraph_bytes rules width print) s.is_at.sent last))
           (Wrote-append writer_old writer writer_new (page rules width print s.is_at.sent)
-              (page rules width print last) s.is_at.wrote
-              (subst (λ (t : List ℕ). Wrote t writer writer_new) lines_last wrote)) in
+          (page rules width print last) s.is_at.wrote
+          (subst (λ (t : List ℕ). Wrote t writer writer_new) lines_last wrote)) in
           let all : length (concat s.is_at.sent) + length held.text.items ≡ length (chars bytes) =
           sym (held_len held s) ∙ ap (λ t. length (chars t)) (sym (append-nil s.is_at.decoded) ∙ ap (λ t. s.is_at.decoded ++ t) (sym nothing_waits)) in
           record {
@@ -331,12 +347,12 @@ module _ (rules : Rules) (width : ℕ) (print : Print) (reader_old writer_old : 
           ended reader_new writer_new engine_new (f.Write n) (finish_stopped is.0 writer_new is.1.0 n is.1.2 is.1.1) no_more_last (λ same. absurd (cc same))
       ends_finish piece writer_new (Err f.Memory) is counts =
           let next = at_read reader_new (take held.waiting held.piece.items) held.text.items [] s.is_at s.all_sent
-              s.text.short s.beginning.few gives.bytes (omega (arith, gives.passes.passed)) gives.passes.failures
-              (omega arith) in
+          s.text.short s.beginning.few gives.bytes (omega (arith, gives.passes.passed)) gives.passes.failures
+          (omega arith) in
           subst (λ (w : Device). Ends rules width print reader_old writer_old engine_old reader_new w engine_new (Err f.Memory)) (sym is.2)
           (ended reader_new writer engine_new f.Memory
-              (at_memory rules width print reader_old reader_new writer_old writer (take held.waiting held.piece.items
-              ++ []) held.text.items [] next.0) no_more_last
+          (at_memory rules width print reader_old reader_new writer_old writer (take held.waiting held.piece.items
+          ++ []) held.text.items [] next.0) no_more_last
           (λ same. (s.is_at.decoded ++ take held.waiting held.piece.items, has_read, (ap are_within (pars_last is.0) ∙ within_last is.0, λ bad. absurd (true≢false (sym bad ∙ no_bad held s))))))
       ends_finish piece writer_new (Err f.Read) is counts = absurd is
       ends_finish piece writer_new (Err f.ParagraphTooLong) is counts = absurd is
@@ -370,10 +386,10 @@ module _ (rules : Rules) (width : ℕ) (print : Print) (reader_old writer_old : 
         let gives = read.read.gives in
         let len : length (take n buffer) ≡ n = length-take-le n buffer read.read.within in
         let next = at_read reader_new (take held.waiting held.piece.items) held.text.items (take n buffer) s.is_at
-            s.all_sent s.text.short s.beginning.few gives.bytes (omega (arith, len, gives.passes.passed))
-            gives.passes.failures (omega (arith, len, read.small, s.room)) in
+        s.all_sent s.text.short s.beginning.few gives.bytes (omega (arith, len, gives.passes.passed))
+        gives.passes.failures (omega (arith, len, read.small, s.room)) in
         subst (λ (t : List ℕ). (next : IsAt rules width print reader_old reader_new writer_old writer t held.text.items
-            []) × (next.gathered ≡ []) × (next.decoded ≡ s.is_at.decoded) × (next.sent ≡ s.is_at.sent)) (sym parts) next
+        []) × (next.gathered ≡ []) × (next.decoded ≡ s.is_at.decoded) × (next.sent ≡ s.is_at.sent)) (sym parts) next
 
     abbrev same : held_read ≡ record held { piece = held_read.piece }
     same = read.same
@@ -402,8 +418,8 @@ module _ (rules : Rules) (width : ℕ) (print : Print) (reader_old writer_old : 
 
       pub read_memory : are_within (paragraphs (cut_by rules) (held_read.text.items ++ front_of bytes_read)) ≡ true
           → (is_bad bytes_read ≡ true → 1 < length
-              (paragraphs (cut_by rules) (held_read.text.items ++ front_of bytes_read)))
-              → Ends rules width print reader_old writer_old engine_old reader_new writer engine_new (Err f.Memory)
+          (paragraphs (cut_by rules) (held_read.text.items ++ front_of bytes_read)))
+          → Ends rules width print reader_old writer_old engine_old reader_new writer engine_new (Err f.Memory)
       read_memory within ended_is =
           let sent = s.is_at.sent in
           let text = held.text.items ++ front_of bytes_read in
@@ -418,9 +434,15 @@ module _ (rules : Rules) (width : ℕ) (print : Print) (reader_old writer_old : 
               ap are_within pars ∙ within_more sent (paragraphs (cut_by rules) text) sent_is ∙ ap (λ t. are_within (paragraphs (cut_by rules) (t ++ front_of bytes_read))) (sym text_same) ∙ within,
               λ bad. (
                 length sent,
-                omega (arith, ended_is (sym (is_bad-after s.is_at.decoded bytes_read s.is_at.utf8)
-                    ∙ bad), ap length pars, length-append sent (paragraphs (cut_by rules) text), ap
-                    (λ t. length (paragraphs (cut_by rules) (t ++ front_of bytes_read))) text_same),
+                omega (
+                  arith,
+                  ended_is (sym (is_bad-after s.is_at.decoded bytes_read s.is_at.utf8)
+                      ∙ bad),
+                  ap length pars,
+                  length-append sent (paragraphs (cut_by rules) text),
+                  ap
+                      (λ t. length (paragraphs (cut_by rules) (t ++ front_of bytes_read))) text_same,
+                ),
                 subst (λ (ps : List (List ℕ)). Wrote (page rules width print ps) writer_old writer)
                     (sym (ap (take (length sent)) pars ∙ take-append_seam sent (paragraphs (cut_by rules) text)))
                     s.is_at.wrote,
@@ -492,8 +514,8 @@ module _ (rules : Rules) (width : ℕ) (print : Print) (reader_old writer_old : 
         (gave_all rules width print reader_old reader_new writer_old writer_new left text_new [] at)
         (sent_ahead rules width print reader_old reader_new writer_old writer_new left text_new [] at) is_open none
         (ap (λ (b : Bool). if b then None else Some (f.NotUtf8 (utf8_valid_len (at.decoded ++ after))))
-            (not_all (utf8_valid_len (at.decoded ++ after)) (length (at.decoded ++ after)) less)
-            ∙ ap (λ k. Some (f.NotUtf8 k)) here)
+        (not_all (utf8_valid_len (at.decoded ++ after)) (length (at.decoded ++ after)) less)
+        ∙ ap (λ k. Some (f.NotUtf8 k)) here)
         (λ written wrong is wrote. (is, wrote))
 
     -- a fault is found before the first paragraph ends: its lines and those after it are not written, nor is anything more
@@ -542,8 +564,8 @@ module _ (rules : Rules) (width : ℕ) (print : Print) (reader_old writer_old : 
             let wrong_is : l.wrong ≡ wrong = cc (is, l.fault_is) in
             subst (λ (w : RunFault). Stops rules width print reader_old writer_old reader_new writer_new w) wrong_is
             (found_ends l.wrong (subst (λ (h : Held). IsFaultAhead (cut_by rules) (h.text.items
-                ++ front_of bytes_read) (is_bad bytes_read) (h.decoded + utf8_valid_len bytes_read) l.wrong) same
-                l.ahead))
+            ++ front_of bytes_read) (is_bad bytes_read) (h.decoded + utf8_valid_len bytes_read) l.wrong) same
+            l.ahead))
 
       found_goes_on : fault ≡ None → ⊥
       found_goes_on is = cc (is, l.fault_is)
@@ -584,17 +606,30 @@ module _ (rules : Rules) (width : ℕ) (print : Print) (reader_old writer_old : 
             let lines_new : held_new.page.bytes.items ≡ page rules width print g.pushed.pars = gathered_is.0.lines_are ∙ ap (page rules width print) gathered_is.3 in
             let counts : Prints (length (concat at.sent)) print engine_old engine_new =
             subst (λ n. Prints n print engine_old engine_new)
-            (omega (arith, ap (λ ps. length (concat ps)) (written_is.3
-                ∙ ap₂ (λ x y. x ++ y) gathered_is.2 gathered_is.3), ap length
-                (concat-append s.is_at.sent g.pushed.pars), length-append (concat s.is_at.sent) (concat g.pushed.pars)))
+            (omega (
+              arith,
+              ap (λ ps. length (concat ps)) (written_is.3
+                  ∙ ap₂ (λ x y. x ++ y) gathered_is.2 gathered_is.3),
+              ap length
+                  (concat-append s.is_at.sent g.pushed.pars),
+              length-append (concat s.is_at.sent) (concat g.pushed.pars),
+            ))
             (prints_more print engine_old engine engine_new (length (concat s.is_at.sent)) (length (concat g.pushed.pars)) s.counts g.pushed.counts) in
             stands_by rules width print reader_old writer_old engine_old reader_new writer_new engine_new held_last left held_new.text.items (
               at,
               written_is.1,
               omega (arith, ap (λ (h : Held). h.decoded) last, gathered_is.1, ap length written_is.2),
-              omega (arith, ap (λ (h : Held). h.written) last, g.written, ap (λ (h : Held). h.written) same, s.written,
-                  ap length lines_new, ap length pages, length-append (page rules width print s.is_at.sent)
-                  (page rules width print g.pushed.pars)),
+              omega (
+                arith,
+                ap (λ (h : Held). h.written) last,
+                g.written,
+                ap (λ (h : Held). h.written) same,
+                s.written,
+                ap length lines_new,
+                ap length pages,
+                length-append (page rules width print s.is_at.sent)
+                    (page rules width print g.pushed.pars),
+              ),
               is_open,
               record { none = left_none; fault = not_bad left good; few = omega (arith, left_len, g.beginning good) },
               counts,
@@ -678,9 +713,16 @@ module _ (rules : Rules) (width : ℕ) (print : Print) (reader writer : Device) 
         run = stops.run engine engine;
         ahead = stops.ahead;
         at_most = ([], read, at_most_more print engine engine engine 0 0 (length (front_of [])) (at_most_none print engine) (at_most_none print engine) (omega arith));
-        wants = λ is. ([], read, (ap (λ t. are_within (paragraphs (cut_by rules) t)) none, λ bad. absurd
-            (true≢false (sym bad ∙ ap (λ n. is_some (utf8_error_len (drop n []))) (nothing_valid [] refl)
-            ∙ ap is_some utf8_error_len-nil))));
+        wants = λ is. (
+          [],
+          read,
+          (
+            ap (λ t. are_within (paragraphs (cut_by rules) t)) none,
+            λ bad. absurd
+                (true≢false (sym bad ∙ ap (λ n. is_some (utf8_error_len (drop n []))) (nothing_valid [] refl)
+                ∙ ap is_some utf8_error_len-nil)),
+          ),
+        );
       }
 
   pub stands_at_start : Prints 0 print engine engine → (held : Held) → held.waiting ≡ 0 → held.decoded ≡ 0
@@ -689,9 +731,16 @@ module _ (rules : Rules) (width : ℕ) (print : Print) (reader writer : Device) 
   unfolding start_at
   stands_at_start fits held waiting decoded written text lines room =
       let none : take held.waiting held.piece.items ≡ [] = ap (λ n. take n held.piece.items) waiting in
-      stands_by rules width print reader writer engine reader writer engine held [] []
-      (start_at, refl, decoded, written, record { uncut = λ some. absurd (omega arith); short = omega arith }, record
-          { none = nothing_valid [] refl; fault = utf8_error_len-nil; few = omega arith }, fits)
+      stands_by rules width print reader writer engine reader writer engine held [] [] (
+        start_at,
+        refl,
+        decoded,
+        written,
+        record { uncut = λ some. absurd (omega arith); short = omega arith },
+        record
+            { none = nothing_valid [] refl; fault = utf8_error_len-nil; few = omega arith },
+        fits,
+      )
       fits none text lines room (omega (arith, ap length none, waiting))
 
 -- a step of a run under the rules that it began with
@@ -700,7 +749,7 @@ module _ (rules now : Rules) (width : ℕ) (print : Print) (reader_old writer_ol
     (held held_new : Held) (kept : now ≡ rules)
     (stands : Stands rules width print reader_old writer_old engine_old reader writer engine held) (result : Result Bool RunFault)
     (steps : Stands now width print reader_old writer_old engine_old reader writer engine held
-        → Steps now width print reader_old writer_old engine_old reader_new writer_new engine_new held_new result) where
+    → Steps now width print reader_old writer_old engine_old reader_new writer_new engine_new held_new result) where
   stepped : Steps rules width print reader_old writer_old engine_old reader_new writer_new engine_new held_new result
   stepped =
       subst (λ (r : Rules). Steps r width print reader_old writer_old engine_old reader_new writer_new engine_new held_new result) kept

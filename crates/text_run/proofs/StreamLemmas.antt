@@ -135,7 +135,7 @@ module _ (rules : Rules) (width : ℕ) (print : Print) (reader_old writer_old : 
   ahead_at : (reader_new writer_new : Device) (ending : Ending) (bytes : List ℕ) (sent others : List (List ℕ)) (n : ℕ)
       → Gave reader_old reader_new ending bytes → front_paragraphs rules bytes ≡ sent ++ others
       → Took writer_old writer_new (page rules width print sent ++ take n (page rules width print (take 1 others)))
-          → IsSent reader_new sent → ReadsAhead rules width print reader_old reader_new writer_old writer_new
+      → IsSent reader_new sent → ReadsAhead rules width print reader_old reader_new writer_old writer_new
   ahead_at reader_new writer_new ending bytes sent others n gave pars took ahead =
       let first : take (length sent) (front_paragraphs rules bytes) ≡ sent = ap (take (length sent)) pars ∙ take-append_seam sent others in
       let rest : drop (length sent) (front_paragraphs rules bytes) ≡ others = ap (drop (length sent)) pars ∙ drop-append_seam sent others in (
@@ -167,10 +167,19 @@ module _ (rules : Rules) (width : ℕ) (print : Print) (reader_old writer_old : 
       → written_of (front_paragraphs rules bytes) (is_none (input_fault ending bytes)) ≡ sent ++ more
       → Wrote (page rules width print sent) writer_old writer_new → IsSent reader_new sent → Stops rules width print reader_old writer_old reader_new writer_new f.Memory
   ends_memory reader_new writer_new ending bytes sent others more gave pars written wrote ahead = record {
-    run = λ engine_old engine_new.
-        (ending, bytes, gave, tt, tt, (length sent, subst
-        (λ (ps : List (List ℕ)). Wrote (page rules width print ps) writer_old writer_new)
-        (sym (ap (take (length sent)) written ∙ take-append_seam sent more)) wrote));
+    run = λ engine_old engine_new. (
+      ending,
+      bytes,
+      gave,
+      tt,
+      tt,
+      (
+        length sent,
+        subst
+            (λ (ps : List (List ℕ)). Wrote (page rules width print ps) writer_old writer_new)
+            (sym (ap (take (length sent)) written ∙ take-append_seam sent more)) wrote,
+      ),
+    );
     ahead = ahead_done reader_new writer_new ending bytes sent others gave pars wrote ahead;
   }
 
@@ -220,8 +229,8 @@ module _ (rules : Rules) (width : ℕ) (print : Print) (reader_old writer_old : 
       → front_paragraphs rules bytes ≡ (sent ++ gathered) ++ others
       → written_of (front_paragraphs rules bytes) (is_none (input_fault ending bytes)) ≡ (sent ++ gathered) ++ more
       → Wrote (page rules width print sent) writer_old writer_mid → IsSent reader_new sent
-          → StoppedAt m (page rules width print gathered) writer_mid writer_new → n
-          ≡ length (page rules width print sent) + m
+      → StoppedAt m (page rules width print gathered) writer_mid writer_new → n
+      ≡ length (page rules width print sent) + m
       → Stops rules width print reader_old writer_old reader_new writer_new (f.Write n)
   ends_write reader_new writer_mid writer_new ending bytes sent gathered others more m n gave pars written wrote ahead stopped n_is =
       let front = page rules width print sent in
@@ -241,8 +250,8 @@ module _ (rules : Rules) (width : ℕ) (print : Print) (reader_old writer_old : 
       let before = sent ++ at.before in
       let pars_2 : front_paragraphs rules bytes ≡ before ++ (at.next ∷ (at.after ++ others)) =
       pars ∙ ap (λ t. (sent ++ t) ++ others) at.parts ∙ append_assoc sent (at.before ++ at.next ∷ at.after) others
-          ∙ ap (λ t. sent ++ t) (append_assoc at.before (at.next ∷ at.after) others)
-          ∙ sym (append_assoc sent at.before (at.next ∷ (at.after ++ others))) in
+      ∙ ap (λ t. sent ++ t) (append_assoc at.before (at.next ∷ at.after) others)
+      ∙ sym (append_assoc sent at.before (at.next ∷ (at.after ++ others))) in
       let took_2 : front ++ take m lines ≡ page rules width print before ++ take at.n (page rules width print (at.next ∷ [])) =
       ap (λ t. front ++ t) at.lines ∙ sym (append_assoc front (page rules width print at.before) (take at.n (page rules width print (at.next ∷ []))))
       ∙ ap (λ t. t ++ take at.n (page rules width print (at.next ∷ []))) (sym (flat_map-append (paragraph_bytes rules width print) sent at.before)) in
@@ -263,10 +272,12 @@ gone_on is_cut ps (a ∷ text) rest front = inr (front.filled (omega arith))
 
 begins_in : (is_cut : ℕ → ℕ → Bool) (ps : List (List ℕ)) (rest : List ℕ) (whole : Bool) → are_within ps ≡ true → (ps ≡ []) ⊎ (0 < length rest)
     → (more : List ℕ) → (others : List (List ℕ)) × (written_of (ps ++ paragraphs is_cut (rest ++ more)) whole ≡ ps ++ others)
-begins_in is_cut ps rest whole all (inl none) more =
-    (written_of (paragraphs is_cut (rest ++ more)) whole, ap
-        (λ qs. written_of (qs ++ paragraphs is_cut (rest ++ more)) whole) none
-        ∙ ap (λ qs. qs ++ written_of (paragraphs is_cut (rest ++ more)) whole) (sym none))
+begins_in is_cut ps rest whole all (inl none) more = (
+  written_of (paragraphs is_cut (rest ++ more)) whole,
+  ap
+      (λ qs. written_of (qs ++ paragraphs is_cut (rest ++ more)) whole) none
+      ∙ ap (λ qs. qs ++ written_of (paragraphs is_cut (rest ++ more)) whole) (sym none),
+)
 begins_in is_cut ps [] whole all (inr some) more = absurd (omega arith)
 begins_in is_cut ps (a ∷ rest) whole all (inr some) more =
     let first = first_paragraph is_cut a (rest ++ more) in
@@ -305,8 +316,8 @@ module _ (rules : Rules) (width : ℕ) (print : Print) (reader_old reader_new wr
   at_memory =
       let more = begins rest_of (is_none (input_fault AtEnd (at.decoded ++ rest_of))) in
       ends_memory rules width print reader_old writer_old reader_new writer_new AtEnd (at.decoded
-          ++ rest_of) at.sent (at.gathered ++ paragraphs (cut_by rules) (text ++ front_of rest_of)) (at.gathered
-          ++ more.0) gave_all
+      ++ rest_of) at.sent (at.gathered ++ paragraphs (cut_by rules) (text ++ front_of rest_of)) (at.gathered
+      ++ more.0) gave_all
       (pars_are rest_of ∙ append_assoc at.sent at.gathered _) (more.1 ∙ append_assoc at.sent at.gathered more.0) at.wrote sent_ahead
 
   pub at_write : (writer_last : Device) (m n : ℕ) → StoppedAt m lines writer_new writer_last → n ≡ length (page rules width print at.sent) + m
@@ -314,7 +325,7 @@ module _ (rules : Rules) (width : ℕ) (print : Print) (reader_old reader_new wr
   at_write writer_last m n stopped n_is =
       let more = begins rest_of (is_none (input_fault AtEnd (at.decoded ++ rest_of))) in
       ends_write rules width print reader_old writer_old reader_new writer_new writer_last AtEnd (at.decoded
-          ++ rest_of) at.sent at.gathered (paragraphs (cut_by rules) (text ++ front_of rest_of)) more.0 m n gave_all
+      ++ rest_of) at.sent at.gathered (paragraphs (cut_by rules) (text ++ front_of rest_of)) more.0 m n gave_all
       (pars_are rest_of) more.1 at.wrote sent_ahead (subst (λ (t : List ℕ). StoppedAt m t writer_new writer_last) at.lines_are stopped) n_is
 
   -- the lines are written
@@ -402,8 +413,8 @@ module _ (rules : Rules) (width : ℕ) (print : Print) (reader_old reader_new wr
         → utf8_valid_len after ≡ 0
         → input_fault ending (at.decoded ++ after) ≡ Some fault
         → ((written : List (List ℕ)) (wrong : Option RunFault) → Some fault ≡ wrong
-            → Wrote (page rules width print written) writer_old writer_new
-            → EndsWith (page rules width print) written wrong writer_old writer_new (Some fault))
+        → Wrote (page rules width print written) writer_old writer_new
+        → EndsWith (page rules width print) written wrong writer_old writer_new (Some fault))
         → Stops rules width print reader_old writer_old reader_last writer_new fault
     at_fault reader_last ending after fault gave ahead is_open none wrong_is ends =
         let bytes = at.decoded ++ after in
@@ -416,9 +427,15 @@ module _ (rules : Rules) (width : ℕ) (print : Print) (reader_old reader_new wr
         let end_is : Some fault ≡ ending_of (front_paragraphs rules bytes) (input_fault ending bytes) =
         sym wrong_is ∙ sym (ap (λ (b : Bool). if b then input_fault ending bytes else Some f.ParagraphTooLong) within_is) in
         record {
-          run = λ engine_old engine_new.
-              (ending, bytes, gave, tt, tt, ends _ _ end_is
-              (subst (λ (ps : List (List ℕ)). Wrote (page rules width print ps) writer_old writer_new) (sym written)
-              at.wrote));
+          run = λ engine_old engine_new. (
+            ending,
+            bytes,
+            gave,
+            tt,
+            tt,
+            ends _ _ end_is
+                (subst (λ (ps : List (List ℕ)). Wrote (page rules width print ps) writer_old writer_new) (sym written)
+                at.wrote),
+          );
           ahead = ahead_done rules width print reader_old writer_old reader_last writer_new ending bytes at.sent (paragraphs (cut_by rules) text) gave pars at.wrote ahead;
         }

@@ -182,8 +182,8 @@ module _ (rules : Rules) (options : ScriptOptions) (start now : SessionState) (r
       → is_good options.queries line ≡ false → n ≡ length done + 1 → IsAll done → IsScriptRun rules options start now reader_old reader_new writer_old writer_new (Err (f.BadLine n))
   ends_bad ending bytes done line others n gave lines good bad number all =
       let are : good_lines options.queries (script_lines ending bytes) ≡ done
-          ++ [] = ap (good_lines options.queries) lines ∙ take_while_more options.queries done (line ∷ others) good
-          ∙ ap (λ t. done ++ t) (good_none options.queries line others bad) in
+      ++ [] = ap (good_lines options.queries) lines ∙ take_while_more options.queries done (line ∷ others) good
+      ∙ ap (λ t. done ++ t) (good_none options.queries line others bad) in
       let not_all : list_all (is_good options.queries) (script_lines ending bytes) ≡ false = ap (list_all (is_good options.queries)) lines ∙ all_but options.queries done line others bad in
       let fault : Some (f.BadLine n) ≡ script_fault options.queries ending (script_lines ending bytes) =
       ap (λ k. Some (f.BadLine k)) (number ∙ ap (λ (ls : List (List ℕ)). length ls + 1) (sym (are ∙ append-nil done)))
@@ -204,8 +204,8 @@ module _ (rules : Rules) (options : ScriptOptions) (start now : SessionState) (r
       → IsScriptRun rules options start now reader_old reader_new writer_old writer_new (Err f.Memory)
   ends_short ending bytes done others gave lines good ahead wrote held works =
       let are : good_lines options.queries (script_lines ending bytes) ≡ done
-          ++ good_lines options.queries others = ap (good_lines options.queries) lines
-          ∙ take_while_more options.queries done others good in
+      ++ good_lines options.queries others = ap (good_lines options.queries) lines
+      ∙ take_while_more options.queries done others good in
       let first : take (length done) (done ++ good_lines options.queries others) ≡ done = take-append_seam done (good_lines options.queries others) in (
         ending,
         bytes,
@@ -223,26 +223,26 @@ module _ (rules : Rules) (options : ScriptOptions) (start now : SessionState) (r
   ends_write : (ending : Ending) (bytes : List ℕ) (done : List (List ℕ)) (line : List ℕ) (others : List (List ℕ))
       (held : Held) (written n : ℕ) (writer_mid : Device) → Gave reader_old reader_new ending bytes
       → script_lines ending bytes ≡ done ++ line ∷ others → list_all (is_good options.queries) done ≡ true
-          → is_good options.queries line ≡ true → held ≡ after_lines rules options.queries before done → written
-          ≡ length (answers rules options before done)
+      → is_good options.queries line ≡ true → held ≡ after_lines rules options.queries before done → written
+      ≡ length (answers rules options before done)
       → Wrote (answers rules options before done) writer_old writer_mid
-          → StoppedIn (answer_line rules options.print held (request_of_line options.queries line)) written writer_mid
-          writer_new n → IsDone done
+      → StoppedIn (answer_line rules options.print held (request_of_line options.queries line)) written writer_mid
+      writer_new n → IsDone done
       → held_at now ≡ after_line rules held (request_of_line options.queries line) → LinesWork rules options.queries before (done ++ line ∷ []) start.engine now.engine
       → IsScriptRun rules options start now reader_old reader_new writer_old writer_new (Err (f.Write n))
   ends_write ending bytes done line others held written n writer_mid gave lines good here held_is count wrote stopped ahead now_is works =
       let are : good_lines options.queries (script_lines ending bytes) ≡ done
-          ++ line ∷ good_lines options.queries others = ap (good_lines options.queries) lines
-          ∙ take_while_more options.queries done (line ∷ others) good
-          ∙ ap (λ t. done ++ t) (good_one options.queries line others here) in
+      ++ line ∷ good_lines options.queries others = ap (good_lines options.queries) lines
+      ∙ take_while_more options.queries done (line ∷ others) good
+      ∙ ap (λ t. done ++ t) (good_one options.queries line others here) in
       let first : take (length done) (done ++ line ∷ good_lines options.queries others) ≡ done = take-append_seam done (line ∷ good_lines options.queries others) in
       let both : take (length done + 1) (done ++ line ∷ good_lines options.queries others) ≡ done ++ line ∷ [] = take-append-add done (line ∷ good_lines options.queries others) 1 in
       let front = answers rules options before done in
       let next = answer_line rules options.print (after_lines rules options.queries before done) (request_of_line options.queries line) in
       let m = n - written in
       let stopped_next : StoppedAt m next writer_mid writer_new =
-          subst (λ (h : Held). StoppedAt m (answer_line rules options.print h (request_of_line options.queries line))
-          writer_mid writer_new) held_is stopped.stopped in
+      subst (λ (h : Held). StoppedAt m (answer_line rules options.print h (request_of_line options.queries line))
+      writer_mid writer_new) held_is stopped.stopped in
       let m_is : n ≡ length front + m = omega (arith, stopped.after, count) in
       let took : Took writer_old writer_new (front ++ take m next) = Took-append writer_old writer_mid writer_new front (take m next) wrote.0 stopped_next.1 in
       let text : answers rules options before (done ++ line ∷ []) ≡ front ++ next = answers_more rules options before done (line ∷ []) ∙ ap (λ t. front ++ t) (append-nil next) in
@@ -256,12 +256,12 @@ module _ (rules : Rules) (options : ScriptOptions) (start now : SessionState) (r
       let whole : StoppedAt n (answers rules options before (take (length done + 1) (done ++ line ∷ good_lines options.queries others))) writer_old writer_new =
       subst (λ (t : List ℕ). StoppedAt n t writer_old writer_new) (sym (ap (answers rules options before) both ∙ text)) stopped_all in
       let least : length (answers rules options before
-          (take (length done) (done ++ line ∷ good_lines options.queries others))) ≤ n =
-          omega (arith, ap (λ (ls : List (List ℕ)). length (answers rules options before ls)) first, m_is) in
+      (take (length done) (done ++ line ∷ good_lines options.queries others))) ≤ n =
+      omega (arith, ap (λ (ls : List (List ℕ)). length (answers rules options before ls)) first, m_is) in
       let held_now : held_at now ≡ after_lines rules options.queries before (take (length done + 1) (done ++ line ∷ good_lines options.queries others)) =
       now_is ∙ ap (λ (h : Held). after_line rules h (request_of_line options.queries line)) held_is
-          ∙ sym (after_more rules options before done (line ∷ []))
-          ∙ ap (after_lines rules options.queries before) (sym both) in (
+      ∙ sym (after_more rules options before done (line ∷ []))
+      ∙ ap (after_lines rules options.queries before) (sym both) in (
         ending,
         bytes,
         gave,
@@ -274,8 +274,8 @@ module _ (rules : Rules) (options : ScriptOptions) (start now : SessionState) (r
       (mid : SessionState) (lines written : ℕ) (writer_mid : Device) (fault : RunFault)
       → Gave reader_old reader_new ending bytes
       → script_lines ending bytes ≡ done ++ line ∷ others → list_all (is_good options.queries) done ≡ true
-          → held_at mid ≡ after_lines rules options.queries before done → lines ≡ length done → written
-          ≡ length (answers rules options before done)
+      → held_at mid ≡ after_lines rules options.queries before done → lines ≡ length done → written
+      ≡ length (answers rules options before done)
       → Wrote (answers rules options before done) writer_old writer_mid → LinesWork rules options.queries before done start.engine mid.engine
       → FailsAt rules options line lines written (held_at mid) (held_at now) writer_mid writer_new fault → LineWorks rules options.queries (held_at mid) line mid.engine now.engine → IsDone done
       → IsScriptRun rules options start now reader_old reader_new writer_old writer_new (Err fault)
@@ -293,8 +293,8 @@ module _ (rules : Rules) (options : ScriptOptions) (start now : SessionState) (r
       (lines_work_more rules options.queries before (held_at mid) done line start.engine mid.engine now.engine held_is before_works works)
   ends_line ending bytes done line others mid lines written writer_mid f.Memory gave parts good held_is count written_is wrote before_works (text, stays, same) works ahead =
       ends_short ending bytes done (line ∷ others) gave parts good ahead
-          (subst (λ w. Wrote (answers rules options before done) writer_old w) (sym same) wrote) (stays
-          ∙ held_is) (all_works (is_good options.queries line) refl)
+      (subst (λ w. Wrote (answers rules options before done) writer_old w) (sym same) wrote) (stays
+      ∙ held_is) (all_works (is_good options.queries line) refl)
     where
       all_works : (t : Bool) → is_good options.queries line ≡ t → LinesWork rules options.queries before (done ++ take 1 (good_lines options.queries (line ∷ others))) start.engine now.engine
       all_works true is =

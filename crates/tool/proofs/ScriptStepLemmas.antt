@@ -135,9 +135,15 @@ module _ (rules : Rules) (options : ScriptOptions) (start : SessionState) (reade
         obeyed_works works = lines_work_more rules options.queries before (held_at now) at.done line start.engine now.engine state.engine at.held_is at.works works
 
         pub obeyed_written : new.written ≡ length (answers rules options before (at.done ++ line ∷ []))
-        obeyed_written = omega (arith, obeys.wrote.count, at.written, ap length answers_are, length-append
-            (answers rules options before at.done)
-            (answer_line rules options.print (held_at now) (request_of_line options.queries line)))
+        obeyed_written = omega (
+          arith,
+          obeys.wrote.count,
+          at.written,
+          ap length answers_are,
+          length-append
+              (answers rules options before at.done)
+              (answer_line rules options.print (held_at now) (request_of_line options.queries line)),
+        )
 
       pub at_line : (n : ℕ) (state : SessionState) (new : Reading) (writer_new : Device) (taken : EndsLine rules options waiting n now state reading new writer writer_new)
           → IsAt rules options start reader_old reader writer_old writer_new state new taken.after
@@ -171,8 +177,8 @@ module _ (rules : Rules) (options : ScriptOptions) (start : SessionState) (reade
           → IsAt rules options start reader_old reader writer_old writer_new state new (drop n waiting)
       at_taken n state new writer_new (inl more) =
           subst (IsAt rules options start reader_old reader writer_old writer_new state new)
-              (sym (ap (λ k. drop k waiting) more.all ∙ drop_all (length waiting) waiting (omega arith)))
-              (at_more n state new writer_new more)
+          (sym (ap (λ k. drop k waiting) more.all ∙ drop_all (length waiting) waiting (omega arith)))
+          (at_more n state new writer_new more)
       at_taken n state new writer_new (inr taken) =
           let place : drop n waiting ≡ taken.after =
           ap (λ k. drop k waiting) taken.taken ∙ ap (drop (length taken.front + 1)) taken.ends.whole ∙ drop-append-add taken.front (10 ∷ taken.after) 1 in
@@ -198,8 +204,8 @@ module _ (rules : Rules) (options : ScriptOptions) (start : SessionState) (reade
           let some = parts_some (reading.line.items ++ (waiting ++ rest)) in
           let others = lines_among AtEnd (some.0 ∷ some.1) in
           ends_short rules options start now reader_old writer_old reader writer AtEnd (at.bytes
-              ++ rest) at.done others gave (lines_are some.0 some.1 some.2) at.good (ahead_now now writer) at.wrote
-              at.held_is
+          ++ rest) at.done others gave (lines_are some.0 some.1 some.2) at.good (ahead_now now writer) at.wrote
+          at.held_is
           (lines_work_front rules options.queries before at.done (take 1 (good_lines options.queries others)) start.engine now.engine at.works)
 
       -- at a line that is ended
@@ -209,10 +215,10 @@ module _ (rules : Rules) (options : ScriptOptions) (start : SessionState) (reade
           let line = reading.line.items ++ failed.front in
           let some = parts_some (failed.after ++ rest) in
           let parts : slice_split is_line_end (reading.line.items ++ (waiting ++ rest))
-              ≡ line ∷ (some.0 ∷ some.1) = ended_first reading.line.items waiting failed.front failed.after rest
-              at.none failed.ends ∙ ap (λ t. line ∷ t) some.2 in
+          ≡ line ∷ (some.0 ∷ some.1) = ended_first reading.line.items waiting failed.front failed.after rest
+          at.none failed.ends ∙ ap (λ t. line ∷ t) some.2 in
           ends_line rules options start state reader_old writer_old reader writer_new AtEnd (at.bytes
-              ++ rest) at.done line (lines_among AtEnd (some.0 ∷ some.1)) now reading.lines reading.written writer fault
+          ++ rest) at.done line (lines_among AtEnd (some.0 ∷ some.1)) now reading.lines reading.written writer fault
           gave (lines_are line (some.0 ∷ some.1) parts) at.good at.held_is at.lines at.written at.wrote at.works failed.fails failed.works (ahead_now state writer_new)
 
       -- at one that is too long, wherever it ends
@@ -231,8 +237,8 @@ module _ (rules : Rules) (options : ScriptOptions) (start : SessionState) (reade
           let bad : is_good options.queries first ≡ false = long_is_bad options.queries first more in
           ends_line rules options start now reader_old writer_old reader writer AtEnd (at.bytes ++ rest) at.done first is_line.0 now reading.lines reading.written writer (f.BadLine n)
           gave (lines_are first some.1 parts ∙ ap (λ t. at.done ++ t) is_line.1) at.good at.held_is at.lines at.written
-              at.wrote at.works (bad, number, refl, refl) (works_none rules _ now.engine now.engine refl)
-              (ahead_now now writer)
+          at.wrote at.works (bad, number, refl, refl) (works_none rules _ now.engine now.engine refl)
+          (ahead_now now writer)
 
       ends_unkept : (front after : List ℕ) → waiting ≡ front ++ after → NoEnd front → (fault : RunFault) → GrowsNot front reading fault
           → IsScriptRun rules options start now reader_old reader writer_old writer (Err fault)
@@ -297,8 +303,8 @@ module _ (rules : Rules) (options : ScriptOptions) (start : SessionState) (reade
           ends_last state new writer_new obeys works =
               let line = reading.line.items in
               ends_whole rules options start state reader_old writer_old reader writer_new at.bytes (at.done
-                  ++ line ∷ []) gave_all last_line (obeyed_good [] at line state new writer_new obeys) finished
-                  at.passed
+              ++ line ∷ []) gave_all last_line (obeyed_good [] at line state new writer_new obeys) finished
+              at.passed
               (record {
                 done_is = record { ahead = omega (arith, at.passed, at.size, with_ends_more at.done line) };
                 wrote = obeyed_wrote [] at line state new writer_new obeys;
@@ -312,8 +318,8 @@ module _ (rules : Rules) (options : ScriptOptions) (start : SessionState) (reade
               → LineWorks rules options.queries (held_at now) reading.line.items now.engine state.engine → IsScriptRun rules options start state reader_old reader writer_old writer_new (Err fault)
           ends_last_not state writer_new fault fails works =
               ends_line rules options start state reader_old writer_old reader writer_new AtEnd at.bytes at.done
-                  reading.line.items [] now reading.lines reading.written writer fault gave_all last_line at.good
-                  at.held_is at.lines at.written at.wrote at.works fails works
+              reading.line.items [] now reading.lines reading.written writer fault gave_all last_line at.good
+              at.held_is at.lines at.written at.wrote at.works fails works
               (ahead_now [] at state writer_new)
 
 nothing_read : (known : Option (List ℕ)) → Consumes known known []
@@ -362,8 +368,8 @@ pub ends_finish : (rules : Rules) (options : ScriptOptions) (start : SessionStat
     (reader_old reader writer_old writer : Device) (now state : SessionState) (reading new : Reading)
     (writer_new : Device) → IsAt rules options start reader_old reader writer_old writer now reading []
     → IsAtEnd reader.bytes → 0 < length reading.line.items → (r : Result (Unit {0}) RunFault)
-        → OnOk r (ObeysLine rules options reading.line.items (held_at now) (held_at state) reading new writer
-        writer_new)
+    → OnOk r (ObeysLine rules options reading.line.items (held_at now) (held_at state) reading new writer
+    writer_new)
     → IfErr r (FailsAt rules options reading.line.items reading.lines reading.written (held_at now) (held_at state) writer writer_new)
     → LineWorks rules options.queries (held_at now) reading.line.items now.engine state.engine → IsScriptRun rules options start state reader_old reader writer_old writer_new r
 ends_finish rules options start reader_old reader writer_old writer now state reading new writer_new at finished some (Ok tt) obeys fails works =
@@ -380,7 +386,7 @@ module _ (rules held_rules : Rules) (options : ScriptOptions) (start : SessionSt
   took_part takes =
       let taken : Takes rules options (drop at piece) n now state reading new writer writer_new =
       subst (λ (p : List ℕ). Takes rules options p n now state reading new writer writer_new) part_is
-          (subst (λ (r : Rules). Takes r options part n now state reading new writer writer_new) same takes) in
+      (subst (λ (r : Rules). Takes r options part n now state reading new writer writer_new) same takes) in
       subst (IsAt rules options start reader_old reader writer_old writer_new state new) (drop-drop n at piece)
       (at_taken rules options start reader_old reader writer_old writer now reading (drop at piece) stands n state new writer_new taken)
 
@@ -389,7 +395,7 @@ module _ (rules held_rules : Rules) (options : ScriptOptions) (start : SessionSt
   failed_part fault fails =
       let failed : FailsIn rules options (drop at piece) now state reading writer writer_new fault =
       subst (λ (p : List ℕ). FailsIn rules options p now state reading writer writer_new fault) part_is
-          (subst (λ (r : Rules). FailsIn r options part now state reading writer writer_new fault) same fails) in
+      (subst (λ (r : Rules). FailsIn r options part now state reading writer writer_new fault) same fails) in
       ends_in rules options start reader_old reader writer_old writer now reading (drop at piece) stands state writer_new fault failed
 
 -- of the first n of a list that is longer, some are taken
@@ -405,7 +411,7 @@ pub at_none : (rules : Rules) (options : ScriptOptions) (start : SessionState)
     (reader_old reader writer_old writer : Device) (now : SessionState) (reading : Reading) (reader_new : Device)
     (n : ℕ) (buffer : List ℕ)
     → IsAt rules options start reader_old reader writer_old writer now reading [] → Gives reader reader_new n buffer
-        → n ≡ 0 → IsAt rules options start reader_old reader_new writer_old writer now reading []
+    → n ≡ 0 → IsAt rules options start reader_old reader_new writer_old writer now reading []
 at_none rules options start reader_old reader writer_old writer now reading reader_new n buffer at gives none =
     subst (IsAt rules options start reader_old reader_new writer_old writer now reading) (ap (λ k. take k buffer) none)
     (at_read rules options start reader_old reader writer_old writer now reading reader_new n buffer at gives (omega (arith, none)) (omega (arith, none)))

@@ -117,8 +117,8 @@ width_works width old new result small m r =
 module _ (rules : Rules) (queries : Bool) where
   work_more : (work : Held → Request → ℕ) (held : Held) (lines : List (List ℕ)) (line : List ℕ)
       → work_of_lines rules queries work held (lines ++ line ∷ [])
-          ≡ work_of_lines rules queries work held lines + work_of_line rules work
-          (after_lines rules queries held lines) (request_of_line queries line)
+      ≡ work_of_lines rules queries work held lines + work_of_line rules work
+      (after_lines rules queries held lines) (request_of_line queries line)
   work_more work held [] line = omega arith
   work_more work held (first ∷ lines) line = omega (arith, work_more work (after_line rules held (request_of_line queries first)) lines line)
 
@@ -137,8 +137,8 @@ module _ (rules : Rules) (queries : Bool) where
       → LinesWork rules queries start lines old now → LineWorks rules queries held line now new → LinesWork rules queries start (lines ++ line ∷ []) old new
   lines_work_more start held lines line old now new held_is before works =
       let sum = λ (work : Held → Request → ℕ). work_more work start lines line
-          ∙ ap (λ (h : Held). work_of_lines rules queries work start lines + work_of_line rules work h
-          (request_of_line queries line)) (sym held_is) in
+      ∙ ap (λ (h : Held). work_of_lines rules queries work start lines + work_of_line rules work h
+      (request_of_line queries line)) (sym held_is) in
       record {
         analysed = more_rise _ _ _ _ _ _ before.analysed works.analysed (sum (analysed_by rules));
         filled = more_rise _ _ _ _ _ _ before.filled works.filled (sum (filled_by rules));
@@ -155,9 +155,9 @@ module _ (rules : Rules) (queries : Bool) where
   lines_work_bad start held lines line old now new bad before works =
       let sum = λ (work : Held → Request → ℕ).
       ap (work_of_lines rules queries work start) (append-nil lines)
-          ∙ sum_is (work_of_lines rules queries work start lines)
-          (work_of_line rules work held (request_of_line queries line))
-          (no_work work held (request_of_line queries line) bad) in
+      ∙ sum_is (work_of_lines rules queries work start lines)
+      (work_of_line rules work held (request_of_line queries line))
+      (no_work work held (request_of_line queries line) bad) in
       record {
         analysed = more_rise _ _ _ _ _ _ before.analysed works.analysed (sum (analysed_by rules));
         filled = more_rise _ _ _ _ _ _ before.filled works.filled (sum (filled_by rules));

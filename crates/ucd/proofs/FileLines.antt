@@ -195,7 +195,7 @@ module _ {V : Type 0} (form : Form V) where
         let line = line_of_value lines k c (rw (held.values c character) at some) in
         let here : IsSome (given form (line_at form lines k) c) = rw is (entry_given e c character covered) in
         fault_for cause.NamedBefore (inr (refl, (line.0, c, line.1, line.2, here)))
-    refused (Ok (Some e)) is cause.Memory free = memory_at e is free
+    refused (Ok (Some e)) is cause.Memory (free, some) = memory_at e is free
     refused (Ok (Some e)) is why because = absurd because
     refused (Err other) is why because = fault_for why (inl (is ∙ ap Err (sym because)))
 

@@ -48,3 +48,7 @@ module _ {V : Type 0} where
   -- a character of the entry has a value already
   abbrev pub IsTaken : List (Entry V) → Entry V → Type 0
   IsTaken es e = (c : ℕ) × IsScalar c × IsTrue (covers e c) × IsSome (value_at es c)
+
+  -- one of the entry's code points is a character
+  abbrev pub NamesSome : Entry V → Type 0
+  NamesSome e = (c : ℕ) × IsScalar c × IsTrue (covers e c)

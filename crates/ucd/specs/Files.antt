@@ -7,7 +7,7 @@ use Rattle.ucd.specs.declared.fault.Cause.TheVariants as cause
 use Rattle.ucd.specs.declared.grammar.Entry.{Entry}
 use Rattle.ucd.specs.Grammar.{Form, reading_of}
 use Rattle.ucd.specs.declared.file.LineFault.{LineFault}
-use Rattle.ucd.specs.Entries.{covers, value_at, AddsCharacters, IsTaken}
+use Rattle.ucd.specs.Entries.{covers, value_at, AddsCharacters, IsTaken, NamesSome}
 
 module _ {V : Type 0} (form : Form V) where
   -- the value that a line gives to a code point: a surrogate is no character, and gets none
@@ -58,11 +58,11 @@ module _ {V : Type 0} (form : Form V) where
   abbrev pub AddsLine : List (Entry V) → List (Entry V) → List ℕ → Type 0
   AddsLine old new line = AddsReading (reading_of form line) old new
 
-  -- why a line cannot be added; where memory ran out, nothing else is wrong with it
+  -- why a line cannot be added; where memory ran out, nothing else is wrong with it, and it names a character
   abbrev pub IsReadingCause : Result (Option (Entry V)) Cause → List (Entry V) → Cause → Type 0
   IsReadingCause (Ok None) es why = ⊥
   IsReadingCause (Ok (Some e)) es cause.NamedBefore = IsTaken es e
-  IsReadingCause (Ok (Some e)) es cause.Memory = ¬ (IsTaken es e)
+  IsReadingCause (Ok (Some e)) es cause.Memory = (¬ (IsTaken es e)) × NamesSome e
   IsReadingCause (Ok (Some e)) es why = ⊥
   IsReadingCause (Err other) es why = why ≡ other
 

@@ -1,10 +1,10 @@
 //! The entries of a file, in the order of its lines, and which characters they name.
 ghost use Rattle.std.specs.Prelude.{◌≡◌, ◌<◌, ◌≤◌, nat_le, nat_lt, ◌&&◌, if◌then◌else◌, IsTrue};
 ghost use Rattle.std.specs.Prelude.{ℕ, List, [], true, false, length, slice_index_or};
-ghost use Rattle.std.specs.Prelude.{IfOk, IfErr, OnOk, ◌⊎◌, IsErrOf};
+ghost use Rattle.std.specs.Prelude.{IfOk, IfErr, OnOk, OnErr, ◌⊎◌, IsErrOf};
 ghost use Rattle.ucd.specs.declared.grammar.Entry.{Entry};
 ghost use Rattle.ucd.specs.Entries.{AddsBoth, AddsEntry, AddsCharacters, AreApart, AreNamed};
-ghost use Rattle.ucd.specs.Entries.{IsFree, IsMet, IsTaken};
+ghost use Rattle.ucd.specs.Entries.{IsFree, IsMet, IsTaken, NamesSome};
 
 use crate::fault::Cause;
 use crate::grammar::Entry;
@@ -101,7 +101,8 @@ impl<V: Copy> RangeTable<V> {
     fn insert(&mut self, entry: Entry<V>) -> Result<(), AllocError>
         requires within { entry.last < 1114112 }
         requires free { IsFree self.old entry }
-        ensures { OnOk result (AddsEntry self.old self.new entry) }
+        ensures ok { OnOk result (AddsEntry self.old self.new entry) }
+        ensures memory { OnErr result (entry.first ≤ entry.last) }
     {
         if entry.last < entry.first {
             return Ok(());
@@ -121,7 +122,8 @@ impl<V: Copy> RangeTable<V> {
     fn insert_both(&mut self, below: Entry<V>, above: Entry<V>) -> Result<(), AllocError>
         requires below { (below.last < 55296) × IsFree self.old below }
         requires above { (55296 ≤ above.first) × (above.last < 1114112) × IsFree self.old above }
-        ensures { OnOk result (AddsBoth self.old self.new below above) }
+        ensures ok { OnOk result (AddsBoth self.old self.new below above) }
+        ensures memory { OnErr result ((below.first ≤ below.last) ⊎ (above.first ≤ above.last)) }
     {
         self.insert(below)?;
         self.insert(above)
@@ -133,7 +135,7 @@ impl<V: Copy> RangeTable<V> {
     pub fn add(&mut self, entry: Entry<V>) -> Result<(), Cause>
         ensures ok { OnOk result (AddsCharacters self.old self.new entry) }
         ensures taken { IsErrOf result Cause.NamedBefore → IsTaken self.old entry }
-        ensures memory { IsErrOf result Cause.Memory → ¬ (IsTaken self.old entry) }
+        ensures memory { IsErrOf result Cause.Memory → (¬ (IsTaken self.old entry)) × NamesSome entry }
         ensures only { IfErr result (λ why. (why ≡ Cause.NamedBefore) ⊎ (why ≡ Cause.Memory)) }
     {
         let below = Entry {

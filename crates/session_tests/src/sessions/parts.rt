@@ -1,4 +1,4 @@
-//! Some lines printed, and the characters of a range.
+//! Some lines printed, the characters of a range, and a range replaced.
 use super::{Check, Pair, Taker, check_in_tree, renew};
 use device::ToWrite;
 use lines::Print;
@@ -86,6 +86,63 @@ fn is_part<S: ParagraphStore<Kept>>(session: &Session<S>, row: &Part<'_>) -> boo
     session.text(pos, count) == wanted
 }
 
+// A position, a count and what is put in place of so many characters of `ab`, `cd` and `ef` on lines of
+// their own; from which line on how many give way to how many, or why none does; and the text after it.
+type Replaced<'a> = (
+    usize,
+    usize,
+    &'a str,
+    Result<[usize; 3], EditFault>,
+    &'a str,
+);
+
+pub(super) static REPLACED: [Replaced<'_>; 5] = [
+    (1, 3, "x\ny", Ok([0, 2, 2]), "ax\nyd\nef"),
+    (4, 0, "", Ok([1, 1, 1]), "ab\ncd\nef"),
+    (4, 1, "\u{5d0}", Ok([1, 1, 1]), "ab\nc\u{5d0}\nef"),
+    (0, 8, "", Ok([0, 3, 0]), ""),
+    (7, 2, "x", Err(EditFault::OutOfRange), "ab\ncd\nef"),
+];
+
+// Replaces characters, and once more where that was refused for memory.
+fn replace_surely<S: ParagraphStore<Kept>>(
+    session: &mut Session<S>,
+    pos: usize,
+    count: usize,
+    piece: &str,
+) -> Result<[usize; 3], EditFault> {
+    let result = match session.replace(pos, count, piece) {
+        Err(EditFault::NoMemory) => session.replace(pos, count, piece),
+        result => result,
+    };
+    match result {
+        Ok(damage) => Ok([damage.first_line, damage.old_lines, damage.new_lines]),
+        Err(fault) => Err(fault),
+    }
+}
+
+fn is_replaced<S: ParagraphStore<Kept> + Drop, T: ParagraphStore<Kept> + Drop>(
+    pair: &mut Pair<S, T>,
+    row: &Replaced<'_>,
+) -> Result<bool, EditFault> {
+    let (pos, count, piece, wanted, after) = *row;
+    renew(&mut pair.edited, "ab\ncd\nef", 80)?;
+    let answer = replace_surely(&mut pair.edited, pos, count, piece);
+    Ok((answer == wanted) & pair.is_same(after)?)
+}
+
+// Each row.
+pub(super) fn check_replaced<S: ParagraphStore<Kept> + Drop, T: ParagraphStore<Kept> + Drop>(
+    rt: &impl Abort,
+    pair: &mut Pair<S, T>,
+) -> Result<(), EditFault> {
+    for row in &REPLACED {
+        let is_right = is_replaced(pair, row)?;
+        assert!(rt; is_right, "{} {} {:?}", row.0, row.1, row.2);
+    }
+    Ok(())
+}
+
 // Each row, over one store and over the other.
 pub(super) fn check_parts<S: ParagraphStore<Kept> + Drop, T: ParagraphStore<Kept> + Drop>(
     rt: &impl Abort,
@@ -108,4 +165,9 @@ pub(super) fn check_parts<S: ParagraphStore<Kept> + Drop, T: ParagraphStore<Kept
 #[test]
 fn lines_and_parts(rt: HostRuntime) -> Result<(), Fail> {
     check_in_tree(&rt, rt.alloc(), Check::Parts)
+}
+
+#[test]
+fn parts_replaced(rt: HostRuntime) -> Result<(), Fail> {
+    check_in_tree(&rt, rt.alloc(), Check::Replaced)
 }

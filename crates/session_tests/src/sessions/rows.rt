@@ -325,7 +325,7 @@ fn widths_there_and_back(rt: HostRuntime) -> Result<(), Fail> {
     check_in_tree(&rt, rt.alloc(), Check::Widths)
 }
 
-pub(super) static CHANGES: [Edit<'_>; 6] = [
+pub(super) static EDITS: [Edit<'_>; 6] = [
     Edit::Insert(3, "\u{5d0}"),
     Edit::Delete(5, 10),
     Edit::SetWidth(2),

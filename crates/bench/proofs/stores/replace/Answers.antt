@@ -5,10 +5,18 @@ use Rattle.bench.proofs.stores.replace.Goals as goal
 
 pub replace-requires-clause-chars_fit : goal.replace-requires-clause-chars_fit
 replace-requires-clause-chars_fit g c =
-    omega (arith, sum_of_splice (λ (item : Small). item.has_text) (g.S.ParagraphStore.items c.args.store.now)
-        c.args.range.start c.args.range.end c.args.new_items.items c.if-range.false, c.args.new_items.ok.0)
+    omega (
+      arith,
+      sum_of_splice (λ (item : Small). item.has_text) (g.S.ParagraphStore.items c.args.store.now)
+          c.args.range.start c.args.range.end c.args.new_items.items c.if-range.false,
+      c.args.new_items.ok.0,
+    )
 
 pub replace-requires-clause-lines_fit : goal.replace-requires-clause-lines_fit
 replace-requires-clause-lines_fit g c =
-    omega (arith, sum_of_splice (λ (item : Small). item.has_text) (g.S.ParagraphStore.items c.args.store.now)
-        c.args.range.start c.args.range.end c.args.new_items.items c.if-range.false, c.args.new_items.ok.0)
+    omega (
+      arith,
+      sum_of_splice (λ (item : Small). item.has_text) (g.S.ParagraphStore.items c.args.store.now)
+          c.args.range.start c.args.range.end c.args.new_items.items c.if-range.false,
+      c.args.new_items.ok.0,
+    )

@@ -62,8 +62,8 @@ pub close-requires : goal.close-requires
 close-requires c = λ m h.
     let now = c.loop-place.invariant in
     let size = ap length c.deref_mut.ensures.value ∙ ap length now.found
-        ∙ length-closers_of (before (bracket_of c.args.tables.now) c.args.characters.now c.args.types.now
-        c.loop-place.place) (length c.args.types.now) in
+    ∙ length-closers_of (before (bracket_of c.args.tables.now) c.args.characters.now c.args.types.now
+    c.loop-place.place) (length c.args.types.now) in
     let below = (place-below (bracket_of c.args.tables.now) c.args.characters.now c.args.types.now c.loop-place.place c.loop-place.openers.items c.loop-place.closers.items now m h).0 in
     let within = c.loop-place-test.true in
     omega (arith, below, size, within)
@@ -72,8 +72,8 @@ stopped : (c : Then-is_full) → pairs_of (bracket_of c.args.tables.now) c.args.
     ≡ before (bracket_of c.args.tables.now) c.args.characters.now c.args.types.now c.loop-place.place
 stopped c =
     let t = (told_of (bracket_of c.args.tables.now) c.args.characters.now c.args.types.now c.loop-place.place
-        c.index-characters-place.result c.bracket_at.result c.loop-place-test.true c.requires
-        c.index-characters-place.is c.bracket_at.ensures).1 in
+    c.index-characters-place.result c.bracket_at.result c.loop-place-test.true c.requires
+    c.index-characters-place.is c.bracket_at.ensures).1 in
     let full : c.is_full.result ≡ (length c.loop-place.openers.items == 63) = c.is_full.ensures.value in
     all-full (bracket_of c.args.tables.now) c.args.characters.now c.args.types.now c.loop-place.place c.loop-place.openers.items c.loop-place.closers.items c.loop-place-test.true
     (t.opens ∙ ap is_opening c.in-Some.is ∙ not-false c.in-Some.bracket.opens c.if-not-bracket.false)

@@ -26,8 +26,8 @@ loop-place-preserved c =
         resolved = Resolved-pair c.args.embedding c.args.sos c.args.explicit.now c.args.closers.now c.args.types.now c.loop-place.types c.loop-place.strong _ c.loop-place.place L
             c.loop-place.invariant.resolved (omega arith) c.requires.explicit (omega arith) (c.requires.nested.after c.loop-place.place (omega arith)) c.if-closer-types.types
             (w.types-is ∙ w.set_pair.ensures
-                ∙ ap (set_pair (map is_mark c.args.explicit.now) c.loop-place.types c.loop-place.place
-                (slice_index c.args.closers.now c.loop-place.place)) (w.pair_direction-direction.ensures
+            ∙ ap (set_pair (map is_mark c.args.explicit.now) c.loop-place.types c.loop-place.place
+            (slice_index c.args.closers.now c.loop-place.place)) (w.pair_direction-direction.ensures
             ∙ direction_is c.args.sos c.loop-place.types c.loop-place.place _ _ _ _ _ c.loop-place.strong c.is_left-left.ensures c.loop-place.invariant.resolved.carried
             w.stands_inside-has_same.ensures.value w.stands_inside-has_other.ensures.value))
             c.strong_after-strong.ensures;

@@ -45,14 +45,14 @@ loop-at-preserved c =
       | else-is_initiator+then-is_pdi w ↦
           let rest : c.if-is_initiator.pending.items ≡ take (length c.loop-at.pending.items - 1) c.loop-at.pending.items = ap (λ v. v.items) w.pending-is ∙ w.close.ensures.rest in
           let after : c.if-is_initiator.found.items
-              ≡ (if length c.loop-at.pending.items ==
-              0 then c.loop-at.found.items else set c.loop-at.found.items
-              (get_or c.loop-at.pending.items (length c.loop-at.pending.items - 1) 0) c.loop-at.at) =
+          ≡ (if length c.loop-at.pending.items ==
+          0 then c.loop-at.found.items else set c.loop-at.found.items
+          (get_or c.loop-at.pending.items (length c.loop-at.pending.items - 1) 0) c.loop-at.at) =
           let now = w.deref_mut.ensures.value in
           let e = rw now at w.close.ensures.found in
           ap (λ v. v.items) w.found-is ∙ with_items_is c.loop-at.found w.close.new.found (ap length e
-              ∙ length_either c.loop-at.pending.items c.loop-at.found.items c.loop-at.at ∙ sym (ap length now)
-              ∙ w.deref_mut.ensures.len) ∙ e in
+          ∙ length_either c.loop-at.pending.items c.loop-at.found.items c.loop-at.at ∙ sym (ap length now)
+          ∙ w.deref_mut.ensures.len) ∙ e in
           closed_one c.args.classes.now c.loop-at.at c.loop-at.pending.items c.loop-at.found.items c.if-is_initiator.pending.items c.if-is_initiator.found.items c.loop-at-test.true
           (told is_initiator c.args.classes.now c.loop-at.at false c.loop-at-test.true w.if-is_initiator.ensures)
           (told is_pdi c.args.classes.now c.loop-at.at true c.loop-at-test.true w.if-is_pdi.ensures) c.loop-at.invariant rest after

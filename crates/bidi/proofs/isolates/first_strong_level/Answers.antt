@@ -80,8 +80,8 @@ stepped classes matches i at next class level e within opens below walk c f none
 pub loop-at-smaller : goal.loop-at-smaller
 loop-at-smaller c =
     let next = stepped c.args.classes.now c.args.matches.now c.args.initiator c.loop-at.at c.place_after-at.result _
-        c.strong_level-level.result c.requires.matches c.requires.within c.requires.opens c.loop-at-test.true
-        c.loop-at.invariant refl
+    c.strong_level-level.result c.requires.matches c.requires.within c.requires.opens c.loop-at-test.true
+    c.loop-at.invariant refl
     c.strong_level-level.ensures (sym c.is_some.ensures ∙ c.if-is_some.false) c.place_after-at.ensures in
     let here = inside c.args.classes.now c.args.matches.now c.args.initiator c.loop-at.at c.requires.matches c.requires.within c.loop-at-test.true in
     omega (arith, next.0)
@@ -89,8 +89,8 @@ loop-at-smaller c =
 pub loop-at-preserved : goal.loop-at-preserved
 loop-at-preserved c =
     (stepped c.args.classes.now c.args.matches.now c.args.initiator c.loop-at.at c.place_after-at.result _
-        c.strong_level-level.result c.requires.matches c.requires.within c.requires.opens c.loop-at-test.true
-        c.loop-at.invariant refl
+    c.strong_level-level.result c.requires.matches c.requires.within c.requires.opens c.loop-at-test.true
+    c.loop-at.invariant refl
     c.strong_level-level.ensures (sym c.is_some.ensures ∙ c.if-is_some.false) c.place_after-at.ensures).1
 
 pub returns : goal.returns

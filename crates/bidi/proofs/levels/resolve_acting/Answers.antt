@@ -58,8 +58,8 @@ resolve_stayed-requires-clause-brackets c = λ none.
     let P : ℕ → Type 0 = λ b. bracket_of c.args.paragraph.now.text.tables.now b ≡ None in
     subst (All P) (sym (c.deref-2.ensures.value ∙ c.in_ok-stayed_characters.ensures))
     (All-kept P c.args.paragraph.now.text.characters.now (length c.args.paragraph.now.classes.now)
-        (λ k. not (is_removed (class_at c.args.paragraph.now.classes.now k))) c.requires.sizes
-        (c.requires.brackets none))
+    (λ k. not (is_removed (class_at c.args.paragraph.now.classes.now k))) c.requires.sizes
+    (c.requires.brackets none))
 
 pub resolve_stayed-requires-clause-found : goal.resolve_stayed-requires-clause-found
 resolve_stayed-requires-clause-found c = λ found.
@@ -75,5 +75,5 @@ returns c =
     c.in_ok-put_back.ensures
     ∙ ap (put_back c.args.paragraph.now.base c.args.paragraph.now.classes.now) c.deref-3.ensures.value
     ∙ all_levels (bracket_of c.args.paragraph.now.text.tables.now) c.args.paragraph.now.text.characters.now
-        c.args.paragraph.now.classes.now c.args.paragraph.now.base c.deref-2.result.now c.explicit.new.stayed _ kept
+    c.args.paragraph.now.classes.now c.args.paragraph.now.base c.deref-2.result.now c.explicit.new.stayed _ kept
     (c.deref-2.ensures.value ∙ c.in_ok-stayed_characters.ensures) c.in_ok-resolve_stayed.ensures

@@ -15,9 +15,9 @@ loop-at-preserved c =
     elim c.if-not-is_removed.branch [
       | then-not-is_removed+in_ok-push w ↦
           ap (λ v. v.items) w.characters-is ∙ w.in_ok-push.ensures.items
-              ∙ ap (λ character. c.loop-at.characters.items
-              ++ character ∷ []) (get_or_read text k w.index-text-at.result c.loop-at-test.true w.index-text-at.is 0)
-              ∙ ap (λ xs. xs ++ slice_index text k ∷ []) c.loop-at.invariant
+          ∙ ap (λ character. c.loop-at.characters.items
+          ++ character ∷ []) (get_or_read text k w.index-text-at.result c.loop-at-test.true w.index-text-at.is 0)
+          ∙ ap (λ xs. xs ++ slice_index text k ∷ []) c.loop-at.invariant
           ∙ sym (stays (slice_index text) classes k (ap is_removed at ∙ sym c.is_removed.ensures ∙ w.if-not-is_removed.true))
       | else-not-is_removed w ↦
           ap (λ v. v.items) w.characters-is ∙ c.loop-at.invariant

@@ -13,8 +13,8 @@ pub loop-start-init : goal.loop-start-init
 loop-start-init c =
     let levels = c.args.paragraph.now.stayed.now.levels.items in
     rw c.requires.done (Resolves-start (bracket_of c.args.paragraph.now.text.tables.now) c.args.paragraph.now.base
-        c.args.paragraph.now.text.characters.now c.args.paragraph.now.stayed.now.classes.items levels
-        c.args.paragraph.now.stayed.now.types.items c.args.continued.now
+    c.args.paragraph.now.text.characters.now c.args.paragraph.now.stayed.now.classes.items levels
+    c.args.paragraph.now.stayed.now.types.items c.args.continued.now
     (ap length c.requires.continued ∙ length-replicate (length levels) false)
     (λ j within. ap (λ marks. get_or marks j false) c.requires.continued ∙ get_or-replicate (length levels) j false false within))
 
@@ -24,8 +24,8 @@ next_run-requires-clause-above c =
     let above = run.above in
     let within = run.within in
     rw (last_match c.args.paragraph.now.stayed.now.classes.items c.args.paragraph.now.matches.now c.run_end-end.result
-        (length c.args.paragraph.now.stayed.now.levels.items) c.requires.paragraph.matches
-        c.requires.paragraph.stayed.classes (omega arith) within)
+    (length c.args.paragraph.now.stayed.now.levels.items) c.requires.paragraph.matches
+    c.requires.paragraph.stayed.classes (omega arith) within)
     (match_at-above c.args.paragraph.now.stayed.now.classes.items (c.run_end-end.result - 1) (omega (arith, c.requires.paragraph.stayed.classes)))
 
 -- a place to mark is in the list
@@ -50,16 +50,16 @@ loop-start-preserved c =
     let within : end ≤ length levels = run.within in
     let sizes : length classes ≡ length levels = c.requires.paragraph.stayed.classes in
     let found : get_or c.args.paragraph.now.matches.now (end - 1) 0
-        ≡ match_at classes (end - 1) =
-        last_match classes c.args.paragraph.now.matches.now end (length levels) c.requires.paragraph.matches sizes
-        (omega arith) within in
+    ≡ match_at classes (end - 1) =
+    last_match classes c.args.paragraph.now.matches.now end (length levels) c.requires.paragraph.matches sizes
+    (omega arith) within in
     let next : c.next_run.result ≡ next_start levels (match_at classes (end - 1)) = (rw c.as_slice-levels.ensures.value at c.next_run.ensures) ∙ ap (next_start levels) found in
     let far : end - 1 < match_at classes (end - 1) = match_at-above classes (end - 1) (omega arith) in
     let written : c.if-not-continued-start.done
-        ≡ (if get_or flags c.loop-start.start false then c.loop-start.done else write
-        (bracket_of c.args.paragraph.now.text.tables.now) c.args.paragraph.now.base
-        c.args.paragraph.now.text.characters.now classes levels types c.loop-start.done
-        (sequence_at classes levels c.loop-start.start)) =
+    ≡ (if get_or flags c.loop-start.start false then c.loop-start.done else write
+    (bracket_of c.args.paragraph.now.text.tables.now) c.args.paragraph.now.base
+    c.args.paragraph.now.text.characters.now classes levels types c.loop-start.done
+    (sequence_at classes levels c.loop-start.start)) =
     elim c.if-not-continued-start.branch [
       | then-not-continued-start+in_ok-resolve w ↦ w.done-is ∙ w.in_ok-resolve.ensures
           ∙ sym (cond-false (get_or flags c.loop-start.start false) c.loop-start.done
@@ -73,8 +73,8 @@ loop-start-preserved c =
           (sequence_at classes levels c.loop-start.start)) w.if-not-continued-start.false)
     ] in
     Resolves-next (bracket_of c.args.paragraph.now.text.tables.now) c.args.paragraph.now.base
-        c.args.paragraph.now.text.characters.now classes levels types sizes c.loop-start.start end flags
-        c.mark.new.continued c.loop-start.done c.if-not-continued-start.done run c.loop-start.invariant written
+    c.args.paragraph.now.text.characters.now classes levels types sizes c.loop-start.start end flags
+    c.mark.new.continued c.loop-start.done c.if-not-continued-start.done run c.loop-start.invariant written
     (ap length c.mark.ensures ∙ length-marked flags c.next_run.result ∙ c.loop-start.invariant.marks)
     (λ j inside edge. ap (λ marks. get_or marks j false) c.mark.ensures
     ∙ marked-is levels (match_at classes (end - 1)) j flags c.next_run.result next c.loop-start.invariant.marks (omega arith) inside edge)

@@ -11,7 +11,7 @@ use Rattle.bidi.proofs.sequences.gather.Goals as goal
 -- the places of a run, and the rest of its sequence
 run_then : (classes : List BidiClass) (levels matches places after : List ℕ) (start end : ℕ) → matches ≡ matches_of classes → length classes ≡ length levels → IsRunEnd levels start end
     → after ≡ places ++ range_with_len start (end - start) → (next : List ℕ) → sequence_at classes levels start
-        ≡ range_with_len start (end - start) ++ next → after ++ next ≡ places ++ sequence_at classes levels start
+    ≡ range_with_len start (end - start) ++ next → after ++ next ≡ places ++ sequence_at classes levels start
 run_then classes levels matches places after start end e size run pushed next split =
     ap (λ xs. xs ++ next) pushed ∙ append_assoc places (range_with_len start (end - start)) next ∙ ap (λ xs. places ++ xs) (sym split)
 
@@ -80,8 +80,8 @@ pub returns-in-None-clause-within : goal.returns-in-None-clause-within
 returns-in-None-clause-within c =
     let above = c.run_end-end.ensures.above in
     rw c.in_ok-push_places.ensures
-        (AreWithin-range (length c.args.levels.now) c.loop-next.start c.run_end-end.result c.loop-next.places.items
-        c.run_end-end.ensures.within (omega arith) c.loop-next.invariant.inside)
+    (AreWithin-range (length c.args.levels.now) c.loop-next.start c.run_end-end.result c.loop-next.places.items
+    c.run_end-end.ensures.within (omega arith) c.loop-next.invariant.inside)
 
 pub returns-in-None-clause-some : goal.returns-in-None-clause-some
 returns-in-None-clause-some c =

@@ -29,8 +29,8 @@ overflow_add-result-in-Some g c =
     let few : c.end_of.result ≤ length c.in-Some.kept.now.text =
     omega (arith, c.end_of.ensures.most, ap length c.deref-in-Some.ensures.value, c.in_ok-ends-in-Some.ensures.len, ap (λ (l : Layout). length l.text) c.laid.ensures) in
     let fits = cluster-fits (g.S.ParagraphStore.items c.args.store.now) c.args.pos c.find_char-found.result
-        c.find_char-found.ensures c.in-Some.kept.now c.in-Some.ensures c.requires c.total_chars-len.result
-        c.end_of.result c.total_chars-len.ensures few in
+    c.find_char-found.ensures c.in-Some.kept.now c.in-Some.ensures c.requires c.total_chars-len.result
+    c.end_of.result c.total_chars-len.ensures few in
     omega (arith, fits, c.total_chars-len.type_inv)
 
 pub unreachable-requires : goal.unreachable-requires

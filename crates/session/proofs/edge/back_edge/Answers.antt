@@ -13,15 +13,15 @@ find_char-found-requires g c = to_within (g.S.ParagraphStore.items c.args.store.
 pub overflow_add-result-in-Some : goal.overflow_add-result-in-Some
 overflow_add-result-in-Some g c =
     let most = chars_next (g.S.ParagraphStore.items c.args.store.now) c.args.to c.total_chars-chars.result
-        c.find_char-found.result c.in-Some.kept.now c.in-Some.ensures c.find_char-found.ensures
-        c.total_chars-chars.ensures in
+    c.find_char-found.result c.in-Some.kept.now c.in-Some.ensures c.find_char-found.ensures
+    c.total_chars-chars.ensures in
     omega (arith, most, c.chars.ensures, c.total_chars-chars.type_inv)
 
 pub overflow_add-result-in-Some-2 : goal.overflow_add-result-in-Some-2
 overflow_add-result-in-Some-2 g c =
     let most = lines_next (g.S.ParagraphStore.items c.args.store.now) c.args.to c.total_lines-lines.result
-        c.find_char-found.result c.in-Some.kept.now c.in-Some.ensures c.find_char-found.ensures
-        c.total_lines-lines.ensures in
+    c.find_char-found.result c.in-Some.kept.now c.in-Some.ensures c.find_char-found.ensures
+    c.total_lines-lines.ensures in
     omega (arith, most, c.lines.ensures, c.total_lines-lines.type_inv)
 
 pub unreachable-requires : goal.unreachable-requires

@@ -12,5 +12,5 @@ returns-in-Some g c =
 pub returns-in-None : goal.returns-in-None
 returns-in-None g c =
     let text : get_or (pars_of (g.S.ParagraphStore.items c.args.store.now)) c.args.edge.index []
-        ≡ [] = text_read (g.S.ParagraphStore.items c.args.store.now) c.args.edge.index None c.in-None.ensures in
+    ≡ [] = text_read (g.S.ParagraphStore.items c.args.store.now) c.args.edge.index None c.in-None.ensures in
     sym (ap (take (c.args.pos - c.args.edge.chars)) text ∙ take_all (c.args.pos - c.args.edge.chars) [] (omega arith))

@@ -8,8 +8,13 @@ use Rattle.session.proofs.places.is_closed.Goals as goal
 pub returns-then-len-eq0 : goal.returns-then-len-eq0
 returns-then-len-eq0 g c =
     closed_empty (rules_of c.args.engine.now) (text_of (g.S.ParagraphStore.items c.args.store.now))
-        (omega (arith, c.if-len-eq0.true, c.total_chars-len.ensures, length-text
-        (g.S.ParagraphStore.items c.args.store.now)))
+    (omega (
+      arith,
+      c.if-len-eq0.true,
+      c.total_chars-len.ensures,
+      length-text
+          (g.S.ParagraphStore.items c.args.store.now),
+    ))
 
 pub char_at-last-requires : goal.char_at-last-requires
 char_at-last-requires g c = omega (arith, c.if-len-eq0.false, c.total_chars-len.ensures, length-text (g.S.ParagraphStore.items c.args.store.now))

@@ -23,16 +23,16 @@ overflow_sub-line g c =
     let kept = g.S.ParagraphStore.items c.args.store.now in
     let starts = c.line_starts-starts.ensures ∙ ap (λ (l : Layout). map begins l.lines) c.laid.ensures in
     place-some kept c.args.pos c.find_char-found.result c.find_char-found.ensures c.in-Some.kept.now c.in-Some.ensures
-        c.requires.lined c.lines_to-line.result (c.lines_to-line.ensures.count
-        ∙ ap (count_to c.find_char-found.result.rest) starts)
+    c.requires.lined c.lines_to-line.result (c.lines_to-line.ensures.count
+    ∙ ap (count_to c.find_char-found.result.rest) starts)
 
 pub overflow_add-result : goal.overflow_add-result
 overflow_add-result g c =
     let kept = g.S.ParagraphStore.items c.args.store.now in
     let starts = c.line_starts-starts.ensures ∙ ap (λ (l : Layout). map begins l.lines) c.laid.ensures in
     let fits = place-fits kept c.args.pos c.find_char-found.result c.find_char-found.ensures c.in-Some.kept.now
-        c.in-Some.ensures c.requires.lined c.lines_to-line.result (c.lines_to-line.ensures.count
-        ∙ ap (count_to c.find_char-found.result.rest) starts) c.total_lines-lines.result c.total_lines-lines.ensures in
+    c.in-Some.ensures c.requires.lined c.lines_to-line.result (c.lines_to-line.ensures.count
+    ∙ ap (count_to c.find_char-found.result.rest) starts) c.total_lines-lines.result c.total_lines-lines.ensures in
     omega (arith, fits, c.total_lines-lines.type_inv)
 
 pub bounds-starts-line : goal.bounds-starts-line
@@ -62,7 +62,11 @@ returns g c =
     let is = c.lines_to-line.ensures.count ∙ ap (count_to c.find_char-found.result.rest) starts in
     let place = place-is kept c.args.pos c.find_char-found.result c.find_char-found.ensures c.in-Some.kept.now c.in-Some.ensures c.requires.lined c.lines_to-line.result is in
     subst (λ (ss : List ℕ). let here : Place =
-        record { paragraph = c.find_char-found.result.index; line =
-        c.find_char-found.result.lines_before + (c.lines_to-line.result - 1); offset =
-        c.find_char-found.result.rest - get_or ss (c.lines_to-line.result - 1) 0 } in here
-        ≡ place_in kept c.args.pos) (sym starts) place
+    record {
+      paragraph = c.find_char-found.result.index;
+      line =
+          c.find_char-found.result.lines_before + (c.lines_to-line.result - 1);
+      offset =
+          c.find_char-found.result.rest - get_or ss (c.lines_to-line.result - 1) 0;
+    } in here
+    ≡ place_in kept c.args.pos) (sym starts) place

@@ -10,8 +10,13 @@ use Rattle.session.proofs.places.place_of.Goals as goal
 pub returns-then-pos-len : goal.returns-then-pos-len
 returns-then-pos-len g c =
     place_past (rules_of c.args.engine.now) (g.S.ParagraphStore.items c.args.store.now) c.args.pos
-        (omega (arith, c.if-pos-len.true, c.total_chars-len.ensures, length-text
-        (g.S.ParagraphStore.items c.args.store.now)))
+    (omega (
+      arith,
+      c.if-pos-len.true,
+      c.total_chars-len.ensures,
+      length-text
+          (g.S.ParagraphStore.items c.args.store.now),
+    ))
 
 pub place_in-requires-clause-within : goal.place_in-requires-clause-within
 place_in-requires-clause-within g c = omega (arith, c.if-pos-len-2.true, c.total_chars-len.ensures, length-text (g.S.ParagraphStore.items c.args.store.now))
@@ -20,8 +25,13 @@ pub returns-then-pos-len-2 : goal.returns-then-pos-len-2
 returns-then-pos-len-2 g c =
     ap Some c.place_in.ensures
     ∙ place_inside (rules_of c.args.engine.now) (g.S.ParagraphStore.items c.args.store.now) c.args.pos
-        (omega (arith, c.if-pos-len-2.true, c.total_chars-len.ensures, length-text
-        (g.S.ParagraphStore.items c.args.store.now)))
+    (omega (
+      arith,
+      c.if-pos-len-2.true,
+      c.total_chars-len.ensures,
+      length-text
+          (g.S.ParagraphStore.items c.args.store.now),
+    ))
 
 pub returns-then-is_closed : goal.returns-then-is_closed
 returns-then-is_closed g c =

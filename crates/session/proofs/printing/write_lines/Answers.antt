@@ -20,8 +20,12 @@ loop-index-init g c =
     record {
       front = [];
       parts = ap (take c.args.count) (lines_begin kept c.args.first c.find_line-found.result c.find_line-found.ensures);
-      here = λ item read. omega (arith, c.find_line-found.ensures.within, ap (λ (x : Layout). length x.lines)
-          (item_read lines_of kept c.args.first c.find_line-found.result c.find_line-found.ensures item read));
+      here = λ item read. omega (
+        arith,
+        c.find_line-found.ensures.within,
+        ap (λ (x : Layout). length x.lines)
+            (item_read lines_of kept c.args.first c.find_line-found.result c.find_line-found.ensures item read),
+      );
       passed = search rules;
       counted = c.requires.done;
     }
@@ -38,16 +42,16 @@ returns-in_err-written-clause-err g c =
     let rest = take (c.loop-index.left - c.min-part.result) (lines_in (drop (c.loop-index.index + 1) kept)) in
     let front = c.loop-index.invariant.front in
     let whole = front_more kept c.loop-index.index c.loop-index.from c.loop-index.left c.min-part.result l
-        c.in-Some.ensures (c.loop-index.invariant.here l c.in-Some.ensures) (c.min-part.ensures
-        ∙ ap (λ n. min c.loop-index.left (n - c.loop-index.from)) c.lines.ensures) front _ c.loop-index.invariant.parts
-        in
+    c.in-Some.ensures (c.loop-index.invariant.here l c.in-Some.ensures) (c.min-part.ensures
+    ∙ ap (λ n. min c.loop-index.left (n - c.loop-index.from)) c.lines.ensures) front _ c.loop-index.invariant.parts
+    in
     let split : (bytes front ++ bytes piece) ++ bytes rest ≡ bytes (take c.args.count (drop c.args.first (lines_in kept))) =
     ap (λ bs. bs ++ bytes rest) (sym (flat_map-append (line_bytes c.args.width c.args.print.now) front piece))
-        ∙ sym (flat_map-append (line_bytes c.args.width c.args.print.now) (front ++ piece) rest) ∙ ap bytes whole in
+    ∙ sym (flat_map-append (line_bytes c.args.width c.args.print.now) (front ++ piece) rest) ∙ ap bytes whole in
     let part : c.laid.result.now ≡ l = c.laid.ensures in
     let err = subst (λ (x : Layout). StoppedIn (bytes (take c.min-part.result (drop c.loop-index.from (visuals x))))
-        c.loop-index.written (g.W.Sink.state c.loop-index.writer) (g.W.Sink.state c.write_part.new.writer)
-        c.in_err-written.field-0.0.written) part c.in_err-written.ensures.err in
+    c.loop-index.written (g.W.Sink.state c.loop-index.writer) (g.W.Sink.state c.write_part.new.writer)
+    c.in_err-written.field-0.0.written) part c.in_err-written.ensures.err in
     same_fault _ _ (λ w. StoppedIn _ c.args.done _ _ w) c.from_residual.ensures.1
     (subst (λ bs. StoppedIn bs c.args.done (g.W.Sink.state c.args.writer.now) (g.W.Sink.state c.write_part.new.writer) c.in_err-written.field-0.0.written) split
     (stopped-before (bytes rest) (stopped-after c.loop-index.invariant.passed err)))
@@ -60,12 +64,12 @@ loop-index-preserved g c =
     let piece = take c.min-part.result (drop c.loop-index.from (visuals l)) in
     let front = c.loop-index.invariant.front in
     let whole = front_more kept c.loop-index.index c.loop-index.from c.loop-index.left c.min-part.result l
-        c.in-Some.ensures (c.loop-index.invariant.here l c.in-Some.ensures) (c.min-part.ensures
-        ∙ ap (λ n. min c.loop-index.left (n - c.loop-index.from)) c.lines.ensures) front _ c.loop-index.invariant.parts
-        in
+    c.in-Some.ensures (c.loop-index.invariant.here l c.in-Some.ensures) (c.min-part.ensures
+    ∙ ap (λ n. min c.loop-index.left (n - c.loop-index.from)) c.lines.ensures) front _ c.loop-index.invariant.parts
+    in
     let ok = subst (λ (x : Layout). PassedOn (bytes (take c.min-part.result (drop c.loop-index.from (visuals x))))
-        c.loop-index.written (g.W.Sink.state c.loop-index.writer) (g.W.Sink.state c.write_part.new.writer)
-        c.in_ok-written.written) c.laid.ensures c.in_ok-written.ensures.ok in
+    c.loop-index.written (g.W.Sink.state c.loop-index.writer) (g.W.Sink.state c.write_part.new.writer)
+    c.in_ok-written.written) c.laid.ensures c.in_ok-written.ensures.ok in
     record {
       front = front ++ piece;
       parts = whole;

@@ -82,8 +82,8 @@ returns-in-Err-clause-err g c =
     let answer = subst (λ t. IsAnswerFor (paragraphs_refusal (cut_by by) t) c.in-Err.fault) parts c.in-Err.ensures.err in
     let counts = subst (λ t. IsCountedFor c.in-Err.fault (LaysOutAtMost (length t)) c.args.engine.now c.lay_out_joined.new.engine) parts c.in-Err.ensures.refused in
     EditsNot-by_region law few c.args.engine.now c.args.width kept c.requires c.args.pos c.args.count piece within
-        c.front_edge-front.result c.back_edge-back.result f b c.lay_out_joined.new.engine c.in-Err.fault short answer
-        c.lay_out_joined.ensures.rules counts
+    c.front_edge-front.result c.back_edge-back.result f b c.lay_out_joined.new.engine c.in-Err.fault short answer
+    c.lay_out_joined.ensures.rules counts
 
 pub put-requires-clause-order : goal.put-requires-clause-order
 put-requires-clause-order g c =
@@ -92,8 +92,8 @@ put-requires-clause-order g c =
     let size : c.total_chars-len.result ≡ length (text_of kept) = c.total_chars-len.ensures ∙ sym (length-text kept) in
     let within : c.args.pos + c.args.count ≤ length (text_of kept) = omega (arith, size) in
     rise c.paragraphs_are_pieces.ensures c.lines_are_few.ensures c.args.engine.now c.args.width kept c.requires
-        c.args.pos c.args.count piece within c.front_edge-front.result c.back_edge-back.result
-        c.front_edge-front.ensures c.back_edge-back.ensures
+    c.args.pos c.args.count piece within c.front_edge-front.result c.back_edge-back.result
+    c.front_edge-front.ensures c.back_edge-back.ensures
 
 pub put-requires-clause-chars_fit : goal.put-requires-clause-chars_fit
 put-requires-clause-chars_fit g c =
@@ -146,11 +146,11 @@ returns-clause-ok g c =
     let allowed = subst (λ t. is_within_limit (cut_by by) t ≡ true) parts c.in-Ok.ensures.allowed in
     let counts = subst (λ t. LaysOutAtMost (length t) c.args.engine.now c.lay_out_joined.new.engine) parts c.lay_out_joined.ensures.counts in
     ends_ok (λ ks. Edits (replacing c.args.pos c.args.count piece) old
-        (record { engine = c.lay_out_joined.new.engine; width = c.args.width; kept = ks })) c.put.result _ _ _
-        c.put.ensures.ok c.put.ensures.damage
+    (record { engine = c.lay_out_joined.new.engine; width = c.args.width; kept = ks })) c.put.result _ _ _
+    c.put.ensures.ok c.put.ensures.damage
     (Edits-after law few c.args.engine.now c.args.width kept c.requires c.args.pos c.args.count piece within
-        c.front_edge-front.result c.back_edge-back.result f b c.in-Ok.new.items laid short c.lay_out_joined.new.engine
-        allowed c.lay_out_joined.ensures.rules counts)
+    c.front_edge-front.result c.back_edge-back.result f b c.in-Ok.new.items laid short c.lay_out_joined.new.engine
+    allowed c.lay_out_joined.ensures.rules counts)
 
 pub returns-clause-err : goal.returns-clause-err
 returns-clause-err g c =
@@ -170,11 +170,11 @@ returns-clause-err g c =
     let allowed = subst (λ t. is_within_limit (cut_by by) t ≡ true) parts c.in-Ok.ensures.allowed in
     let counts = subst (λ t. LaysOutAtMost (length t) c.args.engine.now c.lay_out_joined.new.engine) parts c.lay_out_joined.ensures.counts in
     ends_err (λ ks. EditsNot (replacing c.args.pos c.args.count piece) old
-        (record { engine = c.lay_out_joined.new.engine; width = c.args.width; kept = ks })) c.put.result _ _
-        c.put.ensures.err c.put.ensures.fault
+    (record { engine = c.lay_out_joined.new.engine; width = c.args.width; kept = ks })) c.put.result _ _
+    c.put.ensures.err c.put.ensures.fault
     (EditsNot-by_region law few c.args.engine.now c.args.width kept c.requires c.args.pos c.args.count piece within
-        c.front_edge-front.result c.back_edge-back.result f b c.lay_out_joined.new.engine NoMemory short
-        (cond-true _ None (Some ParagraphTooLong) allowed) c.lay_out_joined.ensures.rules counts)
+    c.front_edge-front.result c.back_edge-back.result f b c.lay_out_joined.new.engine NoMemory short
+    (cond-true _ None (Some ParagraphTooLong) allowed) c.lay_out_joined.ensures.rules counts)
 
 pub returns-clause-memory : goal.returns-clause-memory
 returns-clause-memory g c wants =

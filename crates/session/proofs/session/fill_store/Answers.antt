@@ -43,7 +43,7 @@ replace-requires-clause-chars_fit g c =
     let allowed = subst (λ t. is_within_limit (cut_by by) t ≡ true) part c.in-Ok.ensures.allowed in
     let counts = subst (λ t. LaysOutAtMost (length t) engine c.lay_out_joined.new.engine) part c.lay_out_joined.ensures.counts in
     opening-chars c.paragraphs_are_pieces.ensures c.lines_are_few.ensures engine whole c.args.width
-        c.in-Ok.paragraphs.items laid short (g.S.ParagraphStore.items c.new-store.result) c.new-store.ensures
+    c.in-Ok.paragraphs.items laid short (g.S.ParagraphStore.items c.new-store.result) c.new-store.ensures
 
 pub replace-requires-clause-lines_fit : goal.replace-requires-clause-lines_fit
 replace-requires-clause-lines_fit g c =
@@ -57,7 +57,7 @@ replace-requires-clause-lines_fit g c =
     let allowed = subst (λ t. is_within_limit (cut_by by) t ≡ true) part c.in-Ok.ensures.allowed in
     let counts = subst (λ t. LaysOutAtMost (length t) engine c.lay_out_joined.new.engine) part c.lay_out_joined.ensures.counts in
     opening-lines c.paragraphs_are_pieces.ensures c.lines_are_few.ensures engine whole c.args.width
-        c.in-Ok.paragraphs.items laid short (g.S.ParagraphStore.items c.new-store.result) c.new-store.ensures
+    c.in-Ok.paragraphs.items laid short (g.S.ParagraphStore.items c.new-store.result) c.new-store.ensures
 
 pub returns-then-is_err-clause-err : goal.returns-then-is_err-clause-err
 returns-then-is_err-clause-err g c =

@@ -27,5 +27,5 @@ returns-clause-ok g c =
     SetsWidth-after c.paragraphs_are_pieces.ensures c.lines_are_few.ensures c.args.engine.now c.args.width.now c.args.new_width kept c.requires c.if-new_width-eq0.false
     c.reflow_all.new.engine (c.reflow_all.ensures.rules ∙ c.find_all.ensures.rules)
     (FillsAtMost-written (length (text_of kept)) _ c.args.engine.now c.find_all.new.engine c.reflow_all.new.engine
-        c.find_all.ensures.counts (cost_of_all kept c.in-Ok.parts.items) c.reflow_all.ensures.counts)
+    c.find_all.ensures.counts (cost_of_all kept c.in-Ok.parts.items) c.reflow_all.ensures.counts)
     _ _ _ _ made c.count-count.ensures c.total_lines-old_lines.ensures c.total_lines.ensures

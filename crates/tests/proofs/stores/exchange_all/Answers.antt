@@ -15,6 +15,10 @@ pub exchange_all-requires-clause-lines_fit : goal.exchange_all-requires-clause-l
 exchange_all-requires-clause-lines_fit g c =
     let more = c.args.by.now.more in
     let sum_fits : sum_by (λ (n : ℕ). n + more) c.args.parts.now.items < 2 ^ 64 = grind (arith, common_steps) in
-    omega (arith, sum_fits, sum_of_parts (λ (item : Item). item.lines) more
-        (λ item n. record item { lines = n + more }) (λ _ _. refl) (g.S.ParagraphStore.items c.args.store.now)
-        c.args.parts.now.items)
+    omega (
+      arith,
+      sum_fits,
+      sum_of_parts (λ (item : Item). item.lines) more
+          (λ item n. record item { lines = n + more }) (λ _ _. refl) (g.S.ParagraphStore.items c.args.store.now)
+          c.args.parts.now.items,
+    )

@@ -37,7 +37,7 @@ returns-then-len-eq-PARAGRAPH_LIMIT-clause-long c = λ is.
     ap (λ t. c.args.text.now ++ t) all ∙ sym (append_assoc c.args.text.now c.loop-c.yielded (c.in-Some.c ∷ more)) in
     subst (λ (t : List ℕ). StartsLong is_cut t) (sym text_is)
     (one_too_many is_cut (c.args.text.now ++ c.loop-c.yielded) more c.loop-c.last c.loop-c.len c.in-Some.c
-        c.loop-c.invariant (c.is_cut_after.ensures.none c.if-is_cut_after.false) c.if-len-eq-PARAGRAPH_LIMIT.true)
+    c.loop-c.invariant (c.is_cut_after.ensures.none c.if-is_cut_after.false) c.if-len-eq-PARAGRAPH_LIMIT.true)
 
 pub loop-c-preserved : goal.loop-c-preserved
 loop-c-preserved c =

@@ -35,8 +35,8 @@ loop-end-preserved c =
           c.loop-end.engine c.push_paragraph.new.engine
           (subst (λ (r : Rules). SplitsAt (cut_by r) rest (Some c.in-Some.end)) kept c.in-Some.ensures) c.split_at.ensures.front c.split_at.ensures.back
           (subst (λ (r : Rules). c.push_paragraph.new.page.bytes.items ≡ c.loop-end.page.bytes.items
-              ++ paragraph_bytes r c.args.width c.args.print.now c.split_at.result.0.now) kept
-              c.in_ok-push_paragraph.ensures.ok)
+          ++ paragraph_bytes r c.args.width c.args.print.now c.split_at.result.0.now) kept
+          c.in_ok-push_paragraph.ensures.ok)
           c.in_ok-push_paragraph.ensures.counts c.push_paragraph.ensures.at_most c.loop-end.invariant.so_far;
     }
 

@@ -44,43 +44,43 @@ loop-held-preserved g c =
           c.args.engine.now _ _ c.loop-held.engine _ _ c.step.new.engine c.loop-held.held c.step.new.held
           c.loop-held.invariant.kept c.loop-held.invariant.stands c.step.result
           (c.step.ensures.steps (g.R.Source.state c.args.reader.now) (g.W.Sink.state c.args.writer.now)
-              c.args.engine.now) (Ok true) (c.in-Ok-true.is ∙ ap (λ (b : Bool). Ok b) c.in-Ok-true.field-0-test);
+          c.args.engine.now) (Ok true) (c.in-Ok-true.is ∙ ap (λ (b : Bool). Ok b) c.in-Ok-true.field-0-test);
     }
 
 pub returns-in-Ok-false-clause-run : goal.returns-in-Ok-false-clause-run
 returns-in-Ok-false-clause-run g c =
     (stepped_as (rules_of c.args.engine.now) (rules_of c.loop-held.engine) c.args.width c.args.print.now _ _
-        c.args.engine.now _ _ c.loop-held.engine _ _ c.step.new.engine c.loop-held.held c.step.new.held
-        c.loop-held.invariant.kept c.loop-held.invariant.stands c.step.result
+    c.args.engine.now _ _ c.loop-held.engine _ _ c.step.new.engine c.loop-held.held c.step.new.held
+    c.loop-held.invariant.kept c.loop-held.invariant.stands c.step.result
     (c.step.ensures.steps (g.R.Source.state c.args.reader.now) (g.W.Sink.state c.args.writer.now) c.args.engine.now)
-        (Ok false) (c.in-Ok-false.is ∙ ap (λ (b : Bool). Ok b) c.in-Ok-false.field-0-test)).run
+    (Ok false) (c.in-Ok-false.is ∙ ap (λ (b : Bool). Ok b) c.in-Ok-false.field-0-test)).run
 
 pub returns-in-Err-clause-run : goal.returns-in-Err-clause-run
 returns-in-Err-clause-run g c =
     (stepped_as (rules_of c.args.engine.now) (rules_of c.loop-held.engine) c.args.width c.args.print.now _ _
-        c.args.engine.now _ _ c.loop-held.engine _ _ c.step.new.engine c.loop-held.held c.step.new.held
-        c.loop-held.invariant.kept c.loop-held.invariant.stands c.step.result
+    c.args.engine.now _ _ c.loop-held.engine _ _ c.step.new.engine c.loop-held.held c.step.new.held
+    c.loop-held.invariant.kept c.loop-held.invariant.stands c.step.result
     (c.step.ensures.steps (g.R.Source.state c.args.reader.now) (g.W.Sink.state c.args.writer.now) c.args.engine.now) (Err c.in-Err.fault) c.in-Err.is).run
 
 pub returns-in-Err-clause-ahead : goal.returns-in-Err-clause-ahead
 returns-in-Err-clause-ahead g c =
     (stepped_as (rules_of c.args.engine.now) (rules_of c.loop-held.engine) c.args.width c.args.print.now _ _
-        c.args.engine.now _ _ c.loop-held.engine _ _ c.step.new.engine c.loop-held.held c.step.new.held
-        c.loop-held.invariant.kept c.loop-held.invariant.stands c.step.result
+    c.args.engine.now _ _ c.loop-held.engine _ _ c.step.new.engine c.loop-held.held c.step.new.held
+    c.loop-held.invariant.kept c.loop-held.invariant.stands c.step.result
     (c.step.ensures.steps (g.R.Source.state c.args.reader.now) (g.W.Sink.state c.args.writer.now) c.args.engine.now) (Err c.in-Err.fault) c.in-Err.is).ahead
 
 pub returns-in-Err-clause-at_most : goal.returns-in-Err-clause-at_most
 returns-in-Err-clause-at_most g c =
     (stepped_as (rules_of c.args.engine.now) (rules_of c.loop-held.engine) c.args.width c.args.print.now _ _
-        c.args.engine.now _ _ c.loop-held.engine _ _ c.step.new.engine c.loop-held.held c.step.new.held
-        c.loop-held.invariant.kept c.loop-held.invariant.stands c.step.result
+    c.args.engine.now _ _ c.loop-held.engine _ _ c.step.new.engine c.loop-held.held c.step.new.held
+    c.loop-held.invariant.kept c.loop-held.invariant.stands c.step.result
     (c.step.ensures.steps (g.R.Source.state c.args.reader.now) (g.W.Sink.state c.args.writer.now) c.args.engine.now) (Err c.in-Err.fault) c.in-Err.is).at_most
 
 pub returns-in-Err-clause-memory : goal.returns-in-Err-clause-memory
 returns-in-Err-clause-memory g c =
     (stepped_as (rules_of c.args.engine.now) (rules_of c.loop-held.engine) c.args.width c.args.print.now _ _
-        c.args.engine.now _ _ c.loop-held.engine _ _ c.step.new.engine c.loop-held.held c.step.new.held
-        c.loop-held.invariant.kept c.loop-held.invariant.stands c.step.result
+    c.args.engine.now _ _ c.loop-held.engine _ _ c.step.new.engine c.loop-held.held c.step.new.held
+    c.loop-held.invariant.kept c.loop-held.invariant.stands c.step.result
     (c.step.ensures.steps (g.R.Source.state c.args.reader.now) (g.W.Sink.state c.args.writer.now) c.args.engine.now) (Err c.in-Err.fault) c.in-Err.is).wants
 
 -- a step that ends otherwise than by a failed read adds no failure, and those before it added none

@@ -10,49 +10,49 @@ returns-in-Err-clause-steps g c = λ reader_start writer_start engine_start stan
 pub returns-in-Ok-finish-clause-steps : goal.returns-in-Ok-finish-clause-steps
 returns-in-Ok-finish-clause-steps g c = λ reader_start writer_start engine_start stands.
     read_nothing (rules_of c.args.engine.now) c.args.width c.args.print.now reader_start writer_start engine_start _ _
-        c.args.engine.now _ _ c.args.held.now _ stands c.in-Ok.ensures.ok c.if-len-eq0.true _ c.finish.new.engine
-        (Ok tt)
+    c.args.engine.now _ _ c.args.held.now _ stands c.in-Ok.ensures.ok c.if-len-eq0.true _ c.finish.new.engine
+    (Ok tt)
     c.in-Ok-finish.ensures.ends c.in-Ok-finish.ensures.counts c.finish.ensures.at_most
 
 pub returns-in-Err-finish-clause-steps : goal.returns-in-Err-finish-clause-steps
 returns-in-Err-finish-clause-steps g c = λ reader_start writer_start engine_start stands.
     read_nothing (rules_of c.args.engine.now) c.args.width c.args.print.now reader_start writer_start engine_start _ _
-        c.args.engine.now _ _ c.args.held.now _ stands c.in-Ok.ensures.ok c.if-len-eq0.true _ c.finish.new.engine
-        (Err c.in-Err-finish.fault)
+    c.args.engine.now _ _ c.args.held.now _ stands c.in-Ok.ensures.ok c.if-len-eq0.true _ c.finish.new.engine
+    (Err c.in-Err-finish.fault)
     c.in-Err-finish.ensures.ends tt c.finish.ensures.at_most
 
 pub returns-in_default-clause-steps : goal.returns-in_default-clause-steps
 returns-in_default-clause-steps g c = λ reader_start writer_start engine_start stands.
     read_memory (rules_of c.args.engine.now) c.args.width c.args.print.now reader_start writer_start engine_start _ _
-        c.args.engine.now _ _ c.args.held.now _ stands c.in-Ok.ensures.ok c.gather.new.engine c.gather.ensures.at_most
+    c.args.engine.now _ _ c.args.held.now _ stands c.in-Ok.ensures.ok c.gather.new.engine c.gather.ensures.at_most
     c.in_default.ensures.memory c.in_default.ensures.ended
 
 pub returns-in-Err-write-clause-steps : goal.returns-in-Err-write-clause-steps
 returns-in-Err-write-clause-steps g c = λ reader_start writer_start engine_start stands.
     read_stopped (rules_of c.args.engine.now) c.args.width c.args.print.now reader_start writer_start engine_start _ _
-        c.args.engine.now _ _ c.args.held.now _ stands c.in-Ok.ensures.ok _ c.gather.new.engine _
-        c.gather.ensures.at_most
+    c.args.engine.now _ _ c.args.held.now _ stands c.in-Ok.ensures.ok _ c.gather.new.engine _
+    c.gather.ensures.at_most
     c.in-Ok-gather.ensures.gathers _ _ c.in-Err-write.ensures.err
 
 pub returns-in-Some-clause-steps : goal.returns-in-Some-clause-steps
 returns-in-Some-clause-steps g c = λ reader_start writer_start engine_start stands.
     read_fault (rules_of c.args.engine.now) c.args.width c.args.print.now reader_start writer_start engine_start _ _
-        c.args.engine.now _ _ c.args.held.now _ stands c.in-Ok.ensures.ok _ c.gather.new.engine _
-        c.gather.ensures.at_most
+    c.args.engine.now _ _ c.args.held.now _ stands c.in-Ok.ensures.ok _ c.gather.new.engine _
+    c.gather.ensures.at_most
     c.in-Ok-gather.ensures.gathers _ _ c.in_default-write.ensures.ok c.in-Some.fault c.in-Some.is
 
 pub returns-in-None-clause-steps : goal.returns-in-None-clause-steps
 returns-in-None-clause-steps g c = λ reader_start writer_start engine_start stands.
     read_on (rules_of c.args.engine.now) c.args.width c.args.print.now reader_start writer_start engine_start _ _
-        c.args.engine.now _ _ c.args.held.now _ stands c.in-Ok.ensures.ok _ c.gather.new.engine _
+    c.args.engine.now _ _ c.args.held.now _ stands c.in-Ok.ensures.ok _ c.gather.new.engine _
     c.in-Ok-gather.ensures.gathers _ _ c.in_default-write.ensures.ok c.in-None.is
 
 -- where memory ran out nothing was written
 pub returns-in-Err-finish-clause-memory : goal.returns-in-Err-finish-clause-memory
 returns-in-Err-finish-clause-memory g c = λ is.
     none_written (rules_of c.args.engine.now) c.args.width c.args.print.now c.read.new.self
-        (g.W.Sink.state c.args.writer.now) (g.W.Sink.state c.finish.new.writer) c.in-Err-finish.fault
-        c.in-Err-finish.ensures.ends (cc is)
+    (g.W.Sink.state c.args.writer.now) (g.W.Sink.state c.finish.new.writer) c.in-Err-finish.fault
+    c.in-Err-finish.ensures.ends (cc is)
 
 pub returns-in-Err-write-clause-memory : goal.returns-in-Err-write-clause-memory
 returns-in-Err-write-clause-memory g c = λ is. absurd (cc (is, c.in-Err-write.ensures.err.1))

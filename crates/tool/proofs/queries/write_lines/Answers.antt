@@ -19,5 +19,5 @@ returns-in-Err-Write-clause-err g c =
     let text = lines_within c.args.print.now c.args.session.now.width c.args.session.now.kept c.args.first c.args.count within in
     let head : c.deref-2.result.now ≡ told (c.args.count ∷ []) = c.deref-2.ensures.0 ∙ c.told.ensures in
     rw text (stops-after _ _ _ _ _ _ _ (f.Write c.in-Err-Write.fault.written) (rw head at c.in_ok-told.ensures.ok)
-        (of_sink _ _ _ _ _ c.in-Err-Write.field-0 c.in-Err-Write.fault c.in-Err-Write.field-0-is
-        c.in-Err-Write.ensures.err))
+    (of_sink _ _ _ _ _ c.in-Err-Write.field-0 c.in-Err-Write.fault c.in-Err-Write.field-0-is
+    c.in-Err-Write.ensures.err))

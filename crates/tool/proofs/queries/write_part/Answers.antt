@@ -11,8 +11,8 @@ returns-in_err-told-clause-err g c =
     let text = part_within c.args.session.now.kept c.args.pos c.args.count c.in-Some.len c.in-Some.ensures in
     let head : c.deref-2.result.now ≡ told (c.in-Some.len ∷ []) = c.deref-2.ensures.0 ∙ c.told.ensures in
     same_stop _ _ (Stops _ c.args.written _ _) c.from_residual.ensures.1
-        (subst (λ (t : List ℕ). Stops t c.args.written (g.W.Sink.state c.args.writer.now)
-        (g.W.Sink.state c.write_bytes-2.new.writer) c.in_err-told.field-0.0) (sym text)
+    (subst (λ (t : List ℕ). Stops t c.args.written (g.W.Sink.state c.args.writer.now)
+    (g.W.Sink.state c.write_bytes-2.new.writer) c.in_err-told.field-0.0) (sym text)
     (stops-before _ _ _ (codes "\n") _ _ (stops-before _ _ _ _ _ _ (rw head at c.in_err-told.ensures.err))))
 
 pub returns-in-Err-Write-clause-err : goal.returns-in-Err-Write-clause-err

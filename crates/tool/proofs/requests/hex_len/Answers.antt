@@ -22,7 +22,15 @@ loop-at-preserved c =
     let here : get_or c.args.text.now c.loop-at.at c.index-text-at.result ≡ c.index-text-at.result = sym c.index-text-at.is in
     let is : is_digit c.index-text-at.result 16 ≡ true = search rules in
     let more = prefix_len-drop_yes (λ (x : ℕ). is_digit x 16) c.args.text.now c.loop-at.at c.index-text-at.result c.loop-at-test.true (ap (λ (x : ℕ). is_digit x 16) here ∙ is) in
-    record { len = omega (arith, more, c.loop-at.invariant.len); digits =
-        rw (take_more c.args.text.now c.loop-at.at c.index-text-at.result c.loop-at-test.true, here, list_all-append
-        (λ (x : ℕ). is_digit x 16) (take c.loop-at.at c.args.text.now) (c.index-text-at.result ∷ []),
-        c.loop-at.invariant.digits, is) refl }
+    record {
+      len = omega (arith, more, c.loop-at.invariant.len);
+      digits =
+          rw (
+            take_more c.args.text.now c.loop-at.at c.index-text-at.result c.loop-at-test.true,
+            here,
+            list_all-append
+                (λ (x : ℕ). is_digit x 16) (take c.loop-at.at c.args.text.now) (c.index-text-at.result ∷ []),
+            c.loop-at.invariant.digits,
+            is,
+          ) refl;
+    }

@@ -14,9 +14,12 @@ id_map (Some cs) = refl
 
 pub loop-at-init : goal.loop-at-init
 loop-at-init c =
-    record { within = omega arith; whole =
-        ap (λ (front : List ℕ). option_map (λ cs. front ++ cs) (unescaped c.args.text.now))
-        (ap chars c.new-piece.ensures.bytes ∙ chars-nil) ∙ id_map (unescaped c.args.text.now) }
+    record {
+      within = omega arith;
+      whole =
+          ap (λ (front : List ℕ). option_map (λ cs. front ++ cs) (unescaped c.args.text.now))
+          (ap chars c.new-piece.ensures.bytes ∙ chars-nil) ∙ id_map (unescaped c.args.text.now);
+    }
 
 pub loop-at-preserved : goal.loop-at-preserved
 loop-at-preserved c =

@@ -7,7 +7,7 @@ use Rattle.tool.proofs.script.finish.Goals as goal
 pub returns-then-is_empty-clause-ends : goal.returns-then-is_empty-clause-ends
 returns-then-is_empty-clause-ends g c = λ start reader_start writer_start reader_now at finished.
     ends_empty (rules_of c.args.session.now.engine) c.args.options.now start reader_start reader_now writer_start
-        (g.W.Sink.state c.args.writer.now) c.args.session.now c.args.reading.now at finished (search rules)
+    (g.W.Sink.state c.args.writer.now) c.args.session.now c.args.reading.now at finished (search rules)
 
 pub obey_line-requires-clause-short : goal.obey_line-requires-clause-short
 obey_line-requires-clause-short g c = c.requires.4.short
@@ -18,7 +18,7 @@ obey_line-requires-clause-lines g c =
     let isnt : (vec_len c.args.reading.now.line == 0) ≡ false = sym c.is_empty.ensures ∙ c.if-is_empty.false in
     let some : 0 < length c.args.reading.now.line.items = grind (arith, nat_tests, isnt) in
     lines_fit (rules_of c.args.session.now.engine) c.args.options.now fed.0 fed.1 fed.3 fed.2
-        (g.W.Sink.state c.args.writer.now) c.args.session.now c.args.reading.now [] fed.4 fed.5 (omega (arith, some))
+    (g.W.Sink.state c.args.writer.now) c.args.session.now c.args.reading.now [] fed.4 fed.5 (omega (arith, some))
 
 pub returns-clause-ends : goal.returns-clause-ends
 returns-clause-ends g c = λ start reader_start writer_start reader_now at finished.

@@ -17,9 +17,9 @@ returns-clause-ok g c =
     ] in
     let room : lacks_memory c.match-request.edit ≡ false = sym c.lacks_memory.ensures ∙ c.if-lacks_memory.false in
     obeys rules c.args.print.now (request_of c.args.request.now) (held_at c.args.session.now)
-        (held_at c.match-request.session) c.match-request.edit replaced room c.args.written
-        (g.W.Sink.state c.args.writer.now) (g.W.Sink.state c.write_answer.new.writer) c.write_answer.result
-        c.write_answer.ensures.ok
+    (held_at c.match-request.session) c.match-request.edit replaced room c.args.written
+    (g.W.Sink.state c.args.writer.now) (g.W.Sink.state c.write_answer.new.writer) c.write_answer.result
+    c.write_answer.ensures.ok
 
 pub returns-clause-err : goal.returns-clause-err
 returns-clause-err g c =
@@ -31,9 +31,9 @@ returns-clause-err g c =
     ] in
     let room : lacks_memory c.match-request.edit ≡ false = sym c.lacks_memory.ensures ∙ c.if-lacks_memory.false in
     stops rules c.args.print.now (request_of c.args.request.now) (held_at c.args.session.now)
-        (held_at c.match-request.session) c.match-request.edit replaced room c.args.written
-        (g.W.Sink.state c.args.writer.now) (g.W.Sink.state c.write_answer.new.writer) c.write_answer.result
-        c.write_answer.ensures.err
+    (held_at c.match-request.session) c.match-request.edit replaced room c.args.written
+    (g.W.Sink.state c.args.writer.now) (g.W.Sink.state c.write_answer.new.writer) c.write_answer.result
+    c.write_answer.ensures.err
 
 -- memory ran out
 pub returns-then-lacks_memory-clause-err : goal.returns-then-lacks_memory-clause-err

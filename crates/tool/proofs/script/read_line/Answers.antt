@@ -39,8 +39,8 @@ returns-clause-ok c =
     ∙ ap chars (c.front.ensures.text ∙ take_all (utf8_valid_len line) line (omega (arith, is_text))) in
     let is : request_in queries c.deref.result.now ≡ request_of_line queries line =
     ap (request_in queries) text ∙ sym
-        (ap (λ (b : Bool). if b && (utf8_valid_len line == length line) then request_in queries (chars line) else None)
-        short ∙ ap (λ (b : Bool). if b then request_in queries (chars line) else None) valid) in
+    (ap (λ (b : Bool). if b && (utf8_valid_len line == length line) then request_in queries (chars line) else None)
+    short ∙ ap (λ (b : Bool). if b then request_in queries (chars line) else None) valid) in
     subst (λ (o : Option Request). IfOk c.read_request.result (λ command. option_map request_of command ≡ o)) is c.read_request.ensures.ok
 
 -- no piece stands in a line without characters

@@ -17,7 +17,7 @@ loop-reading-init g c = record {
 pub returns-in-Ok-false-clause-run : goal.returns-in-Ok-false-clause-run
 returns-in-Ok-false-clause-run g c =
     script_stepped (rules_of c.args.session.now.engine) (rules_of c.loop-reading.session.engine) c.args.options.now
-        c.args.session.now (g.R.Source.state c.args.reader.now) (g.W.Sink.state c.args.writer.now)
+    c.args.session.now (g.R.Source.state c.args.reader.now) (g.W.Sink.state c.args.writer.now)
     (g.R.Source.state c.loop-reading.reader) (g.W.Sink.state c.loop-reading.writer) (g.R.Source.state c.step.new.reader) (g.W.Sink.state c.step.new.writer)
     c.loop-reading.session c.step.new.session c.loop-reading.reading c.step.new.reading c.loop-reading.invariant.kept c.loop-reading.invariant.stands c.step.result
     (c.step.ensures.steps c.args.session.now (g.R.Source.state c.args.reader.now) (g.W.Sink.state c.args.writer.now)) (Ok false) (c.in-Ok-false.is ∙ ap (λ (b : Bool). Ok b) c.in-Ok-false.field-0-test)
@@ -25,7 +25,7 @@ returns-in-Ok-false-clause-run g c =
 pub returns-in-Err-clause-run : goal.returns-in-Err-clause-run
 returns-in-Err-clause-run g c =
     script_stepped (rules_of c.args.session.now.engine) (rules_of c.loop-reading.session.engine) c.args.options.now
-        c.args.session.now (g.R.Source.state c.args.reader.now) (g.W.Sink.state c.args.writer.now)
+    c.args.session.now (g.R.Source.state c.args.reader.now) (g.W.Sink.state c.args.writer.now)
     (g.R.Source.state c.loop-reading.reader) (g.W.Sink.state c.loop-reading.writer) (g.R.Source.state c.step.new.reader) (g.W.Sink.state c.step.new.writer)
     c.loop-reading.session c.step.new.session c.loop-reading.reading c.step.new.reading c.loop-reading.invariant.kept c.loop-reading.invariant.stands c.step.result
     (c.step.ensures.steps c.args.session.now (g.R.Source.state c.args.reader.now) (g.W.Sink.state c.args.writer.now)) (Err c.in-Err.fault) c.in-Err.is

@@ -7,8 +7,8 @@ use Rattle.text_run.specs.declared.text.TheConstants.{PIECE}
 pub returns-in-Err-clause-steps : goal.returns-in-Err-clause-steps
 returns-in-Err-clause-steps g c = λ start reader_start writer_start at.
     ends_read (rules_of c.args.session.now.engine) c.args.options.now start reader_start
-        (g.R.Source.state c.args.reader.now) writer_start (g.W.Sink.state c.args.writer.now) c.args.session.now
-        c.args.reading.now at
+    (g.R.Source.state c.args.reader.now) writer_start (g.W.Sink.state c.args.writer.now) c.args.session.now
+    c.args.reading.now at
     (g.R.Source.state c.read.new.self) c.in-Err.ensures.reads
 
 pub returns-in-Ok-finish-clause-steps : goal.returns-in-Ok-finish-clause-steps
@@ -16,8 +16,8 @@ returns-in-Ok-finish-clause-steps g c = λ start reader_start writer_start at.
     let gives = c.in-Ok.ensures.reads in
     c.in-Ok-finish.ensures.ends start reader_start writer_start (g.R.Source.state c.read.new.self)
     (at_none (rules_of c.args.session.now.engine) c.args.options.now start reader_start
-        (g.R.Source.state c.args.reader.now) writer_start (g.W.Sink.state c.args.writer.now) c.args.session.now
-        c.args.reading.now
+    (g.R.Source.state c.args.reader.now) writer_start (g.W.Sink.state c.args.writer.now) c.args.session.now
+    c.args.reading.now
     (g.R.Source.state c.read.new.self) c.in-Ok.len c.read.new.buffer at gives c.if-len-eq0.true) (gives.end c.if-len-eq0.true)
 
 pub returns-in-Err-finish-clause-steps : goal.returns-in-Err-finish-clause-steps
@@ -25,8 +25,8 @@ returns-in-Err-finish-clause-steps g c = λ start reader_start writer_start at.
     let gives = c.in-Ok.ensures.reads in
     c.in-Err-finish.ensures.ends start reader_start writer_start (g.R.Source.state c.read.new.self)
     (at_none (rules_of c.args.session.now.engine) c.args.options.now start reader_start
-        (g.R.Source.state c.args.reader.now) writer_start (g.W.Sink.state c.args.writer.now) c.args.session.now
-        c.args.reading.now
+    (g.R.Source.state c.args.reader.now) writer_start (g.W.Sink.state c.args.writer.now) c.args.session.now
+    c.args.reading.now
     (g.R.Source.state c.read.new.self) c.in-Ok.len c.read.new.buffer at gives c.if-len-eq0.true) (gives.end c.if-len-eq0.true)
 
 pub feed-requires : goal.feed-requires
@@ -53,8 +53,8 @@ returns-in-Ok-feed-clause-steps g c = λ start reader_start writer_start at.
     let small : c.in-Ok.len ≤ PIECE = search rules in
     c.in-Ok-feed.ensures.feeds start reader_start writer_start (g.R.Source.state c.read.new.self)
     (at_read (rules_of c.args.session.now.engine) c.args.options.now start reader_start
-        (g.R.Source.state c.args.reader.now) writer_start (g.W.Sink.state c.args.writer.now) c.args.session.now
-        c.args.reading.now
+    (g.R.Source.state c.args.reader.now) writer_start (g.W.Sink.state c.args.writer.now) c.args.session.now
+    c.args.reading.now
     (g.R.Source.state c.read.new.self) c.in-Ok.len c.read.new.buffer at gives within small)
 
 pub returns-in-Err-feed-clause-steps : goal.returns-in-Err-feed-clause-steps
@@ -64,6 +64,6 @@ returns-in-Err-feed-clause-steps g c = λ start reader_start writer_start at.
     let small : c.in-Ok.len ≤ PIECE = search rules in
     c.in-Err-feed.ensures.feeds start reader_start writer_start (g.R.Source.state c.read.new.self)
     (at_read (rules_of c.args.session.now.engine) c.args.options.now start reader_start
-        (g.R.Source.state c.args.reader.now) writer_start (g.W.Sink.state c.args.writer.now) c.args.session.now
-        c.args.reading.now
+    (g.R.Source.state c.args.reader.now) writer_start (g.W.Sink.state c.args.writer.now) c.args.session.now
+    c.args.reading.now
     (g.R.Source.state c.read.new.self) c.in-Ok.len c.read.new.buffer at gives within small)

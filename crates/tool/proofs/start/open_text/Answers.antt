@@ -13,8 +13,14 @@ pub returns-in-Ok-clause-ok : goal.returns-in-Ok-clause-ok
 returns-in-Ok-clause-ok g c =
     let bytes = c.args.bytes.now in
     let valid : utf8_valid_len bytes
-        ≡ length bytes = omega (arith, utf8_valid_len_le bytes, ap length c.front.ensures.text, length-take-le
-        (utf8_valid_len bytes) bytes (utf8_valid_len_le bytes), c.if-text-bytes.false) in
+    ≡ length bytes = omega (
+      arith,
+      utf8_valid_len_le bytes,
+      ap length c.front.ensures.text,
+      length-take-le
+          (utf8_valid_len bytes) bytes (utf8_valid_len_le bytes),
+      c.if-text-bytes.false,
+    ) in
     let text = c.front.ensures.text ∙ take_all (utf8_valid_len bytes) bytes (omega (arith, valid)) in
     record { valid = valid; opens = subst (λ (t : List ℕ). Opens c.args.engine (chars t) c.args.width c.in-Ok.session) text c.in-Ok.ensures.ok }
 
@@ -22,8 +28,14 @@ pub returns-clause-err : goal.returns-clause-err
 returns-clause-err g c =
     let bytes = c.args.bytes.now in
     let valid : utf8_valid_len bytes
-        ≡ length bytes = omega (arith, utf8_valid_len_le bytes, ap length c.front.ensures.text, length-take-le
-        (utf8_valid_len bytes) bytes (utf8_valid_len_le bytes), c.if-text-bytes.false) in
+    ≡ length bytes = omega (
+      arith,
+      utf8_valid_len_le bytes,
+      ap length c.front.ensures.text,
+      length-take-le
+          (utf8_valid_len bytes) bytes (utf8_valid_len_le bytes),
+      c.if-text-bytes.false,
+    ) in
     let text = c.front.ensures.text ∙ take_all (utf8_valid_len bytes) bytes (omega (arith, valid)) in
     let rules = rules_of c.args.engine in
     let reason = subst (λ (t : List ℕ). IsAnswerFor (opening_refusal (cut_by rules) (chars t) c.args.width) c.in-Err.fault) text c.in-Err.ensures.err.reason in

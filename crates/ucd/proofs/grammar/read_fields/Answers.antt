@@ -17,6 +17,6 @@ returns-in_default-rest g c =
           rw (c.cut.ensures.parts, c.in-Some.is, c.cut-2.ensures.parts, w.in-None.is) (one_missing g.V.Property.form c.cut.result.0.now c.cut-2.result.0.now (sym w.if-not-has_third.ensures))
       | in_default-rest-via-in-Some-rest+else-has_third w ↦
           rw (c.cut.ensures.parts, c.in-Some.is, c.cut-2.ensures.parts, w.in-Some-rest.is)
-              (one_more g.V.Property.form c.cut.result.0.now c.cut-2.result.0.now w.in-Some-rest.rest.now
-              (sym w.if-has_third.ensures))
+          (one_more g.V.Property.form c.cut.result.0.now c.cut-2.result.0.now w.in-Some-rest.rest.now
+          (sym w.if-has_third.ensures))
     ]

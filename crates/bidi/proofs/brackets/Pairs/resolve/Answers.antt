@@ -9,8 +9,8 @@ use Rattle.bidi.proofs.brackets.Pairs.resolve.Goals as goal
 pub resolve_brackets-requires-clause-closers : goal.resolve_brackets-requires-clause-closers
 resolve_brackets-requires-clause-closers c =
     ap length (c.deref-2.ensures.value ∙ c.in_ok-find_pairs.ensures.pairs)
-        ∙ length-closers_of (pairs_of (bracket_of c.args.tables.now) c.args.characters.now c.args.types.now)
-        (length c.args.types.now)
+    ∙ length-closers_of (pairs_of (bracket_of c.args.tables.now) c.args.characters.now c.args.types.now)
+    (length c.args.types.now)
 
 pub returns : goal.returns
 returns c =

@@ -7,8 +7,8 @@ use Rattle.session.proofs.session.Session.line.Goals as goal
 pub returns-then-n-total_lines : goal.returns-then-n-total_lines
 returns-then-n-total_lines g c =
     rw (← c.self.view_is) (line_past (g.S.ParagraphStore.items c.self.inside.store) c.args.n c.total_lines.result
-        (c.total_lines.ensures ∙ sym (length-lines (g.S.ParagraphStore.items c.self.inside.store)))
-        c.if-n-total_lines.true)
+    (c.total_lines.ensures ∙ sym (length-lines (g.S.ParagraphStore.items c.self.inside.store)))
+    c.if-n-total_lines.true)
 
 pub returns-in-Some : goal.returns-in-Some
 returns-in-Some g c =

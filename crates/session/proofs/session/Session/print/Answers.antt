@@ -14,6 +14,6 @@ returns-in-Err-Write-clause-err g c =
     let all = lines_page_all c.args.self.now c.args.print.now c.line_count.result c.line_count.ensures (c.prints_its_lines.ensures c.args.print.now) in
     subst (λ bytes. StoppedAt c.in-Err-Write.fault.written bytes (g.W.Sink.state c.args.writer.now) (g.W.Sink.state c.print_lines.new.writer)) all
     (fault_of_sink c.args.self.now 0 c.line_count.result _
-        (λ w. StoppedAt w (lines_page c.args.self.now 0 c.line_count.result c.args.print.now)
-        (g.W.Sink.state c.args.writer.now) (g.W.Sink.state c.print_lines.new.writer))
+    (λ w. StoppedAt w (lines_page c.args.self.now 0 c.line_count.result c.args.print.now)
+    (g.W.Sink.state c.args.writer.now) (g.W.Sink.state c.print_lines.new.writer))
     _ _ c.in-Err-Write.field-0-is c.in-Err-Write.ensures.err)

@@ -10,9 +10,9 @@ use Rattle.session.proofs.session.Session.print_lines_after.Goals.{then-first-li
 pub returns-then-first-lines-clause-err : goal.returns-then-first-lines-clause-err
 returns-then-first-lines-clause-err g c =
     let size : c.total_lines-lines.result
-        ≡ length (lines_in c.args.self.now.kept) =
-        rw (← c.self.view_is) (c.total_lines-lines.ensures
-        ∙ sym (length-lines (g.S.ParagraphStore.items c.self.inside.store))) in
+    ≡ length (lines_in c.args.self.now.kept) =
+    rw (← c.self.view_is) (c.total_lines-lines.ensures
+    ∙ sym (length-lines (g.S.ParagraphStore.items c.self.inside.store))) in
     elim c.then-first-lines.branch [
       | then-first-lines-via-then-first-lines w ↦ (omega (arith, size, w.if-first-lines.true), refl)
       | then-first-lines-via-else-first-lines+then-count-lines w ↦ (omega (arith, size, w.if-first-lines.false, w.if-count-lines.true), refl)

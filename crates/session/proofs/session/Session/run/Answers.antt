@@ -11,9 +11,13 @@ loop-edit-init g c = record {
   held = refl;
   laid_out = rw (← c.self.view_is) c.self.invariant;
   rules = refl;
-  works = record { analysed = record { least = omega arith; most = omega arith }; filled =
-      record { least = omega arith; most = omega arith }; written =
-      record { least = omega arith; most = omega arith } };
+  works = record {
+    analysed = record { least = omega arith; most = omega arith };
+    filled =
+        record { least = omega arith; most = omega arith };
+    written =
+        record { least = omega arith; most = omega arith };
+  };
 }
 
 pub returns-then-eq-clause-err : goal.returns-then-eq-clause-err

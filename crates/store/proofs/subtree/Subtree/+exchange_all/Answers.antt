@@ -12,18 +12,31 @@ pub split_at_mut-first-requires : goal.split_at_mut-first-requires
 split_at_mut-first-requires g t c =
     let n = c.deref_mut-node.result.now in
     let tree_is = sym c.self.view_is ∙ ap tree_of c.in-Some.is ∙ ap tree_of_node (sym c.deref_mut-node.ensures.value) in
-    omega (arith, as_many (g.E.Exchanger.fits (g.E.Exchanger.kind c.args.by.now)) (in_order c.args.self.now)
-        c.args.parts.now c.requires.fit, ap (λ tree. length (in_order tree)) tree_is, length-append (in_order n.left)
-        (n.item ∷ in_order n.right), c.count-before.ensures)
+    omega (
+      arith,
+      as_many (g.E.Exchanger.fits (g.E.Exchanger.kind c.args.by.now)) (in_order c.args.self.now)
+          c.args.parts.now c.requires.fit,
+      ap (λ tree. length (in_order tree)) tree_is,
+      length-append (in_order n.left)
+          (n.item ∷ in_order n.right),
+      c.count-before.ensures,
+    )
 
 pub split_at_mut-part-requires : goal.split_at_mut-part-requires
 split_at_mut-part-requires g t c =
     let n = c.deref_mut-node.result.now in
     let tree_is = sym c.self.view_is ∙ ap tree_of c.in-Some.is ∙ ap tree_of_node (sym c.deref_mut-node.ensures.value) in
-    omega (arith, as_many (g.E.Exchanger.fits (g.E.Exchanger.kind c.args.by.now)) (in_order c.args.self.now)
-        c.args.parts.now c.requires.fit, ap (λ tree. length (in_order tree)) tree_is, length-append (in_order n.left)
-        (n.item ∷ in_order n.right), c.count-before.ensures, c.split_at_mut-first.ensures.front_len,
-        c.split_at_mut-first.ensures.back_len)
+    omega (
+      arith,
+      as_many (g.E.Exchanger.fits (g.E.Exchanger.kind c.args.by.now)) (in_order c.args.self.now)
+          c.args.parts.now c.requires.fit,
+      ap (λ tree. length (in_order tree)) tree_is,
+      length-append (in_order n.left)
+          (n.item ∷ in_order n.right),
+      c.count-before.ensures,
+      c.split_at_mut-first.ensures.front_len,
+      c.split_at_mut-first.ensures.back_len,
+    )
 
 pub exchange_all-requires : goal.exchange_all-requires
 exchange_all-requires g t c =
@@ -142,8 +155,15 @@ returns-clause-parts g t c =
     } in
     let made = ap (λ zs. pairwise (g.E.Exchanger.handed_out by) zs c.args.parts.now) (ap in_order tree_is)
     ∙ pairwise_parts (g.E.Exchanger.fits by) xs n.item ys ps rest one qs (g.E.Exchanger.handed_out by) d parted in
-    rw (made, set_one one c.exchange.new.part parted.one_len, c.exchange_all.ensures.parts, c.exchange.ensures.part,
-        c.exchange_all-2.ensures.parts, c.exchange.ensures.same, c.exchange_all.ensures.same) refl
+    rw (
+      made,
+      set_one one c.exchange.new.part parted.one_len,
+      c.exchange_all.ensures.parts,
+      c.exchange.ensures.part,
+      c.exchange_all-2.ensures.parts,
+      c.exchange.ensures.same,
+      c.exchange_all.ensures.same,
+    ) refl
 
 pub returns-clause-chars : goal.returns-clause-chars
 returns-clause-chars g t c =

@@ -18,8 +18,8 @@ returns-then-n-before-clause-found g t c =
     let n = c.deref-node.result.now in
     let tree_is = sym c.self.view_is ∙ ap tree_of c.in-Some.is ∙ ap tree_of_node (sym c.deref-node.ensures) in
     rw (ap in_order tree_is) (found_before (measure g.P.Measured.chars g.P.Measured.lines c.args.unit)
-        g.P.Measured.chars g.P.Measured.lines (in_order n.left) n.item (in_order n.right) c.args.n c.find-found.result
-        _ refl refl refl refl c.find-found.ensures.found)
+    g.P.Measured.chars g.P.Measured.lines (in_order n.left) n.item (in_order n.right) c.args.n c.find-found.result
+    _ refl refl refl refl c.find-found.ensures.found)
 
 pub returns-clause-found : goal.returns-clause-found
 returns-clause-found g t c =
@@ -34,8 +34,8 @@ returns-clause-found g t c =
     let lines_is : c.lines-lines_before.result + c.lines.result + c.find-found-2.result.lines_before
     ≡ sum_by g.P.Measured.lines (in_order n.left) + g.P.Measured.lines n.item + c.find-found-2.result.lines_before = omega (arith, c.lines-lines_before.ensures, c.lines.ensures) in
     rw (ap in_order tree_is) (found_after size g.P.Measured.chars g.P.Measured.lines (in_order n.left) n.item
-        (in_order n.right) c.args.n k c.find-found-2.result _ index_is refl sum_is chars_is lines_is
-        c.find-found-2.ensures.found)
+    (in_order n.right) c.args.n k c.find-found-2.result _ index_is refl sum_is chars_is lines_is
+    c.find-found-2.ensures.found)
 
 pub overflow_add-result-8 : goal.overflow_add-result-8
 overflow_add-result-8 g t c =

@@ -8,36 +8,36 @@ pub sums-old_chars-requires-clause-chars_fit : goal.sums-old_chars-requires-clau
 sums-old_chars-requires-clause-chars_fit g c =
     let within : sum_by g.P.Measured.chars c.deref-2.result.now ≤ c.self.inside.chars =
     range_within g.P.Measured.chars c.reserve.new.self.items c.deref-2.result.now c.args.range.start c.args.range.end
-        c.self.inside.chars c.requires.ordered (c.self.invariant.0
-        ∙ ap (sum_by g.P.Measured.chars) (sym c.reserve.ensures.items)) (c.deref-2.ensures.value
-        ∙ c.put_in.ensures.moved) in
+    c.self.inside.chars c.requires.ordered (c.self.invariant.0
+    ∙ ap (sum_by g.P.Measured.chars) (sym c.reserve.ensures.items)) (c.deref-2.ensures.value
+    ∙ c.put_in.ensures.moved) in
     omega arith
 
 pub overflow_sub-self : goal.overflow_sub-self
 overflow_sub-self g c =
     let within : sum_by g.P.Measured.chars c.deref-2.result.now ≤ c.self.inside.chars =
     range_within g.P.Measured.chars c.reserve.new.self.items c.deref-2.result.now c.args.range.start c.args.range.end
-        c.self.inside.chars c.requires.ordered (c.self.invariant.0
-        ∙ ap (sum_by g.P.Measured.chars) (sym c.reserve.ensures.items)) (c.deref-2.ensures.value
-        ∙ c.put_in.ensures.moved) in
+    c.self.inside.chars c.requires.ordered (c.self.invariant.0
+    ∙ ap (sum_by g.P.Measured.chars) (sym c.reserve.ensures.items)) (c.deref-2.ensures.value
+    ∙ c.put_in.ensures.moved) in
     omega (arith, c.sums-old_chars.ensures.chars)
 
 pub sums-old_chars-requires-clause-lines_fit : goal.sums-old_chars-requires-clause-lines_fit
 sums-old_chars-requires-clause-lines_fit g c =
     let within : sum_by g.P.Measured.lines c.deref-2.result.now ≤ c.self.inside.lines =
     range_within g.P.Measured.lines c.reserve.new.self.items c.deref-2.result.now c.args.range.start c.args.range.end
-        c.self.inside.lines c.requires.ordered (c.self.invariant.1
-        ∙ ap (sum_by g.P.Measured.lines) (sym c.reserve.ensures.items)) (c.deref-2.ensures.value
-        ∙ c.put_in.ensures.moved) in
+    c.self.inside.lines c.requires.ordered (c.self.invariant.1
+    ∙ ap (sum_by g.P.Measured.lines) (sym c.reserve.ensures.items)) (c.deref-2.ensures.value
+    ∙ c.put_in.ensures.moved) in
     omega arith
 
 pub overflow_sub-self-2 : goal.overflow_sub-self-2
 overflow_sub-self-2 g c =
     let within : sum_by g.P.Measured.lines c.deref-2.result.now ≤ c.self.inside.lines =
     range_within g.P.Measured.lines c.reserve.new.self.items c.deref-2.result.now c.args.range.start c.args.range.end
-        c.self.inside.lines c.requires.ordered (c.self.invariant.1
-        ∙ ap (sum_by g.P.Measured.lines) (sym c.reserve.ensures.items)) (c.deref-2.ensures.value
-        ∙ c.put_in.ensures.moved) in
+    c.self.inside.lines c.requires.ordered (c.self.invariant.1
+    ∙ ap (sum_by g.P.Measured.lines) (sym c.reserve.ensures.items)) (c.deref-2.ensures.value
+    ∙ c.put_in.ensures.moved) in
     omega (arith, c.sums-old_chars.ensures.lines)
 
 pub invariant_of-self-2 : goal.invariant_of-self-2
@@ -61,10 +61,10 @@ overflow_add-self g c =
     let new_is : c.put_in.new.items.items ≡ splice c.args.self.now c.args.range.start c.args.range.end c.args.new_items.items =
     c.put_in.ensures.items ∙ ap (λ xs. splice xs c.args.range.start c.args.range.end c.args.new_items.items) (c.reserve.ensures.items ∙ c.self.view_is) in
     let sum_is = sum_after g.P.Measured.chars c.reserve.new.self.items c.args.new_items.items c.deref.result.now
-        c.deref-2.result.now c.put_in.new.items.items c.args.range.start c.args.range.end c.self.inside.chars
-        c.sums-old_chars.result.0 c.sums-new_chars.result.0
+    c.deref-2.result.now c.put_in.new.items.items c.args.range.start c.args.range.end c.self.inside.chars
+    c.sums-old_chars.result.0 c.sums-new_chars.result.0
     c.requires.ordered (c.self.invariant.0 ∙ ap (sum_by g.P.Measured.chars) (sym c.reserve.ensures.items)) old_is
-        c.sums-old_chars.ensures.chars c.deref.ensures.value c.sums-new_chars.ensures.chars c.put_in.ensures.items in
+    c.sums-old_chars.ensures.chars c.deref.ensures.value c.sums-new_chars.ensures.chars c.put_in.ensures.items in
     let fits : c.self.inside.chars - c.sums-old_chars.result.0 + c.sums-new_chars.result.0 < 2 ^ 64 = rw (sum_is, new_is) c.requires.chars_fit in
     omega arith
 
@@ -74,10 +74,10 @@ overflow_add-self-2 g c =
     let new_is : c.put_in.new.items.items ≡ splice c.args.self.now c.args.range.start c.args.range.end c.args.new_items.items =
     c.put_in.ensures.items ∙ ap (λ xs. splice xs c.args.range.start c.args.range.end c.args.new_items.items) (c.reserve.ensures.items ∙ c.self.view_is) in
     let sum_is = sum_after g.P.Measured.lines c.reserve.new.self.items c.args.new_items.items c.deref.result.now
-        c.deref-2.result.now c.put_in.new.items.items c.args.range.start c.args.range.end c.self.inside.lines
-        c.sums-old_chars.result.1 c.sums-new_chars.result.1
+    c.deref-2.result.now c.put_in.new.items.items c.args.range.start c.args.range.end c.self.inside.lines
+    c.sums-old_chars.result.1 c.sums-new_chars.result.1
     c.requires.ordered (c.self.invariant.1 ∙ ap (sum_by g.P.Measured.lines) (sym c.reserve.ensures.items)) old_is
-        c.sums-old_chars.ensures.lines c.deref.ensures.value c.sums-new_chars.ensures.lines c.put_in.ensures.items in
+    c.sums-old_chars.ensures.lines c.deref.ensures.value c.sums-new_chars.ensures.lines c.put_in.ensures.items in
     let fits : c.self.inside.lines - c.sums-old_chars.result.1 + c.sums-new_chars.result.1 < 2 ^ 64 = rw (sum_is, new_is) c.requires.lines_fit in
     omega arith
 

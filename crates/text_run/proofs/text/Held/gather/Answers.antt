@@ -22,9 +22,15 @@ front_len bytes front is = ap length is ∙ length-take-le (utf8_valid_len bytes
 pub fault_ahead-requires-clause-few : goal.fault_ahead-requires-clause-few
 fault_ahead-requires-clause-few c =
     let bytes = take (c.args.self.now.waiting + c.args.len) c.deref.result.now in
-    omega (arith, front_few bytes, ap (λ t. length (chars t)) c.front-is_bad.ensures.text, length-take-le
-        (c.args.self.now.waiting + c.args.len) c.deref.result.now (omega (arith, c.requires.len, c.deref.ensures.len)),
-        c.requires.room, c.requires.len)
+    omega (
+      arith,
+      front_few bytes,
+      ap (λ t. length (chars t)) c.front-is_bad.ensures.text,
+      length-take-le
+          (c.args.self.now.waiting + c.args.len) c.deref.result.now (omega (arith, c.requires.len, c.deref.ensures.len)),
+      c.requires.room,
+      c.requires.len,
+    )
 
 pub returns-in-Some-clause-gathers : goal.returns-in-Some-clause-gathers
 returns-in-Some-clause-gathers c =
@@ -39,7 +45,7 @@ returns-in-Some-clause-gathers c =
           subst (λ (t : List ℕ). IsFaultAhead (cut_by (rules_of c.args.engine.now)) t (is_bad bytes) (old.decoded + utf8_valid_len bytes) c.in-Some.fault)
           (ap₂ (λ (x y : List ℕ). x ++ chars y) c.deref-2.ensures.value c.front-is_bad.ensures.text)
           (subst (λ (b : Bool). IsFaultAhead (cut_by (rules_of c.args.engine.now)) (c.deref-2.result.now
-              ++ chars front) b (old.decoded + utf8_valid_len bytes) c.in-Some.fault) c.front-is_bad.ensures.bad
+          ++ chars front) b (old.decoded + utf8_valid_len bytes) c.in-Some.fault) c.front-is_bad.ensures.bad
           (subst (λ (n : ℕ). IsFaultAhead (cut_by (rules_of c.args.engine.now)) (c.deref-2.result.now ++ chars front) c.front-is_bad.result.1 (old.decoded + n) c.in-Some.fault)
           (front_len bytes front c.front-is_bad.ensures.text) c.in-Some.ensures.some));
       fault_is = refl;
@@ -50,18 +56,29 @@ returns-in-Some-clause-gathers c =
 pub keep_bytes-requires-clause-within : goal.keep_bytes-requires-clause-within
 keep_bytes-requires-clause-within c =
     let bytes = take (c.args.self.now.waiting + c.args.len) c.deref.result.now in (
-      omega (arith, front_len bytes c.front-is_bad.result.0.now c.front-is_bad.ensures.text, utf8_valid_len_le bytes,
-          length-take-le (c.args.self.now.waiting + c.args.len) c.deref.result.now
-          (omega (arith, c.requires.len, c.deref.ensures.len))),
+      omega (
+        arith,
+        front_len bytes c.front-is_bad.result.0.now c.front-is_bad.ensures.text,
+        utf8_valid_len_le bytes,
+        length-take-le (c.args.self.now.waiting + c.args.len) c.deref.result.now
+            (omega (arith, c.requires.len, c.deref.ensures.len)),
+      ),
       omega (arith, c.requires.len, ap (λ (h : Held). vec_len h.piece) c.keep_text.ensures.same),
     )
 
 pub keep_bytes-requires-clause-counted : goal.keep_bytes-requires-clause-counted
 keep_bytes-requires-clause-counted c =
     let bytes = take (c.args.self.now.waiting + c.args.len) c.deref.result.now in
-    omega (arith, c.requires.counted, ap (λ (h : Held). h.decoded) c.keep_text.ensures.same, front_len bytes
-        c.front-is_bad.result.0.now c.front-is_bad.ensures.text, utf8_valid_len_le bytes, length-take-le
-        (c.args.self.now.waiting + c.args.len) c.deref.result.now (omega (arith, c.requires.len, c.deref.ensures.len)))
+    omega (
+      arith,
+      c.requires.counted,
+      ap (λ (h : Held). h.decoded) c.keep_text.ensures.same,
+      front_len bytes
+          c.front-is_bad.result.0.now c.front-is_bad.ensures.text,
+      utf8_valid_len_le bytes,
+      length-take-le
+          (c.args.self.now.waiting + c.args.len) c.deref.result.now (omega (arith, c.requires.len, c.deref.ensures.len)),
+    )
 
 -- what is left of a text is the end of it
 rest_is : (text front rest : List ℕ) → text ≡ front ++ rest → drop (length text - length rest) text ≡ rest

@@ -10,14 +10,14 @@ invariant_of-self g c =
     let len : length new ≡ length c.self.inside.named.items = c.name_all.auto.named ∙ ap length c.deref_mut.ensures.value in
     let is : take c.self.inside.named.len (new ++ drop (length new) c.self.inside.named.items) ≡ new =
     rw (drop_all (length new) c.self.inside.named.items (omega arith), append-nil new)
-        (take_all c.self.inside.named.len new
-        (omega (arith, len, c.deref_mut.ensures.len, ap length c.deref_mut.ensures.value))) in
+    (take_all c.self.inside.named.len new
+    (omega (arith, len, c.deref_mut.ensures.len, ap length c.deref_mut.ensures.value))) in
     rw (c.in-Ok.ensures.items, is) (
       apart_push _ _ c.args.entry before.0 before.1 (omega arith) (omega arith) (rw (← c.self.view_is) at c.requires.free),
       named_push _ _ c.args.entry before.0 before.1 (omega arith) (omega arith) (rw (← c.self.view_is) at c.requires.free) new len (λ k. c.name_all.ensures k ∙ rw c.deref_mut.ensures.value refl),
     )
 
-pub returns-in-Ok : goal.returns-in-Ok
-returns-in-Ok g c =
+pub returns-in-Ok-clause-ok : goal.returns-in-Ok-clause-ok
+returns-in-Ok-clause-ok g c =
     let before = c.self.invariant in
     rw (c.in-Ok.ensures.items, ← c.self.view_is) (adds_push _ _ c.args.entry before.0 before.1 (omega arith) (omega arith) (rw (← c.self.view_is) at c.requires.free))

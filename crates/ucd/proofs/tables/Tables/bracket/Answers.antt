@@ -7,9 +7,9 @@ use Rattle.ucd.proofs.tables.Tables.bracket.Goals as goal
 pub returns-then-has_bracket : goal.returns-then-has_bracket
 returns-then-has_bracket c =
     rw (← c.self.view_is) (c.copied.ensures ∙ c.get-then-has_bracket.ensures.value
-        ∙ ap (get nat_cmp c.self.inside.brackets) c.from.ensures
-        ∙ sym (bracket_is c.self.inside.pages.index.items c.self.inside.pages.entries.items c.self.inside.brackets
-        c.self.inside.mirrors c.args.c (omega (arith, c.ranges.c))))
+    ∙ ap (get nat_cmp c.self.inside.brackets) c.from.ensures
+    ∙ sym (bracket_is c.self.inside.pages.index.items c.self.inside.pages.entries.items c.self.inside.brackets
+    c.self.inside.mirrors c.args.c (omega (arith, c.ranges.c))))
 
 pub returns-else-has_bracket : goal.returns-else-has_bracket
 returns-else-has_bracket c =
