@@ -7,8 +7,11 @@
 #             that fail, Unicode's conformance tests, the libraries' tests, the stored runs, the format, the table
 #             of break marks, and the editor of examples/coedit under tmux
 # make test   the gate: every proof from nothing, the must-fail edits, the tests and the stored runs; then what the
-#             documents name, the cases, each allocation refused in turn, and each call of a device failing
+#             documents name, the cases, each allocation refused in turn, each call of a device failing, and the C library
 # make attack the other wrong bodies, many at a time, over what make has built: make attack CRATES="lines session"
+# make c      proves and builds the C library, as bin/libhordguli.a and bin/libhordguli.so.0 (CC, CXX, CFLAGS, LDFLAGS)
+# make install  lays down the command, the C library, the table files and the manual pages, which make, make c and
+#             make ucd have made: PREFIX=/usr/local DESTDIR= LIBDIR= COMMAND=fribidi. make uninstall takes them away
 # make conformance  Unicode's three conformance tests, of that version and package, over what the proved library finds
 # make bench  the time of the command beside that of Debian's fribidi and of ICU, edits a second of a session and lines a
 #             second of a script, and the time of levels, of break marks and of filling by what a text is made of, of stores,
@@ -20,7 +23,7 @@ JOBS := $(shell nproc)
 TABLES = DerivedBidiClass BidiBrackets BidiMirroring LineBreak DerivedGeneralCategory EastAsianWidth emoji-data
 OPTIONS = --width 44 --basedir
 
-.PHONY: all program ucd demo check tmux test attack bench-program conformance bench
+.PHONY: all program ucd demo check tmux test attack bench-program conformance bench c install uninstall
 
 all: programs = fribidi bench refused
 program: programs = fribidi
@@ -58,6 +61,7 @@ ucd:
 	@mkdir -p ucd
 	@cd $(UNICODE) && cp extracted/DerivedBidiClass.txt BidiBrackets.txt BidiMirroring.txt LineBreak.txt \
 		extracted/DerivedGeneralCategory.txt EastAsianWidth.txt emoji/emoji-data.txt $(CURDIR)/ucd/
+	@cp /usr/share/doc/unicode-data/copyright ucd/
 	@[ -n '$(VERSION)' ] || { echo "crates/ucd/src/version.rt names no version"; exit 1; }
 	@for file in ucd/*.txt; do head -n 12 $$file | grep -qF '$(VERSION)' \
 		|| { echo "$$file is not of Unicode $(VERSION)"; exit 1; }; done
@@ -83,7 +87,19 @@ tmux:
 
 test:
 	@log=$$(mktemp) && bash -o pipefail -c "RT_JOBS=$$(.ci/lanes) rt ci | tee $$log && .ci/names $$log | tee -a $$log \
-		&& cases/run $$log | tee -a $$log && faults/run $$log"; status=$$?; rm -f $$log; exit $$status
+		&& cases/run $$log | tee -a $$log && faults/run $$log | tee -a $$log && .ci/c $$log"; status=$$?; rm -f $$log; exit $$status
+
+c:
+	$(MAKE) --no-print-directory --jobs=$(JOBS) lib-hordguli_c
+	c/build
+
+# (by the environment, so that a path may have spaces)
+install uninstall: export PREFIX := $(PREFIX)
+install uninstall: export LIBDIR := $(LIBDIR)
+install uninstall: export DESTDIR := $(DESTDIR)
+install uninstall: export COMMAND := $(COMMAND)
+install uninstall:
+	@c/install $@
 
 attack:
 	attack/run $(CRATES)
@@ -91,7 +107,7 @@ attack:
 conformance: bench-program ucd
 	conformance/run
 
-bench: bench-program ucd
+bench: bench-program c ucd
 	bench/compare
 	bench/edits
 	bench/levels
@@ -100,4 +116,5 @@ bench: bench-program ucd
 	bench/store
 	bench/stream
 	bench/script
+	bench/c
 	bench/hostile

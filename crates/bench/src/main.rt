@@ -3,6 +3,8 @@
 //! - `bench edits KIND PARAGRAPHS EDITS` makes edits in a session over a `list` or a `tree` of paragraphs,
 //!   and prints what it keeps in the end.
 //! - `bench session UCD KIND PARAGRAPHS EDITS` prints how long a session takes to be opened, and for an edit.
+//! - `bench calls UCD FILE INSERTS` prints how long a session takes to be opened on a text, for inserts, and to be
+//!   read line by line.
 //! - `bench width UCD KIND FILE` prints how long width changes of a text take, beside laying out and filling.
 //! - `bench levels UCD CHARACTERS` prints how long the levels of a paragraph take, for texts of many
 //!   kinds, with the table files of the folder UCD.
@@ -18,6 +20,7 @@
 //! - `bench lines-of UCD DIRECTION` prints the base level, the levels and the order of each, in one line.
 #![tactic(auto)]
 
+mod calls;
 mod conformance;
 mod edits;
 mod fill;
@@ -42,6 +45,7 @@ fn main(rt: HostRuntime) -> Result<()> {
 enum Subject {
     Edits,
     Session,
+    Calls,
     Width,
     Levels,
     Layouts,
@@ -52,9 +56,10 @@ enum Subject {
     LinesOf,
 }
 
-const SUBJECTS: [(&str, Subject); 10] = [
+const SUBJECTS: [(&str, Subject); 11] = [
     ("edits", Subject::Edits),
     ("session", Subject::Session),
+    ("calls", Subject::Calls),
     ("width", Subject::Width),
     ("levels", Subject::Levels),
     ("layouts", Subject::Layouts),
@@ -97,6 +102,7 @@ fn run_on_tables(rt: &HostRuntime, subject: Subject, folder: &str, words: &[Stri
                 number(words, 5),
             )
         }
+        Subject::Calls => calls::run(rt, folder, word(words, 3), number(words, 4)),
         Subject::Width => sessions::set_width(rt, folder, kind(words, 3)?, word(words, 4)),
         Subject::Levels => levels::run(rt, folder, number(words, 3)),
         Subject::Layouts => levels::lay_out_each(rt, folder, number(words, 3)),

@@ -1,8 +1,8 @@
--- The exit status where a command line is refused.
-use Rattle.std.specs.Prelude.{ℕ}
+-- The exit status where a command line is refused, and whether it is for want of a folder.
+use Rattle.std.specs.Prelude.{Bool, true, false, ℕ}
 use Rattle.clap.specs.Words.{kind_of}
 use Rattle.clap.specs.declared.error.kind.ErrorKind.{ErrorKind}
-use Rattle.clap.specs.declared.error.kind.ErrorKind.TheVariants.{DisplayHelp, DisplayVersion}
+use Rattle.clap.specs.declared.error.kind.ErrorKind.TheVariants.{DisplayHelp, DisplayVersion, MissingRequiredArgument}
 use Rattle.command_line.specs.declared.options.SettingsFault.{SettingsFault}
 use Rattle.command_line.specs.declared.options.SettingsFault.TheVariants.{Words, NoMemory}
 
@@ -16,3 +16,12 @@ abbrev pub status_of_line : SettingsFault → ℕ
 status_of_line (Words error) = status_of_words (kind_of error)
 status_of_line NoMemory = 1
 status_of_line fault = 2
+
+-- the folder is the one option that the words have to have
+abbrev pub is_missing : ErrorKind → Bool
+is_missing MissingRequiredArgument = true
+is_missing kind = false
+
+abbrev pub lacks_folder : SettingsFault → Bool
+lacks_folder (Words error) = is_missing (kind_of error)
+lacks_folder fault = false

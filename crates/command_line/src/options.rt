@@ -1,6 +1,7 @@
 //! What a command line asks for, and why one is refused.
 ghost use Rattle.std.specs.Prelude.{◌≡◌};
 
+use clap::error::ErrorKind;
 use lines::{Options, Print};
 use thiserror::Error;
 
@@ -40,7 +41,7 @@ pub enum SettingsFault {
 }
 
 impl SettingsFault {
-    ghost use Rattle.command_line.specs.Status.{status_of_line};
+    ghost use Rattle.command_line.specs.Status.{lacks_folder, status_of_line};
 
     /// The exit status: 0 for help, 1 where memory ran out, and else 2.
     pub fn status(&self) -> u8
@@ -52,6 +53,16 @@ impl SettingsFault {
             SettingsFault::Directions => 2,
             SettingsFault::ScriptFiles => 2,
             SettingsFault::Queries => 2,
+        }
+    }
+
+    /// Whether the words are refused since they name no folder of table files, which alone they have to name.
+    pub fn lacks_folder(&self) -> bool
+        ensures { result ≡ lacks_folder self.now }
+    {
+        match self {
+            SettingsFault::Words(error) => error.kind() == ErrorKind::MissingRequiredArgument,
+            _ => false,
         }
     }
 }

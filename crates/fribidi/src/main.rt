@@ -3,8 +3,11 @@
 
 ghost use Rattle.std.specs.Prelude.{◌<◌};
 
+mod installed;
+
 use command_line::{Settings, SettingsFault, settings};
 use device::{FromRead, ToWrite};
+use installed::{installed_folder, with_folder};
 use lines::Engine;
 use session::{Kept, Session};
 use std::alloc::{AllocError, Global};
@@ -49,7 +52,30 @@ fn run(rt: &HostRuntime) -> Result<(), ProgramFault> {
 // What the words ask for. It and those that it calls hold one value each that takes memory, since all that is
 // held when one of many calls fails makes the proof longer.
 fn run_words(rt: &HostRuntime, words: &[&str]) -> Result<(), ProgramFault> {
-    let settings = settings(rt.alloc(), words).map_err(ProgramFault::Line)?;
+    match settings(rt.alloc(), words) {
+        Ok(settings) => run_settings(rt, &settings),
+        Err(fault) if fault.lacks_folder() => run_installed(rt, words, fault),
+        Err(fault) => Err(ProgramFault::Line(fault)),
+    }
+}
+
+// Words that name no folder ask for what they ask for with the installed one before them, where there is one.
+fn run_installed(
+    rt: &HostRuntime,
+    words: &[&str],
+    fault: SettingsFault,
+) -> Result<(), ProgramFault> {
+    match installed_folder(rt)? {
+        Some(folder) => run_over(rt, folder.as_str(), words),
+        None => Err(ProgramFault::Line(fault)),
+    }
+}
+
+fn run_over(rt: &HostRuntime, folder: &str, words: &[&str]) -> Result<(), ProgramFault> {
+    let Ok(words) = with_folder(rt.alloc(), folder, words) else {
+        return Err(ProgramFault::Line(SettingsFault::NoMemory));
+    };
+    let settings = settings(rt.alloc(), &words).map_err(ProgramFault::Line)?;
     run_settings(rt, &settings)
 }
 

@@ -1,0 +1,73 @@
+/* The calls of the proved crate hordguli_c, over which hordguli.c is written. Each does the whole of the call of the
+ * same name; what is left to C is what they cannot test: that no pointer is null, that a width is below 65,536, that no
+ * two arrays overlap. An array is a pointer, which is never null, and its length; one of length 0 may point anywhere but
+ * to null, and is aligned for its type. A status is a number of hordguli.h, from 0 to 12. */
+#ifndef HORDGULI_CORE_H
+#define HORDGULI_CORE_H
+
+#include "hordguli.h"
+
+/* Here `fault` is never null. */
+uint32_t hordguli_core_tables_read(hordguli_tables *tables, const uint8_t *bidi_class, size_t bidi_class_length,
+                                   const uint8_t *bidi_brackets, size_t bidi_brackets_length,
+                                   const uint8_t *bidi_mirroring, size_t bidi_mirroring_length,
+                                   const uint8_t *line_break, size_t line_break_length,
+                                   const uint8_t *general_category, size_t general_category_length,
+                                   const uint8_t *east_asian_width, size_t east_asian_width_length,
+                                   const uint8_t *emoji_data, size_t emoji_data_length, hordguli_table_fault *fault);
+void hordguli_core_tables_close(hordguli_tables *tables);
+
+uint32_t hordguli_core_session_open(hordguli_session *session, hordguli_tables *tables, uint32_t options,
+                                    uint16_t width, const uint8_t *text, size_t length);
+void hordguli_core_session_close(hordguli_session *session);
+
+uint32_t hordguli_core_insert(hordguli_session *session, size_t pos, const uint8_t *text, size_t length,
+                              hordguli_damage *damage);
+uint32_t hordguli_core_delete(hordguli_session *session, size_t pos, size_t count, hordguli_damage *damage);
+uint32_t hordguli_core_replace(hordguli_session *session, size_t pos, size_t count, const uint8_t *text, size_t length,
+                               hordguli_damage *damage);
+uint32_t hordguli_core_set_width(hordguli_session *session, uint16_t width, hordguli_damage *damage);
+
+uint32_t hordguli_core_session_counts(hordguli_session *session, hordguli_counts *counts);
+uint32_t hordguli_core_session_work(hordguli_session *session, hordguli_work *work);
+
+uint32_t hordguli_core_line_start(hordguli_session *session, size_t line, size_t *start);
+uint32_t hordguli_core_place_of(hordguli_session *session, size_t pos, hordguli_place *place);
+uint32_t hordguli_core_caret_at(hordguli_session *session, size_t pos, hordguli_caret *caret);
+uint32_t hordguli_core_hit_at(hordguli_session *session, size_t line, size_t column, hordguli_hit *hit);
+uint32_t hordguli_core_cluster_at(hordguli_session *session, size_t pos, hordguli_cluster *cluster);
+
+/* Which arrays are wanted; one that is not is handed in with length 0, and is not looked at. */
+#define HORDGULI_CORE_CHARACTERS UINT32_C(1)
+#define HORDGULI_CORE_LEVELS UINT32_C(2)
+#define HORDGULI_CORE_LTOV UINT32_C(4)
+#define HORDGULI_CORE_VTOL UINT32_C(8)
+#define HORDGULI_CORE_COLUMNS UINT32_C(16)
+uint32_t hordguli_core_line(hordguli_session *session, size_t line, hordguli_line_info *info, uint32_t wanted,
+                            uint32_t *characters, size_t characters_room, uint8_t *levels, size_t levels_room,
+                            uint32_t *ltov, size_t ltov_room, uint32_t *vtol, size_t vtol_room, size_t *columns,
+                            size_t columns_room);
+
+uint32_t hordguli_core_lines_utf8(hordguli_session *session, size_t first, size_t count, uint32_t print, uint8_t *bytes,
+                                  size_t room, size_t *length);
+uint32_t hordguli_core_text(hordguli_session *session, size_t pos, size_t count, uint8_t *bytes, size_t room,
+                            size_t *length);
+uint32_t hordguli_core_utf8_length(hordguli_session *session, size_t pos, size_t count, size_t *length);
+
+/* Which arrays are wanted, as above. */
+#define HORDGULI_CORE_PARAGRAPH_LEVELS UINT32_C(1)
+#define HORDGULI_CORE_PARAGRAPH_MARKS UINT32_C(2)
+uint32_t hordguli_core_paragraph(hordguli_session *session, size_t paragraph, hordguli_paragraph_info *info,
+                                 uint32_t wanted, uint8_t *levels, size_t levels_room, uint8_t *marks,
+                                 size_t marks_room);
+
+uint32_t hordguli_core_base(hordguli_tables *tables, uint32_t direction, const uint32_t *characters, size_t count,
+                            uint32_t *base);
+uint32_t hordguli_core_levels(hordguli_tables *tables, uint32_t direction, const uint32_t *characters, size_t count,
+                              uint8_t *levels, size_t room);
+uint32_t hordguli_core_marks(hordguli_tables *tables, uint32_t options, const uint32_t *characters, size_t count,
+                             uint8_t *marks, size_t room);
+
+uint32_t hordguli_core_count_utf8(const uint8_t *bytes, size_t length, size_t *count);
+
+#endif

@@ -1,0 +1,85 @@
+/* Opens tables of the files of a folder. */
+#include "hordguli.h"
+
+#include <errno.h>
+#include <fcntl.h>
+#include <stdlib.h>
+#include <string.h>
+#include <unistd.h>
+
+#define PUBLIC __attribute__((visibility("default")))
+
+/* In the order of hordguli.h. */
+static const char *const names[HORDGULI_TABLE_FILES] = {
+    "DerivedBidiClass.txt",       "BidiBrackets.txt",   "BidiMirroring.txt", "LineBreak.txt",
+    "DerivedGeneralCategory.txt", "EastAsianWidth.txt", "emoji-data.txt",
+};
+
+/* Bytes on the heap. */
+typedef struct content {
+    char *bytes;
+    size_t length;
+} content;
+
+/* Reads all of what is open. */
+static hordguli_status read_all(int file, content *into) {
+    size_t room = 0;
+    for (;;) {
+        ssize_t got;
+        if (into->length == room) {
+            char *more = room > SIZE_MAX / 4 ? NULL : realloc(into->bytes, room == 0 ? (size_t)1 << 18 : room * 2);
+            if (more == NULL) return HORDGULI_NO_MEMORY;
+            into->bytes = more;
+            room = room == 0 ? (size_t)1 << 18 : room * 2;
+        }
+        got = read(file, into->bytes + into->length, room - into->length);
+        if (got == 0) return HORDGULI_OK;
+        if (got > 0)
+            into->length += (size_t)got;
+        else if (errno != EINTR)
+            return errno == ENOMEM ? HORDGULI_NO_MEMORY : HORDGULI_UNREAD_FILE;
+    }
+}
+
+static hordguli_status read_file(const char *folder, const char *name, content *into) {
+    size_t length = strlen(folder);
+    char *path = malloc(length + strlen(name) + 2);
+    hordguli_status status;
+    int file;
+    if (path == NULL) return HORDGULI_NO_MEMORY;
+    memcpy(path, folder, length);
+    path[length] = '/';
+    strcpy(path + length + 1, name);
+    do
+        file = open(path, O_RDONLY | O_CLOEXEC);
+    while (file < 0 && errno == EINTR);
+    free(path);
+    if (file < 0) return errno == ENOMEM ? HORDGULI_NO_MEMORY : HORDGULI_UNREAD_FILE;
+    status = read_all(file, into);
+    close(file);
+    return status;
+}
+
+PUBLIC hordguli_status hordguli_tables_open_folder(hordguli_tables *tables, const char *folder,
+                                                   hordguli_table_fault *fault) {
+    content contents[HORDGULI_TABLE_FILES] = {{NULL, 0}};
+    hordguli_bytes files[HORDGULI_TABLE_FILES];
+    hordguli_status status = HORDGULI_OK;
+    uintptr_t a = (uintptr_t)tables, b = (uintptr_t)fault;
+    if (tables == NULL || folder == NULL) return HORDGULI_NULL;
+    if (fault != NULL && (a < b ? b - a < sizeof *tables : a - b < sizeof *fault)) return HORDGULI_OVERLAP;
+    if (tables->at != NULL) return HORDGULI_ALREADY_OPEN;
+    for (uint32_t k = 0; k < HORDGULI_TABLE_FILES && status == HORDGULI_OK; k++) {
+        status = read_file(folder, names[k], &contents[k]);
+        files[k].bytes = contents[k].bytes;
+        files[k].length = contents[k].length;
+        if (status == HORDGULI_UNREAD_FILE && fault != NULL) {
+            fault->file = k;
+            fault->cause = 0;
+            fault->line = 0;
+        }
+    }
+    if (status == HORDGULI_OK) status = hordguli_tables_read(tables, files, fault);
+    for (size_t k = 0; k < HORDGULI_TABLE_FILES; k++) free(contents[k].bytes);
+    return status;
+}

@@ -1,0 +1,270 @@
+/* The calls of hordguli.h, over those of the proved crate hordguli_c. What is decided here is what that cannot test: that
+ * no pointer is null but where there is nothing at it, that no array and nothing that is written has a byte in common
+ * with another or with a handle, and that a width fits into 16 bits. All else is the core's. */
+#include "core.h"
+
+#define PUBLIC __attribute__((visibility("default")))
+
+/* ---- What pointers point to ---- */
+
+typedef struct part {
+    const void *at;
+    size_t size;
+} part;
+
+/* Whether two parts have a byte in common. One that is longer than any object can be has it with all. */
+static int overlap(const part *parts, size_t count) {
+    for (size_t i = 0; i < count; i++) {
+        uintptr_t a = (uintptr_t)parts[i].at;
+        if (parts[i].size == 0) continue;
+        if (parts[i].size > PTRDIFF_MAX || a > UINTPTR_MAX - parts[i].size) return 1;
+        for (size_t j = 0; j < i; j++) {
+            uintptr_t b = (uintptr_t)parts[j].at;
+            if (parts[j].size != 0 && (a < b ? b - a < parts[i].size : a - b < parts[j].size)) return 1;
+        }
+    }
+    return 0;
+}
+
+static size_t times(size_t count, size_t size) { return count > SIZE_MAX / size ? SIZE_MAX : count * size; }
+
+#define OVERLAP(...) overlap((const part[]){__VA_ARGS__}, sizeof((const part[]){__VA_ARGS__}) / sizeof(part))
+#define AT(pointer) {(pointer), sizeof *(pointer)}
+#define ARRAY(pointer, count) {(pointer), (pointer) == NULL ? 0 : times((count), sizeof *(pointer))}
+#define LACKS(pointer, count) ((pointer) == NULL && (count) != 0)
+
+/* What stands where an array has no elements: it is never null, and nothing is read or written there. */
+#define BYTES(pointer) ((const uint8_t *)((pointer) == NULL ? (const void *)"" : (const void *)(pointer)))
+#define ROOM(type, pointer, none) ((pointer) == NULL ? (none) : (type *)(pointer))
+#define LENGTH(pointer, count) ((pointer) == NULL ? 0 : (count))
+
+/* ---- Constants ---- */
+
+PUBLIC const char *hordguli_status_text(hordguli_status status) {
+    static const char *const texts[] = {
+        [HORDGULI_OK] = "ok",
+        [HORDGULI_OUT_OF_RANGE] = "no such position, range, line or paragraph",
+        [HORDGULI_WIDTH_OUT_OF_RANGE] = "a width is 1 to 65535",
+        [HORDGULI_TEXT_TOO_LONG] = "text too long",
+        [HORDGULI_PARAGRAPH_TOO_LONG] = "paragraph too long",
+        [HORDGULI_NO_MEMORY] = "out of memory",
+        [HORDGULI_TABLE_FAULT] = "a table file is at fault",
+        [HORDGULI_NOT_UTF8] = "not UTF-8",
+        [HORDGULI_NOT_A_CHARACTER] = "not a character",
+        [HORDGULI_CLOSED] = "closed",
+        [HORDGULI_ALREADY_OPEN] = "already open",
+        [HORDGULI_UNKNOWN_OPTION] = "unknown option",
+        [HORDGULI_NO_ROOM] = "too little room",
+        [HORDGULI_NULL] = "null pointer",
+        [HORDGULI_OVERLAP] = "arrays overlap",
+        [HORDGULI_UNREAD_FILE] = "cannot read a table file",
+    };
+    return status >= 0 && status <= HORDGULI_UNREAD_FILE ? texts[status] : "unknown status";
+}
+
+PUBLIC const char *hordguli_version(void) { return HORDGULI_VERSION; }
+
+PUBLIC const char *hordguli_unicode_version(void) { return HORDGULI_UNICODE_VERSION; }
+
+/* ---- Tables ---- */
+
+PUBLIC hordguli_status hordguli_tables_read(hordguli_tables *tables, const hordguli_bytes files[HORDGULI_TABLE_FILES],
+                                            hordguli_table_fault *fault) {
+    hordguli_table_fault found = {0, 0, 0};
+    const uint8_t *bytes[HORDGULI_TABLE_FILES];
+    hordguli_status status;
+    if (tables == NULL || files == NULL) return HORDGULI_NULL;
+    if (OVERLAP(AT(tables), ARRAY(files, HORDGULI_TABLE_FILES), ARRAY(fault, 1))) return HORDGULI_OVERLAP;
+    for (size_t k = 0; k < HORDGULI_TABLE_FILES; k++) {
+        if (LACKS(files[k].bytes, files[k].length)) return HORDGULI_NULL;
+        if (OVERLAP(AT(tables), ARRAY(fault, 1), {files[k].bytes, files[k].length})) return HORDGULI_OVERLAP;
+        bytes[k] = BYTES(files[k].bytes);
+    }
+    status = (hordguli_status)hordguli_core_tables_read(
+        tables, bytes[0], files[0].length, bytes[1], files[1].length, bytes[2], files[2].length, bytes[3],
+        files[3].length, bytes[4], files[4].length, bytes[5], files[5].length, bytes[6], files[6].length, &found);
+    if (status == HORDGULI_TABLE_FAULT && fault != NULL) *fault = found;
+    return status;
+}
+
+PUBLIC void hordguli_tables_close(hordguli_tables *tables) {
+    if (tables != NULL) hordguli_core_tables_close(tables);
+}
+
+/* ---- Sessions ---- */
+
+PUBLIC hordguli_status hordguli_session_open(hordguli_session *session, hordguli_tables *tables, uint32_t options,
+                                             uint32_t width, const char *text, size_t length) {
+    if (session == NULL || tables == NULL || LACKS(text, length)) return HORDGULI_NULL;
+    if (OVERLAP(AT(session), AT(tables), ARRAY(text, length))) return HORDGULI_OVERLAP;
+    if (width > UINT16_MAX) return HORDGULI_WIDTH_OUT_OF_RANGE;
+    return (hordguli_status)hordguli_core_session_open(session, tables, options, (uint16_t)width, BYTES(text), length);
+}
+
+PUBLIC void hordguli_session_close(hordguli_session *session) {
+    if (session != NULL) hordguli_core_session_close(session);
+}
+
+PUBLIC hordguli_status hordguli_insert(hordguli_session *session, size_t pos, const char *text, size_t length,
+                                       hordguli_damage *damage) {
+    if (session == NULL || damage == NULL || LACKS(text, length)) return HORDGULI_NULL;
+    if (OVERLAP(AT(session), AT(damage), ARRAY(text, length))) return HORDGULI_OVERLAP;
+    return (hordguli_status)hordguli_core_insert(session, pos, BYTES(text), length, damage);
+}
+
+PUBLIC hordguli_status hordguli_delete(hordguli_session *session, size_t pos, size_t count, hordguli_damage *damage) {
+    if (session == NULL || damage == NULL) return HORDGULI_NULL;
+    if (OVERLAP(AT(session), AT(damage))) return HORDGULI_OVERLAP;
+    return (hordguli_status)hordguli_core_delete(session, pos, count, damage);
+}
+
+PUBLIC hordguli_status hordguli_replace(hordguli_session *session, size_t pos, size_t count, const char *text,
+                                        size_t length, hordguli_damage *damage) {
+    if (session == NULL || damage == NULL || LACKS(text, length)) return HORDGULI_NULL;
+    if (OVERLAP(AT(session), AT(damage), ARRAY(text, length))) return HORDGULI_OVERLAP;
+    return (hordguli_status)hordguli_core_replace(session, pos, count, BYTES(text), length, damage);
+}
+
+PUBLIC hordguli_status hordguli_set_width(hordguli_session *session, uint32_t width, hordguli_damage *damage) {
+    if (session == NULL || damage == NULL) return HORDGULI_NULL;
+    if (OVERLAP(AT(session), AT(damage))) return HORDGULI_OVERLAP;
+    if (width > UINT16_MAX) return HORDGULI_WIDTH_OUT_OF_RANGE;
+    return (hordguli_status)hordguli_core_set_width(session, (uint16_t)width, damage);
+}
+
+PUBLIC hordguli_status hordguli_session_counts(hordguli_session *session, hordguli_counts *counts) {
+    if (session == NULL || counts == NULL) return HORDGULI_NULL;
+    if (OVERLAP(AT(session), AT(counts))) return HORDGULI_OVERLAP;
+    return (hordguli_status)hordguli_core_session_counts(session, counts);
+}
+
+PUBLIC hordguli_status hordguli_session_work(hordguli_session *session, hordguli_work *work) {
+    if (session == NULL || work == NULL) return HORDGULI_NULL;
+    if (OVERLAP(AT(session), AT(work))) return HORDGULI_OVERLAP;
+    return (hordguli_status)hordguli_core_session_work(session, work);
+}
+
+/* ---- Places ---- */
+
+PUBLIC hordguli_status hordguli_line_start(hordguli_session *session, size_t line, size_t *start) {
+    if (session == NULL || start == NULL) return HORDGULI_NULL;
+    if (OVERLAP(AT(session), AT(start))) return HORDGULI_OVERLAP;
+    return (hordguli_status)hordguli_core_line_start(session, line, start);
+}
+
+PUBLIC hordguli_status hordguli_place_of(hordguli_session *session, size_t pos, hordguli_place *place) {
+    if (session == NULL || place == NULL) return HORDGULI_NULL;
+    if (OVERLAP(AT(session), AT(place))) return HORDGULI_OVERLAP;
+    return (hordguli_status)hordguli_core_place_of(session, pos, place);
+}
+
+PUBLIC hordguli_status hordguli_caret_at(hordguli_session *session, size_t pos, hordguli_caret *caret) {
+    if (session == NULL || caret == NULL) return HORDGULI_NULL;
+    if (OVERLAP(AT(session), AT(caret))) return HORDGULI_OVERLAP;
+    return (hordguli_status)hordguli_core_caret_at(session, pos, caret);
+}
+
+PUBLIC hordguli_status hordguli_hit_at(hordguli_session *session, size_t line, size_t column, hordguli_hit *hit) {
+    if (session == NULL || hit == NULL) return HORDGULI_NULL;
+    if (OVERLAP(AT(session), AT(hit))) return HORDGULI_OVERLAP;
+    return (hordguli_status)hordguli_core_hit_at(session, line, column, hit);
+}
+
+PUBLIC hordguli_status hordguli_cluster_at(hordguli_session *session, size_t pos, hordguli_cluster *cluster) {
+    if (session == NULL || cluster == NULL) return HORDGULI_NULL;
+    if (OVERLAP(AT(session), AT(cluster))) return HORDGULI_OVERLAP;
+    return (hordguli_status)hordguli_core_cluster_at(session, pos, cluster);
+}
+
+/* ---- Lines, paragraphs and text ---- */
+
+PUBLIC hordguli_status hordguli_line(hordguli_session *session, size_t line, hordguli_line_info *info, size_t room,
+                                     uint32_t *characters, uint8_t *levels, uint32_t *ltov, uint32_t *vtol,
+                                     size_t *columns) {
+    uint32_t none[1];
+    uint8_t no_levels[1];
+    size_t no_columns[1];
+    uint32_t wanted = (characters != NULL ? HORDGULI_CORE_CHARACTERS : 0) | (levels != NULL ? HORDGULI_CORE_LEVELS : 0)
+                      | (ltov != NULL ? HORDGULI_CORE_LTOV : 0) | (vtol != NULL ? HORDGULI_CORE_VTOL : 0)
+                      | (columns != NULL ? HORDGULI_CORE_COLUMNS : 0);
+    if (session == NULL || info == NULL) return HORDGULI_NULL;
+    if (OVERLAP(AT(session), AT(info), ARRAY(characters, room), ARRAY(levels, room), ARRAY(ltov, room),
+                ARRAY(vtol, room), ARRAY(columns, room)))
+        return HORDGULI_OVERLAP;
+    return (hordguli_status)hordguli_core_line(
+        session, line, info, wanted, ROOM(uint32_t, characters, none), LENGTH(characters, room),
+        ROOM(uint8_t, levels, no_levels), LENGTH(levels, room), ROOM(uint32_t, ltov, none), LENGTH(ltov, room),
+        ROOM(uint32_t, vtol, none), LENGTH(vtol, room), ROOM(size_t, columns, no_columns), LENGTH(columns, room));
+}
+
+PUBLIC hordguli_status hordguli_lines_utf8(hordguli_session *session, size_t first, size_t count, uint32_t print,
+                                           size_t room, char *bytes, size_t *length) {
+    uint8_t none[1];
+    if (session == NULL || length == NULL || LACKS(bytes, room)) return HORDGULI_NULL;
+    if (OVERLAP(AT(session), AT(length), ARRAY(bytes, room))) return HORDGULI_OVERLAP;
+    return (hordguli_status)hordguli_core_lines_utf8(session, first, count, print, ROOM(uint8_t, bytes, none), room,
+                                                     length);
+}
+
+PUBLIC hordguli_status hordguli_text(hordguli_session *session, size_t pos, size_t count, size_t room, char *bytes,
+                                     size_t *length) {
+    uint8_t none[1];
+    if (session == NULL || length == NULL || LACKS(bytes, room)) return HORDGULI_NULL;
+    if (OVERLAP(AT(session), AT(length), ARRAY(bytes, room))) return HORDGULI_OVERLAP;
+    return (hordguli_status)hordguli_core_text(session, pos, count, ROOM(uint8_t, bytes, none), room, length);
+}
+
+PUBLIC hordguli_status hordguli_utf8_length(hordguli_session *session, size_t pos, size_t count, size_t *length) {
+    if (session == NULL || length == NULL) return HORDGULI_NULL;
+    if (OVERLAP(AT(session), AT(length))) return HORDGULI_OVERLAP;
+    return (hordguli_status)hordguli_core_utf8_length(session, pos, count, length);
+}
+
+PUBLIC hordguli_status hordguli_paragraph(hordguli_session *session, size_t paragraph, hordguli_paragraph_info *info,
+                                          size_t room, uint8_t *levels, uint8_t *marks) {
+    uint8_t none[1];
+    uint32_t wanted = (levels != NULL ? HORDGULI_CORE_PARAGRAPH_LEVELS : 0)
+                      | (marks != NULL ? HORDGULI_CORE_PARAGRAPH_MARKS : 0);
+    if (session == NULL || info == NULL) return HORDGULI_NULL;
+    if (OVERLAP(AT(session), AT(info), ARRAY(levels, room), ARRAY(marks, room))) return HORDGULI_OVERLAP;
+    return (hordguli_status)hordguli_core_paragraph(session, paragraph, info, wanted, ROOM(uint8_t, levels, none),
+                                                    LENGTH(levels, room), ROOM(uint8_t, marks, none),
+                                                    LENGTH(marks, room));
+}
+
+/* ---- Without a session ---- */
+
+/* Numbers of no characters. */
+static const uint32_t no_characters[1] = {0};
+#define CHARACTERS(pointer) ((pointer) == NULL ? no_characters : (pointer))
+
+PUBLIC hordguli_status hordguli_base(hordguli_tables *tables, uint32_t direction, const uint32_t *characters,
+                                     size_t count, uint32_t *base) {
+    if (tables == NULL || base == NULL || LACKS(characters, count)) return HORDGULI_NULL;
+    if (OVERLAP(AT(tables), AT(base), ARRAY(characters, count))) return HORDGULI_OVERLAP;
+    return (hordguli_status)hordguli_core_base(tables, direction, CHARACTERS(characters), count, base);
+}
+
+PUBLIC hordguli_status hordguli_levels(hordguli_tables *tables, uint32_t direction, const uint32_t *characters,
+                                       size_t count, size_t room, uint8_t *levels) {
+    uint8_t none[1];
+    if (tables == NULL || LACKS(levels, room) || LACKS(characters, count)) return HORDGULI_NULL;
+    if (OVERLAP(AT(tables), ARRAY(levels, room), ARRAY(characters, count))) return HORDGULI_OVERLAP;
+    return (hordguli_status)hordguli_core_levels(tables, direction, CHARACTERS(characters), count,
+                                                 ROOM(uint8_t, levels, none), room);
+}
+
+PUBLIC hordguli_status hordguli_marks(hordguli_tables *tables, uint32_t options, const uint32_t *characters,
+                                      size_t count, size_t room, uint8_t *marks) {
+    uint8_t none[1];
+    if (tables == NULL || LACKS(marks, room) || LACKS(characters, count)) return HORDGULI_NULL;
+    if (OVERLAP(AT(tables), ARRAY(marks, room), ARRAY(characters, count))) return HORDGULI_OVERLAP;
+    return (hordguli_status)hordguli_core_marks(tables, options, CHARACTERS(characters), count,
+                                                ROOM(uint8_t, marks, none), room);
+}
+
+PUBLIC hordguli_status hordguli_count_utf8(const char *bytes, size_t length, size_t *count) {
+    if (count == NULL || LACKS(bytes, length)) return HORDGULI_NULL;
+    if (OVERLAP(AT(count), ARRAY(bytes, length))) return HORDGULI_OVERLAP;
+    return (hordguli_status)hordguli_core_count_utf8(BYTES(bytes), length, count);
+}

@@ -1,0 +1,143 @@
+/* What the C calls find of the paragraphs that standard input names, one a line, for Unicode's conformance tests, in the
+ * form of the program `bench`: conformance marks-of FOLDER, or conformance lines-of FOLDER DIRECTION.
+ *
+ * A paragraph is put into a session, whose one line is told. The tests also have texts with a separator inside, which are
+ * taken as one paragraph there: a session cuts them, so for these the calls without a session give the levels, and L1 and
+ * L2 are done here. */
+#include "test.h"
+
+enum { MOST = 4096 };
+
+static uint32_t text[MOST];
+static size_t length;
+
+static void fail(const char *what) {
+    fprintf(stderr, "conformance: %s\n", what);
+    exit(1);
+}
+
+static void check(hordguli_status status) {
+    if (status != HORDGULI_OK) fail(hordguli_status_text(status));
+}
+
+/* The characters that a line names by their hexadecimal numbers. */
+static int next(void) {
+    static char line[MOST * 8];
+    char *at = line, *end;
+    if (fgets(line, sizeof line, stdin) == NULL) return 0;
+    for (length = 0;; at = end) {
+        unsigned long number = strtoul(at, &end, 16);
+        if (end == at) return 1;
+        if (length == MOST) fail("a text is too long");
+        text[length++] = (uint32_t)number;
+    }
+}
+
+static size_t encoded(char *into) {
+    size_t at = 0;
+    for (size_t k = 0; k < length; k++) {
+        uint32_t c = text[k];
+        int more = c < 0x80 ? 0 : c < 0x800 ? 1 : c < 0x10000 ? 2 : 3;
+        static const unsigned char first[] = {0, 0xC0, 0xE0, 0xF0};
+        into[at++] = (char)(first[more] | c >> 6 * more);
+        while (more-- > 0) into[at++] = (char)(0x80 | (c >> 6 * more & 63));
+    }
+    return at;
+}
+
+static void marks_of(hordguli_tables *tables) {
+    static uint8_t marks[MOST];
+    while (next()) {
+        check(hordguli_marks(tables, HORDGULI_WHOLE_NUMBERS, text, length, MOST, marks));
+        for (size_t k = 0; k < length; k++) putchar("x/!"[marks[k]]);
+        putchar('\n');
+    }
+}
+
+/* ---- L1 and L2, for the characters of which the tests are made ---- */
+
+static int is_separator(uint32_t c) {
+    return c == 0x2029 || c == 0x0A || c == 0x0D || c == 0x85 || (c >= 0x1C && c <= 0x1F) || c == 0x09 || c == 0x0B;
+}
+
+static int is_blank(uint32_t c) {
+    return c == 0x20 || c == 0x0C || c == 0x1680 || (c >= 0x2000 && c <= 0x200A) || c == 0x2028 || c == 0x205F
+           || c == 0x3000 || (c >= 0x202A && c <= 0x202E) || (c >= 0x2066 && c <= 0x2069) || c == 0xAD
+           || (c >= 0x200B && c <= 0x200D) || c == 0x2060;
+}
+
+static void separators(uint8_t *levels, uint32_t base) {
+    int is_end = 1;
+    for (size_t k = length; k-- > 0;) {
+        is_end = is_separator(text[k]) || (is_end && is_blank(text[k]));
+        if (is_end) levels[k] = (uint8_t)base;
+    }
+}
+
+static void order(const uint8_t *levels, uint32_t *vtol) {
+    for (size_t k = 0; k < length; k++) vtol[k] = (uint32_t)k;
+    for (int level = 127; level > 0; level--)
+        for (size_t from = 0; from < length;) {
+            size_t to = from;
+            while (to < length && levels[vtol[to]] >= level) to++;
+            for (size_t a = from, b = to; a + 1 < b; a++) {
+                uint32_t held = vtol[a];
+                vtol[a] = vtol[--b];
+                vtol[b] = held;
+            }
+            from = to + 1;
+        }
+}
+
+static uint32_t option(const char *direction) {
+    if (strcmp(direction, "ltr") == 0) return HORDGULI_LTR;
+    if (strcmp(direction, "rtl") == 0) return HORDGULI_RTL;
+    if (strcmp(direction, "wrtl") == 0) return HORDGULI_WEAK_RTL;
+    return HORDGULI_WEAK_LTR;
+}
+
+static void lines_of(hordguli_tables *tables, uint32_t direction) {
+    static char bytes[MOST * 4];
+    static uint8_t levels[MOST];
+    static uint32_t vtol[MOST];
+    hordguli_session session = HORDGULI_SESSION_INIT;
+    size_t before = 0;
+    check(hordguli_session_open(&session, tables, direction | HORDGULI_NOBREAK, 65535, NULL, 0));
+    while (next()) {
+        hordguli_damage damage;
+        hordguli_counts counts;
+        size_t shown = length;
+        uint32_t base;
+        check(hordguli_replace(&session, 0, before, bytes, encoded(bytes), &damage));
+        before = length;
+        check(hordguli_session_counts(&session, &counts));
+        if (counts.lines == 1) {
+            hordguli_line_info info;
+            check(hordguli_line(&session, 0, &info, MOST, NULL, levels, NULL, vtol, NULL));
+            shown = info.shown;
+            base = info.base;
+        } else {
+            check(hordguli_base(tables, direction, text, length, &base));
+            check(hordguli_levels(tables, direction, text, length, MOST, levels));
+            separators(levels, base);
+            order(levels, vtol);
+        }
+        printf("%u;", (unsigned)base);
+        for (size_t k = 0; k < shown; k++) printf(" %u", levels[k]);
+        putchar(';');
+        for (size_t k = 0; k < shown; k++) printf(" %u", (unsigned)vtol[k]);
+        putchar('\n');
+    }
+    hordguli_session_close(&session);
+}
+
+int main(int count, char **words) {
+    hordguli_tables tables = HORDGULI_TABLES_INIT;
+    if (count < 3) fail("what, and by which tables?");
+    check(hordguli_tables_open_folder(&tables, words[2], NULL));
+    if (strcmp(words[1], "marks-of") == 0) marks_of(&tables);
+    else lines_of(&tables, option(count > 3 ? words[3] : ""));
+    hordguli_tables_close(&tables);
+    if (fflush(stdout) != 0) fail("cannot write");
+    return 0;
+}

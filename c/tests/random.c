@@ -1,0 +1,200 @@
+/* Changes at random in a session, after each of which all that it keeps is what a session keeps that is opened anew on
+ * the whole text: random FOLDER CHANGES, of the table files. */
+#include "test.h"
+
+enum { MOST = 300, BYTES = 1 << 20 };
+
+/* Letters, digits and spaces of both directions, separators, brackets, isolates, embeddings, marks, wide characters, and
+ * emoji of several characters. */
+static const char *const pieces[] = {
+    "a", "word ", " ", "1", "2,3", "$", "%", "(", ")", "[", "-", "\n", "\r\n", "\r", "\u2029", "\xC2\x85", "\t",
+    "\u05d0", "\u05d1\u05b0", "\u0627\u0628 ", "\u0661", "\u0300", "\u200d", "\u2066", "\u2067", "\u2068", "\u2069",
+    "\u202a", "\u202b", "\u202d", "\u202e", "\u202c", "\u4e00\u4e01", "\u3002", "\uac00", "\U0001f468\u200d\U0001f469",
+    "\U0001f1e9\U0001f1ea", "\u00ad", "\u200b", "\u00a0", "the quick brown fox ", "\u05e9\u05dc\u05d5\u05dd \u05e2\u05d5\u05dc\u05dd ",
+};
+enum { PIECES = sizeof pieces / sizeof *pieces };
+
+static char pages[2][BYTES];
+
+#define OK(call) HOLDS((call) == HORDGULI_OK)
+
+/* The bytes of all lines, or of the text, of both sessions. */
+static void same_pages(hordguli_session *kept, hordguli_session *anew, const hordguli_counts *counts, uint32_t print) {
+    size_t lengths[2];
+    OK(hordguli_lines_utf8(kept, 0, counts->lines, print, BYTES, pages[0], &lengths[0]));
+    OK(hordguli_lines_utf8(anew, 0, counts->lines, print, BYTES, pages[1], &lengths[1]));
+    HOLDS(lengths[0] == lengths[1] && memcmp(pages[0], pages[1], lengths[0]) == 0);
+}
+
+static void same_lines(hordguli_session *kept, hordguli_session *anew, const hordguli_counts *counts) {
+    static uint32_t characters[2][BYTES], ltov[2][BYTES], vtol[2][BYTES];
+    static uint8_t levels[2][BYTES];
+    static size_t columns[2][BYTES];
+    hordguli_session *both[2] = {kept, anew};
+    for (size_t line = 0; line < counts->lines; line++) {
+        hordguli_line_info infos[2];
+        size_t starts[2], shown;
+        for (int k = 0; k < 2; k++) {
+            OK(hordguli_line(both[k], line, &infos[k], BYTES, characters[k], levels[k], ltov[k], vtol[k], columns[k]));
+            OK(hordguli_line_start(both[k], line, &starts[k]));
+        }
+        shown = infos[0].shown;
+        HOLDS(memcmp(&infos[0], &infos[1], sizeof infos[0]) == 0 && starts[0] == starts[1] && starts[0] == infos[0].start);
+        HOLDS(memcmp(characters[0], characters[1], shown * sizeof **characters) == 0);
+        HOLDS(memcmp(levels[0], levels[1], shown) == 0);
+        HOLDS(memcmp(ltov[0], ltov[1], shown * sizeof **ltov) == 0);
+        HOLDS(memcmp(vtol[0], vtol[1], shown * sizeof **vtol) == 0);
+        HOLDS(memcmp(columns[0], columns[1], shown * sizeof **columns) == 0);
+        for (size_t k = 0; k < shown; k++) {
+            if (vtol[0][ltov[0][k]] == k) continue;
+            HOLDS(!"the maps are inverse");
+            break;
+        }
+    }
+    for (size_t paragraph = 0; paragraph < counts->paragraphs; paragraph++) {
+        hordguli_paragraph_info infos[2];
+        for (int k = 0; k < 2; k++)
+            OK(hordguli_paragraph(both[k], paragraph, &infos[k], BYTES, levels[k], (uint8_t *)columns[k]));
+        HOLDS(memcmp(&infos[0], &infos[1], sizeof infos[0]) == 0);
+        HOLDS(memcmp(levels[0], levels[1], infos[0].length) == 0);
+        HOLDS(memcmp(columns[0], columns[1], infos[0].length) == 0);
+    }
+}
+
+static void same_places(hordguli_session *kept, hordguli_session *anew, const hordguli_counts *counts) {
+    for (int times = 0; times < 5; times++) {
+        size_t pos = below(counts->characters + 1), line = below(counts->lines + 1), column = below(90);
+        hordguli_place places[2];
+        hordguli_caret carets[2];
+        hordguli_hit hits[2];
+        hordguli_cluster clusters[2];
+        hordguli_session *both[2] = {kept, anew};
+        hordguli_status status[2][4];
+        memset(places, 0, sizeof places);
+        memset(carets, 0, sizeof carets);
+        memset(hits, 0, sizeof hits);
+        memset(clusters, 0, sizeof clusters);
+        for (int k = 0; k < 2; k++) {
+            status[k][0] = hordguli_place_of(both[k], pos, &places[k]);
+            status[k][1] = hordguli_caret_at(both[k], pos, &carets[k]);
+            status[k][2] = hordguli_hit_at(both[k], line, column, &hits[k]);
+            status[k][3] = hordguli_cluster_at(both[k], pos, &clusters[k]);
+        }
+        HOLDS(memcmp(status[0], status[1], sizeof status[0]) == 0);
+        HOLDS(status[0][0] == HORDGULI_OK && status[0][1] == HORDGULI_OK);
+        HOLDS(status[0][2] == (line < counts->lines ? HORDGULI_OK : HORDGULI_OUT_OF_RANGE));
+        HOLDS(status[0][3] == (pos < counts->characters ? HORDGULI_OK : HORDGULI_OUT_OF_RANGE));
+        HOLDS(memcmp(&places[0], &places[1], sizeof places[0]) == 0 && memcmp(&carets[0], &carets[1], sizeof carets[0]) == 0);
+        HOLDS(memcmp(&hits[0], &hits[1], sizeof hits[0]) == 0 && memcmp(&clusters[0], &clusters[1], sizeof clusters[0]) == 0);
+        HOLDS(status[0][3] != HORDGULI_OK || (clusters[0].start <= pos && pos < clusters[0].end));
+    }
+}
+
+/* The text as characters, beside what the session is told. */
+static uint32_t text[MOST * 4];
+static size_t length;
+
+static size_t encoded(const uint32_t *from, size_t count, char *into) {
+    size_t at = 0;
+    for (size_t k = 0; k < count; k++) {
+        uint32_t c = from[k];
+        if (c < 0x80) {
+            into[at++] = (char)c;
+        } else if (c < 0x800) {
+            into[at++] = (char)(0xC0 | c >> 6);
+            into[at++] = (char)(0x80 | (c & 63));
+        } else if (c < 0x10000) {
+            into[at++] = (char)(0xE0 | c >> 12);
+            into[at++] = (char)(0x80 | (c >> 6 & 63));
+            into[at++] = (char)(0x80 | (c & 63));
+        } else {
+            into[at++] = (char)(0xF0 | c >> 18);
+            into[at++] = (char)(0x80 | (c >> 12 & 63));
+            into[at++] = (char)(0x80 | (c >> 6 & 63));
+            into[at++] = (char)(0x80 | (c & 63));
+        }
+    }
+    return at;
+}
+
+static size_t decoded(const char *bytes, uint32_t *into) {
+    size_t count = 0;
+    for (const unsigned char *at = (const unsigned char *)bytes; *at != 0; at++) {
+        if (*at < 0x80) into[count++] = *at;
+        else if (*at < 0xC0) into[count - 1] = into[count - 1] << 6 | (*at & 63);
+        else if (*at < 0xE0) into[count++] = *at & 31;
+        else if (*at < 0xF0) into[count++] = *at & 15;
+        else into[count++] = *at & 7;
+    }
+    return count;
+}
+
+int main(int count, char **words) {
+    hordguli_tables tables = HORDGULI_TABLES_INIT;
+    hordguli_session kept = HORDGULI_SESSION_INIT;
+    uint32_t width = 20, options = 0;
+    long changes;
+    if (count != 3) return 2;
+    changes = atol(words[2]);
+    if (!OK(hordguli_tables_open_folder(&tables, words[1], NULL))) return finish("random");
+    for (long change = 0; change < changes; change++) {
+        hordguli_session anew = HORDGULI_SESSION_INIT;
+        hordguli_counts counts, others;
+        hordguli_damage damage;
+        static char bytes[MOST * 16], got[MOST * 16];
+        size_t pos = below(length + 1), taken = 0, size, got_size, old_lines = 0, old_paragraphs = 0;
+        uint32_t piece[64];
+        size_t piece_length = 0;
+        char piece_bytes[256];
+        hordguli_status status;
+        if (change % 500 == 0) { /* a session of other options */
+            hordguli_session_close(&kept);
+            options = (uint32_t)below(32);
+            size = encoded(text, length, bytes);
+            OK(hordguli_session_open(&kept, &tables, options, width, bytes, size));
+        }
+        OK(hordguli_session_counts(&kept, &counts));
+        old_lines = counts.lines;
+        old_paragraphs = counts.paragraphs;
+        if (below(3) != 0 || length == 0) piece_length = decoded(pieces[below(PIECES)], piece);
+        if (length > 0 && (below(2) == 0 || length > MOST - 40)) taken = below(length - pos < 30 ? length - pos + 1 : 30);
+        size = encoded(piece, piece_length, piece_bytes);
+        if (below(12) == 0) {
+            width = 1 + (uint32_t)below(below(2) == 0 ? 12 : 80);
+            piece_length = taken = 0;
+            status = hordguli_set_width(&kept, width, &damage);
+        } else if (taken == 0) {
+            status = hordguli_insert(&kept, pos, piece_bytes, size, &damage);
+        } else if (piece_length == 0) {
+            status = hordguli_delete(&kept, pos, taken, &damage);
+        } else {
+            status = hordguli_replace(&kept, pos, taken, piece_bytes, size, &damage);
+        }
+        OK(status);
+        memmove(text + pos + piece_length, text + pos + taken, (length - pos - taken) * sizeof *text);
+        memcpy(text + pos, piece, piece_length * sizeof *text);
+        length += piece_length - taken;
+        size = encoded(text, length, bytes);
+        OK(hordguli_session_open(&anew, &tables, options, width, bytes, size));
+        OK(hordguli_session_counts(&kept, &counts));
+        OK(hordguli_session_counts(&anew, &others));
+        HOLDS(memcmp(&counts, &others, sizeof counts) == 0 && counts.characters == length && counts.width == width);
+        HOLDS(old_lines - damage.old_lines + damage.new_lines == counts.lines);
+        HOLDS(old_paragraphs - damage.old_paragraphs + damage.new_paragraphs == counts.paragraphs);
+        OK(hordguli_text(&kept, 0, length, sizeof got, got, &got_size));
+        HOLDS(got_size == size && memcmp(got, bytes, size) == 0);
+        OK(hordguli_utf8_length(&kept, 0, length, &got_size));
+        HOLDS(got_size == size);
+        OK(hordguli_count_utf8(bytes, size, &got_size));
+        HOLDS(got_size == length);
+        same_pages(&kept, &anew, &counts, HORDGULI_PRINT_DEFAULT);
+        same_pages(&kept, &anew, &counts, (uint32_t)below(128));
+        same_lines(&kept, &anew, &counts);
+        same_places(&kept, &anew, &counts);
+        hordguli_session_close(&anew);
+        if (failed > 20) break;
+    }
+    hordguli_session_close(&kept);
+    hordguli_tables_close(&tables);
+    return finish("random");
+}

@@ -1,0 +1,143 @@
+/* Each allocation is refused in turn: a call for which there is no memory says so and changes nothing, the same call with
+ * memory is done, and in the end all memory is given back. refuse FOLDER, of small table files; linked with
+ * --wrap=malloc, --wrap=realloc and --wrap=free. */
+#include "test.h"
+
+void *__real_malloc(size_t size);
+void *__real_realloc(void *block, size_t size);
+void __real_free(void *block);
+void *__wrap_malloc(size_t size);
+void *__wrap_realloc(void *block, size_t size);
+void __wrap_free(void *block);
+
+static long asked, refused_at, live;
+
+static int is_refused(void) { return ++asked == refused_at; }
+
+void *__wrap_malloc(size_t size) {
+    void *block = is_refused() ? NULL : __real_malloc(size);
+    live += block != NULL;
+    return block;
+}
+
+void *__wrap_realloc(void *block, size_t size) {
+    void *moved = is_refused() ? NULL : __real_realloc(block, size);
+    live += block == NULL && moved != NULL;
+    return moved;
+}
+
+void __wrap_free(void *block) {
+    live -= block != NULL;
+    __real_free(block);
+}
+
+enum { BYTES = 1 << 14 };
+
+/* All that a session keeps, as bytes: what is printed of it, its text, its counts. */
+typedef struct shape {
+    char bytes[BYTES];
+    size_t length;
+    hordguli_counts counts;
+} shape;
+
+static shape of(hordguli_session *session) {
+    static shape found;
+    size_t text;
+    memset(&found, 0, sizeof found);
+    HOLDS(hordguli_session_counts(session, &found.counts) == HORDGULI_OK);
+    HOLDS(hordguli_lines_utf8(session, 0, found.counts.lines, 127, BYTES, found.bytes, &found.length) == HORDGULI_OK);
+    HOLDS(hordguli_text(session, 0, found.counts.characters, BYTES - found.length, found.bytes + found.length, &text)
+          == HORDGULI_OK);
+    found.length += text;
+    return found;
+}
+
+static int same(const shape *a, const shape *b) {
+    return a->length == b->length && memcmp(a->bytes, b->bytes, a->length) == 0
+           && memcmp(&a->counts, &b->counts, sizeof a->counts) == 0;
+}
+
+static const char *folder;
+static hordguli_tables tables = HORDGULI_TABLES_INIT;
+static hordguli_session session = HORDGULI_SESSION_INIT;
+static const uint32_t characters[] = {0x5D0, '(', 'a', ')', 0x2067, '1', 0x2069, ' ', 0x4E00};
+static uint8_t found_levels[9], found_marks[9];
+static uint32_t found_base;
+static hordguli_cluster found_cluster;
+static hordguli_damage damage;
+
+enum { OPEN_TABLES, OPEN, INSERT, REPLACE, WIDTH, CLUSTER, DELETE, BASE, LEVELS, MARKS, STEPS };
+
+static const char start[] = "ab \u05d0\u05d1 12\nx\n";
+
+static hordguli_status step(int k) {
+    switch (k) {
+        case OPEN_TABLES: return hordguli_tables_open_folder(&tables, folder, NULL);
+        case OPEN: return hordguli_session_open(&session, &tables, 0, 4, start, sizeof start - 1);
+        case INSERT: return hordguli_insert(&session, 3, "(a)\n\u05d0", 6, &damage);
+        case REPLACE: return hordguli_replace(&session, 1, 5, "x\u4e00\ny\n", 7, &damage);
+        case WIDTH: return hordguli_set_width(&session, 2, &damage);
+        case CLUSTER: return hordguli_cluster_at(&session, 2, &found_cluster);
+        case DELETE: return hordguli_delete(&session, 2, 4, &damage);
+        case BASE: return hordguli_base(&tables, 0, characters, 9, &found_base);
+        case LEVELS: return hordguli_levels(&tables, 0, characters, 9, 9, found_levels);
+        default: return hordguli_marks(&tables, 0, characters, 9, 9, found_marks);
+    }
+}
+
+int main(int count, char **words) {
+    long runs = 0, most = 0;
+    static shape last;
+    uint8_t levels[9], marks[9];
+    if (count != 2) return 2;
+    folder = words[1];
+    for (long at = 0; at <= most + 1; at++, runs++) { /* the first run refuses none and counts, the last none either */
+        int refusals = 0;
+        long before = live;
+        asked = 0;
+        refused_at = at;
+        for (int k = 0; k < STEPS; k++) {
+            static shape kept, now;
+            hordguli_damage no_damage = {7, 7, 7, 7, 7, 7};
+            long held = live;
+            hordguli_status status;
+            if (session.at != NULL) kept = of(&session);
+            damage = no_damage;
+            memset(found_levels, 77, sizeof found_levels);
+            memset(found_marks, 77, sizeof found_marks);
+            found_base = 77;
+            status = step(k);
+            HOLDS(status == HORDGULI_OK || status == HORDGULI_NO_MEMORY);
+            if (status == HORDGULI_OK) continue;
+            refusals++;
+            HOLDS(asked >= refused_at && live == held);
+            HOLDS(memcmp(&damage, &no_damage, sizeof damage) == 0 && found_base == 77);
+            HOLDS(found_levels[0] == 77 && found_marks[0] == 77);
+            HOLDS(k != OPEN_TABLES || tables.at == NULL);
+            HOLDS(k != OPEN || session.at == NULL);
+            if (session.at != NULL) {
+                now = of(&session);
+                HOLDS(same(&kept, &now));
+            }
+            HOLDS(step(k) == HORDGULI_OK);
+        }
+        /* (a memory that can be done without may be refused) */
+        HOLDS(refusals <= (at > 0 && at <= most));
+        if (at == 0) {
+            most = asked;
+            last = of(&session);
+            memcpy(levels, found_levels, 9);
+            memcpy(marks, found_marks, 9);
+        } else {
+            static shape now;
+            now = of(&session);
+            HOLDS(same(&last, &now) && memcmp(levels, found_levels, 9) == 0 && memcmp(marks, found_marks, 9) == 0);
+        }
+        hordguli_session_close(&session);
+        hordguli_tables_close(&tables);
+        HOLDS(live == before && session.at == NULL && tables.at == NULL);
+    }
+    printf("refuse: %ld runs, one for each of %ld allocations\n", runs, most);
+    HOLDS(most > 50);
+    return finish("refuse");
+}

@@ -1,0 +1,48 @@
+/* What the tests of the C library have in common: checks that are counted, a text from a file, random numbers. */
+#ifndef HORDGULI_TEST_H
+#define HORDGULI_TEST_H
+
+#include <hordguli.h>
+#include <stdint.h>
+#include <stdio.h>
+#include <stdlib.h>
+#include <string.h>
+
+static long passed, failed;
+
+/* Counts a check, and says where one does not hold. */
+#define HOLDS(condition) holds((condition), __FILE__, __LINE__, #condition)
+static inline int holds(int is_so, const char *file, int line, const char *what) {
+    if (is_so) {
+        passed++;
+    } else {
+        if (failed < 20) fprintf(stderr, "%s:%d: does not hold: %s\n", file, line, what);
+        failed++;
+    }
+    return is_so;
+}
+
+static inline int finish(const char *name) {
+    printf("%s: %ld passed, %ld failed\n", name, passed, failed);
+    return failed != 0;
+}
+
+/* A number that looks random, below a bound. */
+static uint64_t seed = 88172645463325252u;
+static inline size_t below(size_t bound) {
+    seed ^= seed << 13;
+    seed ^= seed >> 7;
+    seed ^= seed << 17;
+    return (size_t)(seed % bound);
+}
+
+/* Memory that is there, or the end of the test. */
+static inline void *sure(void *block) {
+    if (block == NULL) {
+        fprintf(stderr, "out of memory\n");
+        exit(1);
+    }
+    return block;
+}
+
+#endif
