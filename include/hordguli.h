@@ -328,14 +328,14 @@ hordguli_status hordguli_line(hordguli_session *session, size_t line, hordguli_l
 
 /* The lines first .. first + count as they are printed, each with its line feed, by print flags, into an array with
  * room for `room` bytes; `length` is how many bytes they are, also where the room is too small. `bytes` may be null
- * where `room` is 0. It takes no memory.
- *   NULL, OVERLAP, UNKNOWN_OPTION, CLOSED, OUT_OF_RANGE, NO_ROOM */
+ * where `room` is 0. It takes memory for the bytes.
+ *   NULL, OVERLAP, UNKNOWN_OPTION, CLOSED, OUT_OF_RANGE, NO_MEMORY, NO_ROOM */
 hordguli_status hordguli_lines_utf8(hordguli_session *session, size_t first, size_t count, uint32_t print, size_t room,
                                     char *bytes, size_t *length);
 
 /* The characters pos .. pos + count as UTF-8, into an array with room for `room` bytes; `length` is how many bytes they
- * are, also where the room is too small. `bytes` may be null where `room` is 0. It takes no memory.
- *   NULL, OVERLAP, CLOSED, OUT_OF_RANGE, NO_ROOM */
+ * are, also where the room is too small. `bytes` may be null where `room` is 0. It takes memory for the bytes.
+ *   NULL, OVERLAP, CLOSED, OUT_OF_RANGE, NO_MEMORY, NO_ROOM */
 hordguli_status hordguli_text(hordguli_session *session, size_t pos, size_t count, size_t room, char *bytes,
                               size_t *length);
 
