@@ -49,7 +49,7 @@ static hordguli_status read_file(const char *folder, const char *name, content *
     if (path == NULL) return HORDGULI_NO_MEMORY;
     memcpy(path, folder, length);
     path[length] = '/';
-    strcpy(path + length + 1, name);
+    memcpy(path + length + 1, name, strlen(name) + 1);
     do
         file = open(path, O_RDONLY | O_CLOEXEC);
     while (file < 0 && errno == EINTR);

@@ -3,8 +3,8 @@
 //! - `bench edits KIND PARAGRAPHS EDITS` makes edits in a session over a `list` or a `tree` of paragraphs,
 //!   and prints what it keeps in the end.
 //! - `bench session UCD KIND PARAGRAPHS EDITS` prints how long a session takes to be opened, and for an edit.
-//! - `bench calls UCD FILE INSERTS` prints how long a session takes to be opened on a text, for inserts, and to be
-//!   read line by line.
+//! - `bench calls UCD FILE INSERTS` prints how long a session takes to be opened on a text, for inserts,
+//!   and to be read line by line.
 //! - `bench width UCD KIND FILE` prints how long width changes of a text take, beside laying out and filling.
 //! - `bench levels UCD CHARACTERS` prints how long the levels of a paragraph take, for texts of many
 //!   kinds, with the table files of the folder UCD.

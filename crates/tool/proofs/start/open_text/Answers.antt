@@ -39,5 +39,5 @@ returns-clause-err g c =
     let text = c.front.ensures.text ∙ take_all (utf8_valid_len bytes) bytes (omega (arith, valid)) in
     let rules = rules_of c.args.engine in
     let reason = subst (λ (t : List ℕ). IsAnswerFor (opening_refusal (cut_by rules) (chars t) c.args.width) c.in-Err.fault) text c.in-Err.ensures.err.reason in
-    let some = λ wants. subst (λ (t : List ℕ). 0 < length (chars t)) text (c.in-Err.ensures.memory wants) in
-    rw c.start_fault.ensures (start_fault_is rules bytes c.args.width c.requires valid c.in-Err.fault reason some)
+    rw c.start_fault.ensures (start_fault_is rules bytes c.args.width c.requires valid c.in-Err.fault reason
+    (λ wants. subst (λ (t : List ℕ). 0 < length (chars t)) text (c.in-Err.ensures.memory wants)))
