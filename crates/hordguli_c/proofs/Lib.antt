@@ -1,0 +1,2 @@
+mod SessionSteps
+mod TablesSteps

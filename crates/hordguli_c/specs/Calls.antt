@@ -1,0 +1,29 @@
+-- What calls say of a handle, by what it held before and holds after, and of a place that they write to.
+use Rattle.std.specs.Prelude.{◌≡◌, ℕ, ◌⊎◌, List, Option, Some, None, IsUtf8, chars}
+use Rattle.hordguli_c.specs.declared.status.TheConstants.{OK, OUT_OF_RANGE, NOT_UTF8, CLOSED, UNKNOWN_OPTION}
+
+-- what a call answers by what a handle holds, which writes to one place; by a closed one nothing is written
+abbrev pub Asks : {A O : Type 0} → (ℕ → A → O → O → Type 0) → ℕ → Option A → O → O → Type 0
+Asks says status None old new = (status ≡ CLOSED) × (new ≡ old)
+Asks says status (Some held) old new = says status held old new
+
+-- and where it is by options too, which may have a bit that isn't known
+abbrev pub AsksBy : {P A O : Type 0} → (P → ℕ → A → O → O → Type 0) → Option P → ℕ → Option A → O → O → Type 0
+AsksBy says None status held old new = (status ≡ UNKNOWN_OPTION) × (new ≡ old)
+AsksBy says (Some options) status held old new = Asks (says options) status held old new
+
+-- a call that may change what a handle holds: it stays open, or closed
+abbrev pub Changes : {A O : Type 0} → (ℕ → A → A → O → O → Type 0) → ℕ → Option A → Option A → O → O → Type 0
+Changes does status None after old new = (status ≡ CLOSED) × (after ≡ None) × (new ≡ old)
+Changes does status (Some before) None old new = ⊥
+Changes does status (Some before) (Some after) old new = does status before after old new
+
+-- what is asked for goes out, where there is such a thing
+abbrev pub Gives : {O : Type 0} → Option O → ℕ → O → O → Type 0
+Gives None status old new = (status ≡ OUT_OF_RANGE) × (new ≡ old)
+Gives (Some x) status old new = (status ≡ OK) × (new ≡ x)
+
+-- a text comes as bytes, and where these are no UTF-8 nothing is changed
+abbrev pub OfText : List ℕ → ℕ → Type 0 → (List ℕ → Type 0) → Type 0
+OfText bytes status unchanged does =
+    ((¬ IsUtf8 bytes) × (status ≡ NOT_UTF8) × unchanged) ⊎ (IsUtf8 bytes × does (chars bytes))

@@ -1,0 +1,40 @@
+-- What the calls that change a session say.
+use Rattle.std.specs.Prelude.{◌≡◌, ℕ, ◌+◌, ◌<◌, ◌⊎◌, length}
+use Rattle.session.specs.Edits.{Replacement}
+use Rattle.session.specs.Sessions.{SessionState, Edits, EditsNot, SetsWidth, SetsWidthNot, text_at}
+use Rattle.session.specs.declared.edits.Damage.{Damage}
+use Rattle.session.specs.declared.edits.EditFault.{EditFault}
+use Rattle.session.specs.declared.edits.EditFault.TheVariants as faults
+use Rattle.hordguli_c.specs.declared.edit_calls.DamageOut.{DamageOut}
+use Rattle.hordguli_c.specs.declared.status.TheConstants.{OK, OUT_OF_RANGE, WIDTH_OUT_OF_RANGE, TEXT_TOO_LONG, PARAGRAPH_TOO_LONG, NO_MEMORY}
+
+-- the status of each fault
+abbrev pub edit_status : EditFault → ℕ
+edit_status faults.OutOfRange = OUT_OF_RANGE
+edit_status faults.WidthOutOfRange = WIDTH_OUT_OF_RANGE
+edit_status faults.TextTooLong = TEXT_TOO_LONG
+edit_status faults.ParagraphTooLong = PARAGRAPH_TOO_LONG
+edit_status faults.NoMemory = NO_MEMORY
+
+abbrev pub damage_out : Damage → DamageOut
+damage_out damage = record {
+  first_line = damage.first_line;
+  old_lines = damage.old_lines;
+  new_lines = damage.new_lines;
+  first_paragraph = damage.first_par;
+  old_paragraphs = damage.old_pars;
+  new_paragraphs = damage.new_pars;
+}
+
+-- A change is made, and its damage goes out; or it is refused, and nothing does. Only some texts can want memory.
+abbrev pub Tries : (SessionState → SessionState → Damage → Type 0) → (SessionState → SessionState → EditFault → Type 0) → Type 0
+    → ℕ → SessionState → SessionState → DamageOut → DamageOut → Type 0
+Tries makes refuses may_want status before after old new =
+    ((damage : Damage) × (status ≡ OK) × makes before after damage × (new ≡ damage_out damage))
+    ⊎ ((fault : EditFault) × (status ≡ edit_status fault) × refuses before after fault × (fault ≡ faults.NoMemory → may_want) × (new ≡ old))
+
+abbrev pub TriesEdit : Replacement → ℕ → SessionState → SessionState → DamageOut → DamageOut → Type 0
+TriesEdit edit status before = Tries (Edits edit) (EditsNot edit) (0 < length (text_at before) + length edit.piece) status before
+
+abbrev pub TriesWidth : ℕ → ℕ → SessionState → SessionState → DamageOut → DamageOut → Type 0
+TriesWidth width status before = Tries (SetsWidth width) (SetsWidthNot width) (0 < length (text_at before)) status before

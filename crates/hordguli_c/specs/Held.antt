@@ -1,0 +1,17 @@
+-- The values of what a handle gave out, where it gave something.
+use Rattle.std.specs.Prelude.{Option, Some, None}
+use Rattle.std.specs.Global.{Global, Box}
+use Rattle.hordguli_c.specs.declared.loose.Loose.{Loose}
+
+-- any `Global`: the right to free a block is the same of each
+abbrev pub the_global : Global
+the_global = record { memory = record { seal = tt } }
+
+module _ {V : Type 0} where
+  abbrev pub box_held : Option (Box V) → Option V
+  box_held None = None
+  box_held (Some b) = Some b.value
+
+  abbrev pub loose_held : Option (Loose V Global) → Option V
+  loose_held None = None
+  loose_held (Some l) = Some l.value

@@ -1,0 +1,13 @@
+pub mod Held
+pub mod TablesHeld
+pub mod SessionHeld
+pub mod Options
+pub mod Paragraphs
+pub mod Calls
+pub mod TablesCalls
+pub mod Edits
+pub mod Opening
+pub mod Places
+pub mod Arrays
+pub mod Lines
+pub mod Texts

@@ -1,0 +1,91 @@
+-- What goes out of a line and of a paragraph: numbers, and lists into arrays each of which may not be wanted.
+use Rattle.std.specs.Prelude.{◌≡◌, ℕ, ◌&&◌, Bool, List, length, map, slice_index, Option, Some, None, MatchBool}
+use Rattle.breaks.specs.declared.mark.Mark.{Mark}
+use Rattle.lines.specs.Columns.{padding_of}
+use Rattle.lines.specs.Layouts.{Layout}
+use Rattle.lines.specs.Places.{columns_of}
+use Rattle.lines.specs.Visual.{Visual}
+use Rattle.hordguli_c.specs.Arrays.{has_room, put_if}
+use Rattle.hordguli_c.specs.Options.{has_bit}
+use Rattle.hordguli_c.specs.Paragraphs.{mark_number}
+use Rattle.hordguli_c.specs.Places.{flag}
+use Rattle.hordguli_c.specs.declared.line_calls.LineOut.{LineOut}
+use Rattle.hordguli_c.specs.declared.layout_calls.ParagraphOut.{ParagraphOut}
+use Rattle.hordguli_c.specs.declared.status.TheConstants.{OK, OUT_OF_RANGE, NO_ROOM}
+
+-- a line that begins at a position, of a session at a width
+abbrev pub line_out : ℕ → ℕ → Visual → LineOut
+line_out width start line = record {
+  start = start;
+  length = line.len;
+  shown = length line.vtol;
+  columns = line.columns;
+  padding = padding_of width line;
+  base = line.base;
+  first = flag line.is_first;
+}
+
+-- how many columns the character at each visual place takes
+abbrev pub columns_in : Visual → List ℕ
+columns_in line = map (λ place. columns_of (slice_index line.text place)) line.vtol
+
+pub record LineArrays : Type 0 where
+  pub characters : List ℕ
+  pub levels : List ℕ
+  pub ltov : List ℕ
+  pub vtol : List ℕ
+  pub columns : List ℕ
+
+-- the arrays with what is wanted of a line, and whether there is room for it
+abbrev pub line_put : ℕ → Visual → LineArrays → LineArrays
+line_put wanted line arrays = record {
+  characters = put_if (has_bit wanted 1) line.chars arrays.characters;
+  levels = put_if (has_bit wanted 2) line.levels arrays.levels;
+  ltov = put_if (has_bit wanted 4) line.ltov arrays.ltov;
+  vtol = put_if (has_bit wanted 8) line.vtol arrays.vtol;
+  columns = put_if (has_bit wanted 16) (columns_in line) arrays.columns;
+}
+
+abbrev pub line_fits : ℕ → Visual → LineArrays → Bool
+line_fits wanted line arrays =
+    has_room (has_bit wanted 1) (length line.chars) (length arrays.characters)
+    && has_room (has_bit wanted 2) (length line.levels) (length arrays.levels)
+    && has_room (has_bit wanted 4) (length line.ltov) (length arrays.ltov)
+    && has_room (has_bit wanted 8) (length line.vtol) (length arrays.vtol)
+    && has_room (has_bit wanted 16) (length line.vtol) (length arrays.columns)
+
+-- the arrays are written where there is room in all that are wanted, and else none is
+abbrev pub PutsLine : ℕ → Visual → ℕ → LineArrays → LineArrays → Type 0
+PutsLine wanted line status old new =
+    MatchBool (line_fits wanted line old) ((status ≡ OK) × (new ≡ line_put wanted line old)) ((status ≡ NO_ROOM) × (new ≡ old))
+
+-- where a line begins and the line itself are told together, or there is none
+abbrev pub ShowsLine : ℕ → ℕ → Option ℕ → Option Visual → ℕ → LineOut × LineArrays → LineOut × LineArrays → Type 0
+ShowsLine wanted width (Some start) (Some line) status old new = (new.0 ≡ line_out width start line) × PutsLine wanted line status old.1 new.1
+ShowsLine wanted width start line status old new = (status ≡ OUT_OF_RANGE) × (new ≡ old)
+
+abbrev pub paragraph_out : Layout → ParagraphOut
+paragraph_out laid = record { length = length laid.text; lines = length laid.lines; base = laid.base; zero = 0 }
+
+pub record ParagraphArrays : Type 0 where
+  pub levels : List ℕ
+  pub marks : List ℕ
+
+abbrev pub paragraph_put : ℕ → Layout → ParagraphArrays → ParagraphArrays
+paragraph_put wanted laid arrays = record {
+  levels = put_if (has_bit wanted 1) laid.levels arrays.levels;
+  marks = put_if (has_bit wanted 2) (map mark_number laid.marks) arrays.marks;
+}
+
+abbrev pub paragraph_fits : ℕ → Layout → ParagraphArrays → Bool
+paragraph_fits wanted laid arrays =
+    has_room (has_bit wanted 1) (length laid.levels) (length arrays.levels)
+    && has_room (has_bit wanted 2) (length laid.marks) (length arrays.marks)
+
+abbrev pub PutsParagraph : ℕ → Layout → ℕ → ParagraphArrays → ParagraphArrays → Type 0
+PutsParagraph wanted laid status old new =
+    MatchBool (paragraph_fits wanted laid old) ((status ≡ OK) × (new ≡ paragraph_put wanted laid old)) ((status ≡ NO_ROOM) × (new ≡ old))
+
+abbrev pub ShowsParagraph : ℕ → Option Layout → ℕ → ParagraphOut × ParagraphArrays → ParagraphOut × ParagraphArrays → Type 0
+ShowsParagraph wanted (Some laid) status old new = (new.0 ≡ paragraph_out laid) × PutsParagraph wanted laid status old.1 new.1
+ShowsParagraph wanted None status old new = (status ≡ OUT_OF_RANGE) × (new ≡ old)

@@ -1,0 +1,43 @@
+-- What opening a session says.
+use Rattle.std.specs.Prelude.{◌≡◌, ℕ, ◌<◌, ◌⊎◌, List, length, Option, Some, None}
+use Rattle.ucd.specs.declared.tables.Tables.{Tables}
+use Rattle.lines.specs.Engine.{analysed_of, filled_of, rules_of, written_of}
+use Rattle.lines.specs.declared.engine.Engine.{Engine}
+use Rattle.lines.specs.declared.options.Options.{Options}
+use Rattle.session.specs.Sessions.{SessionState, Opens, OpensNot}
+use Rattle.session.specs.declared.edits.EditFault.{EditFault}
+use Rattle.hordguli_c.specs.Calls.{OfText}
+use Rattle.hordguli_c.specs.Edits.{edit_status}
+use Rattle.hordguli_c.specs.declared.status.TheConstants.{OK, NO_MEMORY, CLOSED, ALREADY_OPEN, UNKNOWN_OPTION}
+
+-- an engine that has not worked yet
+pub record IsFresh (tables : Tables) (options : Options) (engine : Engine) : Type 0 where
+  pub rules : rules_of engine ≡ record { tables = tables; options = options }
+  pub analysed : analysed_of engine ≡ 0
+  pub filled : filled_of engine ≡ 0
+  pub written : written_of engine ≡ 0
+
+-- by a fresh engine a session opens on a text at a width, or it is refused for a fault, or there is no memory for the copy of the
+-- tables or for the session itself
+pub record IsOpened (tables : Tables) (options : Options) (text : List ℕ) (width : ℕ) (state : SessionState) : Type 0 where
+  pub engine : Engine
+  pub fresh : IsFresh tables options engine
+  pub opens : Opens engine text width state
+
+pub record IsRefused (tables : Tables) (options : Options) (text : List ℕ) (width : ℕ) (status : ℕ) : Type 0 where
+  pub engine : Engine
+  pub back : Engine × EditFault
+  pub fresh : IsFresh tables options engine
+  pub refused : OpensNot engine text width back
+  pub status_is : status ≡ edit_status back.1
+
+abbrev pub OpensOn : Options → List ℕ → ℕ → ℕ → Option Tables → Option SessionState → Option SessionState → Type 0
+OpensOn options text width status tables (Some state) after = (status ≡ ALREADY_OPEN) × (after ≡ Some state)
+OpensOn options text width status None None after = (status ≡ CLOSED) × (after ≡ None)
+OpensOn options text width status (Some tables) None (Some state) = (status ≡ OK) × IsOpened tables options text width state
+OpensOn options text width status (Some tables) None None = (status ≡ NO_MEMORY) ⊎ IsRefused tables options text width status
+
+abbrev pub OpensSession : Option Options → List ℕ → ℕ → ℕ → Option Tables → Option SessionState → Option SessionState → Type 0
+OpensSession None bytes width status tables before after = (status ≡ UNKNOWN_OPTION) × (after ≡ before)
+OpensSession (Some options) bytes width status tables before after =
+    OfText bytes status (after ≡ before) (λ text. OpensOn options text width status tables before after)

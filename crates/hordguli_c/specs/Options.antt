@@ -1,0 +1,45 @@
+-- What the bits of options and of print flags mean.
+use Rattle.std.specs.Prelude.{ℕ, ◌/◌, ◌%◌, ◌==◌, nat_lt, Bool, false, true, Option, Some, None, if◌then◌else◌}
+use Rattle.bidi.specs.declared.base.Base.{Base}
+use Rattle.bidi.specs.declared.base.Base.TheVariants.{Rtl, Ltr, WeakRtl, WeakLtr}
+use Rattle.lines.specs.declared.options.Options.{Options}
+use Rattle.lines.specs.declared.print.Print.{Print}
+
+abbrev pub has_bit : ℕ → ℕ → Bool
+has_bit bits value = bits / value % 2 == 1
+
+-- the two lowest bits name a direction
+abbrev pub base_of : ℕ → Base
+base_of bits =
+    if bits % 4 == 0 then WeakLtr else if bits % 4 == 1 then WeakRtl else if bits % 4 == 2 then Ltr else Rtl
+
+-- bits that name a direction and nothing else
+abbrev pub direction_of : ℕ → Option Base
+direction_of bits = if nat_lt bits 4 then Some (base_of bits) else None
+
+-- bits that name at most that numbers stay whole
+abbrev pub tailoring_of : ℕ → Option Bool
+tailoring_of bits = if bits == 0 then Some false else if bits == 16 then Some true else None
+
+-- the options of a session
+abbrev pub options_of : ℕ → Option Options
+options_of bits =
+    if nat_lt bits 32 then Some (record {
+      base = base_of bits;
+      nobreak = has_bit bits 4;
+      reordernsm = has_bit bits 8;
+      whole_numbers = has_bit bits 16;
+    }) else None
+
+-- what is printed of a line
+abbrev pub print_of : ℕ → Option Print
+print_of bits =
+    if nat_lt bits 128 then Some (record {
+      visual = has_bit bits 1;
+      basedir = has_bit bits 2;
+      ltov = has_bit bits 4;
+      vtol = has_bit bits 8;
+      levels = has_bit bits 16;
+      padded = has_bit bits 32;
+      mirrored = has_bit bits 64;
+    }) else None

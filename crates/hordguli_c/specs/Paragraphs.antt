@@ -1,0 +1,42 @@
+-- What the calls on one paragraph of characters answer, by tables alone.
+use Rattle.std.specs.Prelude.{◌≡◌, ℕ, ◌<◌, ◌⊎◌, Bool, List, length, map, All}
+use Rattle.std.specs.Char.{IsScalar}
+use Rattle.ucd.specs.Tables.{class_of}
+use Rattle.ucd.specs.declared.tables.Tables.{Tables}
+use Rattle.bidi.specs.Base.{base_level_of}
+use Rattle.bidi.specs.Levels.{levels_of}
+use Rattle.bidi.specs.declared.base.Base.{Base}
+use Rattle.breaks.specs.Marks.{marks_of}
+use Rattle.breaks.specs.declared.mark.Mark.{Mark}
+use Rattle.breaks.specs.declared.mark.Mark.TheVariants.{Never, May, Must}
+use Rattle.hordguli_c.specs.Arrays.{put}
+use Rattle.hordguli_c.specs.declared.status.TheConstants.{OK, NO_MEMORY, NOT_A_CHARACTER, NO_ROOM}
+
+abbrev pub mark_number : Mark → ℕ
+mark_number Never = 0
+mark_number May = 1
+mark_number Must = 2
+
+-- the array gets a number for each of the characters, where these are characters and it has room
+abbrev pub PutsEach : (List ℕ → List ℕ) → List ℕ → ℕ → List ℕ → List ℕ → Type 0
+PutsEach numbers characters status old new =
+    ((status ≡ OK) × All IsScalar characters × (new ≡ put (numbers characters) old))
+    ⊎ ((status ≡ NO_ROOM) × (length old < length characters) × (new ≡ old))
+    ⊎ ((status ≡ NOT_A_CHARACTER) × (¬ All IsScalar characters) × (new ≡ old))
+    ⊎ ((status ≡ NO_MEMORY) × (new ≡ old))
+
+-- the levels before L1 (UAX #9, X1 to I2), which a search for a proof leaves closed
+unfoldable pub levels_by : Tables → Base → List ℕ → List ℕ
+levels_by tables base text = levels_of tables text base
+
+abbrev pub PutsLevels : Base → List ℕ → ℕ → Tables → List ℕ → List ℕ → Type 0
+PutsLevels base characters status tables = PutsEach (levels_by tables base) characters status
+
+abbrev pub PutsMarks : Bool → List ℕ → ℕ → Tables → List ℕ → List ℕ → Type 0
+PutsMarks whole_numbers characters status tables = PutsEach (λ text. map mark_number (marks_of tables whole_numbers text)) characters status
+
+abbrev pub PutsBase : Base → List ℕ → ℕ → Tables → ℕ → ℕ → Type 0
+PutsBase base characters status tables old new =
+    ((status ≡ OK) × All IsScalar characters × (new ≡ base_level_of (map (class_of tables) characters) base))
+    ⊎ ((status ≡ NOT_A_CHARACTER) × (¬ All IsScalar characters) × (new ≡ old))
+    ⊎ ((status ≡ NO_MEMORY) × (new ≡ old))

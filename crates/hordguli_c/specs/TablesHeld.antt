@@ -1,0 +1,22 @@
+-- What a handle of tables owns: nothing at null, and else the block at which tables of this value lie.
+use Rattle.std.specs.Prelude.{◌≡◌, Option, Some, None}
+use base.Fml.{Fml, ftrue, fex}
+use denote.RattleType.{RattleType}
+use denote.RawPtr.{Ptr, null_ptr}
+use Rattle.std.specs.Box.Ownership.{box_owns}
+use Rattle.std.specs.contracts.impls.GlobalAllocator.TheImpl.{ghosts}
+use Rattle.ucd.specs.contracts.tables.Tables as tables
+use Rattle.ucd.specs.declared.tables.Tables.{Tables}
+use Rattle.hordguli_c.specs.Held.{the_global}
+
+-- what a contract sees of tables
+abbrev pub Value : Type 0
+Value = Tables
+
+abbrev pub object_row : RattleType
+object_row = tables.the_row
+
+-- what lies at a handle's pointer
+abbrev pub object_at : Ptr → Option Value → Fml
+object_at p None = fex (p ≡ null_ptr) (λ _. ftrue)
+object_at p (Some x) = box_owns (ghosts.dealloc_token the_global) object_row p x

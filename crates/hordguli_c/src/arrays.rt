@@ -1,0 +1,157 @@
+//! Arrays of C's.
+ghost use Rattle.std.specs.Prelude.{◌≡◌, ◌≤◌, All, length, map, true, IfOk, MatchOption};
+ghost use Rattle.std.specs.Char.{IsScalar};
+ghost use Rattle.hordguli_c.specs.Arrays.{has_room, put, put_if};
+ghost use Rattle.hordguli_c.specs.Lines.{columns_in};
+ghost use Rattle.hordguli_c.specs.Paragraphs.{mark_number};
+
+use breaks::Mark;
+use lines::VisualLine;
+use std::alloc::{AllocError, Global};
+
+/// Numbers as characters, if they all are some.
+pub fn characters_of(alloc: Global, numbers: &[u32]) -> Result<Option<Vec<char>>, AllocError>
+    ensures { IfOk result (λ text. MatchOption text (¬ All IsScalar numbers.now)
+        (λ text. All IsScalar numbers.now × (text.items ≡ numbers.now))) }
+{
+    let mut text = Vec::with_capacity(alloc, numbers.len())?;
+    for k in 0..numbers.len() {
+        match char::from_u32(numbers[k]) {
+            Some(c) => text.push(c)?,
+            None => return Ok(None),
+        }
+    }
+    Ok(Some(text))
+}
+
+/// Puts a list at the front of an array.
+pub fn put_levels(list: &[u8], array: &mut [u8])
+    requires { length list.now ≤ length array.old }
+    ensures { array.new ≡ put list.now array.old }
+{
+    array[..list.len()].copy_from_slice(list);
+}
+
+// The number of a mark.
+fn mark_number(mark: Mark) -> u8
+    ensures { result ≡ mark_number mark }
+{
+    match mark {
+        Mark::Never => 0,
+        Mark::May => 1,
+        Mark::Must => 2,
+    }
+}
+
+fn put_each_mark(marks: &[Mark], array: &mut [u8])
+    requires { length array.old ≡ length marks.now }
+    ensures { array.new ≡ map mark_number marks.now }
+{
+    for at in 0..marks.len() {
+        array[at] = mark_number(marks[at]);
+    }
+}
+
+/// Puts the numbers of marks at the front of an array.
+pub fn put_marks(marks: &[Mark], array: &mut [u8])
+    requires { length marks.now ≤ length array.old }
+    ensures { array.new ≡ put (map mark_number marks.now) array.old }
+{
+    put_each_mark(marks, &mut array[..marks.len()]);
+}
+
+/// Whether an array has room for so many elements, where it is wanted.
+pub fn has_room(wanted: bool, len: usize, room: usize) -> bool
+    ensures { result ≡ has_room wanted len room }
+{
+    !wanted || len <= room
+}
+
+/// Puts levels at the front of an array, where it is wanted.
+pub fn put_levels_if(wanted: bool, list: &[u8], array: &mut [u8])
+    requires { has_room wanted (length list.now) (length array.old) ≡ true }
+    ensures { array.new ≡ put_if wanted list.now array.old }
+{
+    if wanted {
+        put_levels(list, array);
+    }
+}
+
+/// Puts the numbers of marks at the front of an array, where it is wanted.
+pub fn put_marks_if(wanted: bool, marks: &[Mark], array: &mut [u8])
+    requires { has_room wanted (length marks.now) (length array.old) ≡ true }
+    ensures { array.new ≡ put_if wanted (map mark_number marks.now) array.old }
+{
+    if wanted {
+        put_marks(marks, array);
+    }
+}
+
+fn put_places(list: &[u32], array: &mut [u32])
+    requires { length list.now ≤ length array.old }
+    ensures { array.new ≡ put list.now array.old }
+{
+    array[..list.len()].copy_from_slice(list);
+}
+
+/// Puts places of a line at the front of an array, where it is wanted.
+pub fn put_places_if(wanted: bool, list: &[u32], array: &mut [u32])
+    requires { has_room wanted (length list.now) (length array.old) ≡ true }
+    ensures { array.new ≡ put_if wanted list.now array.old }
+{
+    if wanted {
+        put_places(list, array);
+    }
+}
+
+fn put_each_character(list: &[char], array: &mut [u32])
+    requires { length array.old ≡ length list.now }
+    ensures { array.new ≡ list.now }
+{
+    for at in 0..list.len() {
+        array[at] = u32::from(list[at]);
+    }
+}
+
+fn put_characters(list: &[char], array: &mut [u32])
+    requires { length list.now ≤ length array.old }
+    ensures { array.new ≡ put list.now array.old }
+{
+    put_each_character(list, &mut array[..list.len()]);
+}
+
+/// Puts characters at the front of an array, where it is wanted.
+pub fn put_characters_if(wanted: bool, list: &[char], array: &mut [u32])
+    requires { has_room wanted (length list.now) (length array.old) ≡ true }
+    ensures { array.new ≡ put_if wanted list.now array.old }
+{
+    if wanted {
+        put_characters(list, array);
+    }
+}
+
+fn put_each_columns(line: &VisualLine<'_>, array: &mut [usize])
+    requires { length array.old ≡ length line.now.vtol }
+    ensures { array.new ≡ columns_in line.now }
+{
+    for at in 0..array.len() {
+        array[at] = line.columns_at(at);
+    }
+}
+
+fn put_columns(line: &VisualLine<'_>, array: &mut [usize])
+    requires { length line.now.vtol ≤ length array.old }
+    ensures { array.new ≡ put (columns_in line.now) array.old }
+{
+    put_each_columns(line, &mut array[..line.vtol().len()]);
+}
+
+/// Puts the columns that each visual place of a line takes at the front of an array, where it is wanted.
+pub fn put_columns_if(wanted: bool, line: &VisualLine<'_>, array: &mut [usize])
+    requires { has_room wanted (length line.now.vtol) (length array.old) ≡ true }
+    ensures { array.new ≡ put_if wanted (columns_in line.now) array.old }
+{
+    if wanted {
+        put_columns(line, array);
+    }
+}

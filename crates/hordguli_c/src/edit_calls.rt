@@ -1,0 +1,197 @@
+//! The calls that change a session.
+ghost use Rattle.std.specs.Prelude.{◌≡◌, chars};
+ghost use Rattle.session.specs.Edits.{deletion, insertion, replacing};
+ghost use Rattle.hordguli_c.specs.Calls.{Changes, OfText};
+ghost use Rattle.hordguli_c.specs.Edits.{damage_out, edit_status, TriesEdit, TriesWidth};
+ghost use Rattle.hordguli_c.specs.declared.status.TheConstants.{OK};
+
+use crate::session_handle::{SessionHandle, SessionObject};
+use crate::status::{
+    CLOSED, NO_MEMORY, NOT_UTF8, OK, OUT_OF_RANGE, PARAGRAPH_TOO_LONG, TEXT_TOO_LONG,
+    WIDTH_OUT_OF_RANGE,
+};
+use session::{Damage, EditFault};
+use std::alloc::Global;
+use std::str::from_utf8;
+
+/// What a change has replaced, as `hordguli_damage`.
+#[repr(C)]
+#[derive(Clone, Copy)]
+pub struct DamageOut {
+    pub first_line: usize,
+    pub old_lines: usize,
+    pub new_lines: usize,
+    pub first_paragraph: usize,
+    pub old_paragraphs: usize,
+    pub new_paragraphs: usize,
+}
+
+/// The status of a fault.
+pub fn edit_status(fault: EditFault) -> u32
+    ensures { result ≡ edit_status fault }
+{
+    match fault {
+        EditFault::OutOfRange => OUT_OF_RANGE,
+        EditFault::WidthOutOfRange => WIDTH_OUT_OF_RANGE,
+        EditFault::TextTooLong => TEXT_TOO_LONG,
+        EditFault::ParagraphTooLong => PARAGRAPH_TOO_LONG,
+        EditFault::NoMemory => NO_MEMORY,
+    }
+}
+
+// Tells the damage of a change, and answers its status.
+fn tell(damage: Damage, out: &mut DamageOut) -> u32
+    ensures status { result ≡ OK }
+    ensures damage { out.new ≡ damage_out damage }
+{
+    *out = DamageOut {
+        first_line: damage.first_line,
+        old_lines: damage.old_lines,
+        new_lines: damage.new_lines,
+        first_paragraph: damage.first_par,
+        old_paragraphs: damage.old_pars,
+        new_paragraphs: damage.new_pars,
+    };
+    OK
+}
+
+fn insert(session: &mut SessionObject, pos: usize, text: &str, damage: &mut DamageOut) -> u32
+    ensures { TriesEdit (insertion pos (chars text.now)) result session.old session.new
+        damage.old damage.new }
+{
+    match session.insert(pos, text) {
+        Ok(made) => tell(made, damage),
+        Err(fault) => edit_status(fault),
+    }
+}
+
+/// Puts a text before the character at a position, or at the end.
+#[unsafe(no_mangle)]
+pub extern "C" fn hordguli_core_insert(
+    alloc: Global,
+    session: &mut SessionHandle,
+    pos: usize,
+    text: &[u8],
+    damage: &mut DamageOut,
+) -> u32
+    ensures { OfText text.now result
+        ((session.new.held ≡ session.old.held) × (damage.new ≡ damage.old))
+        (λ piece. Changes (TriesEdit (insertion pos piece)) result
+        session.old.held session.new.held damage.old damage.new) }
+{
+    let Ok(text) = from_utf8(text) else {
+        return NOT_UTF8;
+    };
+    match session.swap(alloc, None) {
+        Some(mut object) => {
+            let status = insert(&mut object, pos, text, damage);
+            session.swap(alloc, Some(object));
+            status
+        }
+        None => CLOSED,
+    }
+}
+
+fn delete(session: &mut SessionObject, pos: usize, count: usize, damage: &mut DamageOut) -> u32
+    ensures { TriesEdit (deletion pos count) result session.old session.new damage.old damage.new }
+{
+    match session.delete(pos, count) {
+        Ok(made) => tell(made, damage),
+        Err(fault) => edit_status(fault),
+    }
+}
+
+/// Takes characters out, from a position on.
+#[unsafe(no_mangle)]
+pub extern "C" fn hordguli_core_delete(
+    alloc: Global,
+    session: &mut SessionHandle,
+    pos: usize,
+    count: usize,
+    damage: &mut DamageOut,
+) -> u32
+    ensures { Changes (TriesEdit (deletion pos count)) result
+        session.old.held session.new.held damage.old damage.new }
+{
+    match session.swap(alloc, None) {
+        Some(mut object) => {
+            let status = delete(&mut object, pos, count, damage);
+            session.swap(alloc, Some(object));
+            status
+        }
+        None => CLOSED,
+    }
+}
+
+fn replace(
+    session: &mut SessionObject,
+    pos: usize,
+    count: usize,
+    text: &str,
+    damage: &mut DamageOut,
+) -> u32
+    ensures { TriesEdit (replacing pos count (chars text.now)) result session.old session.new
+        damage.old damage.new }
+{
+    match session.replace(pos, count, text) {
+        Ok(made) => tell(made, damage),
+        Err(fault) => edit_status(fault),
+    }
+}
+
+/// Puts a text in place of characters, from a position on.
+#[unsafe(no_mangle)]
+pub extern "C" fn hordguli_core_replace(
+    alloc: Global,
+    session: &mut SessionHandle,
+    pos: usize,
+    count: usize,
+    text: &[u8],
+    damage: &mut DamageOut,
+) -> u32
+    ensures { OfText text.now result
+        ((session.new.held ≡ session.old.held) × (damage.new ≡ damage.old))
+        (λ piece. Changes (TriesEdit (replacing pos count piece)) result
+        session.old.held session.new.held damage.old damage.new) }
+{
+    let Ok(text) = from_utf8(text) else {
+        return NOT_UTF8;
+    };
+    match session.swap(alloc, None) {
+        Some(mut object) => {
+            let status = replace(&mut object, pos, count, text, damage);
+            session.swap(alloc, Some(object));
+            status
+        }
+        None => CLOSED,
+    }
+}
+
+fn set_width(session: &mut SessionObject, width: u16, damage: &mut DamageOut) -> u32
+    ensures { TriesWidth width result session.old session.new damage.old damage.new }
+{
+    match session.set_width(width) {
+        Ok(made) => tell(made, damage),
+        Err(fault) => edit_status(fault),
+    }
+}
+
+/// Brings all lines to another width, in columns.
+#[unsafe(no_mangle)]
+pub extern "C" fn hordguli_core_set_width(
+    alloc: Global,
+    session: &mut SessionHandle,
+    width: u16,
+    damage: &mut DamageOut,
+) -> u32
+    ensures { Changes (TriesWidth width) result session.old.held session.new.held damage.old damage.new }
+{
+    match session.swap(alloc, None) {
+        Some(mut object) => {
+            let status = set_width(&mut object, width, damage);
+            session.swap(alloc, Some(object));
+            status
+        }
+        None => CLOSED,
+    }
+}

@@ -1,0 +1,99 @@
+//! The call that gives a paragraph of a session.
+ghost use Rattle.std.specs.Prelude.{◌≡◌, length, map, slice_get, true};
+ghost use Rattle.hordguli_c.specs.Arrays.{has_room, put_if};
+ghost use Rattle.hordguli_c.specs.Calls.{Asks};
+ghost use Rattle.hordguli_c.specs.Lines.{paragraph_out, PutsParagraph, ShowsParagraph};
+ghost use Rattle.hordguli_c.specs.Paragraphs.{mark_number};
+
+use crate::arrays::{has_room, put_levels_if, put_marks_if};
+use crate::options::has_bit;
+use crate::session_handle::{SessionHandle, SessionObject};
+use crate::status::{CLOSED, NO_ROOM, OK, OUT_OF_RANGE};
+use lines::Laid;
+use std::alloc::Global;
+
+/// A paragraph, as `hordguli_paragraph_info`.
+#[repr(C)]
+#[derive(Clone, Copy)]
+pub struct ParagraphOut {
+    pub length: usize,
+    pub lines: usize,
+    pub base: u32,
+    pub zero: u32,
+}
+
+fn paragraph_out(laid: &Laid) -> ParagraphOut
+    ensures { result ≡ paragraph_out laid.now }
+{
+    ParagraphOut {
+        length: laid.text().len(),
+        lines: laid.line_count(),
+        base: u32::from(laid.base()),
+        zero: 0,
+    }
+}
+
+fn put_paragraph(laid: &Laid, wanted: u32, levels: &mut [u8], marks: &mut [u8]) -> u32
+    ensures { PutsParagraph wanted laid.now result
+        (record { levels = levels.old; marks = marks.old })
+        (record { levels = levels.new; marks = marks.new }) }
+{
+    let (wants_levels, wants_marks) = (has_bit(wanted, 1), has_bit(wanted, 2));
+    if !has_room(wants_levels, laid.levels().len(), levels.len()) {
+        return NO_ROOM;
+    }
+    if !has_room(wants_marks, laid.marks().len(), marks.len()) {
+        return NO_ROOM;
+    }
+    put_levels_if(wants_levels, laid.levels(), levels);
+    put_marks_if(wants_marks, laid.marks(), marks);
+    OK
+}
+
+fn show_paragraph(
+    session: &SessionObject,
+    index: usize,
+    out: &mut ParagraphOut,
+    wanted: u32,
+    levels: &mut [u8],
+    marks: &mut [u8],
+) -> u32
+    ensures { ShowsParagraph wanted (slice_get session.now.kept index) result
+        (out.old, record { levels = levels.old; marks = marks.old })
+        (out.new, record { levels = levels.new; marks = marks.new }) }
+{
+    match session.paragraph(index) {
+        Some(laid) => {
+            *out = paragraph_out(laid);
+            put_paragraph(laid, wanted, levels, marks)
+        }
+        None => OUT_OF_RANGE,
+    }
+}
+
+/// A paragraph, and what is wanted of it.
+#[unsafe(no_mangle)]
+pub extern "C" fn hordguli_core_paragraph(
+    alloc: Global,
+    session: &mut SessionHandle,
+    index: usize,
+    out: &mut ParagraphOut,
+    wanted: u32,
+    levels: &mut [u8],
+    marks: &mut [u8],
+) -> u32
+    ensures unchanged { session.new.held ≡ session.old.held }
+    ensures paragraph { Asks (λ status state. ShowsParagraph wanted (slice_get state.kept index) status) result
+        session.old.held
+        (out.old, record { levels = levels.old; marks = marks.old })
+        (out.new, record { levels = levels.new; marks = marks.new }) }
+{
+    match session.swap(alloc, None) {
+        Some(object) => {
+            let status = show_paragraph(&object, index, out, wanted, levels, marks);
+            session.swap(alloc, Some(object));
+            status
+        }
+        None => CLOSED,
+    }
+}

@@ -1,0 +1,18 @@
+//! The calls of the library for C.
+#![tactic(auto)]
+
+mod arrays;
+mod edit_calls;
+mod layout_calls;
+mod line_calls;
+mod loose;
+mod options;
+mod page;
+mod paragraph_calls;
+mod place_calls;
+mod session_calls;
+mod session_handle;
+mod status;
+mod tables_calls;
+mod tables_handle;
+mod text_calls;

@@ -1,0 +1,170 @@
+//! The calls on one paragraph of characters, by tables alone.
+ghost use Rattle.std.specs.Prelude.{◌≡◌, length, IfOk};
+ghost use Rattle.hordguli_c.specs.Calls.{AsksBy};
+ghost use Rattle.hordguli_c.specs.Options.{direction_of, tailoring_of};
+ghost use Rattle.hordguli_c.specs.Paragraphs.{levels_by, PutsBase, PutsLevels, PutsMarks};
+
+use crate::arrays::{characters_of, put_levels, put_marks};
+use crate::options::{direction_of, tailoring_of};
+use crate::status::{CLOSED, NO_MEMORY, NO_ROOM, NOT_A_CHARACTER, OK, UNKNOWN_OPTION};
+use crate::tables_handle::TablesHandle;
+use bidi::{Base, base_level, resolve};
+use breaks::{Tailoring, marks};
+use std::alloc::{AllocError, Global};
+use ucd::Tables;
+
+fn find_base(alloc: Global, tables: &Tables, base: Base, characters: &[u32], level: &mut u32) -> u32
+    ensures { PutsBase base characters.now result tables.now level.old level.new }
+{
+    match characters_of(alloc, characters) {
+        Ok(Some(text)) => {
+            *level = u32::from(base_level(tables, &text, base));
+            OK
+        }
+        Ok(None) => NOT_A_CHARACTER,
+        Err(_) => NO_MEMORY,
+    }
+}
+
+/// The base level of a paragraph.
+#[unsafe(no_mangle)]
+pub extern "C" fn hordguli_core_base(
+    alloc: Global,
+    tables: &mut TablesHandle,
+    direction: u32,
+    characters: &[u32],
+    level: &mut u32,
+) -> u32
+    ensures unchanged { tables.new.held ≡ tables.old.held }
+    ensures base { AsksBy (λ base. PutsBase base characters.now) (direction_of direction) result
+        tables.old.held level.old level.new }
+{
+    let Some(base) = direction_of(direction) else {
+        return UNKNOWN_OPTION;
+    };
+    match tables.swap(alloc, None) {
+        Some(object) => {
+            let status = find_base(alloc, &object, base, characters, level);
+            tables.swap(alloc, Some(object));
+            status
+        }
+        None => CLOSED,
+    }
+}
+
+#[tactic(auto, unfolding(crate::specs::Paragraphs::levels_by))]
+fn levels_by(
+    alloc: Global,
+    tables: &Tables,
+    base: Base,
+    text: &[char],
+) -> Result<Vec<u8>, AllocError>
+    ensures levels { IfOk result (λ levels. levels.items ≡ levels_by tables.now base text.now) }
+    ensures len { IfOk result (λ levels. length levels.items ≡ length text.now) }
+{
+    resolve(alloc, tables, text, base)
+}
+
+fn find_levels(
+    alloc: Global,
+    tables: &Tables,
+    base: Base,
+    characters: &[u32],
+    levels: &mut [u8],
+) -> u32
+    ensures { PutsLevels base characters.now result tables.now levels.old levels.new }
+{
+    if levels.len() < characters.len() {
+        return NO_ROOM;
+    }
+    let text = match characters_of(alloc, characters) {
+        Ok(Some(text)) => text,
+        Ok(None) => return NOT_A_CHARACTER,
+        Err(_) => return NO_MEMORY,
+    };
+    match levels_by(alloc, tables, base, &text) {
+        Ok(found) => {
+            put_levels(&found, levels);
+            OK
+        }
+        Err(_) => NO_MEMORY,
+    }
+}
+
+/// The level of each character of a paragraph before L1.
+#[unsafe(no_mangle)]
+pub extern "C" fn hordguli_core_levels(
+    alloc: Global,
+    tables: &mut TablesHandle,
+    direction: u32,
+    characters: &[u32],
+    levels: &mut [u8],
+) -> u32
+    ensures unchanged { tables.new.held ≡ tables.old.held }
+    ensures levels { AsksBy (λ base. PutsLevels base characters.now) (direction_of direction) result
+        tables.old.held levels.old levels.new }
+{
+    let Some(base) = direction_of(direction) else {
+        return UNKNOWN_OPTION;
+    };
+    match tables.swap(alloc, None) {
+        Some(object) => {
+            let status = find_levels(alloc, &object, base, characters, levels);
+            tables.swap(alloc, Some(object));
+            status
+        }
+        None => CLOSED,
+    }
+}
+
+fn find_marks(
+    alloc: Global,
+    tables: &Tables,
+    whole_numbers: bool,
+    characters: &[u32],
+    array: &mut [u8],
+) -> u32
+    ensures { PutsMarks whole_numbers characters.now result tables.now array.old array.new }
+{
+    if array.len() < characters.len() {
+        return NO_ROOM;
+    }
+    let text = match characters_of(alloc, characters) {
+        Ok(Some(text)) => text,
+        Ok(None) => return NOT_A_CHARACTER,
+        Err(_) => return NO_MEMORY,
+    };
+    match marks(alloc, tables, &text, Tailoring { whole_numbers }) {
+        Ok(found) => {
+            put_marks(&found, array);
+            OK
+        }
+        Err(_) => NO_MEMORY,
+    }
+}
+
+/// The break mark after each character of a paragraph.
+#[unsafe(no_mangle)]
+pub extern "C" fn hordguli_core_marks(
+    alloc: Global,
+    tables: &mut TablesHandle,
+    options: u32,
+    characters: &[u32],
+    marks: &mut [u8],
+) -> u32
+    ensures unchanged { tables.new.held ≡ tables.old.held }
+    ensures marks { AsksBy (λ whole_numbers. PutsMarks whole_numbers characters.now) (tailoring_of options)
+        result tables.old.held marks.old marks.new }
+{
+    let Some(whole_numbers) = tailoring_of(options) else {
+        return UNKNOWN_OPTION;
+    };
+    match tables.swap(alloc, None) {
+        Some(object) => {
+            let status = find_marks(alloc, &object, whole_numbers, characters, marks);
+            tables.swap(alloc, Some(object));
+            status
+        }
+        None => CLOSED,
+    }
+}

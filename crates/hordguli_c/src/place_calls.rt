@@ -1,0 +1,246 @@
+//! The calls that ask about a place of a session's text.
+ghost use Rattle.std.specs.Prelude.{◌≡◌, option_map, slice_get};
+ghost use Rattle.lines.specs.Engine.{rules_of};
+ghost use Rattle.session.specs.Carets.{caret_at};
+ghost use Rattle.session.specs.Hits.{hit_at};
+ghost use Rattle.session.specs.Places.{line_starts, place_at};
+ghost use Rattle.hordguli_c.specs.Calls.{Asks, Gives};
+ghost use Rattle.hordguli_c.specs.Places.{caret_out, cluster_out, flag, hit_out, place_out, GivesCluster};
+
+use crate::session_handle::{SessionHandle, SessionObject};
+use crate::status::{CLOSED, NO_MEMORY, OK, OUT_OF_RANGE};
+use std::alloc::Global;
+
+fn find_start(session: &SessionObject, line: usize, start: &mut usize) -> u32
+    ensures { Gives (slice_get (line_starts session.now.kept) line) result start.old start.new }
+{
+    match session.line_start(line) {
+        Some(found) => {
+            *start = found;
+            OK
+        }
+        None => OUT_OF_RANGE,
+    }
+}
+
+/// The position at which a line begins.
+#[unsafe(no_mangle)]
+pub extern "C" fn hordguli_core_line_start(
+    alloc: Global,
+    session: &mut SessionHandle,
+    line: usize,
+    start: &mut usize,
+) -> u32
+    ensures unchanged { session.new.held ≡ session.old.held }
+    ensures start { Asks (λ status state. Gives (slice_get (line_starts state.kept) line) status) result
+        session.old.held start.old start.new }
+{
+    match session.swap(alloc, None) {
+        Some(object) => {
+            let status = find_start(&object, line, start);
+            session.swap(alloc, Some(object));
+            status
+        }
+        None => CLOSED,
+    }
+}
+
+/// Where a character stands, as `hordguli_place`.
+#[repr(C)]
+#[derive(Clone, Copy)]
+pub struct PlaceOut {
+    pub paragraph: usize,
+    pub line: usize,
+    pub offset: usize,
+}
+
+fn find_place(session: &SessionObject, pos: usize, place: &mut PlaceOut) -> u32
+    ensures { Gives (option_map place_out (place_at (rules_of session.now.engine) session.now.kept pos))
+        result place.old place.new }
+{
+    match session.place(pos) {
+        Some(found) => {
+            *place = PlaceOut {
+                paragraph: found.paragraph,
+                line: found.line,
+                offset: found.offset,
+            };
+            OK
+        }
+        None => OUT_OF_RANGE,
+    }
+}
+
+/// Where the character at a position stands.
+#[unsafe(no_mangle)]
+pub extern "C" fn hordguli_core_place_of(
+    alloc: Global,
+    session: &mut SessionHandle,
+    pos: usize,
+    place: &mut PlaceOut,
+) -> u32
+    ensures unchanged { session.new.held ≡ session.old.held }
+    ensures place { Asks (λ status state.
+        Gives (option_map place_out (place_at (rules_of state.engine) state.kept pos)) status) result
+        session.old.held place.old place.new }
+{
+    match session.swap(alloc, None) {
+        Some(object) => {
+            let status = find_place(&object, pos, place);
+            session.swap(alloc, Some(object));
+            status
+        }
+        None => CLOSED,
+    }
+}
+
+/// Where a caret stands, as `hordguli_caret`.
+#[repr(C)]
+#[derive(Clone, Copy)]
+pub struct CaretOut {
+    pub line: usize,
+    pub column: usize,
+    pub level: u32,
+    pub zero: u32,
+}
+
+fn find_caret(session: &SessionObject, pos: usize, caret: &mut CaretOut) -> u32
+    ensures { Gives (option_map caret_out (caret_at (rules_of session.now.engine) session.now.kept pos))
+        result caret.old caret.new }
+{
+    match session.caret(pos) {
+        Some(found) => {
+            *caret = CaretOut {
+                line: found.line,
+                column: found.column,
+                level: u32::from(found.level),
+                zero: 0,
+            };
+            OK
+        }
+        None => OUT_OF_RANGE,
+    }
+}
+
+/// Where a caret stands before the character at a position.
+#[unsafe(no_mangle)]
+pub extern "C" fn hordguli_core_caret_at(
+    alloc: Global,
+    session: &mut SessionHandle,
+    pos: usize,
+    caret: &mut CaretOut,
+) -> u32
+    ensures unchanged { session.new.held ≡ session.old.held }
+    ensures caret { Asks (λ status state.
+        Gives (option_map caret_out (caret_at (rules_of state.engine) state.kept pos)) status) result
+        session.old.held caret.old caret.new }
+{
+    match session.swap(alloc, None) {
+        Some(object) => {
+            let status = find_caret(&object, pos, caret);
+            session.swap(alloc, Some(object));
+            status
+        }
+        None => CLOSED,
+    }
+}
+
+/// The character at a column, as `hordguli_hit`.
+#[repr(C)]
+#[derive(Clone, Copy)]
+pub struct HitOut {
+    pub pos: usize,
+    pub trailing: u32,
+    pub zero: u32,
+}
+
+/// A truth value as a number.
+pub fn flag(is: bool) -> u32
+    ensures { result ≡ flag is }
+{
+    if is { 1 } else { 0 }
+}
+
+fn find_hit(session: &SessionObject, line: usize, column: usize, hit: &mut HitOut) -> u32
+    ensures { Gives (option_map hit_out (hit_at session.now.kept line column)) result hit.old hit.new }
+{
+    match session.hit(line, column) {
+        Some(found) => {
+            *hit = HitOut {
+                pos: found.pos,
+                trailing: flag(found.trailing),
+                zero: 0,
+            };
+            OK
+        }
+        None => OUT_OF_RANGE,
+    }
+}
+
+/// The character whose columns cover a column of a line.
+#[unsafe(no_mangle)]
+pub extern "C" fn hordguli_core_hit_at(
+    alloc: Global,
+    session: &mut SessionHandle,
+    line: usize,
+    column: usize,
+    hit: &mut HitOut,
+) -> u32
+    ensures unchanged { session.new.held ≡ session.old.held }
+    ensures hit { Asks (λ status state. Gives (option_map hit_out (hit_at state.kept line column)) status)
+        result session.old.held hit.old hit.new }
+{
+    match session.swap(alloc, None) {
+        Some(object) => {
+            let status = find_hit(&object, line, column, hit);
+            session.swap(alloc, Some(object));
+            status
+        }
+        None => CLOSED,
+    }
+}
+
+/// A grapheme cluster, as `hordguli_cluster`.
+#[repr(C)]
+#[derive(Clone, Copy)]
+pub struct ClusterOut {
+    pub start: usize,
+    pub end: usize,
+}
+
+fn find_cluster(session: &SessionObject, pos: usize, cluster: &mut ClusterOut) -> u32
+    ensures { GivesCluster pos result session.now cluster.old cluster.new }
+{
+    match session.cluster(pos) {
+        Ok(Some(found)) => {
+            *cluster = ClusterOut {
+                start: found.start,
+                end: found.end,
+            };
+            OK
+        }
+        Ok(None) => OUT_OF_RANGE,
+        Err(_) => NO_MEMORY,
+    }
+}
+
+/// The grapheme cluster of the character at a position.
+#[unsafe(no_mangle)]
+pub extern "C" fn hordguli_core_cluster_at(
+    alloc: Global,
+    session: &mut SessionHandle,
+    pos: usize,
+    cluster: &mut ClusterOut,
+) -> u32
+    ensures unchanged { session.new.held ≡ session.old.held }
+    ensures cluster { Asks (GivesCluster pos) result session.old.held cluster.old cluster.new }
+{
+    match session.swap(alloc, None) {
+        Some(object) => {
+            let status = find_cluster(&object, pos, cluster);
+            session.swap(alloc, Some(object));
+            status
+        }
+        None => CLOSED,
+    }
+}

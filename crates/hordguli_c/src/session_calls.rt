@@ -1,0 +1,205 @@
+//! The calls that open and close a session, and how much it holds and has done.
+ghost use Rattle.std.specs.Prelude.{◌≡◌, chars, length, None, Some, MatchResult};
+ghost use Rattle.lines.specs.Engine.{analysed_of, filled_of, written_of};
+ghost use Rattle.session.specs.Kept.{lines_in};
+ghost use Rattle.session.specs.Sessions.{text_at};
+ghost use Rattle.hordguli_c.specs.Calls.{Asks, Gives};
+ghost use Rattle.hordguli_c.specs.Opening.{IsFresh, IsOpened, IsRefused, OpensOn, OpensSession};
+ghost use Rattle.hordguli_c.specs.Options.{options_of};
+
+use crate::edit_calls::edit_status;
+use crate::options::options_of;
+use crate::session_handle::{SessionHandle, SessionObject};
+use crate::status::{ALREADY_OPEN, CLOSED, NO_MEMORY, NOT_UTF8, OK, UNKNOWN_OPTION};
+use crate::tables_handle::TablesHandle;
+use lines::{Engine, Options};
+use session::Session;
+use std::alloc::Global;
+use std::str::from_utf8;
+use ucd::Tables;
+
+// A session by a fresh engine, or the status of what it is refused for.
+fn open_by(
+    alloc: Global,
+    tables: Tables,
+    options: Options,
+    text: &str,
+    width: u16,
+) -> Result<SessionObject, u32>
+    ensures { MatchResult result (IsOpened tables options (chars text.now) width)
+        (IsRefused tables options (chars text.now) width) }
+{
+    let engine = Engine::new(tables, options);
+    match Session::open(alloc, engine, text, width) {
+        Ok(session) => Ok(session),
+        Err((_, fault)) => Err(edit_status(fault)),
+    }
+}
+
+// Puts a session into a handle that is closed.
+fn open_at(
+    alloc: Global,
+    session: &mut SessionHandle,
+    tables: &Tables,
+    options: Options,
+    text: &str,
+    width: u16,
+) -> u32
+    requires { session.old.held ≡ None }
+    ensures { OpensOn options (chars text.now) width result (Some tables.now)
+        session.old.held session.new.held }
+{
+    let Ok(copy) = tables.copy(alloc) else {
+        return NO_MEMORY;
+    };
+    match open_by(alloc, copy, options, text, width) {
+        Ok(opened) => match Box::new(alloc, opened) {
+            Ok(object) => {
+                session.swap(alloc, Some(object));
+                OK
+            }
+            Err(_) => NO_MEMORY,
+        },
+        Err(status) => status,
+    }
+}
+
+/// Opens a session on a text, by a copy of tables.
+#[unsafe(no_mangle)]
+pub extern "C" fn hordguli_core_session_open(
+    alloc: Global,
+    session: &mut SessionHandle,
+    tables: &mut TablesHandle,
+    options: u32,
+    width: u16,
+    text: &[u8],
+) -> u32
+    ensures unchanged { tables.new.held ≡ tables.old.held }
+    ensures opens { OpensSession (options_of options) text.now width result tables.old.held
+        session.old.held session.new.held }
+{
+    let Some(options) = options_of(options) else {
+        return UNKNOWN_OPTION;
+    };
+    let Ok(text) = from_utf8(text) else {
+        return NOT_UTF8;
+    };
+    if let Some(object) = session.swap(alloc, None) {
+        session.swap(alloc, Some(object));
+        return ALREADY_OPEN;
+    }
+    match tables.swap(alloc, None) {
+        Some(object) => {
+            let status = open_at(alloc, session, &object, options, text, width);
+            tables.swap(alloc, Some(object));
+            status
+        }
+        None => CLOSED,
+    }
+}
+
+/// Gives back what a handle of a session holds.
+#[unsafe(no_mangle)]
+pub extern "C" fn hordguli_core_session_close(alloc: Global, session: &mut SessionHandle)
+    ensures { session.new.held ≡ None }
+{
+    session.swap(alloc, None);
+}
+
+/// How much a session holds, as `hordguli_counts`.
+#[repr(C)]
+#[derive(Clone, Copy)]
+pub struct CountsOut {
+    pub characters: usize,
+    pub lines: usize,
+    pub paragraphs: usize,
+    pub width: usize,
+}
+
+fn counts_of(session: &SessionObject) -> CountsOut
+    ensures { result ≡ record {
+      characters = length (text_at session.now);
+      lines = length (lines_in session.now.kept);
+      paragraphs = length session.now.kept;
+      width = session.now.width;
+    } }
+{
+    CountsOut {
+        characters: session.char_count(),
+        lines: session.line_count(),
+        paragraphs: session.paragraph_count(),
+        width: usize::from(session.width()),
+    }
+}
+
+/// How much a session holds.
+#[unsafe(no_mangle)]
+pub extern "C" fn hordguli_core_session_counts(
+    alloc: Global,
+    session: &mut SessionHandle,
+    counts: &mut CountsOut,
+) -> u32
+    ensures unchanged { session.new.held ≡ session.old.held }
+    ensures counts { Asks (λ status state. Gives (Some (record {
+      characters = length (text_at state);
+      lines = length (lines_in state.kept);
+      paragraphs = length state.kept;
+      width = state.width;
+    })) status) result session.old.held counts.old counts.new }
+{
+    match session.swap(alloc, None) {
+        Some(object) => {
+            *counts = counts_of(&object);
+            session.swap(alloc, Some(object));
+            OK
+        }
+        None => CLOSED,
+    }
+}
+
+/// How much a session has worked, as `hordguli_work`.
+#[repr(C)]
+#[derive(Clone, Copy)]
+pub struct WorkOut {
+    pub analysed: u64,
+    pub filled: u64,
+    pub written: u64,
+}
+
+fn work_of(session: &SessionObject) -> WorkOut
+    ensures { result ≡ record {
+      analysed = analysed_of session.now.engine;
+      filled = filled_of session.now.engine;
+      written = written_of session.now.engine;
+    } }
+{
+    WorkOut {
+        analysed: session.analysed(),
+        filled: session.filled(),
+        written: session.written(),
+    }
+}
+
+/// How much a session has worked.
+#[unsafe(no_mangle)]
+pub extern "C" fn hordguli_core_session_work(
+    alloc: Global,
+    session: &mut SessionHandle,
+    work: &mut WorkOut,
+) -> u32
+    ensures unchanged { session.new.held ≡ session.old.held }
+    ensures work { Asks (λ status state. Gives (Some (record {
+      analysed = analysed_of state.engine;
+      filled = filled_of state.engine;
+      written = written_of state.engine;
+    })) status) result session.old.held work.old work.new }
+{
+    match session.swap(alloc, None) {
+        Some(object) => {
+            *work = work_of(&object);
+            session.swap(alloc, Some(object));
+            OK
+        }
+        None => CLOSED,
+    }
+}

@@ -1,0 +1,74 @@
+//! What C holds of session: null, or the address of a session on the heap.
+ghost use Rattle.std.specs.Prelude.{◌≡◌, None, Option, Some};
+ghost use Rattle.hordguli_c.specs.Held.{box_held, loose_held};
+ghost use Rattle.hordguli_c.specs.SessionHeld.{Value, object_at};
+
+use crate::loose::Loose;
+use session::{Kept, Session};
+use std::alloc::Global;
+use std::marker::Model;
+use std::mem::replace;
+use std::ptr::null_mut;
+use store::TreeStore;
+
+/// What lies at the address.
+pub type SessionObject = Session<TreeStore<Kept>>;
+
+/// A handle. Two functions look at its pointer, and one makes a handle without one.
+#[repr(C)]
+pub struct SessionHandle {
+    at: *mut u8,
+    pub ghost held: { Option Value },
+}
+
+impl Model for SessionHandle {
+    ghost also_owns = { λ h. object_at h.at h.held };
+}
+
+impl SessionHandle {
+    fn empty() -> SessionHandle
+        ensures { result.held ≡ None }
+    {
+        SessionHandle { at: null_mut() }
+    }
+
+    fn of_loose(loose: Loose<SessionObject, Global>) -> SessionHandle
+        ensures { result.held ≡ Some loose.value }
+    {
+        let Loose { at, alloc: _ } = loose;
+        SessionHandle { at: at.cast() }
+    }
+
+    fn into_loose(self, alloc: Global) -> Option<Loose<SessionObject, Global>>
+        ensures { loose_held result ≡ self.held }
+    {
+        let SessionHandle { at } = self;
+        if at.is_null() {
+            None
+        } else {
+            Some(Loose {
+                at: at.cast(),
+                alloc,
+            })
+        }
+    }
+
+    /// Puts an object in, or nothing, and gives out what was there.
+    pub fn swap(
+        &mut self,
+        alloc: Global,
+        object: Option<Box<SessionObject>>,
+    ) -> Option<Box<SessionObject>>
+        ensures put { self.new.held ≡ box_held object }
+        ensures value { self.old.held ≡ box_held result }
+    {
+        let handle = match object {
+            Some(object) => SessionHandle::of_loose(Loose::of(object)),
+            None => SessionHandle::empty(),
+        };
+        match replace(self, handle).into_loose(alloc) {
+            Some(loose) => Some(loose.into_box()),
+            None => None,
+        }
+    }
+}

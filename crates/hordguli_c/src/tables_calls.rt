@@ -1,0 +1,104 @@
+//! The calls on handles of tables.
+ghost use Rattle.std.specs.Prelude.{◌≡◌, None};
+ghost use Rattle.ucd.specs.declared.tables.UcdFiles.{UcdFiles};
+ghost use Rattle.hordguli_c.specs.TablesCalls.{cause_number, fault_out, ReadsTables, TellsFault};
+
+use crate::status::{ALREADY_OPEN, NO_MEMORY, OK, TABLE_FAULT};
+use crate::tables_handle::TablesHandle;
+use std::alloc::Global;
+use ucd::{Cause, TableFault, Tables, UcdFiles};
+
+/// The first line at fault, as `hordguli_table_fault`.
+#[repr(C)]
+#[derive(Clone, Copy)]
+pub struct TableFaultOut {
+    pub file: usize,
+    pub line: usize,
+    pub cause: usize,
+}
+
+fn cause_number(cause: Cause) -> usize
+    ensures { result ≡ cause_number cause }
+{
+    match cause {
+        Cause::NotAscii => 1,
+        Cause::CodePoint => 2,
+        Cause::Reversed => 3,
+        Cause::FieldCount => 4,
+        Cause::Value => 5,
+        Cause::NamedBefore => 6,
+        Cause::Memory => 7,
+    }
+}
+
+// Tells a fault, and answers its status.
+fn tell(fault: TableFault, out: &mut TableFaultOut) -> u32
+    ensures { TellsFault fault.cause fault result out.old out.new }
+{
+    if fault.cause == Cause::Memory {
+        return NO_MEMORY;
+    }
+    *out = TableFaultOut {
+        file: fault.file.saturating_sub(1),
+        line: fault.line,
+        cause: cause_number(fault.cause),
+    };
+    TABLE_FAULT
+}
+
+/// Reads table files, of which each is a slice of its own.
+#[unsafe(no_mangle)]
+pub extern "C" fn hordguli_core_tables_read(
+    alloc: Global,
+    tables: &mut TablesHandle,
+    bidi_class: &[u8],
+    bidi_brackets: &[u8],
+    bidi_mirroring: &[u8],
+    line_break: &[u8],
+    general_category: &[u8],
+    east_asian_width: &[u8],
+    emoji_data: &[u8],
+    fault: &mut TableFaultOut,
+) -> u32
+    ensures { ReadsTables (record {
+      bidi_class = bidi_class.entry;
+      bidi_brackets = bidi_brackets.entry;
+      bidi_mirroring = bidi_mirroring.entry;
+      line_break = line_break.entry;
+      general_category = general_category.entry;
+      east_asian_width = east_asian_width.entry;
+      emoji_data = emoji_data.entry;
+    }) result tables.old.held tables.new.held fault.old fault.new }
+{
+    if let Some(object) = tables.swap(alloc, None) {
+        tables.swap(alloc, Some(object));
+        return ALREADY_OPEN;
+    }
+    let files = UcdFiles {
+        bidi_class,
+        bidi_brackets,
+        bidi_mirroring,
+        line_break,
+        general_category,
+        east_asian_width,
+        emoji_data,
+    };
+    match Tables::read(alloc, &files) {
+        Ok(read) => match Box::new(alloc, read) {
+            Ok(object) => {
+                tables.swap(alloc, Some(object));
+                OK
+            }
+            Err(_) => NO_MEMORY,
+        },
+        Err(refused) => tell(refused, fault),
+    }
+}
+
+/// Gives back what a handle of tables holds.
+#[unsafe(no_mangle)]
+pub extern "C" fn hordguli_core_tables_close(alloc: Global, tables: &mut TablesHandle)
+    ensures { tables.new.held ≡ None }
+{
+    tables.swap(alloc, None);
+}

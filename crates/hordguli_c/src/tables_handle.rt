@@ -1,0 +1,76 @@
+//! What C holds of tables: null, or the address of tables on the heap.
+ghost use Rattle.std.specs.Prelude.{◌≡◌, None, Option, Some};
+ghost use Rattle.hordguli_c.specs.Held.{box_held, loose_held};
+ghost use Rattle.hordguli_c.specs.TablesHeld.{Value, object_at};
+
+use crate::loose::Loose;
+use std::alloc::Global;
+use std::marker::Model;
+use std::mem::replace;
+use std::ptr::null_mut;
+use ucd::Tables;
+
+/// What lies at the address.
+pub type TablesObject = Tables;
+
+/// A handle. Two functions look at its pointer, and one makes a handle without one.
+#[repr(C)]
+pub struct TablesHandle {
+    at: *mut u8,
+    pub ghost held: { Option Value },
+}
+
+impl Model for TablesHandle {
+    ghost also_owns = { λ h. object_at h.at h.held };
+}
+
+// C may move a handle to another thread.
+unsafe impl Send for TablesHandle {}
+
+impl TablesHandle {
+    fn empty() -> TablesHandle
+        ensures { result.held ≡ None }
+    {
+        TablesHandle { at: null_mut() }
+    }
+
+    fn of_loose(loose: Loose<TablesObject, Global>) -> TablesHandle
+        ensures { result.held ≡ Some loose.value }
+    {
+        let Loose { at, alloc: _ } = loose;
+        TablesHandle { at: at.cast() }
+    }
+
+    fn into_loose(self, alloc: Global) -> Option<Loose<TablesObject, Global>>
+        ensures { loose_held result ≡ self.held }
+    {
+        let TablesHandle { at } = self;
+        if at.is_null() {
+            None
+        } else {
+            Some(Loose {
+                at: at.cast(),
+                alloc,
+            })
+        }
+    }
+
+    /// Puts an object in, or nothing, and gives out what was there.
+    pub fn swap(
+        &mut self,
+        alloc: Global,
+        object: Option<Box<TablesObject>>,
+    ) -> Option<Box<TablesObject>>
+        ensures put { self.new.held ≡ box_held object }
+        ensures value { self.old.held ≡ box_held result }
+    {
+        let handle = match object {
+            Some(object) => TablesHandle::of_loose(Loose::of(object)),
+            None => TablesHandle::empty(),
+        };
+        match replace(self, handle).into_loose(alloc) {
+            Some(loose) => Some(loose.into_box()),
+            None => None,
+        }
+    }
+}

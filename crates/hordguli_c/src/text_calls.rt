@@ -1,0 +1,214 @@
+//! The calls that give lines and characters as bytes.
+ghost use Rattle.std.specs.Prelude.{◌≡◌, ◌+◌, ◌<◌, ◌≤◌, chars, length, IfErr, IfOk};
+ghost use Rattle.session.specs.Kept.{lines_in};
+ghost use Rattle.session.specs.Printing.{lines_page};
+ghost use Rattle.session.specs.Reading.{utf8_len, utf8_part};
+ghost use Rattle.session.specs.Sessions.{text_at};
+ghost use Rattle.session.specs.declared.printing.RangeFault.TheVariants.{OutOfRange};
+ghost use Rattle.hordguli_c.specs.Calls.{Asks, AsksBy, Gives, OfText};
+ghost use Rattle.hordguli_c.specs.Options.{print_of};
+ghost use Rattle.hordguli_c.specs.Texts.{PutsBytes, PutsLines, PutsText};
+ghost use Rattle.hordguli_c.specs.declared.status.TheConstants.{OK};
+
+use crate::options::print_of;
+use crate::page::Page;
+use crate::session_handle::{SessionHandle, SessionObject};
+use crate::status::{CLOSED, NO_MEMORY, NO_ROOM, NOT_UTF8, OK, OUT_OF_RANGE, UNKNOWN_OPTION};
+use lines::Print;
+use session::RangeFault;
+use std::alloc::Global;
+use std::str::from_utf8;
+
+// Puts bytes into an array, if it has room for them.
+fn put_bytes(bytes: &[u8], array: &mut [u8], len: &mut usize) -> u32
+    ensures { PutsBytes bytes.now result (array.old, len.old) (array.new, len.new) }
+{
+    *len = bytes.len();
+    if array.len() < bytes.len() {
+        return NO_ROOM;
+    }
+    array[..bytes.len()].copy_from_slice(bytes);
+    OK
+}
+
+// Lines as they are printed.
+fn printed(
+    alloc: Global,
+    session: &SessionObject,
+    first: usize,
+    count: usize,
+    print: &Print,
+) -> Result<Page, RangeFault>
+    ensures within { IfOk result (λ page. first + count ≤ length (lines_in session.now.kept)) }
+    ensures ok { IfOk result (λ page. page.bytes.items ≡ lines_page session.now first count print.now) }
+    ensures err { IfErr result (λ fault. fault ≡ OutOfRange
+        → length (lines_in session.now.kept) < first + count) }
+{
+    let mut page = Page::new(alloc);
+    match session.print_lines(&mut page, first, count, print) {
+        Ok(()) => Ok(page),
+        Err(fault) => Err(fault),
+    }
+}
+
+fn put_lines(
+    alloc: Global,
+    session: &SessionObject,
+    first: usize,
+    count: usize,
+    print: &Print,
+    array: &mut [u8],
+    len: &mut usize,
+) -> u32
+    ensures { PutsLines first count print.now result session.now (array.old, len.old) (array.new, len.new) }
+{
+    match printed(alloc, session, first, count, print) {
+        Ok(page) => put_bytes(&page.bytes, array, len),
+        Err(RangeFault::OutOfRange) => OUT_OF_RANGE,
+        Err(RangeFault::Write(_)) => NO_MEMORY,
+    }
+}
+
+/// Lines as they are printed.
+#[unsafe(no_mangle)]
+pub extern "C" fn hordguli_core_lines_utf8(
+    alloc: Global,
+    session: &mut SessionHandle,
+    first: usize,
+    count: usize,
+    print: u32,
+    array: &mut [u8],
+    len: &mut usize,
+) -> u32
+    ensures unchanged { session.new.held ≡ session.old.held }
+    ensures lines { AsksBy (PutsLines first count) (print_of print) result session.old.held
+        (array.old, len.old) (array.new, len.new) }
+{
+    let Some(print) = print_of(print) else {
+        return UNKNOWN_OPTION;
+    };
+    match session.swap(alloc, None) {
+        Some(object) => {
+            let status = put_lines(alloc, &object, first, count, &print, array, len);
+            session.swap(alloc, Some(object));
+            status
+        }
+        None => CLOSED,
+    }
+}
+
+// Characters as UTF-8.
+fn encoded(
+    alloc: Global,
+    session: &SessionObject,
+    pos: usize,
+    count: usize,
+) -> Result<Page, RangeFault>
+    ensures within { IfOk result (λ page. pos + count ≤ length (text_at session.now)) }
+    ensures ok { IfOk result (λ page. page.bytes.items ≡ utf8_part session.now.kept pos count) }
+    ensures err { IfErr result (λ fault. fault ≡ OutOfRange
+        → length (text_at session.now) < pos + count) }
+{
+    let mut page = Page::new(alloc);
+    match session.write_text(&mut page, pos, count) {
+        Ok(()) => Ok(page),
+        Err(fault) => Err(fault),
+    }
+}
+
+fn put_text(
+    alloc: Global,
+    session: &SessionObject,
+    pos: usize,
+    count: usize,
+    array: &mut [u8],
+    len: &mut usize,
+) -> u32
+    ensures { PutsText pos count result session.now (array.old, len.old) (array.new, len.new) }
+{
+    match encoded(alloc, session, pos, count) {
+        Ok(page) => put_bytes(&page.bytes, array, len),
+        Err(RangeFault::OutOfRange) => OUT_OF_RANGE,
+        Err(RangeFault::Write(_)) => NO_MEMORY,
+    }
+}
+
+/// Characters as UTF-8.
+#[unsafe(no_mangle)]
+pub extern "C" fn hordguli_core_text(
+    alloc: Global,
+    session: &mut SessionHandle,
+    pos: usize,
+    count: usize,
+    array: &mut [u8],
+    len: &mut usize,
+) -> u32
+    ensures unchanged { session.new.held ≡ session.old.held }
+    ensures text { Asks (PutsText pos count) result session.old.held
+        (array.old, len.old) (array.new, len.new) }
+{
+    match session.swap(alloc, None) {
+        Some(object) => {
+            let status = put_text(alloc, &object, pos, count, array, len);
+            session.swap(alloc, Some(object));
+            status
+        }
+        None => CLOSED,
+    }
+}
+
+fn find_utf8_len(session: &SessionObject, pos: usize, count: usize, len: &mut usize) -> u32
+    ensures { Gives (utf8_len session.now.kept pos count) result len.old len.new }
+{
+    match session.utf8_len(pos, count) {
+        Some(found) => {
+            *len = found;
+            OK
+        }
+        None => OUT_OF_RANGE,
+    }
+}
+
+/// How many bytes of UTF-8 some characters are.
+#[unsafe(no_mangle)]
+pub extern "C" fn hordguli_core_utf8_length(
+    alloc: Global,
+    session: &mut SessionHandle,
+    pos: usize,
+    count: usize,
+    len: &mut usize,
+) -> u32
+    ensures unchanged { session.new.held ≡ session.old.held }
+    ensures len { Asks (λ status state. Gives (utf8_len state.kept pos count) status) result
+        session.old.held len.old len.new }
+{
+    match session.swap(alloc, None) {
+        Some(object) => {
+            let status = find_utf8_len(&object, pos, count, len);
+            session.swap(alloc, Some(object));
+            status
+        }
+        None => CLOSED,
+    }
+}
+
+fn char_count(text: &str) -> usize
+    ensures { result ≡ length (chars text.now) }
+{
+    text.chars().count()
+}
+
+/// How many characters some UTF-8 has.
+#[unsafe(no_mangle)]
+pub extern "C" fn hordguli_core_count_utf8(bytes: &[u8], count: &mut usize) -> u32
+    ensures { OfText bytes.now result (count.new ≡ count.old)
+        (λ text. (result ≡ OK) × (count.new ≡ length text)) }
+{
+    match from_utf8(bytes) {
+        Ok(text) => {
+            *count = char_count(text);
+            OK
+        }
+        Err(_) => NOT_UTF8,
+    }
+}
