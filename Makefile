@@ -42,7 +42,7 @@ lib-lines: lib-device lib-bidi lib-breaks
 lib-session: lib-lines lib-store
 lib-command_line lib-text_run: lib-lines
 lib-tool: lib-session lib-command_line lib-text_run
-lib-trials: lib-session
+lib-trials lib-hordguli_c: lib-session
 run-fribidi run-refused: lib-tool
 run-refused: lib-trials
 run-bench: lib-session
