@@ -19,8 +19,9 @@
  *   - A handle is `HORDGULI_TABLES_INIT` or `HORDGULI_SESSION_INIT` before its first call. It is never copied: of two
  *     copies the second uses what the first gave back.
  *   - A handle is in one call at a time, also in one that only reads. Different handles may be in calls at the same
- *     time on different threads, and a handle may be used by one thread after another. A session has nothing in common
- *     with the tables that it was opened on, nor with other sessions.
+ *     time on different threads: a session has nothing in common with the tables that it was opened on, nor with other
+ *     sessions. Tables may be used by one thread after another, where a lock, or the start or the end of a thread,
+ *     orders the calls. A session stays on the thread that opened it, since of sessions that is not proved.
  *   - No call is made from a signal handler that interrupts a call of the library or of malloc.
  *   - In a child of `fork` the handles are the child's own; those that were in a call of another thread at the time of
  *     the fork must not be used in the child.
