@@ -12,7 +12,9 @@ void __wrap_free(void *block);
 
 static long asked, refused_at, live;
 
-static int is_refused(void) { return ++asked == refused_at; }
+static int is_watched = 1;
+
+static int is_refused(void) { return is_watched && ++asked == refused_at; }
 
 void *__wrap_malloc(size_t size) {
     void *block = is_refused() ? NULL : __real_malloc(size);
@@ -44,11 +46,13 @@ static shape of(hordguli_session *session) {
     static shape found;
     size_t text;
     memset(&found, 0, sizeof found);
+    is_watched = 0;
     HOLDS(hordguli_session_counts(session, &found.counts) == HORDGULI_OK);
     HOLDS(hordguli_lines_utf8(session, 0, found.counts.lines, 127, BYTES, found.bytes, &found.length) == HORDGULI_OK);
     HOLDS(hordguli_text(session, 0, found.counts.characters, BYTES - found.length, found.bytes + found.length, &text)
           == HORDGULI_OK);
     found.length += text;
+    is_watched = 1;
     return found;
 }
 
@@ -65,8 +69,12 @@ static uint8_t found_levels[9], found_marks[9];
 static uint32_t found_base;
 static hordguli_cluster found_cluster;
 static hordguli_damage damage;
+static char found_bytes[BYTES];
+static size_t found_length;
+static uint32_t found_characters[100];
+static hordguli_line_info found_info;
 
-enum { OPEN_TABLES, OPEN, INSERT, REPLACE, WIDTH, CLUSTER, DELETE, BASE, LEVELS, MARKS, STEPS };
+enum { OPEN_TABLES, OPEN, INSERT, REPLACE, WIDTH, CLUSTER, DELETE, BASE, LEVELS, MARKS, LINES, TEXT, PAGE, STEPS };
 
 static const char start[] = "ab \u05d0\u05d1 12\nx\n";
 
@@ -81,7 +89,10 @@ static hordguli_status step(int k) {
         case DELETE: return hordguli_delete(&session, 2, 4, &damage);
         case BASE: return hordguli_base(&tables, 0, characters, 9, &found_base);
         case LEVELS: return hordguli_levels(&tables, 0, characters, 9, 9, found_levels);
-        default: return hordguli_marks(&tables, 0, characters, 9, 9, found_marks);
+        case MARKS: return hordguli_marks(&tables, 0, characters, 9, 9, found_marks);
+        case LINES: return hordguli_lines_utf8(&session, 0, 2, 127, BYTES, found_bytes, &found_length);
+        case TEXT: return hordguli_text(&session, 0, 5, BYTES, found_bytes, &found_length);
+        default: return hordguli_line(&session, 1, &found_info, 100, found_characters, NULL, NULL, NULL, NULL);
     }
 }
 
@@ -106,13 +117,15 @@ int main(int count, char **words) {
             memset(found_levels, 77, sizeof found_levels);
             memset(found_marks, 77, sizeof found_marks);
             found_base = 77;
+            found_length = 77;
+            found_bytes[0] = '?';
             status = step(k);
             HOLDS(status == HORDGULI_OK || status == HORDGULI_NO_MEMORY);
             if (status == HORDGULI_OK) continue;
             refusals++;
             HOLDS(asked >= refused_at && live == held);
             HOLDS(memcmp(&damage, &no_damage, sizeof damage) == 0 && found_base == 77);
-            HOLDS(found_levels[0] == 77 && found_marks[0] == 77);
+            HOLDS(found_levels[0] == 77 && found_marks[0] == 77 && found_length == 77 && found_bytes[0] == '?');
             HOLDS(k != OPEN_TABLES || tables.at == NULL);
             HOLDS(k != OPEN || session.at == NULL);
             if (session.at != NULL) {

@@ -1,5 +1,6 @@
 /* Different handles in calls at once on different threads, each of which makes the same changes: all end with the same
- * text and lines. And a session that goes from one thread to the next. threads FOLDER THREADS CHANGES. */
+ * text and lines. And tables that go from one thread to the next, and that sessions of all are opened on under a lock.
+ * threads FOLDER THREADS CHANGES. */
 #include "test.h"
 
 #include <pthread.h>
@@ -17,7 +18,19 @@ typedef struct work {
 
 static work works[MOST_THREADS];
 
-/* Its own tables, and a session on them. */
+/* Those that are opened on one thread and closed on another. */
+static hordguli_tables shared = HORDGULI_TABLES_INIT;
+static pthread_mutex_t lock = PTHREAD_MUTEX_INITIALIZER;
+
+static hordguli_status open_on_shared(hordguli_session *session) {
+    hordguli_status status;
+    pthread_mutex_lock(&lock);
+    status = hordguli_session_open(session, &shared, 0, 30, "a\n", 2);
+    pthread_mutex_unlock(&lock);
+    return status;
+}
+
+/* A session on tables of its own or on those, by turns. */
 static void *run(void *given) {
     work *at = given;
     hordguli_tables tables = HORDGULI_TABLES_INIT;
@@ -25,9 +38,13 @@ static void *run(void *given) {
     hordguli_damage damage;
     hordguli_counts counts;
     uint64_t mixed = 12345;
-    at->status = hordguli_tables_open_folder(&tables, folder, NULL);
-    if (at->status == HORDGULI_OK) at->status = hordguli_session_open(&session, &tables, 0, 30, "a\n", 2);
-    hordguli_tables_close(&tables);
+    if ((at - works) % 2 == 0) {
+        at->status = open_on_shared(&session);
+    } else {
+        at->status = hordguli_tables_open_folder(&tables, folder, NULL);
+        if (at->status == HORDGULI_OK) at->status = hordguli_session_open(&session, &tables, 0, 30, "a\n", 2);
+        hordguli_tables_close(&tables);
+    }
     for (long k = 0; k < changes && at->status == HORDGULI_OK; k++) {
         static const char *const pieces[] = {"word ", "\u05e9\u05dc\u05d5\u05dd ", "12 ", "\n"};
         size_t pos;
@@ -47,39 +64,27 @@ static void *run(void *given) {
     return NULL;
 }
 
-/* A change by each of some threads, one after another. */
-static hordguli_session handed = HORDGULI_SESSION_INIT;
-
-static void *change(void *given) {
-    hordguli_damage damage;
-    *(hordguli_status *)given = hordguli_insert(&handed, 0, "x\n", 2, &damage);
+static void *open_shared(void *given) {
+    *(hordguli_status *)given = hordguli_tables_open_folder(&shared, folder, NULL);
     return NULL;
 }
 
 int main(int count, char **words) {
-    pthread_t threads[MOST_THREADS];
-    hordguli_tables tables = HORDGULI_TABLES_INIT;
-    hordguli_counts counts;
+    pthread_t threads[MOST_THREADS], opener;
+    hordguli_status status = -1;
     long number;
     if (count != 4) return 2;
     folder = words[1];
     number = atol(words[2]) < MOST_THREADS ? atol(words[2]) : MOST_THREADS;
     changes = atol(words[3]);
+    HOLDS(pthread_create(&opener, NULL, open_shared, &status) == 0 && pthread_join(opener, NULL) == 0);
+    HOLDS(status == HORDGULI_OK);
     for (long k = 0; k < number; k++) HOLDS(pthread_create(&threads[k], NULL, run, &works[k]) == 0);
     for (long k = 0; k < number; k++) HOLDS(pthread_join(threads[k], NULL) == 0);
     for (long k = 0; k < number; k++) {
         HOLDS(works[k].status == HORDGULI_OK && works[k].length > 100);
         HOLDS(works[k].length == works[0].length && memcmp(works[k].bytes, works[0].bytes, works[0].length) == 0);
     }
-    HOLDS(hordguli_tables_open_folder(&tables, folder, NULL) == HORDGULI_OK);
-    HOLDS(hordguli_session_open(&handed, &tables, 0, 30, NULL, 0) == HORDGULI_OK);
-    for (long k = 0; k < number; k++) {
-        hordguli_status status = -1;
-        HOLDS(pthread_create(&threads[k], NULL, change, &status) == 0 && pthread_join(threads[k], NULL) == 0);
-        HOLDS(status == HORDGULI_OK);
-    }
-    HOLDS(hordguli_session_counts(&handed, &counts) == HORDGULI_OK && counts.lines == (size_t)number);
-    hordguli_session_close(&handed);
-    hordguli_tables_close(&tables);
+    hordguli_tables_close(&shared);
     return finish("threads");
 }
