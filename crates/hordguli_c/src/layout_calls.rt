@@ -83,8 +83,8 @@ pub extern "C" fn hordguli_core_paragraph(
     marks: &mut [u8],
 ) -> u32
     ensures unchanged { session.new.held ≡ session.old.held }
-    ensures paragraph { Asks (λ status state. ShowsParagraph wanted (slice_get state.kept index) status) result
-        session.old.held
+    ensures paragraph { Asks (λ status state.
+        ShowsParagraph wanted (slice_get state.kept index) status) result session.old.held
         (out.old, record { levels = levels.old; marks = marks.old })
         (out.new, record { levels = levels.new; marks = marks.new }) }
 {
