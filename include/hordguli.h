@@ -1,7 +1,7 @@
 /* hordguli: bidirectional text in lines.
  *
  * A session holds a text and its layout at a width: the lines, each as it is shown. Under inserts, deletes and changes
- * of the width all that it holds is the layout of the whole current text, and each change says which lines it replaced.
+ * of the width all that it holds is the layout of the whole current text, and each edit says which lines it replaced.
  *
  * Positions, lengths and offsets count characters, which are Unicode scalar values: 0 to D7FF and E000 to 10FFFF. Lines
  * and paragraphs count from 0. Columns are those of a terminal. Text comes in and goes out as UTF-8; nothing ends in a
@@ -184,7 +184,7 @@ void hordguli_tables_close(hordguli_tables *tables);
 
 /* ---- Sessions ---- */
 
-/* What a change replaced: `old_lines` lines from `first_line` on by `new_lines` others, and so with paragraphs. All
+/* What an edit replaced: `old_lines` lines from `first_line` on by `new_lines` others, and so with paragraphs. All
  * lines before stay, and all after them too, by other numbers where the counts differ. */
 typedef struct hordguli_damage {
     size_t first_line;
@@ -213,7 +213,7 @@ hordguli_status hordguli_insert(hordguli_session *session, size_t pos, const cha
  *   NULL, OVERLAP, CLOSED, OUT_OF_RANGE, PARAGRAPH_TOO_LONG, NO_MEMORY */
 hordguli_status hordguli_delete(hordguli_session *session, size_t pos, size_t count, hordguli_damage *damage);
 
-/* Puts a text in place of `count` characters from a position on: one change, with one damage.
+/* Puts a text in place of `count` characters from a position on: one edit, with one damage.
  *   as hordguli_insert */
 hordguli_status hordguli_replace(hordguli_session *session, size_t pos, size_t count, const char *text, size_t length,
                                  hordguli_damage *damage);
