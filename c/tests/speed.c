@@ -1,6 +1,6 @@
 /* How long the calls take, for bench/c, beside `bench calls`: speed FOLDER FILE INSERTS prints how long in nanoseconds it
  * takes to open a session on the text of a file, to make so many inserts of a letter at places that look random, and to
- * read the characters and levels of all lines; and the sum of these. */
+ * read the starts, characters and levels of all lines; and the sum of these. */
 #include "test.h"
 
 #include <time.h>
@@ -56,6 +56,7 @@ int main(int count, char **words) {
     for (size_t line = 0; line < counts.lines; line++) {
         hordguli_line_info info;
         check(hordguli_line(&session, line, &info, 65536, characters, levels, NULL, NULL, NULL));
+        sum += info.start;
         for (size_t k = 0; k < info.shown; k++) sum += characters[k];
         for (size_t k = 0; k < info.shown; k++) sum += levels[k];
     }

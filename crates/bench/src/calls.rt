@@ -12,7 +12,8 @@ use std::time::Instant;
 use store::TreeStore;
 
 /// Prints how long in nanoseconds it takes to open a session on the text, to make so many inserts of a letter
-/// at places that look random, and to read the characters and levels of all lines; and the sum of these.
+/// at places that look random, and to read the starts, characters and levels of all lines; and the sum of
+/// these.
 pub fn run(rt: &HostRuntime, folder: &str, file: &str, inserts: usize) -> Result<()> {
     let text = fs::read_to_string(rt, file)?;
     measure(rt, folder, text.as_str(), inserts)
@@ -71,8 +72,11 @@ fn sum_of_lines(session: &Session<TreeStore<Kept>>) -> u64 {
 }
 
 fn sum_of_line(session: &Session<TreeStore<Kept>>, n: usize) -> u64 {
+    let start = session.line_start(n).unwrap_or(0) as u64;
     match session.line(n) {
-        Some(line) => sum_of_chars(line.chars()).wrapping_add(sum_of_levels(line.levels())),
+        Some(line) => start
+            .wrapping_add(sum_of_chars(line.chars()))
+            .wrapping_add(sum_of_levels(line.levels())),
         None => 0,
     }
 }
