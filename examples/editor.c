@@ -128,7 +128,7 @@ static void shift(size_t row, size_t out, size_t in) {
     memset(stale + row, 1, in);
 }
 
-/* What a change tells: these lines gave way to others. */
+/* What an edit tells: these lines gave way to others. */
 static void damaged(const hordguli_damage *damage) {
     size_t first = damage->first_line, end = first + damage->old_lines;
     if (end <= top && first < top) {

@@ -1,4 +1,4 @@
--- What the calls that change a session say.
+-- What the calls that edit a session say.
 use Rattle.std.specs.Prelude.{◌≡◌, ℕ, ◌+◌, ◌<◌, ◌⊎◌, length}
 use Rattle.session.specs.Edits.{Replacement}
 use Rattle.session.specs.Sessions.{SessionState, Edits, EditsNot, SetsWidth, SetsWidthNot, text_at}
@@ -26,7 +26,7 @@ damage_out damage = record {
   new_paragraphs = damage.new_pars;
 }
 
--- A change is made, and its damage goes out; or it is refused, and nothing does. Only some texts can want memory.
+-- An edit is made, and its damage goes out; or it is refused, and nothing does. Only some texts can want memory.
 abbrev pub Tries : (SessionState → SessionState → Damage → Type 0) → (SessionState → SessionState → EditFault → Type 0) → Type 0
     → ℕ → SessionState → SessionState → DamageOut → DamageOut → Type 0
 Tries makes refuses may_want status before after old new =

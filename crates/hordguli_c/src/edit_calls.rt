@@ -1,4 +1,4 @@
-//! The calls that change a session.
+//! The calls that edit a session.
 ghost use Rattle.std.specs.Prelude.{◌≡◌, chars};
 ghost use Rattle.session.specs.Edits.{deletion, insertion, replacing};
 ghost use Rattle.hordguli_c.specs.Calls.{Changes, OfText};
@@ -14,7 +14,7 @@ use session::{Damage, EditFault};
 use std::alloc::Global;
 use std::str::from_utf8;
 
-/// What a change has replaced, as `hordguli_damage`.
+/// What an edit has replaced, as `hordguli_damage`.
 #[repr(C)]
 #[derive(Clone, Copy)]
 pub struct DamageOut {
@@ -39,7 +39,7 @@ pub fn edit_status(fault: EditFault) -> u32
     }
 }
 
-// Tells the damage of a change, and answers its status.
+// Tells the damage of an edit, and answers its status.
 fn tell(damage: Damage, out: &mut DamageOut) -> u32
     ensures status { result ≡ OK }
     ensures damage { out.new ≡ damage_out damage }
