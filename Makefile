@@ -23,7 +23,7 @@ JOBS := $(shell nproc)
 TABLES = DerivedBidiClass BidiBrackets BidiMirroring LineBreak DerivedGeneralCategory EastAsianWidth emoji-data
 OPTIONS = --width 44 --basedir
 
-.PHONY: all program ucd demo check tmux test attack bench-program conformance bench c install uninstall
+.PHONY: all program ucd demo check tmux parallel test attack bench-program conformance bench c install uninstall
 
 all: programs = fribidi bench refused
 program: programs = fribidi
@@ -78,12 +78,16 @@ else
 	@$(try) --data sample.txt=$(CURDIR)/demo/sample.txt --cases $(CURDIR)/demo -- --ucd ucd
 endif
 
-check: ucd tmux
+check: ucd tmux parallel
 	.ci/check
 
 # The editor of examples/ is driven in it.
 tmux:
 	@command -v tmux > /dev/null || { apt-get update -q && apt-get install -qy tmux; }
+
+# What examples/many stands on.
+parallel:
+	@command -v parallel > /dev/null || { apt-get update -q && apt-get install -qy parallel; }
 
 test:
 	@log=$$(mktemp) && bash -o pipefail -c "RT_JOBS=$$(.ci/lanes) rt ci | tee $$log && .ci/names $$log | tee -a $$log \
@@ -107,7 +111,7 @@ attack:
 conformance: bench-program ucd
 	conformance/run
 
-bench: bench-program c ucd
+bench: bench-program c ucd parallel
 	bench/compare
 	bench/edits
 	bench/levels
@@ -117,4 +121,5 @@ bench: bench-program c ucd
 	bench/stream
 	bench/script
 	bench/c
+	bench/many
 	bench/hostile
