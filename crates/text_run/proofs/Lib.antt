@@ -3,6 +3,7 @@ pub mod Devices
 pub mod Fronts
 pub mod LongLemmas
 pub mod PieceLemmas
+pub mod PrintLemmas
 pub mod PushLemmas
 pub mod StepLemmas
 pub mod StreamLemmas

@@ -22,12 +22,12 @@ use Rattle.text_run.specs.declared.faults.RunFault.{RunFault}
 use Rattle.text_run.specs.declared.faults.RunFault.TheVariants as f
 use Rattle.text_run.specs.declared.text.Held.{Held}
 use Rattle.text_run.specs.declared.text.TheConstants.{PIECE}
-use Rattle.text_run.specs.TextRun.{AtEnd, AtFailure, are_within, input_fault, front_of, front_paragraphs, is_bad, written_of, Gave, HasRead, PrintsNoMore, WantsMemory}
+use Rattle.text_run.specs.TextRun.{AtEnd, AtFailure, are_within, input_fault, front_of, front_paragraphs, is_bad, written_of, Gave, HasPrinted, HasRead, PrintsNoMore, WantsMemory}
 use Rattle.text_run.specs.Counts.{PrintsAtMost}
 use Rattle.text_run.specs.Streaming.{Ends, FindsFault, Finishes, Gathers, IsAt, IsBeginning, IsFront, IsFaultAhead, IsOpen, IsRead, Stands, Steps, StopsWriting, Writes, last_lines}
 use Rattle.text_run.proofs.CountLemmas.{at_most_more, at_most_none, at_most_printed, prints_more}
 use Rattle.text_run.proofs.Devices.{Took-nothing}
-use Rattle.text_run.proofs.Fronts.{front_join, front_more, front_none}
+use Rattle.text_run.proofs.Fronts.{first_paragraph, front_join, front_more, front_none}
 use Rattle.text_run.proofs.StreamLemmas.{Consumes-append, Consumes-kept, IsSent, Stops, at_fault, at_long, at_memory, at_write, at_written, ends_write, front_is, gave_all, had_all, pars_sent, sent_ahead, sent_within, short_is, within_more, written_whole, Wrote-append}
 use Rattle.text_run.proofs.Utf8Lemmas.{bad_stays, is_bad-after, nothing_valid, utf8_error_len-nil, utf8_front, utf8_valid_len-after}
 use lib.Utf8.{encode}
@@ -39,6 +39,9 @@ encoded_len (c ∷ cs) = omega (arith, length-append (encode c) (encode_utf8_all
 
 not_all : (m n : ℕ) → m < n → (m == n) ≡ false
 not_all m n less = grind (arith, nat_tests)
+
+not_none : (text : List ℕ) → 0 < length text → (length text == 0) ≡ false
+not_none text some = grind (arith, nat_tests)
 
 is_all : (m n : ℕ) → m ≡ n → (m == n) ≡ true
 is_all m n is = grind (arith, nat_tests)
@@ -67,6 +70,38 @@ some_bad : (bytes : List ℕ) → is_some (utf8_error_len bytes) ≡ true → 0 
 some_bad [] bad = absurd (true≢false (sym bad ∙ ap is_some utf8_error_len-nil))
 some_bad (b ∷ bytes) bad = omega arith
 
+-- what was printed is told of a fault of the input, and of others nothing is
+printed_as : (fault : RunFault) (n : ℕ) (print : Print) (old new : Engine) → Prints n print old new → HasPrinted (Some fault) n print old new
+printed_as f.Read n print old new counts = counts
+printed_as (f.Write m) n print old new counts = tt
+printed_as (f.NotUtf8 m) n print old new counts = counts
+printed_as f.ParagraphTooLong n print old new counts = counts
+printed_as f.TextTooLong n print old new counts = counts
+printed_as (f.BadLine m) n print old new counts = counts
+printed_as f.Memory n print old new counts = tt
+
+-- characters are decoded of bytes whose front isn't empty
+front_some : (bytes : List ℕ) → 0 < utf8_valid_len bytes → 0 < length (front_of bytes)
+front_some bytes some = go (front_of bytes) refl
+  where
+    valid : List ℕ
+    valid = take (utf8_valid_len bytes) bytes
+
+    go : (cs : List ℕ) → front_of bytes ≡ cs → 0 < length (front_of bytes)
+    go [] none =
+        let encoded : encode_utf8_all (front_of bytes) ≡ valid = encodes-chars valid (utf8_front bytes) in
+        absurd (omega (arith, some, length-take-le (utf8_valid_len bytes) bytes (utf8_valid_len_le bytes), ap length (sym encoded ∙ ap encode_utf8_all none)))
+    go (c ∷ cs) is = omega (arith, ap length is)
+
+-- the first k of n paragraphs are not all of them, nor all but the one that bad bytes follow
+left_by : (k n : ℕ) (bad : Bool) → k < n → (bad ≡ true → k + 1 < n) → (if bad then k + 1 else k) < n
+left_by k n true less more = more refl
+left_by k n false less more = less
+
+pars_some : (is_cut : ℕ → ℕ → Bool) (text : List ℕ) → 0 < length text → 0 < length (paragraphs is_cut text)
+pars_some is_cut [] some = absurd (omega arith)
+pars_some is_cut (c ∷ text) some = omega (arith, ap length (first_paragraph is_cut c text).2)
+
 module _ (rules : Rules) (width : ℕ) (print : Print) (reader_old writer_old : Device) (engine_old : Engine) (reader writer : Device) (engine : Engine) (held : Held) where
   abbrev Holds : List ℕ → List ℕ → Type 0
   Holds waiting text =
@@ -86,7 +121,7 @@ module _ (rules : Rules) (width : ℕ) (print : Print) (reader_old writer_old : 
 
 -- what is found in a piece is no want of memory
 pub no_memory : (rules : Rules) (width : ℕ) (print : Print) (bytes : List ℕ) (old new : Held) (engine_old engine_new : Engine) (fault : Option RunFault) (wrong : RunFault)
-    → FindsFault rules bytes old new fault ⊎ Gathers rules width print bytes old new engine_old engine_new fault → fault ≡ Some wrong → wrong ≡ f.Memory → ⊥
+    → FindsFault rules bytes old new engine_old engine_new fault ⊎ Gathers rules width print bytes old new engine_old engine_new fault → fault ≡ Some wrong → wrong ≡ f.Memory → ⊥
 no_memory rules width print bytes old new engine_old engine_new fault wrong (inl l) is memory =
     let wrong_is : l.wrong ≡ f.Memory = cc (is, memory, l.fault_is) in
     subst (IsFaultAhead (cut_by rules) (old.text.items ++ front_of bytes) (is_bad bytes) (old.decoded + utf8_valid_len bytes)) wrong_is l.ahead
@@ -98,15 +133,16 @@ no_memory rules width print bytes old new engine_old engine_new fault wrong (inr
 
 -- where memory runs out at the end of a text nothing is written
 pub none_written : (rules : Rules) (width : ℕ) (print : Print) (held : Held) (old new : Device) (fault : RunFault) → Finishes rules width print held old new (Err fault) → fault ≡ f.Memory → new ≡ old
-none_written rules width print held old new fault is memory = (subst (λ (w : RunFault). Finishes rules width print held old new (Err w)) memory is).2
+none_written rules width print held old new fault is memory = (subst (λ (w : RunFault). Finishes rules width print held old new (Err w)) memory is).3
 
 module _ (rules : Rules) (width : ℕ) (print : Print) (reader_old writer_old : Device) (engine_old : Engine) (reader writer : Device) (engine : Engine) where
   -- a run that stops has counted no more than the characters that were read
-  ended : (reader_new writer_new : Device) (engine_new : Engine) (fault : RunFault) → Stops rules width print reader_old writer_old reader_new writer_new fault
-      → PrintsNoMore print reader_old reader_new engine_old engine_new → (fault ≡ f.Memory → WantsMemory rules width print reader_old reader_new writer_old writer_new)
+  ended : (reader_new writer_new : Device) (engine_new : Engine) (fault : RunFault) (printed : ℕ)
+      → Stops rules width print reader_old writer_old reader_new writer_new fault printed
+      → HasPrinted (Some fault) printed print engine_old engine_new → PrintsNoMore print reader_old reader_new engine_old engine_new → (fault ≡ f.Memory → WantsMemory rules width print reader_old reader_new writer_old writer_new)
       → Ends rules width print reader_old writer_old engine_old reader_new writer_new engine_new (Err fault)
-  ended reader_new writer_new engine_new fault stops no_more wants =
-      record { run = stops.run engine_old engine_new; ahead = stops.ahead; at_most = no_more; wants = λ is. wants (cc is) }
+  ended reader_new writer_new engine_new fault printed stops counts no_more wants =
+      record { run = stops.run engine_old engine_new counts; ahead = stops.ahead; at_most = no_more; wants = λ is. wants (cc is) }
 
   no_more : (reader_new : Device) (engine_new : Engine) (bytes : List ℕ) (n : ℕ) → HasRead reader_old reader_new bytes
       → PrintsAtMost n print engine_old engine_new → n ≤ length (front_of bytes)
@@ -198,7 +234,7 @@ module _ (rules : Rules) (width : ℕ) (print : Print) (reader_old writer_old : 
             ++ waiting) at.read fails.bytes,
         fails.passed ∙ at.passed,
       ) in
-      ended reader_new writer engine f.Read
+      ended reader_new writer engine f.Read (length (concat at.sent))
       (at_fault rules width print reader_old reader writer_old writer waiting held.text.items [] at s.all_sent reader_new AtFailure waiting f.Read (
         has_read.0,
         has_read.1,
@@ -207,6 +243,7 @@ module _ (rules : Rules) (width : ℕ) (print : Print) (reader_old writer_old : 
       (record { ahead = omega (arith, at.ahead, fails.passed) }) s.text s.beginning.none
       (ap (λ (b : Bool). if b then Some (f.NotUtf8 (utf8_valid_len (at.decoded ++ waiting))) else Some f.Read) good)
       (λ written wrong is wrote. (is, wrote)))
+      s.counts
       (no_more reader_new engine (at.decoded ++ waiting) (length (concat at.sent)) has_read (counted_now held s) (omega (arith, front_len held s waiting)))
       (λ is. absurd (cc is))
 
@@ -230,7 +267,7 @@ module _ (rules : Rules) (width : ℕ) (print : Print) (reader_old writer_old : 
     sent_all = record { ahead = omega (arith, gives.passes.passed, s.is_at.ahead) }
 
     -- inside a character
-    finish_inside : (n : ℕ) → 0 < length (take held.waiting held.piece.items) → n ≡ held.decoded → Stops rules width print reader_old writer_old reader_new writer (f.NotUtf8 n)
+    finish_inside : (n : ℕ) → 0 < length (take held.waiting held.piece.items) → n ≡ held.decoded → Stops rules width print reader_old writer_old reader_new writer (f.NotUtf8 n) (length (concat s.is_at.sent))
     finish_inside n some n_is =
         let waiting = take held.waiting held.piece.items in
         let decoded = s.is_at.decoded in
@@ -308,8 +345,11 @@ module _ (rules : Rules) (width : ℕ) (print : Print) (reader_old writer_old : 
               (gives.end refl, passed_all),
               subst (λ n. Prints n print engine_old engine_new) all (prints_more print engine_old engine engine_new (length (concat s.is_at.sent)) (length held.text.items) s.counts counts),
               (
-                sym (ap (λ (b : Bool). if b then input_fault AtEnd bytes else Some f.ParagraphTooLong) within_all ∙ no_fault),
-                subst (λ (ps : List (List ℕ)). Wrote (page rules width print ps) writer_old writer_new) (sym written_last) wrote_all,
+                tt,
+                (
+                  sym (ap (λ (b : Bool). if b then input_fault AtEnd bytes else Some f.ParagraphTooLong) within_all ∙ no_fault),
+                  subst (λ (ps : List (List ℕ)). Wrote (page rules width print ps) writer_old writer_new) (sym written_last) wrote_all,
+                ),
               ),
             );
             ahead = tt;
@@ -319,12 +359,30 @@ module _ (rules : Rules) (width : ℕ) (print : Print) (reader_old writer_old : 
 
       finish_stopped : (writer_new : Device) (m n : ℕ)
           → StoppedAt m (last_lines rules width print held) writer writer_new → n ≡ held.written + m
-          → Stops rules width print reader_old writer_old reader_new writer_new (f.Write n)
+          → Stops rules width print reader_old writer_old reader_new writer_new (f.Write n) 0
       finish_stopped writer_new m n stopped n_is =
           let bytes = s.is_at.decoded ++ take held.waiting held.piece.items in
           ends_write rules width print reader_old writer_old reader_new writer writer_new AtEnd bytes s.is_at.sent last [] [] m n gave
           (pars_last ∙ sym (append-nil (s.is_at.sent ++ last))) (written_last ∙ sym (append-nil (s.is_at.sent ++ last))) s.is_at.wrote sent_all
-          (subst (λ (t : List ℕ). StoppedAt m t writer writer_new) lines_last stopped) (omega (arith, n_is, s.written))
+          (subst (λ (t : List ℕ). StoppedAt m t writer writer_new) lines_last stopped) (omega (arith, n_is, s.written)) 0
+
+      -- the last paragraph's lines are still to be written
+      left_over : 0 < length held.text.items
+          → (k : ℕ) × Wrote (page rules width print (take k (front_paragraphs rules (s.is_at.decoded ++ take held.waiting held.piece.items)))) writer_old writer
+          × (0 < length (s.is_at.decoded ++ take held.waiting held.piece.items)
+          → (if is_bad (s.is_at.decoded ++ take held.waiting held.piece.items) then k + 1 else k)
+          < length (front_paragraphs rules (s.is_at.decoded ++ take held.waiting held.piece.items)))
+      unfolding last
+      left_over some =
+          let sent = s.is_at.sent in
+          let filled : (length held.text.items == 0) ≡ false = not_none held.text.items some in
+          let one : length last ≡ 1 = ap (λ (b : Bool). length (if b then [] else held.text.items ∷ [])) filled in (
+            length sent,
+            subst (λ (ps : List (List ℕ)). Wrote (page rules width print ps) writer_old writer)
+                (sym (ap (take (length sent)) pars_last ∙ take-append_seam sent last)) s.is_at.wrote,
+            λ read. left_by (length sent) _ (is_bad (s.is_at.decoded ++ take held.waiting held.piece.items))
+                (omega (arith, ap length pars_last, length-append sent last, one)) (λ bad. absurd (true≢false (sym bad ∙ no_bad held s))),
+          )
 
     module _ (engine_new : Engine) (at_most : PrintsAtMost (length held.text.items) print engine engine_new) where
       has_read : HasRead reader_old reader_new (s.is_at.decoded ++ take held.waiting held.piece.items)
@@ -338,26 +396,28 @@ module _ (rules : Rules) (width : ℕ) (print : Print) (reader_old writer_old : 
           (at_most_more print engine_old engine engine_new (length (concat s.is_at.sent)) (length held.text.items) _ (counted_now held s) at_most (omega arith)) (omega (arith, few))
 
       pub ends_finish : (piece : Vec ℕ Global) (writer_new : Device) (result : Result (Unit {0}) RunFault) → Finishes rules width print (record held { piece = piece }) writer writer_new result
-          → OnOk result (Prints (length held.text.items) print engine engine_new) → Ends rules width print reader_old writer_old engine_old reader_new writer_new engine_new result
-      ends_finish piece writer_new (Ok done) is counts = finish_done is.0 writer_new engine_new is.1 counts
-      ends_finish piece writer_new (Err (f.NotUtf8 n)) is counts =
+          → OnOk result (Prints (length held.text.items) print engine engine_new) → (0 < held.waiting → engine_new ≡ engine)
+          → Ends rules width print reader_old writer_old engine_old reader_new writer_new engine_new result
+      ends_finish piece writer_new (Ok done) is counts inside = finish_done is.0 writer_new engine_new is.1 counts
+      ends_finish piece writer_new (Err (f.NotUtf8 n)) is counts inside =
           subst (λ (w : Device). Ends rules width print reader_old writer_old engine_old reader_new w engine_new (Err (f.NotUtf8 n))) (sym is.2)
-          (ended reader_new writer engine_new (f.NotUtf8 n) (finish_inside n (omega (arith, is.0, s.waits)) is.1) no_more_last (λ same. absurd (cc same)))
-      ends_finish piece writer_new (Err (f.Write n)) is counts =
-          ended reader_new writer_new engine_new (f.Write n) (finish_stopped is.0 writer_new is.1.0 n is.1.2 is.1.1) no_more_last (λ same. absurd (cc same))
-      ends_finish piece writer_new (Err f.Memory) is counts =
+          (ended reader_new writer engine_new (f.NotUtf8 n) (length (concat s.is_at.sent)) (finish_inside n (omega (arith, is.0, s.waits)) is.1)
+          (subst (λ (e : Engine). Prints (length (concat s.is_at.sent)) print engine_old e) (sym (inside is.0)) s.counts) no_more_last (λ same. absurd (cc same)))
+      ends_finish piece writer_new (Err (f.Write n)) is counts inside =
+          ended reader_new writer_new engine_new (f.Write n) 0 (finish_stopped is.0 writer_new is.1.0 n is.1.2 is.1.1) tt no_more_last (λ same. absurd (cc same))
+      ends_finish piece writer_new (Err f.Memory) is counts inside =
           let next = at_read reader_new (take held.waiting held.piece.items) held.text.items [] s.is_at s.all_sent
           s.text.short s.beginning.few gives.bytes (omega (arith, gives.passes.passed)) gives.passes.failures
           (omega arith) in
-          subst (λ (w : Device). Ends rules width print reader_old writer_old engine_old reader_new w engine_new (Err f.Memory)) (sym is.2)
-          (ended reader_new writer engine_new f.Memory
+          subst (λ (w : Device). Ends rules width print reader_old writer_old engine_old reader_new w engine_new (Err f.Memory)) (sym is.3)
+          (ended reader_new writer engine_new f.Memory 0
           (at_memory rules width print reader_old reader_new writer_old writer (take held.waiting held.piece.items
-          ++ []) held.text.items [] next.0) no_more_last
-          (λ same. (s.is_at.decoded ++ take held.waiting held.piece.items, has_read, (ap are_within (pars_last is.0) ∙ within_last is.0, λ bad. absurd (true≢false (sym bad ∙ no_bad held s))))))
-      ends_finish piece writer_new (Err f.Read) is counts = absurd is
-      ends_finish piece writer_new (Err f.ParagraphTooLong) is counts = absurd is
-      ends_finish piece writer_new (Err (f.BadLine n)) is counts = absurd is
-      ends_finish piece writer_new (Err f.TextTooLong) is counts = absurd is
+          ++ []) held.text.items [] next.0 0) tt no_more_last
+          (λ same. (s.is_at.decoded ++ take held.waiting held.piece.items, has_read, (ap are_within (pars_last is.0) ∙ within_last is.0, left_over is.0 is.1))))
+      ends_finish piece writer_new (Err f.Read) is counts inside = absurd is
+      ends_finish piece writer_new (Err f.ParagraphTooLong) is counts inside = absurd is
+      ends_finish piece writer_new (Err (f.BadLine n)) is counts inside = absurd is
+      ends_finish piece writer_new (Err f.TextTooLong) is counts inside = absurd is
 
   -- ---- bytes that were read
   module _ (reader_new : Device) (n : ℕ) (held held_read : Held)
@@ -372,12 +432,13 @@ module _ (rules : Rules) (width : ℕ) (print : Print) (reader_old writer_old : 
     -- none, since the source has ended
     pub read_nothing : n ≡ 0 → (writer_new : Device) (engine_new : Engine) (result : Result (Unit {0}) RunFault) → Finishes rules width print held_read writer writer_new result
         → OnOk result (Prints (length held_read.text.items) print engine engine_new) → PrintsAtMost (length held_read.text.items) print engine engine_new
-        → Ends rules width print reader_old writer_old engine_old reader_new writer_new engine_new result
-    read_nothing none writer_new engine_new result is counts at_most =
+        → (0 < held_read.waiting → engine_new ≡ engine) → Ends rules width print reader_old writer_old engine_old reader_new writer_new engine_new result
+    read_nothing none writer_new engine_new result is counts at_most inside =
         ends_finish reader_new read.read.buffer held s (subst (λ k. Gives reader reader_new k read.read.buffer) none read.read.gives) engine_new
         (subst (λ (h : Held). PrintsAtMost (length h.text.items) print engine engine_new) read.same at_most) held_read.piece writer_new result
         (subst (λ (h : Held). Finishes rules width print h writer writer_new result) read.same is)
         (subst (λ (h : Held). OnOk result (Prints (length h.text.items) print engine engine_new)) read.same counts)
+        (subst (λ (h : Held). 0 < h.waiting → engine_new ≡ engine) read.same inside)
 
     next_is : (next : IsAt rules width print reader_old reader_new writer_old writer bytes_read held.text.items [])
         × (next.gathered ≡ []) × (next.decoded ≡ s.is_at.decoded) × (next.sent ≡ s.is_at.sent)
@@ -419,33 +480,35 @@ module _ (rules : Rules) (width : ℕ) (print : Print) (reader_old writer_old : 
       pub read_memory : are_within (paragraphs (cut_by rules) (held_read.text.items ++ front_of bytes_read)) ≡ true
           → (is_bad bytes_read ≡ true → 1 < length
           (paragraphs (cut_by rules) (held_read.text.items ++ front_of bytes_read)))
+          → 0 < utf8_valid_len bytes_read
           → Ends rules width print reader_old writer_old engine_old reader_new writer engine_new (Err f.Memory)
-      read_memory within ended_is =
+      read_memory within ended_is some =
           let sent = s.is_at.sent in
           let text = held.text.items ++ front_of bytes_read in
           let pars : front_paragraphs rules (s.is_at.decoded ++ bytes_read) ≡ sent ++ paragraphs (cut_by rules) text =
           pars_sent rules width print reader_old reader writer_old writer (take held.waiting held.piece.items) held.text.items [] s.is_at s.all_sent bytes_read in
           let sent_is : are_within sent ≡ true = sent_within rules width print reader_old reader writer_old writer (take held.waiting held.piece.items) held.text.items [] s.is_at s.all_sent in
-          ended reader_new writer engine_new f.Memory (at_memory rules width print reader_old reader_new writer_old writer bytes_read held.text.items [] next_is.0) no_more_read
+          let all : length (front_paragraphs rules (s.is_at.decoded ++ bytes_read)) ≡ length sent + length (paragraphs (cut_by rules) text) =
+          omega (arith, ap length pars, length-append sent (paragraphs (cut_by rules) text)) in
+          let less : length sent < length (front_paragraphs rules (s.is_at.decoded ++ bytes_read)) =
+          omega (arith, all, pars_some (cut_by rules) text (omega (arith, length-append held.text.items (front_of bytes_read), front_some bytes_read some))) in
+          ended reader_new writer engine_new f.Memory 0 (at_memory rules width print reader_old reader_new writer_old writer bytes_read held.text.items [] next_is.0 0) tt no_more_read
           (λ is. (
             s.is_at.decoded ++ bytes_read,
             has_read_more,
             (
               ap are_within pars ∙ within_more sent (paragraphs (cut_by rules) text) sent_is ∙ ap (λ t. are_within (paragraphs (cut_by rules) (t ++ front_of bytes_read))) (sym text_same) ∙ within,
-              λ bad. (
+              (
                 length sent,
-                omega (
-                  arith,
-                  ended_is (sym (is_bad-after s.is_at.decoded bytes_read s.is_at.utf8)
-                      ∙ bad),
-                  ap length pars,
-                  length-append sent (paragraphs (cut_by rules) text),
-                  ap
-                      (λ t. length (paragraphs (cut_by rules) (t ++ front_of bytes_read))) text_same,
-                ),
                 subst (λ (ps : List (List ℕ)). Wrote (page rules width print ps) writer_old writer)
                     (sym (ap (take (length sent)) pars ∙ take-append_seam sent (paragraphs (cut_by rules) text)))
                     s.is_at.wrote,
+                λ read. left_by (length sent) _ (is_bad (s.is_at.decoded ++ bytes_read)) less (λ bad. omega (
+                  arith,
+                  ended_is (sym (is_bad-after s.is_at.decoded bytes_read s.is_at.utf8) ∙ bad),
+                  all,
+                  ap (λ t. length (paragraphs (cut_by rules) (t ++ front_of bytes_read))) text_same,
+                )),
               ),
             ),
           ))
@@ -501,7 +564,8 @@ module _ (rules : Rules) (width : ℕ) (print : Print) (reader_old writer_old : 
     ends_bad : (writer_new : Device) (text_new : List ℕ)
         (at : IsAt rules width print reader_old reader_new writer_old writer_new left text_new []) → at.gathered ≡ []
         → (place : ℕ) → length at.decoded ≡ place
-        → IsOpen (cut_by rules) text_new → is_bad bytes_read ≡ true → Stops rules width print reader_old writer_old reader_new writer_new (f.NotUtf8 place)
+        → IsOpen (cut_by rules) text_new → is_bad bytes_read ≡ true
+        → Stops rules width print reader_old writer_old reader_new writer_new (f.NotUtf8 place) (length (concat at.sent))
     ends_bad writer_new text_new at sent place place_is is_open bad =
         let rest = unwrap_or reader_new.bytes [] in
         let after = left ++ rest in
@@ -519,7 +583,7 @@ module _ (rules : Rules) (width : ℕ) (print : Print) (reader_old writer_old : 
         (λ written wrong is wrote. (is, wrote))
 
     -- a fault is found before the first paragraph ends: its lines and those after it are not written, nor is anything more
-    module _ (held_new : Held) (fault : Option RunFault) (l : FindsFault rules bytes_read held_read held_new fault) where
+    module _ (held_new : Held) (engine_new : Engine) (fault : Option RunFault) (l : FindsFault rules bytes_read held_read held_new engine engine_new fault) where
       abbrev text_ahead : List ℕ
       text_ahead = held.text.items ++ front_of bytes_read
 
@@ -530,14 +594,14 @@ module _ (rules : Rules) (width : ℕ) (print : Print) (reader_old writer_old : 
       page_is : held_new.page.bytes.items ≡ []
       page_is = ap (λ (h : Held). h.page.bytes.items) l.same ∙ no_lines
 
-      found_stopped : (writer_new : Device) (wrong : RunFault) → StopsWriting held_new wrong writer writer_new → Stops rules width print reader_old writer_old reader_new writer_new wrong
+      found_stopped : (writer_new : Device) (wrong : RunFault) → StopsWriting held_new wrong writer writer_new → Stops rules width print reader_old writer_old reader_new writer_new wrong 0
       found_stopped writer_new wrong stops =
           let at = found_at.0 in
           let count : held_new.written + stops.0 ≡ length (page rules width print at.sent) + stops.0 =
           omega (arith, ap (λ (h : Held). h.written) l.same, ap (λ (h : Held). h.written) same, s.written, ap (λ ps. length (page rules width print ps)) found_at.2) in
-          subst (λ (w : RunFault). Stops rules width print reader_old writer_old reader_new writer_new w) (sym stops.1)
+          subst (λ (w : RunFault). Stops rules width print reader_old writer_old reader_new writer_new w 0) (sym stops.1)
           (at_write rules width print reader_old reader_new writer_old writer left text_ahead [] at writer_new stops.0 (held_new.written + stops.0)
-          (subst (λ (t : List ℕ). StoppedAt stops.0 t writer writer_new) page_is stops.2) count)
+          (subst (λ (t : List ℕ). StoppedAt stops.0 t writer writer_new) page_is stops.2) count 0)
 
       module _ (writer_new : Device) (held_last : Held) (writes : Writes held_new held_last writer writer_new) where
         found_written : (next : IsAt rules width print reader_old reader_new writer_old writer_new left text_ahead [])
@@ -548,7 +612,7 @@ module _ (rules : Rules) (width : ℕ) (print : Print) (reader_old writer_old : 
 
         found_ends : (wrong : RunFault)
             → IsFaultAhead (cut_by rules) text_ahead (is_bad bytes_read) (held.decoded + utf8_valid_len bytes_read)
-            wrong → Stops rules width print reader_old writer_old reader_new writer_new wrong
+            wrong → Stops rules width print reader_old writer_old reader_new writer_new wrong (length (concat found_written.0.sent))
         found_ends f.ParagraphTooLong long =
             at_long rules width print reader_old reader_new writer_old writer_new left text_ahead [] found_written.0 found_written.1 long
         found_ends (f.NotUtf8 n) is =
@@ -559,13 +623,25 @@ module _ (rules : Rules) (width : ℕ) (print : Print) (reader_old writer_old : 
         found_ends f.Memory is = absurd is
         found_ends f.TextTooLong is = absurd is
 
-        found_fault : (wrong : RunFault) → fault ≡ Some wrong → Stops rules width print reader_old writer_old reader_new writer_new wrong
+        -- the paragraphs that are written, and the characters that were counted, are those of before
+        found_sent : length (concat found_written.0.sent) ≡ length (concat s.is_at.sent)
+        found_sent =
+            let sent : found_written.0.sent ≡ s.is_at.sent = found_written.3 ∙ ap₂ (λ x y. x ++ y) found_at.2 found_at.3 ∙ append-nil s.is_at.sent in
+            ap (λ ps. length (concat ps)) sent
+
+        found_counts : (wrong : RunFault) → HasPrinted (Some wrong) (length (concat s.is_at.sent)) print engine_old engine_new
+        found_counts wrong =
+            printed_as wrong (length (concat s.is_at.sent)) print engine_old engine_new
+            (subst (λ (e : Engine). Prints (length (concat s.is_at.sent)) print engine_old e) (sym l.engine) s.counts)
+
+        found_fault : (wrong : RunFault) → fault ≡ Some wrong → Stops rules width print reader_old writer_old reader_new writer_new wrong (length (concat s.is_at.sent))
         found_fault wrong is =
             let wrong_is : l.wrong ≡ wrong = cc (is, l.fault_is) in
-            subst (λ (w : RunFault). Stops rules width print reader_old writer_old reader_new writer_new w) wrong_is
+            subst (λ (w : RunFault). Stops rules width print reader_old writer_old reader_new writer_new w (length (concat s.is_at.sent))) wrong_is
+            (subst (λ n. Stops rules width print reader_old writer_old reader_new writer_new l.wrong n) found_sent
             (found_ends l.wrong (subst (λ (h : Held). IsFaultAhead (cut_by rules) (h.text.items
             ++ front_of bytes_read) (is_bad bytes_read) (h.decoded + utf8_valid_len bytes_read) l.wrong) same
-            l.ahead))
+            l.ahead)))
 
       found_goes_on : fault ≡ None → ⊥
       found_goes_on is = cc (is, l.fault_is)
@@ -580,19 +656,32 @@ module _ (rules : Rules) (width : ℕ) (print : Print) (reader_old writer_old : 
           let next = decoded_is g.pushed.pars held_new.text.items held_new.page.bytes.items new_front (g.pushed.lines ∙ ap (λ t. t ++ page rules width print g.pushed.pars) no_lines) in
           (next.0, omega (arith, next.1, g.decoded, ap (λ (h : Held). h.decoded) same, s.decoded), next.2, next.3)
 
-      gathers_stopped : (writer_new : Device) (wrong : RunFault) → StopsWriting held_new wrong writer writer_new → Stops rules width print reader_old writer_old reader_new writer_new wrong
+      gathers_stopped : (writer_new : Device) (wrong : RunFault) → StopsWriting held_new wrong writer writer_new → Stops rules width print reader_old writer_old reader_new writer_new wrong 0
       gathers_stopped writer_new wrong stops =
           let at = gathered_is.0 in
           let lines_sent : page rules width print at.sent ≡ page rules width print s.is_at.sent = ap (page rules width print) gathered_is.2 in
           let count : held_new.written + stops.0 ≡ length (page rules width print at.sent) + stops.0 = omega (arith, g.written, ap (λ (h : Held). h.written) same, s.written, ap length lines_sent) in
-          subst (λ (w : RunFault). Stops rules width print reader_old writer_old reader_new writer_new w) (sym stops.1)
-          (at_write rules width print reader_old reader_new writer_old writer left held_new.text.items held_new.page.bytes.items at writer_new stops.0 (held_new.written + stops.0) stops.2 count)
+          subst (λ (w : RunFault). Stops rules width print reader_old writer_old reader_new writer_new w 0) (sym stops.1)
+          (at_write rules width print reader_old reader_new writer_old writer left held_new.text.items held_new.page.bytes.items at writer_new stops.0 (held_new.written + stops.0) stops.2 count 0)
 
       module _ (writer_new : Device) (held_last : Held) (writes : Writes held_new held_last writer writer_new) where
         written_is : (next : IsAt rules width print reader_old reader_new writer_old writer_new left
             held_new.text.items []) × (next.gathered ≡ []) × (next.decoded ≡ gathered_is.0.decoded)
             × (next.sent ≡ gathered_is.0.sent ++ gathered_is.0.gathered)
         written_is = at_written rules width print reader_old reader_new writer_old writer left held_new.text.items held_new.page.bytes.items gathered_is.0 writer_new writes.wrote
+
+        written_counts : Prints (length (concat written_is.0.sent)) print engine_old engine_new
+        written_counts =
+            subst (λ n. Prints n print engine_old engine_new)
+            (omega (
+              arith,
+              ap (λ ps. length (concat ps)) (written_is.3
+                  ∙ ap₂ (λ x y. x ++ y) gathered_is.2 gathered_is.3),
+              ap length
+                  (concat-append s.is_at.sent g.pushed.pars),
+              length-append (concat s.is_at.sent) (concat g.pushed.pars),
+            ))
+            (prints_more print engine_old engine engine_new (length (concat s.is_at.sent)) (length (concat g.pushed.pars)) s.counts g.pushed.counts)
 
         stands_on : IsOpen (cut_by rules) held_new.text.items → is_bad bytes_read ≡ false → Stands rules width print reader_old writer_old engine_old reader_new writer_new engine_new held_last
         stands_on is_open good =
@@ -604,17 +693,6 @@ module _ (rules : Rules) (width : ℕ) (print : Print) (reader_old writer_old : 
             let pages : page rules width print at.sent ≡ page rules width print s.is_at.sent ++ page rules width print g.pushed.pars =
             ap (page rules width print) (written_is.3 ∙ ap₂ (λ x y. x ++ y) gathered_is.2 gathered_is.3) ∙ flat_map-append (paragraph_bytes rules width print) s.is_at.sent g.pushed.pars in
             let lines_new : held_new.page.bytes.items ≡ page rules width print g.pushed.pars = gathered_is.0.lines_are ∙ ap (page rules width print) gathered_is.3 in
-            let counts : Prints (length (concat at.sent)) print engine_old engine_new =
-            subst (λ n. Prints n print engine_old engine_new)
-            (omega (
-              arith,
-              ap (λ ps. length (concat ps)) (written_is.3
-                  ∙ ap₂ (λ x y. x ++ y) gathered_is.2 gathered_is.3),
-              ap length
-                  (concat-append s.is_at.sent g.pushed.pars),
-              length-append (concat s.is_at.sent) (concat g.pushed.pars),
-            ))
-            (prints_more print engine_old engine engine_new (length (concat s.is_at.sent)) (length (concat g.pushed.pars)) s.counts g.pushed.counts) in
             stands_by rules width print reader_old writer_old engine_old reader_new writer_new engine_new held_last left held_new.text.items (
               at,
               written_is.1,
@@ -632,18 +710,20 @@ module _ (rules : Rules) (width : ℕ) (print : Print) (reader_old writer_old : 
               ),
               is_open,
               record { none = left_none; fault = not_bad left good; few = omega (arith, left_len, g.beginning good) },
-              counts,
+              written_counts,
             )
             s.fits waiting text writes.empty (ap (λ (h : Held). vec_len h.piece) last ∙ g.room ∙ room_is)
             (omega (arith, ap length waiting, left_len, g.few, ap (λ (h : Held). h.waiting) last, bytes_len))
 
-        gathers_fault : (wrong : RunFault) → fault ≡ Some wrong → Stops rules width print reader_old writer_old reader_new writer_new wrong
+        gathers_fault : (wrong : RunFault) → fault ≡ Some wrong
+            → Stops rules width print reader_old writer_old reader_new writer_new wrong (length (concat written_is.0.sent))
         gathers_fault wrong is = go (is_bad bytes_read) refl (sym is ∙ g.fault_is)
           where
-            go : (b : Bool) → is_bad bytes_read ≡ b → Some wrong ≡ (if b then Some (f.NotUtf8 held_new.decoded) else None) → Stops rules width print reader_old writer_old reader_new writer_new wrong
+            go : (b : Bool) → is_bad bytes_read ≡ b → Some wrong ≡ (if b then Some (f.NotUtf8 held_new.decoded) else None)
+                → Stops rules width print reader_old writer_old reader_new writer_new wrong (length (concat written_is.0.sent))
             go true bad same_fault =
                 let wrong_is : f.NotUtf8 held_new.decoded ≡ wrong = cc in
-                subst (λ (w : RunFault). Stops rules width print reader_old writer_old reader_new writer_new w) wrong_is
+                subst (λ (w : RunFault). Stops rules width print reader_old writer_old reader_new writer_new w (length (concat written_is.0.sent))) wrong_is
                 (ends_bad writer_new held_new.text.items written_is.0 written_is.1 held_new.decoded (omega (arith, ap length written_is.2, gathered_is.1)) g.pushed.left bad)
             go false good same_fault = absurd cc
 
@@ -658,28 +738,35 @@ module _ (rules : Rules) (width : ℕ) (print : Print) (reader_old writer_old : 
     -- by what was found
     module _ (held_new : Held) (engine_new : Engine) (fault : Option RunFault) where
       abbrev Found : Type 0
-      Found = FindsFault rules bytes_read held_read held_new fault ⊎ Gathers rules width print bytes_read held_read held_new engine engine_new fault
+      Found = FindsFault rules bytes_read held_read held_new engine engine_new fault ⊎ Gathers rules width print bytes_read held_read held_new engine engine_new fault
 
       pub read_stopped : PrintsAtMost (length (held_read.text.items ++ front_of bytes_read)) print engine engine_new
           → Found → (writer_new : Device) (wrong : RunFault) → StopsWriting held_new wrong writer writer_new
           → Ends rules width print reader_old writer_old engine_old reader_new writer_new engine_new (Err wrong)
       read_stopped at_most found writer_new wrong stops =
-          ended reader_new writer_new engine_new wrong
-          (⊎_elim (λ l. found_stopped held_new fault l writer_new wrong stops) (λ g. gathers_stopped held_new engine_new fault g writer_new wrong stops) found)
+          ended reader_new writer_new engine_new wrong 0
+          (⊎_elim (λ l. found_stopped held_new engine_new fault l writer_new wrong stops) (λ g. gathers_stopped held_new engine_new fault g writer_new wrong stops) found)
+          (subst (λ (w : RunFault). HasPrinted (Some w) 0 print engine_old engine_new) (sym stops.1) tt)
           (no_more_read engine_new at_most) (λ is. absurd (cc (is, stops.1)))
 
       pub read_fault : PrintsAtMost (length (held_read.text.items ++ front_of bytes_read)) print engine engine_new
           → Found → (writer_new : Device) (held_last : Held) → Writes held_new held_last writer writer_new
           → (wrong : RunFault) → fault ≡ Some wrong → Ends rules width print reader_old writer_old engine_old reader_new writer_new engine_new (Err wrong)
       read_fault at_most found writer_new held_last writes wrong is =
-          ended reader_new writer_new engine_new wrong
-          (⊎_elim (λ l. found_fault held_new fault l writer_new held_last writes wrong is) (λ g. gathers_fault held_new engine_new fault g writer_new held_last writes wrong is) found)
-          (no_more_read engine_new at_most) (λ memory. absurd (no_memory rules width print bytes_read held_read held_new engine engine_new fault wrong found is memory))
+          let none : wrong ≡ f.Memory → ⊥ = λ memory. no_memory rules width print bytes_read held_read held_new engine engine_new fault wrong found is memory in
+          ⊎_elim
+          (λ l. ended reader_new writer_new engine_new wrong (length (concat s.is_at.sent)) (found_fault held_new engine_new fault l writer_new held_last writes wrong is)
+          (found_counts held_new engine_new fault l writer_new held_last writes wrong) (no_more_read engine_new at_most) (λ memory. absurd (none memory)))
+          (λ g. ended reader_new writer_new engine_new wrong (length (concat (written_is held_new engine_new fault g writer_new held_last writes).0.sent))
+          (gathers_fault held_new engine_new fault g writer_new held_last writes wrong is)
+          (printed_as wrong _ print engine_old engine_new (written_counts held_new engine_new fault g writer_new held_last writes))
+          (no_more_read engine_new at_most) (λ memory. absurd (none memory)))
+          found
 
       pub read_on : Found → (writer_new : Device) (held_last : Held) → Writes held_new held_last writer writer_new
           → fault ≡ None → Stands rules width print reader_old writer_old engine_old reader_new writer_new engine_new
           held_last
-      read_on (inl l) writer_new held_last writes is = absurd (found_goes_on held_new fault l is)
+      read_on (inl l) writer_new held_last writes is = absurd (found_goes_on held_new engine_new fault l is)
       read_on (inr g) writer_new held_last writes is = gathers_on held_new engine_new fault g writer_new held_last writes is
 
 -- ---- the start of a run
@@ -706,11 +793,11 @@ module _ (rules : Rules) (width : ℕ) (print : Print) (reader writer : Device) 
   pub ends_at_once : Ends rules width print reader writer engine reader writer engine (Err f.Memory)
   unfolding start_at
   ends_at_once =
-      let stops : Stops rules width print reader writer reader writer f.Memory = at_memory rules width print reader reader writer writer [] [] [] start_at in
+      let stops : Stops rules width print reader writer reader writer f.Memory 0 = at_memory rules width print reader reader writer writer [] [] [] start_at 0 in
       let read : HasRead reader reader [] = (start_at.read, start_at.passed) in
       let none : front_of [] ≡ [] = ap (λ n. chars (take n [])) (nothing_valid [] refl) ∙ chars-nil in
       record {
-        run = stops.run engine engine;
+        run = stops.run engine engine tt;
         ahead = stops.ahead;
         at_most = ([], read, at_most_more print engine engine engine 0 0 (length (front_of [])) (at_most_none print engine) (at_most_none print engine) (omega arith));
         wants = λ is. (
@@ -718,9 +805,7 @@ module _ (rules : Rules) (width : ℕ) (print : Print) (reader writer : Device) 
           read,
           (
             ap (λ t. are_within (paragraphs (cut_by rules) t)) none,
-            λ bad. absurd
-                (true≢false (sym bad ∙ ap (λ n. is_some (utf8_error_len (drop n []))) (nothing_valid [] refl)
-                ∙ ap is_some utf8_error_len-nil)),
+            (0, start_at.wrote, λ some. absurd (omega arith)),
           ),
         );
       }

@@ -14,13 +14,14 @@ use Rattle.std.proofs.Math.Seq.{take-append-add, take-append_seam, drop-append_s
 use Rattle.std.proofs.lemmas.Str.{chars-append, chars-nil, encodes-append}
 use Rattle.bidi.specs.Cuts.{paragraphs}
 use Rattle.device.specs.Device.{Device, FailedLast, StoppedAt, Took, Wrote, greatest}
+use Rattle.lines.specs.Engine.{Prints}
 use Rattle.lines.specs.Layouts.{Rules, cut_by}
 use Rattle.lines.specs.Pages.{page, paragraph_bytes}
 use Rattle.lines.specs.declared.engine.Engine.{Engine}
 use Rattle.lines.specs.declared.print.Print.{Print}
 use Rattle.text_run.specs.declared.faults.RunFault.{RunFault}
 use Rattle.text_run.specs.declared.faults.RunFault.TheVariants as f
-use Rattle.text_run.specs.TextRun.{Ending, AtEnd, are_within, is_within, written_of, ending_of, input_fault, front_of, front_paragraphs, read_ahead, Gave, EndsWith, IsTextRun, ReadsAhead}
+use Rattle.text_run.specs.TextRun.{Ending, AtEnd, are_within, is_within, written_of, ending_of, input_fault, front_of, front_paragraphs, read_ahead, Gave, EndsWith, HasPrinted, IsTextRun, ReadsAhead}
 use Rattle.text_run.specs.Streaming.{IsAt, IsFront, IsOpen, StartsLong}
 use Rattle.text_run.proofs.Fronts.{first_paragraph}
 use Rattle.text_run.proofs.Utf8Lemmas.{take-valid-after}
@@ -113,9 +114,10 @@ had_all (Some us) (Some bs) xs p done = p ∙ ap (λ t. xs ++ t) done ∙ append
 
 -- ---- the run of a text so far
 
--- the run ends with a fault, whatever its engine counts
-pub record Stops (rules : Rules) (width : ℕ) (print : Print) (reader_old writer_old reader_new writer_new : Device) (fault : RunFault) : Type 0 where
-  pub run : (engine_old engine_new : Engine) → IsTextRun rules width print reader_old reader_new writer_old writer_new engine_old engine_new (Err fault)
+-- the run ends with a fault, of whatever engine that has printed n characters where the fault is the input's
+pub record Stops (rules : Rules) (width : ℕ) (print : Print) (reader_old writer_old reader_new writer_new : Device) (fault : RunFault) (n : ℕ) : Type 0 where
+  pub run : (engine_old engine_new : Engine) → HasPrinted (Some fault) n print engine_old engine_new
+      → IsTextRun rules width print reader_old reader_new writer_old writer_new engine_old engine_new (Err fault)
   pub ahead : ReadsAhead rules width print reader_old reader_new writer_old writer_new
 
 module _ (rules : Rules) (width : ℕ) (print : Print) (reader_old writer_old : Device) where
@@ -165,19 +167,22 @@ module _ (rules : Rules) (width : ℕ) (print : Print) (reader_old writer_old : 
       (sent others more : List (List ℕ)) → Gave reader_old reader_new ending bytes → front_paragraphs rules bytes
       ≡ sent ++ others
       → written_of (front_paragraphs rules bytes) (is_none (input_fault ending bytes)) ≡ sent ++ more
-      → Wrote (page rules width print sent) writer_old writer_new → IsSent reader_new sent → Stops rules width print reader_old writer_old reader_new writer_new f.Memory
-  ends_memory reader_new writer_new ending bytes sent others more gave pars written wrote ahead = record {
-    run = λ engine_old engine_new. (
+      → Wrote (page rules width print sent) writer_old writer_new → IsSent reader_new sent → (printed : ℕ) → Stops rules width print reader_old writer_old reader_new writer_new f.Memory printed
+  ends_memory reader_new writer_new ending bytes sent others more gave pars written wrote ahead printed = record {
+    run = λ engine_old engine_new counts. (
       ending,
       bytes,
       gave,
       tt,
       tt,
       (
-        length sent,
-        subst
-            (λ (ps : List (List ℕ)). Wrote (page rules width print ps) writer_old writer_new)
-            (sym (ap (take (length sent)) written ∙ take-append_seam sent more)) wrote,
+        tt,
+        (
+          length sent,
+          subst
+              (λ (ps : List (List ℕ)). Wrote (page rules width print ps) writer_old writer_new)
+              (sym (ap (take (length sent)) written ∙ take-append_seam sent more)) wrote,
+        ),
       ),
     );
     ahead = ahead_done reader_new writer_new ending bytes sent others gave pars wrote ahead;
@@ -231,8 +236,8 @@ module _ (rules : Rules) (width : ℕ) (print : Print) (reader_old writer_old : 
       → Wrote (page rules width print sent) writer_old writer_mid → IsSent reader_new sent
       → StoppedAt m (page rules width print gathered) writer_mid writer_new → n
       ≡ length (page rules width print sent) + m
-      → Stops rules width print reader_old writer_old reader_new writer_new (f.Write n)
-  ends_write reader_new writer_mid writer_new ending bytes sent gathered others more m n gave pars written wrote ahead stopped n_is =
+      → (printed : ℕ) → Stops rules width print reader_old writer_old reader_new writer_new (f.Write n) printed
+  ends_write reader_new writer_mid writer_new ending bytes sent gathered others more m n gave pars written wrote ahead stopped n_is printed =
       let front = page rules width print sent in
       let lines = page rules width print gathered in
       let pages : page rules width print (written_of (front_paragraphs rules bytes) (is_none (input_fault ending bytes))) ≡ front ++ (lines ++ page rules width print more) =
@@ -256,7 +261,7 @@ module _ (rules : Rules) (width : ℕ) (print : Print) (reader_old writer_old : 
       ap (λ t. front ++ t) at.lines ∙ sym (append_assoc front (page rules width print at.before) (take at.n (page rules width print (at.next ∷ []))))
       ∙ ap (λ t. t ++ take at.n (page rules width print (at.next ∷ []))) (sym (flat_map-append (paragraph_bytes rules width print) sent at.before)) in
       record {
-        run = λ engine_old engine_new. (ending, bytes, gave, tt, tt, subst (λ (t : List ℕ). StoppedAt n t writer_old writer_new) (sym pages) stopped_all);
+        run = λ engine_old engine_new counts. (ending, bytes, gave, tt, tt, (tt, subst (λ (t : List ℕ). StoppedAt n t writer_old writer_new) (sym pages) stopped_all));
         ahead = ahead_at reader_new writer_new ending bytes before (at.next ∷ (at.after ++ others)) at.n gave pars_2
             (subst (Took writer_old writer_new) took_2 took) (ahead_more reader_new sent at.before ahead);
       }
@@ -312,21 +317,21 @@ module _ (rules : Rules) (width : ℕ) (print : Print) (reader_old reader_new wr
   pub sent_ahead : IsSent rules width print reader_old writer_old reader_new at.sent
   sent_ahead = record { ahead = at.ahead }
 
-  pub at_memory : Stops rules width print reader_old writer_old reader_new writer_new f.Memory
-  at_memory =
+  pub at_memory : (printed : ℕ) → Stops rules width print reader_old writer_old reader_new writer_new f.Memory printed
+  at_memory printed =
       let more = begins rest_of (is_none (input_fault AtEnd (at.decoded ++ rest_of))) in
       ends_memory rules width print reader_old writer_old reader_new writer_new AtEnd (at.decoded
       ++ rest_of) at.sent (at.gathered ++ paragraphs (cut_by rules) (text ++ front_of rest_of)) (at.gathered
       ++ more.0) gave_all
-      (pars_are rest_of ∙ append_assoc at.sent at.gathered _) (more.1 ∙ append_assoc at.sent at.gathered more.0) at.wrote sent_ahead
+      (pars_are rest_of ∙ append_assoc at.sent at.gathered _) (more.1 ∙ append_assoc at.sent at.gathered more.0) at.wrote sent_ahead printed
 
   pub at_write : (writer_last : Device) (m n : ℕ) → StoppedAt m lines writer_new writer_last → n ≡ length (page rules width print at.sent) + m
-      → Stops rules width print reader_old writer_old reader_new writer_last (f.Write n)
-  at_write writer_last m n stopped n_is =
+      → (printed : ℕ) → Stops rules width print reader_old writer_old reader_new writer_last (f.Write n) printed
+  at_write writer_last m n stopped n_is printed =
       let more = begins rest_of (is_none (input_fault AtEnd (at.decoded ++ rest_of))) in
       ends_write rules width print reader_old writer_old reader_new writer_new writer_last AtEnd (at.decoded
       ++ rest_of) at.sent at.gathered (paragraphs (cut_by rules) (text ++ front_of rest_of)) more.0 m n gave_all
-      (pars_are rest_of) more.1 at.wrote sent_ahead (subst (λ (t : List ℕ). StoppedAt m t writer_new writer_last) at.lines_are stopped) n_is
+      (pars_are rest_of) more.1 at.wrote sent_ahead (subst (λ (t : List ℕ). StoppedAt m t writer_new writer_last) at.lines_are stopped) n_is printed
 
   -- the lines are written
   pub at_written : (writer_last : Device) → Wrote lines writer_new writer_last
@@ -365,7 +370,7 @@ module _ (rules : Rules) (width : ℕ) (print : Print) (reader_old reader_new wr
     sent_within = ap are_within (sym sent_is) ∙ at.front.within
 
     -- a paragraph is too long
-    pub at_long : StartsLong (cut_by rules) text → Stops rules width print reader_old writer_old reader_new writer_new f.ParagraphTooLong
+    pub at_long : StartsLong (cut_by rules) text → Stops rules width print reader_old writer_old reader_new writer_new f.ParagraphTooLong (length (concat at.sent))
     at_long starts =
         let bytes = at.decoded ++ rest_of in
         let more = front_of rest_of in
@@ -376,15 +381,18 @@ module _ (rules : Rules) (width : ℕ) (print : Print) (reader_old reader_new wr
         let not_within : are_within (front_paragraphs rules bytes) ≡ false =
         ap are_within pars ∙ within_more at.sent (starts.first more ∷ starts.others more) sent_within ∙ ap (λ (b : Bool). b && are_within (starts.others more)) (starts.long more) in
         record {
-          run = λ engine_old engine_new. (
+          run = λ engine_old engine_new counts. (
             AtEnd,
             bytes,
             gave_all,
             tt,
             tt,
             (
-              sym (ap (λ (b : Bool). if b then wrong else Some f.ParagraphTooLong) not_within),
-              subst (λ (ps : List (List ℕ)). Wrote (page rules width print ps) writer_old writer_new) (sym written) at.wrote,
+              subst (λ (ps : List (List ℕ)). Prints (length (concat ps)) print engine_old engine_new) (sym written) counts,
+              (
+                sym (ap (λ (b : Bool). if b then wrong else Some f.ParagraphTooLong) not_within),
+                subst (λ (ps : List (List ℕ)). Wrote (page rules width print ps) writer_old writer_new) (sym written) at.wrote,
+              ),
             ),
           );
           ahead = ahead_done rules width print reader_old writer_old reader_new writer_new AtEnd bytes at.sent (starts.first more ∷ starts.others more) gave_all pars at.wrote sent_ahead;
@@ -415,7 +423,7 @@ module _ (rules : Rules) (width : ℕ) (print : Print) (reader_old reader_new wr
         → ((written : List (List ℕ)) (wrong : Option RunFault) → Some fault ≡ wrong
         → Wrote (page rules width print written) writer_old writer_new
         → EndsWith (page rules width print) written wrong writer_old writer_new (Some fault))
-        → Stops rules width print reader_old writer_old reader_last writer_new fault
+        → Stops rules width print reader_old writer_old reader_last writer_new fault (length (concat at.sent))
     at_fault reader_last ending after fault gave ahead is_open none wrong_is ends =
         let bytes = at.decoded ++ after in
         let nothing_more : text ++ front_of after ≡ text = ap (λ n. text ++ chars (take n after)) none ∙ ap (λ t. text ++ t) chars-nil ∙ append-nil text in
@@ -427,15 +435,18 @@ module _ (rules : Rules) (width : ℕ) (print : Print) (reader_old reader_new wr
         let end_is : Some fault ≡ ending_of (front_paragraphs rules bytes) (input_fault ending bytes) =
         sym wrong_is ∙ sym (ap (λ (b : Bool). if b then input_fault ending bytes else Some f.ParagraphTooLong) within_is) in
         record {
-          run = λ engine_old engine_new. (
+          run = λ engine_old engine_new counts. (
             ending,
             bytes,
             gave,
             tt,
             tt,
-            ends _ _ end_is
-                (subst (λ (ps : List (List ℕ)). Wrote (page rules width print ps) writer_old writer_new) (sym written)
-                at.wrote),
+            (
+              subst (λ (ps : List (List ℕ)). HasPrinted (Some fault) (length (concat ps)) print engine_old engine_new) (sym written) counts,
+              ends _ _ end_is
+                  (subst (λ (ps : List (List ℕ)). Wrote (page rules width print ps) writer_old writer_new) (sym written)
+                  at.wrote),
+            ),
           );
           ahead = ahead_done rules width print reader_old writer_old reader_last writer_new ending bytes at.sent (paragraphs (cut_by rules) text) gave pars at.wrote ahead;
         }

@@ -1,6 +1,8 @@
--- A page as a sink sees it.
-use Rattle.std.specs.Prelude.{Some, length}
+-- A page as a sink sees it, and what is put to it.
+use Rattle.std.specs.Prelude.{Bool, ◌||◌, not, Some, length}
 use Rattle.device.specs.Device.{Device}
+use Rattle.lines.specs.Printing.{skips_lines}
+use Rattle.lines.specs.declared.print.Print.{Print}
 use Rattle.text_run.specs.declared.page.Page.{Page}
 
 -- it tells its bytes, all of which passed
@@ -11,3 +13,7 @@ page_state page = record {
   failures = page.failures;
   failed_at = page.failed_at;
 }
+
+-- whether anything is printed of a paragraph
+abbrev pub prints_some : Print → Bool
+prints_some print = print.basedir || not (skips_lines print)

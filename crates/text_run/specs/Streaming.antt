@@ -12,6 +12,7 @@ use Rattle.lines.specs.Pages.{page}
 use Rattle.lines.specs.declared.engine.TheConstants.{PARAGRAPH_LIMIT}
 use Rattle.lines.specs.declared.engine.Engine.{Engine}
 use Rattle.lines.specs.declared.print.Print.{Print}
+use Rattle.text_run.specs.Pages.{prints_some}
 use Rattle.text_run.specs.TextRun.{are_within, is_within, front_of, is_bad, read_ahead, IsTextRun, PrintsNoMore, ReadsAhead, WantsMemory}
 use Rattle.text_run.specs.declared.faults.RunFault.{RunFault}
 use Rattle.text_run.specs.declared.faults.RunFault.TheVariants as f
@@ -90,12 +91,13 @@ pub record Gathers (rules : Rules) (width : ℕ) (print : Print) (bytes : List �
   pub written : new.written ≡ old.written
   pub room : vec_len new.piece ≡ vec_len old.piece
 
--- or a fault is found before any paragraph ends, and they are left as they are
-pub record FindsFault (rules : Rules) (bytes : List ℕ) (old new : Held) (fault : Option RunFault) : Type 0 where
+-- or a fault is found before any paragraph ends, and all is left as it is
+pub record FindsFault (rules : Rules) (bytes : List ℕ) (old new : Held) (engine_old engine_new : Engine) (fault : Option RunFault) : Type 0 where
   pub wrong : RunFault
   pub ahead : IsFaultAhead (cut_by rules) (old.text.items ++ front_of bytes) (is_bad bytes) (old.decoded + utf8_valid_len bytes) wrong
   pub fault_is : fault ≡ Some wrong
   pub same : new ≡ old
+  pub engine : engine_new ≡ engine_old
 
 -- what is written at the end of a text, of which some bytes are held
 abbrev pub last_lines : Rules → ℕ → Print → Held → List ℕ
@@ -124,7 +126,7 @@ Finishes rules width print held old new (Ok done) = (held.waiting ≡ 0) × Wrot
 Finishes rules width print held old new (Err (f.NotUtf8 n)) = (0 < held.waiting) × (n ≡ held.decoded) × (new ≡ old)
 Finishes rules width print held old new (Err (f.Write n)) =
     (held.waiting ≡ 0) × ((m : ℕ) × (n ≡ held.written + m) × StoppedAt m (last_lines rules width print held) old new)
-Finishes rules width print held old new (Err f.Memory) = (held.waiting ≡ 0) × (0 < length held.text.items) × (new ≡ old)
+Finishes rules width print held old new (Err f.Memory) = (held.waiting ≡ 0) × (0 < length held.text.items) × (prints_some print ≡ true) × (new ≡ old)
 Finishes rules width print held old new (Err fault) = ⊥
 
 -- Between two states of its devices a run has read some bytes and written the lines of some paragraphs. It waits with some bytes at

@@ -82,6 +82,13 @@ abbrev pub HasPrintedAll : Option RunFault → List ℕ → Print → Engine →
 HasPrintedAll None bytes print old new = Prints (length (chars bytes)) print old new
 HasPrintedAll (Some wrong) bytes print old new = ⊤
 
+-- after a fault of the input, each character of the paragraphs that were written, and no other
+abbrev pub HasPrinted : Option RunFault → ℕ → Print → Engine → Engine → Type 0
+HasPrinted None n print old new = ⊤
+HasPrinted (Some (fault.Write m)) n print old new = ⊤
+HasPrinted (Some fault.Memory) n print old new = ⊤
+HasPrinted (Some wrong) n print old new = Prints n print old new
+
 -- The run of a text: what the reader gave has a front, whose paragraphs are written as far as they go.
 abbrev pub IsTextRun : Rules → ℕ → Print → Device → Device → Device → Device → Engine → Engine → Result (Unit {0}) RunFault → Type 0
 IsTextRun rules width print reader_old reader_new writer_old writer_new engine_old engine_new result =
@@ -90,7 +97,9 @@ IsTextRun rules width print reader_old reader_new writer_old writer_new engine_o
     × HasPrintedAll (fault_of result) bytes print engine_old engine_new
     × (let pars = front_paragraphs rules bytes in
     let wrong = input_fault ending bytes in
-    EndsWith (page rules width print) (written_of pars (is_none wrong)) (ending_of pars wrong) writer_old writer_new (fault_of result))
+    let written = written_of pars (is_none wrong) in
+    HasPrinted (fault_of result) (length (concat written)) print engine_old engine_new
+    × EndsWith (page rules width print) written (ending_of pars wrong) writer_old writer_new (fault_of result))
 
 -- a failed read is answered as one: where it isn't the answer, no call of the source failed
 abbrev pub TellsReads : {A : Type 0} → Result A RunFault → Device → Device → Type 0
@@ -100,14 +109,15 @@ TellsReads result old new = result ≢ Err fault.Read → new.failures ≡ old.f
 abbrev pub HasRead : Device → Device → List ℕ → Type 0
 HasRead old new bytes = Consumes old.bytes new.bytes bytes × (new.passed ≡ old.passed + length bytes)
 
--- Memory was wanted for what was read: no paragraph of it is too long, and where it has bytes that are not UTF-8, lines of a
--- paragraph that ends before them are still to be written.
+-- Memory was wanted for what was read: no paragraph of it is too long, and the lines of one are still to be written, which ends
+-- before the bytes that are not UTF-8 where there are any; or nothing was read.
 abbrev pub WantsMemory : Rules → ℕ → Print → Device → Device → Device → Device → Type 0
 WantsMemory rules width print reader_old reader_new writer_old writer_new =
     (bytes : List ℕ) × HasRead reader_old reader_new bytes
     × (let pars = front_paragraphs rules bytes in
     (are_within pars ≡ true)
-    × (is_bad bytes ≡ true → (k : ℕ) × (k + 1 < length pars) × Wrote (page rules width print (take k pars)) writer_old writer_new))
+    × ((k : ℕ) × Wrote (page rules width print (take k pars)) writer_old writer_new
+    × (0 < length bytes → (if is_bad bytes then k + 1 else k) < length pars)))
 
 -- at most the characters that were read were printed, up to the first byte that is not UTF-8
 abbrev pub PrintsNoMore : Print → Device → Device → Engine → Engine → Type 0

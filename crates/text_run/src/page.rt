@@ -1,11 +1,12 @@
 //! What is written for a text, gathered in memory: so the writer gets it in large pieces, however
 //! short the lines are.
-ghost use Rattle.std.specs.Prelude.{◌≡◌, ◌++◌, ◌<◌, [], length, OnOk};
+ghost use Rattle.std.specs.Prelude.{◌≡◌, ◌++◌, ◌<◌, [], true, length, OnErr, OnOk};
 ghost use Rattle.lines.specs.Engine.{rules_of, Prints, SameRules};
 ghost use Rattle.lines.specs.Layouts.{IsParagraph};
 ghost use Rattle.lines.specs.Pages.{paragraph_bytes};
 ghost use Rattle.lines.specs.declared.print.Print.{Print};
 ghost use Rattle.text_run.specs.Counts.{PrintsAtMost};
+ghost use Rattle.text_run.specs.Pages.{prints_some};
 
 use device::Sink;
 use lines::{Engine, Print};
@@ -64,7 +65,7 @@ impl Sink for Page {
     }
 }
 
-/// Adds the lines of one paragraph.
+/// Adds the lines of one paragraph. It takes no memory where nothing is printed of it.
 pub fn push_paragraph(
     alloc: Global,
     page: &mut Page,
@@ -77,6 +78,7 @@ pub fn push_paragraph(
     requires width { 0 < width }
     ensures ok { OnOk result (page.new.bytes.items ≡ page.old.bytes.items
         ++ paragraph_bytes (rules_of engine.old) width print.now paragraph.now) }
+    ensures memory { OnErr result (prints_some print.now ≡ true) }
     ensures counts { OnOk result (Prints (length paragraph.now) print.now engine.old engine.new) }
     ensures at_most { PrintsAtMost (length paragraph.now) print.now engine.old engine.new }
     ensures rules { SameRules engine.old engine.new }

@@ -6,6 +6,7 @@ ghost use Rattle.bidi.specs.Cuts.{paragraphs, SplitsAt};
 ghost use Rattle.lines.specs.Engine.{rules_of, SameRules};
 ghost use Rattle.lines.specs.Layouts.{cut_by};
 ghost use Rattle.text_run.specs.Counts.{PrintsAtMost};
+ghost use Rattle.text_run.specs.Pages.{prints_some};
 ghost use Rattle.text_run.specs.Streaming.{IsEnded, IsFaultAhead, IsOpen, Pushed, StartsLong};
 ghost use Rattle.text_run.specs.TextRun.{are_within};
 
@@ -114,7 +115,7 @@ fn is_cut_after(engine: &Engine, last: Option<char>, c: char) -> bool
 
 /// Adds to a page the lines of the paragraphs of a text that a cut ends. None of them is too long, and
 /// there is no cut among the first `seen` characters. Gives what is left of the text. It takes memory only
-/// where a cut ends one.
+/// where a cut ends one and something is printed.
 pub fn push_paragraphs<'a>(
     alloc: Global,
     page: &mut Page,
@@ -130,6 +131,7 @@ pub fn push_paragraphs<'a>(
     ensures pushed { IfOk result (λ rest. Pushed (rules_of engine.old) width print.now text.now rest.now
         page.old.bytes.items page.new.bytes.items engine.old engine.new) }
     ensures memory { OnErr result (SplitsAt (cut_by (rules_of engine.old)) text.now None → ⊥) }
+    ensures some { OnErr result (prints_some print.now ≡ true) }
     ensures at_most { PrintsAtMost (length text.now) print.now engine.old engine.new }
     ensures rules { SameRules engine.old engine.new }
 {

@@ -12,6 +12,7 @@ ghost use Rattle.lines.specs.Layouts.{cut_by};
 ghost use Rattle.lines.specs.declared.engine.Engine.{Engine};
 ghost use Rattle.lines.specs.declared.engine.TheConstants.{PARAGRAPH_LIMIT};
 ghost use Rattle.text_run.specs.Counts.{PrintsAtMost};
+ghost use Rattle.text_run.specs.Pages.{prints_some};
 ghost use Rattle.text_run.specs.Streaming.{FindsFault, Finishes, Gathers, GathersLast, IsRead, IsReadTo};
 ghost use Rattle.text_run.specs.Streaming.{Stands, Steps, StopsWriting, Writes};
 ghost use Rattle.text_run.specs.TextRun.{are_within, front_of, is_bad};
@@ -124,7 +125,8 @@ impl Held {
         requires len { self.old.waiting + len ≤ vec_len self.old.piece }
         requires counted { self.old.decoded + (self.old.waiting + len) ≤ 2 ^ 64 - 1 }
         ensures gathers { IfOk result (λ fault. FindsFault (rules_of engine.old)
-            (take (self.old.waiting + len) self.old.piece.items) self.old self.new fault
+            (take (self.old.waiting + len) self.old.piece.items) self.old self.new
+            engine.old engine.new fault
             ⊎ Gathers (rules_of engine.old) width print.now
             (take (self.old.waiting + len) self.old.piece.items) self.old self.new
             engine.old engine.new fault) }
@@ -170,6 +172,7 @@ impl Held {
         requires short { length self.old.text.items ≤ PARAGRAPH_LIMIT }
         ensures lines { OnOk result (GathersLast (rules_of engine.old) width print.now self.old self.new) }
         ensures memory { OnErr result (0 < length self.old.text.items) }
+        ensures some { OnErr result (prints_some print.now ≡ true) }
         ensures counts { OnOk result
             (Prints (length self.old.text.items) print.now engine.old engine.new) }
         ensures at_most { PrintsAtMost (length self.old.text.items) print.now engine.old engine.new }
@@ -250,6 +253,9 @@ fn finish<W: Sink>(
         (W.state writer.old) (W.state writer.new) result }
     ensures counts { OnOk result (Prints (length held.old.text.items) print.now engine.old engine.new) }
     ensures at_most { PrintsAtMost (length held.old.text.items) print.now engine.old engine.new }
+
+    // Where the text ends inside a character, its last paragraph is not printed.
+    ensures inside { 0 < held.old.waiting → engine.new ≡ engine.old }
     ensures rules { SameRules engine.old engine.new }
 {
     if held.waiting > 0 {
@@ -286,6 +292,11 @@ fn step<R: Source, W: Sink>(
     // Where memory ran out nothing was written: so this isn't answered once the lines before a fault
     // are.
     ensures memory { IsErrOf result RunFault.Memory → W.state writer.new ≡ W.state writer.old }
+
+    // Where no more was read, memory is wanted for the last paragraph alone, where something is printed of it
+    // and the text doesn't end inside a character.
+    ensures last { IsErrOf result RunFault.Memory → (R.state reader.new).passed ≡ (R.state reader.old).passed
+        → (held.old.waiting ≡ 0) × (0 < length held.old.text.items) × (prints_some print.now ≡ true) }
     ensures rises { result ≡ Ok true → (R.state reader.old).passed < (R.state reader.new).passed }
     ensures counted { result ≡ Ok true → (R.state reader.new).passed ≤ 2 ^ 64 - 1 }
     ensures rules { SameRules engine.old engine.new }

@@ -1,5 +1,6 @@
 -- The characters that a text writes, one after another.
-use Rattle.std.proofs.Common.{◌≡◌, ℕ, zero, suc, ◌+◌, ◌-◌, ◌<◌, ◌≤◌, List, [], ◌∷◌, ◌++◌, length, get_or, drop, Option, Some, None, option_map, encode_utf8, refl, add-one, sym, ap, ◌∙◌, arith}
+use Rattle.std.proofs.Common.{◌≡◌, ℕ, zero, suc, ◌+◌, ◌-◌, ◌<◌, ◌≤◌, Bool, true, false, List, [], ◌∷◌, ◌++◌, length, get_or, drop, Option, Some, None, option_map, encode_utf8, refl, add-one, sym, ap, ◌∙◌, arith}
+use Rattle.std.specs.Prelude.{is_some}
 use Rattle.std.specs.Char.{IsScalar}
 use Rattle.std.specs.Str.{chars, IsUtf8}
 use Rattle.std.proofs.lemmas.List.{append_assoc, append-nil, drop-drop}
@@ -57,3 +58,23 @@ all_written [] front zero past = ap (option_map (λ cs. front ++ cs)) none_left 
 all_written [] front (suc n) past = ap (option_map (λ cs. front ++ cs)) none_left ∙ ap Some (append-nil front)
 all_written (c ∷ text) front zero past = absurd (omega arith)
 all_written (c ∷ text) front (suc n) past = all_written text front n (omega (arith, past))
+
+-- ---- whether all of it is right
+
+is_some_map : {A B : Type 0} (f : A → B) (o : Option A) → is_some (option_map f o) ≡ is_some o
+is_some_map f None = refl
+is_some_map f (Some a) = refl
+
+module _ (text : List ℕ) (n d : ℕ) (within : n < length text) where
+  -- it is where what stands after the next character is
+  pub next_right : (c len : ℕ) → written (get_or text n d) (drop (n + 1) text) ≡ Some (c, len) → 0 < len → is_some (unescaped (drop n text)) ≡ is_some (unescaped (drop (n + len) text))
+  next_right c len is some =
+      sym (is_some_map (λ cs. [] ++ cs) (unescaped (drop n text))) ∙ ap is_some (next_written text n d within [] c len is some)
+      ∙ is_some_map (λ cs. ([] ++ c ∷ []) ++ cs) (unescaped (drop (n + len) text))
+
+  -- and isn't where the next escape is wrong
+  pub none_right : written (get_or text n d) (drop (n + 1) text) ≡ None → is_some (unescaped (drop n text)) ≡ false
+  none_right is = sym (is_some_map (λ cs. [] ++ cs) (unescaped (drop n text))) ∙ ap is_some (none_written text n d within [] is)
+
+pub all_right : (text : List ℕ) (n : ℕ) → length text ≤ n → is_some (unescaped (drop n text)) ≡ true
+all_right text n past = sym (is_some_map (λ cs. [] ++ cs) (unescaped (drop n text))) ∙ ap is_some (all_written text [] n past)

@@ -1,5 +1,5 @@
 -- How the run of a script that reads in pieces ends: as one that has read all would.
-use Rattle.std.proofs.Common.{◌≡◌, ℕ, suc, ◌+◌, ◌-◌, ◌≤◌, ◌&&◌, Bool, true, false, List, [], ◌∷◌, ◌++◌, length, take, min, Option, Some, None, Ok, Err, refl, sym, subst, ap, ◌∙◌, arith, if◌then◌else◌}
+use Rattle.std.proofs.Common.{inr, ◌<◌, ◌≡◌, ℕ, suc, ◌+◌, ◌-◌, ◌≤◌, ◌&&◌, Bool, true, false, List, [], ◌∷◌, ◌++◌, length, take, min, Option, Some, None, Ok, Err, refl, sym, subst, ap, ◌∙◌, arith, if◌then◌else◌}
 use Rattle.std.specs.List.{list_all, prefix_len, slice_split}
 use Rattle.std.specs.Io.KnownBytes.{IsAtEnd}
 use Rattle.std.proofs.lemmas.Bool.{and_parts}
@@ -14,7 +14,7 @@ use Rattle.session.specs.Sessions.{SessionState, held_at}
 use Rattle.tool.specs.Reading.{FailsAt, NoEnd}
 use Rattle.tool.specs.Scripts.{is_line_end, lines_among, request_of_line, script_lines}
 use Rattle.tool.specs.ScriptRun.{after_line, after_lines, answer_line, answers, good_lines, input_fault, is_good, line_read_ahead, script_fault, with_ends}
-use Rattle.tool.specs.ScriptEnds.{Answered, EndsAfter, IsScriptRun, obeyed_lines}
+use Rattle.tool.specs.ScriptEnds.{Answered, EndsAfter, IsScriptRun, WantsMore, obeyed_lines}
 use Rattle.tool.specs.Work.{LineWorks, LinesWork}
 use Rattle.text_run.specs.TextRun.{Ending, AtEnd, AtFailure, Gave}
 use Rattle.text_run.specs.declared.faults.RunFault.{RunFault}
@@ -113,8 +113,9 @@ module _ (rules : Rules) (options : ScriptOptions) (start now : SessionState) (r
   ends_after : (lines done others : List (List ℕ)) (wrong stop : Option RunFault) → lines ≡ done ++ others → IsDone done
       → Answered rules options before (done ++ others) wrong (length done) writer_old writer_new stop
       → held_at now ≡ after_lines rules options.queries before (obeyed_lines (done ++ others) (length done) stop)
-      → LinesWork rules options.queries before (done ++ take 1 others) start.engine now.engine → After lines wrong (length done) stop
-  ends_after lines done others wrong stop is ahead wrote held works =
+      → LinesWork rules options.queries before (done ++ take 1 others) start.engine now.engine → WantsMore done reader_old reader_new stop
+      → After lines wrong (length done) stop
+  ends_after lines done others wrong stop is ahead wrote held works wants =
       let first : take (length done) (done ++ others) ≡ done = take-append_seam done others in
       let next : take (length done + 1) (done ++ others) ≡ done ++ take 1 others = take-append-add done others 1 in
       subst (λ (ls : List (List ℕ)). After ls wrong (length done) stop) (sym is) (record {
@@ -122,6 +123,7 @@ module _ (rules : Rules) (options : ScriptOptions) (start now : SessionState) (r
         held = held;
         ahead = subst (λ (ls : List (List ℕ)). reader_new.passed ≤ reader_old.passed + length (with_ends ls) + line_read_ahead) (sym first) ahead.ahead;
         works = subst (λ (ls : List (List ℕ)). LinesWork rules options.queries before ls start.engine now.engine) (sym next) works;
+        wants = subst (λ (ls : List (List ℕ)). WantsMore ls reader_old reader_new stop) (sym first) wants;
       })
 
   -- where these are all lines, and no write failed and memory didn't run out
@@ -158,7 +160,7 @@ module _ (rules : Rules) (options : ScriptOptions) (start now : SessionState) (r
         bytes,
         gave,
         (finished, passed),
-        (length done, ends_after _ done [] _ None are all.done_is (none, size_all done, wrote_all done all) (held_all done all) (works_all done all)),
+        (length done, ends_after _ done [] _ None are all.done_is (none, size_all done, wrote_all done all) (held_all done all) (works_all done all) tt),
       )
 
   -- a read failed after all that are whole
@@ -172,7 +174,7 @@ module _ (rules : Rules) (options : ScriptOptions) (start now : SessionState) (r
         bytes,
         gave,
         tt,
-        (length done, ends_after _ done [] _ (Some f.Read) are all.done_is (fault, size_all done, wrote_all done all) (held_all done all) (works_all done all)),
+        (length done, ends_after _ done [] _ (Some f.Read) are all.done_is (fault, size_all done, wrote_all done all) (held_all done all) (works_all done all) tt),
       )
 
   -- a line is none
@@ -192,7 +194,7 @@ module _ (rules : Rules) (options : ScriptOptions) (start now : SessionState) (r
         bytes,
         gave,
         tt,
-        (length done, ends_after _ done [] _ (Some (f.BadLine n)) are all.done_is (fault, size_all done, wrote_all done all) (held_all done all) (works_all done all)),
+        (length done, ends_after _ done [] _ (Some (f.BadLine n)) are all.done_is (fault, size_all done, wrote_all done all) (held_all done all) (works_all done all) tt),
       )
 
   -- memory was wanting, after these lines or for the next
@@ -201,8 +203,9 @@ module _ (rules : Rules) (options : ScriptOptions) (start now : SessionState) (r
       → list_all (is_good options.queries) done ≡ true
       → IsDone done → Wrote (answers rules options before done) writer_old writer_new → held_at now ≡ after_lines rules options.queries before done
       → LinesWork rules options.queries before (done ++ take 1 (good_lines options.queries others)) start.engine now.engine
+      → WantsMore done reader_old reader_new (Some f.Memory)
       → IsScriptRun rules options start now reader_old reader_new writer_old writer_new (Err f.Memory)
-  ends_short ending bytes done others gave lines good ahead wrote held works =
+  ends_short ending bytes done others gave lines good ahead wrote held works more =
       let are : good_lines options.queries (script_lines ending bytes) ≡ done
       ++ good_lines options.queries others = ap (good_lines options.queries) lines
       ∙ take_while_more options.queries done others good in
@@ -215,7 +218,7 @@ module _ (rules : Rules) (options : ScriptOptions) (start now : SessionState) (r
           length done,
           ends_after _ done (good_lines options.queries others) _ (Some f.Memory) are ahead
               (subst (λ (ls : List (List ℕ)). Wrote (answers rules options before ls) writer_old writer_new) (sym first) wrote)
-              (held ∙ ap (after_lines rules options.queries before) (sym first)) works,
+              (held ∙ ap (after_lines rules options.queries before) (sym first)) works more,
         ),
       )
 
@@ -266,20 +269,21 @@ module _ (rules : Rules) (options : ScriptOptions) (start now : SessionState) (r
         bytes,
         gave,
         tt,
-        (length done, ends_after _ done (line ∷ good_lines options.queries others) _ (Some (f.Write n)) are ahead (least, whole) held_now works),
+        (length done, ends_after _ done (line ∷ good_lines options.queries others) _ (Some (f.Write n)) are ahead (least, whole) held_now works tt),
       )
 
   -- a line fails
   pub ends_line : (ending : Ending) (bytes : List ℕ) (done : List (List ℕ)) (line : List ℕ) (others : List (List ℕ))
-      (mid : SessionState) (lines written : ℕ) (writer_mid : Device) (fault : RunFault)
+      (mid : SessionState) (kept : List ℕ) (lines written : ℕ) (writer_mid : Device) (fault : RunFault)
       → Gave reader_old reader_new ending bytes
       → script_lines ending bytes ≡ done ++ line ∷ others → list_all (is_good options.queries) done ≡ true
       → held_at mid ≡ after_lines rules options.queries before done → lines ≡ length done → written
       ≡ length (answers rules options before done)
       → Wrote (answers rules options before done) writer_old writer_mid → LinesWork rules options.queries before done start.engine mid.engine
-      → FailsAt rules options line lines written (held_at mid) (held_at now) writer_mid writer_new fault → LineWorks rules options.queries (held_at mid) line mid.engine now.engine → IsDone done
+      → FailsAt rules options line kept lines written (held_at mid) (held_at now) writer_mid writer_new fault → LineWorks rules options.queries (held_at mid) line mid.engine now.engine → IsDone done
+      → reader_old.passed + length (with_ends done) < reader_new.passed
       → IsScriptRun rules options start now reader_old reader_new writer_old writer_new (Err fault)
-  ends_line ending bytes done line others mid lines written writer_mid (f.BadLine n) gave parts good held_is count written_is wrote before_works (bad, number, stays, same) works ahead =
+  ends_line ending bytes done line others mid kept lines written writer_mid (f.BadLine n) gave parts good held_is count written_is wrote before_works (bad, number, stays, same) works ahead more =
       ends_bad ending bytes done line others n gave parts good bad (number ∙ ap (λ k. k + 1) count) (record {
         done_is = ahead;
         wrote = subst (λ w. Wrote (answers rules options before done) writer_old w) (sym same) wrote;
@@ -288,13 +292,13 @@ module _ (rules : Rules) (options : ScriptOptions) (start now : SessionState) (r
             subst (λ (ls : List (List ℕ)). LinesWork rules options.queries before ls start.engine now.engine) (append-nil done)
             (lines_work_bad rules options.queries before (held_at mid) done line start.engine mid.engine now.engine bad before_works works);
       })
-  ends_line ending bytes done line others mid lines written writer_mid (f.Write n) gave parts good held_is count written_is wrote before_works (here, now_is, stopped) works ahead =
+  ends_line ending bytes done line others mid kept lines written writer_mid (f.Write n) gave parts good held_is count written_is wrote before_works (here, now_is, stopped) works ahead more =
       ends_write ending bytes done line others (held_at mid) written n writer_mid gave parts good here held_is written_is wrote stopped ahead now_is
       (lines_work_more rules options.queries before (held_at mid) done line start.engine mid.engine now.engine held_is before_works works)
-  ends_line ending bytes done line others mid lines written writer_mid f.Memory gave parts good held_is count written_is wrote before_works (text, stays, same) works ahead =
+  ends_line ending bytes done line others mid kept lines written writer_mid f.Memory gave parts good held_is count written_is wrote before_works (text, wants, stays, same) works ahead more =
       ends_short ending bytes done (line ∷ others) gave parts good ahead
       (subst (λ w. Wrote (answers rules options before done) writer_old w) (sym same) wrote) (stays
-      ∙ held_is) (all_works (is_good options.queries line) refl)
+      ∙ held_is) (all_works (is_good options.queries line) refl) (inr more)
     where
       all_works : (t : Bool) → is_good options.queries line ≡ t → LinesWork rules options.queries before (done ++ take 1 (good_lines options.queries (line ∷ others))) start.engine now.engine
       all_works true is =
@@ -303,7 +307,7 @@ module _ (rules : Rules) (options : ScriptOptions) (start now : SessionState) (r
       all_works false is =
           subst (λ (ls : List (List ℕ)). LinesWork rules options.queries before (done ++ take 1 ls) start.engine now.engine) (sym (good_none options.queries line others is))
           (lines_work_bad rules options.queries before (held_at mid) done line start.engine mid.engine now.engine is before_works works)
-  ends_line ending bytes done line others mid lines written writer_mid f.Read gave parts good held_is count written_is wrote before_works fails works ahead = absurd fails
-  ends_line ending bytes done line others mid lines written writer_mid (f.NotUtf8 n) gave parts good held_is count written_is wrote before_works fails works ahead = absurd fails
-  ends_line ending bytes done line others mid lines written writer_mid f.ParagraphTooLong gave parts good held_is count written_is wrote before_works fails works ahead = absurd fails
-  ends_line ending bytes done line others mid lines written writer_mid f.TextTooLong gave parts good held_is count written_is wrote before_works fails works ahead = absurd fails
+  ends_line ending bytes done line others mid kept lines written writer_mid f.Read gave parts good held_is count written_is wrote before_works fails works ahead more = absurd fails
+  ends_line ending bytes done line others mid kept lines written writer_mid (f.NotUtf8 n) gave parts good held_is count written_is wrote before_works fails works ahead more = absurd fails
+  ends_line ending bytes done line others mid kept lines written writer_mid f.ParagraphTooLong gave parts good held_is count written_is wrote before_works fails works ahead more = absurd fails
+  ends_line ending bytes done line others mid kept lines written writer_mid f.TextTooLong gave parts good held_is count written_is wrote before_works fails works ahead more = absurd fails

@@ -199,27 +199,29 @@ module _ (rules : Rules) (options : ScriptOptions) (start : SessionState) (reade
       lines_are p ps parts = ap (lines_among AtEnd) (at.parts rest ∙ ap (λ t. at.done ++ t) parts) ∙ lines_after AtEnd at.done p ps
 
       -- for want of memory
-      pub ends_memory : IsScriptRun rules options start now reader_old reader writer_old writer (Err f.Memory)
-      ends_memory =
+      pub ends_memory : 0 < length waiting → IsScriptRun rules options start now reader_old reader writer_old writer (Err f.Memory)
+      ends_memory some_wait =
           let some = parts_some (reading.line.items ++ (waiting ++ rest)) in
           let others = lines_among AtEnd (some.0 ∷ some.1) in
           ends_short rules options start now reader_old writer_old reader writer AtEnd (at.bytes
           ++ rest) at.done others gave (lines_are some.0 some.1 some.2) at.good (ahead_now now writer) at.wrote
           at.held_is
           (lines_work_front rules options.queries before at.done (take 1 (good_lines options.queries others)) start.engine now.engine at.works)
+          (inr (omega (arith, some_wait, at.passed, at.size)))
 
       -- at a line that is ended
-      ends_ended : (state : SessionState) (writer_new : Device) (fault : RunFault) → FailsLine rules options waiting now state reading writer writer_new fault
+      ends_ended : (kept : List ℕ) (state : SessionState) (writer_new : Device) (fault : RunFault) → FailsLine rules options waiting kept now state reading writer writer_new fault
           → IsScriptRun rules options start state reader_old reader writer_old writer_new (Err fault)
-      ends_ended state writer_new fault failed =
+      ends_ended kept state writer_new fault failed =
           let line = reading.line.items ++ failed.front in
           let some = parts_some (failed.after ++ rest) in
           let parts : slice_split is_line_end (reading.line.items ++ (waiting ++ rest))
           ≡ line ∷ (some.0 ∷ some.1) = ended_first reading.line.items waiting failed.front failed.after rest
           at.none failed.ends ∙ ap (λ t. line ∷ t) some.2 in
           ends_line rules options start state reader_old writer_old reader writer_new AtEnd (at.bytes
-          ++ rest) at.done line (lines_among AtEnd (some.0 ∷ some.1)) now reading.lines reading.written writer fault
+          ++ rest) at.done line (lines_among AtEnd (some.0 ∷ some.1)) now kept reading.lines reading.written writer fault
           gave (lines_are line (some.0 ∷ some.1) parts) at.good at.held_is at.lines at.written at.wrote at.works failed.fails failed.works (ahead_now state writer_new)
+          (omega (arith, at.passed, at.size, ap length failed.ends.whole, length-append failed.front (10 ∷ failed.after)))
 
       -- at one that is too long, wherever it ends
       ends_long : (n : ℕ) (front after : List ℕ) → waiting ≡ front ++ after → NoEnd front → LINE_LIMIT < length (reading.line.items ++ front) → n ≡ reading.lines + 1
@@ -235,26 +237,27 @@ module _ (rules : Rules) (options : ScriptOptions) (start : SessionState) (reade
           let more : LINE_LIMIT < length first = omega (arith, long, length-append line some.0) in
           let is_line = long_line first some.1 more in
           let bad : is_good options.queries first ≡ false = long_is_bad options.queries first more in
-          ends_line rules options start now reader_old writer_old reader writer AtEnd (at.bytes ++ rest) at.done first is_line.0 now reading.lines reading.written writer (f.BadLine n)
+          ends_line rules options start now reader_old writer_old reader writer AtEnd (at.bytes ++ rest) at.done first is_line.0 now [] reading.lines reading.written writer (f.BadLine n)
           gave (lines_are first some.1 parts ∙ ap (λ t. at.done ++ t) is_line.1) at.good at.held_is at.lines at.written
           at.wrote at.works (bad, number, refl, refl) (works_none rules _ now.engine now.engine refl)
           (ahead_now now writer)
+          (omega (arith, long, length-append reading.line.items front, at.passed, at.size, ap length whole, length-append front after))
 
       ends_unkept : (front after : List ℕ) → waiting ≡ front ++ after → NoEnd front → (fault : RunFault) → GrowsNot front reading fault
           → IsScriptRun rules options start now reader_old reader writer_old writer (Err fault)
       ends_unkept front after whole none (f.BadLine n) (long, number) = ends_long n front after whole none long number
-      ends_unkept front after whole none f.Memory fails = ends_memory
+      ends_unkept front after whole none f.Memory fails = ends_memory (omega (arith, fails.1, ap length whole, length-append front after))
       ends_unkept front after whole none f.Read fails = absurd fails
       ends_unkept front after whole none (f.Write n) fails = absurd fails
       ends_unkept front after whole none (f.NotUtf8 n) fails = absurd fails
       ends_unkept front after whole none f.ParagraphTooLong fails = absurd fails
       ends_unkept front after whole none f.TextTooLong fails = absurd fails
 
-      pub ends_in : (state : SessionState) (writer_new : Device) (fault : RunFault)
-          → FailsIn rules options waiting now state reading writer writer_new fault
+      pub ends_in : (kept : List ℕ) (state : SessionState) (writer_new : Device) (fault : RunFault)
+          → FailsIn rules options waiting kept now state reading writer writer_new fault
           → IsScriptRun rules options start state reader_old reader writer_old writer_new (Err fault)
-      ends_in state writer_new fault (inl failed) = ends_ended state writer_new fault failed
-      ends_in state writer_new fault (inr not) =
+      ends_in kept state writer_new fault (inl failed) = ends_ended kept state writer_new fault failed
+      ends_in kept state writer_new fault (inr not) =
           subst (λ (s : SessionState). IsScriptRun rules options start s reader_old reader writer_old writer_new (Err fault)) (sym not.state)
           (subst (λ w. IsScriptRun rules options start now reader_old reader writer_old w (Err fault)) (sym not.writer) (ends_unkept not.front not.after not.whole not.none fault not.grows))
 
@@ -312,15 +315,15 @@ module _ (rules : Rules) (options : ScriptOptions) (start : SessionState) (reade
                 works = obeyed_works [] at line state new writer_new obeys works;
               })
 
-          pub ends_last_not : (state : SessionState) (writer_new : Device) (fault : RunFault)
-              → FailsAt rules options reading.line.items reading.lines reading.written (held_at now) (held_at state)
+          pub ends_last_not : (kept : List ℕ) (state : SessionState) (writer_new : Device) (fault : RunFault)
+              → FailsAt rules options reading.line.items kept reading.lines reading.written (held_at now) (held_at state)
               writer writer_new fault
               → LineWorks rules options.queries (held_at now) reading.line.items now.engine state.engine → IsScriptRun rules options start state reader_old reader writer_old writer_new (Err fault)
-          ends_last_not state writer_new fault fails works =
+          ends_last_not kept state writer_new fault fails works =
               ends_line rules options start state reader_old writer_old reader writer_new AtEnd at.bytes at.done
-              reading.line.items [] now reading.lines reading.written writer fault gave_all last_line at.good
+              reading.line.items [] now kept reading.lines reading.written writer fault gave_all last_line at.good
               at.held_is at.lines at.written at.wrote at.works fails works
-              (ahead_now [] at state writer_new)
+              (ahead_now [] at state writer_new) (omega (arith, some, at.passed, at.size))
 
 nothing_read : (known : Option (List ℕ)) → Consumes known known []
 nothing_read None = tt
@@ -370,12 +373,12 @@ pub ends_finish : (rules : Rules) (options : ScriptOptions) (start : SessionStat
     → IsAtEnd reader.bytes → 0 < length reading.line.items → (r : Result (Unit {0}) RunFault)
     → OnOk r (ObeysLine rules options reading.line.items (held_at now) (held_at state) reading new writer
     writer_new)
-    → IfErr r (FailsAt rules options reading.line.items reading.lines reading.written (held_at now) (held_at state) writer writer_new)
+    → IfErr r (FailsAt rules options reading.line.items new.text.items reading.lines reading.written (held_at now) (held_at state) writer writer_new)
     → LineWorks rules options.queries (held_at now) reading.line.items now.engine state.engine → IsScriptRun rules options start state reader_old reader writer_old writer_new r
 ends_finish rules options start reader_old reader writer_old writer now state reading new writer_new at finished some (Ok tt) obeys fails works =
     ends_last rules options start reader_old reader writer_old writer now reading at finished some state new writer_new obeys works
 ends_finish rules options start reader_old reader writer_old writer now state reading new writer_new at finished some (Err fault) obeys fails works =
-    ends_last_not rules options start reader_old reader writer_old writer now reading at finished some state writer_new fault fails works
+    ends_last_not rules options start reader_old reader writer_old writer now reading at finished some new.text.items state writer_new fault fails works
 
 -- ---- a part of a piece, under the rules that the run began with
 module _ (rules held_rules : Rules) (options : ScriptOptions) (start : SessionState)
@@ -390,13 +393,13 @@ module _ (rules held_rules : Rules) (options : ScriptOptions) (start : SessionSt
       subst (IsAt rules options start reader_old reader writer_old writer_new state new) (drop-drop n at piece)
       (at_taken rules options start reader_old reader writer_old writer now reading (drop at piece) stands n state new writer_new taken)
 
-  pub failed_part : (fault : RunFault) → FailsIn held_rules options part now state reading writer writer_new fault
+  pub failed_part : (fault : RunFault) → FailsIn held_rules options part new.text.items now state reading writer writer_new fault
       → IsScriptRun rules options start state reader_old reader writer_old writer_new (Err fault)
   failed_part fault fails =
-      let failed : FailsIn rules options (drop at piece) now state reading writer writer_new fault =
-      subst (λ (p : List ℕ). FailsIn rules options p now state reading writer writer_new fault) part_is
-      (subst (λ (r : Rules). FailsIn r options part now state reading writer writer_new fault) same fails) in
-      ends_in rules options start reader_old reader writer_old writer now reading (drop at piece) stands state writer_new fault failed
+      let failed : FailsIn rules options (drop at piece) new.text.items now state reading writer writer_new fault =
+      subst (λ (p : List ℕ). FailsIn rules options p new.text.items now state reading writer writer_new fault) part_is
+      (subst (λ (r : Rules). FailsIn r options part new.text.items now state reading writer writer_new fault) same fails) in
+      ends_in rules options start reader_old reader writer_old writer now reading (drop at piece) stands new.text.items state writer_new fault failed
 
 -- of the first n of a list that is longer, some are taken
 pub takes_some : (rules : Rules) (options : ScriptOptions) (piece : List ℕ) (n : ℕ) (now state : SessionState)
@@ -436,4 +439,4 @@ ends_at_once rules options start reader writer =
     let some = parts_some (unwrap_or reader.bytes []) in
     ends_short rules options start start reader writer reader writer AtEnd (unwrap_or reader.bytes []) [] (lines_among AtEnd (some.0 ∷ some.1))
     (had reader.bytes reader.bytes [] (nothing_read reader.bytes), refl) (ap (lines_among AtEnd) some.2) refl (record { ahead = omega arith }) (Took-nothing writer, refl) refl
-    (works_none rules _ start.engine start.engine refl)
+    (works_none rules _ start.engine start.engine refl) (inl (refl, refl))

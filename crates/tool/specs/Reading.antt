@@ -2,6 +2,7 @@
 use Rattle.std.specs.Prelude.{◌≡◌, ◌⊎◌, ℕ, ◌+◌, ◌<◌, ◌≤◌, false, true, All, Bool, List, [], ◌∷◌, ◌++◌, length, None, Some, Result, Ok, Err}
 use Rattle.std.specs.List.{list_all, slice_split}
 use Rattle.std.specs.Io.KnownBytes.{Consumes}
+use Rattle.std.specs.Str.{chars}
 use Rattle.std.specs.Str.Lossy.{utf8_valid_len}
 use Rattle.device.specs.Device.{Device, Wrote, greatest}
 use Rattle.lines.specs.Layouts.{Rules}
@@ -13,7 +14,7 @@ use Rattle.session.specs.declared.edits.Damage.{Damage}
 use Rattle.session.specs.declared.edits.EditFault.{EditFault}
 use Rattle.session.specs.declared.edits.EditFault.TheVariants.{NoMemory}
 use Rattle.tool.specs.Queries.{AsksMemory}
-use Rattle.tool.specs.Scripts.{Request, Insert, Delete, SetWidth, Show, Ask, is_line_end, request_of_line}
+use Rattle.tool.specs.Scripts.{HasPiece, Request, Insert, Delete, SetWidth, Show, Ask, is_line_end, request_of_line}
 use Rattle.tool.specs.ScriptEnds.{IsScriptRun}
 use Rattle.tool.specs.ScriptRun.{after_line, after_lines, answer_line, answer_to, after_request, answers, damage_text, is_good, obeyed, obeyed_text, request_refusal, refusal_text, with_ends}
 use Rattle.tool.specs.Work.{LineWorks, LinesWork}
@@ -76,16 +77,24 @@ pub record ObeysLine (rules : Rules) (options : ScriptOptions) (line : List ℕ)
   pub lines : new.lines ≡ old.lines + 1
   pub empty : new.line.items ≡ []
 
--- or it was not; memory is wanted only for what is UTF-8
-abbrev pub FailsAt : Rules → ScriptOptions → List ℕ → ℕ → ℕ → Held → Held → Device → Device → RunFault → Type 0
-FailsAt rules options line lines written held_old held_new old new (f.BadLine n) =
+-- What memory is wanted for, of a line that is UTF-8: for its characters, of which less were kept than it has; or for its text, where it
+-- is an insert; or for what it asks for, which nothing refuses.
+abbrev pub WantsMemory : Rules → Bool → List ℕ → List ℕ → Held → Type 0
+WantsMemory rules queries line kept held =
+    (length kept < length (chars line))
+    ⊎ (HasPiece (chars line)
+    ⊎ ((request : Request) × (request_of_line queries line ≡ Some request) × (request_refusal rules held request ≡ None) × TakesMemory held request))
+
+-- or it was not
+abbrev pub FailsAt : Rules → ScriptOptions → List ℕ → List ℕ → ℕ → ℕ → Held → Held → Device → Device → RunFault → Type 0
+FailsAt rules options line kept lines written held_old held_new old new (f.BadLine n) =
     (is_good options.queries line ≡ false) × (n ≡ lines + 1) × (held_new ≡ held_old) × (new ≡ old)
-FailsAt rules options line lines written held_old held_new old new (f.Write n) =
+FailsAt rules options line kept lines written held_old held_new old new (f.Write n) =
     (is_good options.queries line ≡ true) × (held_new ≡ after_line rules held_old (request_of_line options.queries line))
     × StoppedIn (answer_line rules options.print held_old (request_of_line options.queries line)) written old new n
-FailsAt rules options line lines written held_old held_new old new f.Memory =
-    (utf8_valid_len line ≡ length line) × (held_new ≡ held_old) × (new ≡ old)
-FailsAt rules options line lines written held_old held_new old new fault = ⊥
+FailsAt rules options line kept lines written held_old held_new old new f.Memory =
+    (utf8_valid_len line ≡ length line) × WantsMemory rules options.queries line kept held_old × (held_new ≡ held_old) × (new ≡ old)
+FailsAt rules options line kept lines written held_old held_new old new fault = ⊥
 
 -- no line ends within some bytes
 abbrev pub NoEnd : List ℕ → Type 0
@@ -130,11 +139,11 @@ Takes rules options piece n state_old state_new old new writer_old writer_new =
     GoesOn piece n state_old state_new old new writer_old writer_new ⊎ EndsLine rules options piece n state_old state_new old new writer_old writer_new
 
 -- a line that ends in a piece fails
-pub record FailsLine (rules : Rules) (options : ScriptOptions) (piece : List ℕ) (state_old state_new : SessionState) (reading : Reading) (old new : Device) (fault : RunFault) : Type 0 where
+pub record FailsLine (rules : Rules) (options : ScriptOptions) (piece kept : List ℕ) (state_old state_new : SessionState) (reading : Reading) (old new : Device) (fault : RunFault) : Type 0 where
   pub front : List ℕ
   pub after : List ℕ
   pub ends : EndsIn piece front after
-  pub fails : FailsAt rules options (reading.line.items ++ front) reading.lines reading.written (held_at state_old) (held_at state_new) old new fault
+  pub fails : FailsAt rules options (reading.line.items ++ front) kept reading.lines reading.written (held_at state_old) (held_at state_new) old new fault
   pub works : LineWorks rules options.queries (held_at state_old) (reading.line.items ++ front) state_old.engine state_new.engine
 
 -- or its beginning, up to the end of the piece or to its own, can't be kept
@@ -147,9 +156,9 @@ pub record IsNotKept (piece : List ℕ) (state_old state_new : SessionState) (re
   pub state : state_new ≡ state_old
   pub writer : new ≡ old
 
-abbrev pub FailsIn : Rules → ScriptOptions → List ℕ → SessionState → SessionState → Reading → Device → Device → RunFault → Type 0
-FailsIn rules options piece state_old state_new reading old new fault =
-    FailsLine rules options piece state_old state_new reading old new fault ⊎ IsNotKept piece state_old state_new reading old new fault
+abbrev pub FailsIn : Rules → ScriptOptions → List ℕ → List ℕ → SessionState → SessionState → Reading → Device → Device → RunFault → Type 0
+FailsIn rules options piece kept state_old state_new reading old new fault =
+    FailsLine rules options piece kept state_old state_new reading old new fault ⊎ IsNotKept piece state_old state_new reading old new fault
 
 -- Between two states of its devices and of its session a run has read some bytes and obeyed some lines. After these it holds the
 -- beginning of a line, and bytes that wait.

@@ -1,5 +1,5 @@
 -- How the run of a script ends.
-use Rattle.std.specs.Prelude.{◌≡◌, ℕ, ◌+◌, ◌≤◌, List, length, take, Option, Some, Result}
+use Rattle.std.specs.Prelude.{◌≡◌, ◌⊎◌, ⊤, ℕ, ◌+◌, ◌<◌, ◌≤◌, List, length, take, Option, Some, Result}
 use Rattle.device.specs.Device.{Device, StoppedAt, Wrote}
 use Rattle.lines.specs.Layouts.{Rules}
 use Rattle.tool.specs.declared.script.ScriptOptions.{ScriptOptions}
@@ -25,6 +25,12 @@ abbrev pub obeyed_lines : List (List ℕ) → ℕ → Option RunFault → List (
 obeyed_lines lines k (Some (fault.Write n)) = take (k + 1) lines
 obeyed_lines lines k stop = take k lines
 
+-- memory runs out before anything is read, or for bytes that stand after the lines which were answered
+abbrev pub WantsMore : List (List ℕ) → Device → Device → Option RunFault → Type 0
+WantsMore done old new (Some fault.Memory) =
+    ((length done ≡ 0) × (new.passed ≡ old.passed)) ⊎ (old.passed + length (with_ends done) < new.passed)
+WantsMore done old new stop = ⊤
+
 -- A run ended after the first k lines. No more lines than these were obeyed, but for the one whose answer was being written; so
 -- much was read ahead; and the session worked no more than these lines ask for, and the next one, at which the run ended.
 pub record EndsAfter (rules : Rules) (options : ScriptOptions) (old new : SessionState) (lines : List (List ℕ))
@@ -33,6 +39,7 @@ pub record EndsAfter (rules : Rules) (options : ScriptOptions) (old new : Sessio
   pub wrote : Answered rules options (held_at old) lines wrong k writer_old writer_new stop
   pub held : held_at new ≡ after_lines rules options.queries (held_at old) (obeyed_lines lines k stop)
   pub ahead : reader_new.passed ≤ reader_old.passed + length (with_ends (take k lines)) + line_read_ahead
+  pub wants : WantsMore (take k lines) reader_old reader_new stop
   pub works : LinesWork rules options.queries (held_at old) (take (k + 1) lines) old.engine new.engine
 
 -- The run of a script over a session: what the reader gave has lines, which are obeyed and answered one after another, up to the

@@ -110,13 +110,14 @@ abbrev pub insertion_in : Option (List ℕ × List ℕ) → Option Request
 insertion_in None = None
 insertion_in (Some (pos, text)) = insertion_of (number_in pos) (unescaped text)
 
--- an insert at a place that is a number, of a text that is not empty: what alone is kept as it is read
+-- an insert at a place that is a number, of a text that is not empty and whose escapes are right: what alone is kept as it is read
 pub record IsPieceIn (text : List ℕ) : Type 0 where
   pub pos : List ℕ
   pub piece : List ℕ
   pub parts : parted text ≡ Some (pos, piece)
   pub place : is_some (number_in pos) ≡ true
   pub some : 0 < length piece
+  pub right : is_some (unescaped piece) ≡ true
 
 pub record HasPiece (line : List ℕ) : Type 0 where
   pub rest : List ℕ

@@ -1,6 +1,6 @@
 //! The lines of an edit script: what each asks for.
 ghost use Rattle.std.specs.Prelude.{◌≡◌, ◌+◌, ◌<◌, ◌≤◌, ◌^◌, List, ℕ, take, drop, length, true};
-ghost use Rattle.std.specs.Prelude.{IfOk, IfSome, OnErr, option_map, string_bytes};
+ghost use Rattle.std.specs.Prelude.{IfOk, IfSome, OnErr, is_some, option_map, string_bytes};
 ghost use Rattle.std.specs.List.{prefix_len};
 ghost use Rattle.std.specs.Char.{is_digit};
 ghost use Rattle.std.specs.Str.{chars};
@@ -219,12 +219,31 @@ fn value(digits: &[char], radix: u32) -> usize
     number
 }
 
-// The text that these characters write, if their escapes are right.
+// Whether the escapes of a text are right.
+fn has_right_escapes(text: &[char]) -> bool
+    ensures { result ≡ is_some (unescaped text.now) }
+{
+    let mut at = 0;
+    while at < text.len() {
+        match written(text[at], &text[at + 1..]) {
+            Some((_, len)) => at += len,
+            None => return false,
+        }
+    }
+    true
+}
+
+// The text that these characters write, if their escapes are right, which is told before there is need of
+// memory.
 fn unescape(alloc: Global, text: &[char]) -> Result<Option<String>, AllocError>
     ensures ok { IfOk result (λ piece. option_map (λ p. chars (string_bytes p)) piece
         ≡ unescaped text.now) }
     ensures memory { OnErr result (0 < length text.now) }
+    ensures right { OnErr result (is_some (unescaped text.now) ≡ true) }
 {
+    if !has_right_escapes(text) {
+        return Ok(None);
+    }
     let mut piece = String::new(alloc);
     let mut at = 0;
     while at < text.len() {

@@ -1,6 +1,7 @@
 //! The run of an edit script: its bytes are read piece by piece, each line is obeyed as soon as its end was
 //! read, and its answer is written before more is read.
-ghost use Rattle.std.specs.Prelude.{◌≡◌, ◌+◌, ◌-◌, ◌<◌, ◌≤◌, ◌++◌, ◌^◌, ◌∷◌, [], true, false, None, Ok};
+ghost use Rattle.std.specs.Prelude.{◌≡◌, ◌+◌, ◌-◌, ◌<◌, ◌≤◌, ◌++◌, ◌^◌, ◌∷◌, ◌⊎◌, [], true, false};
+ghost use Rattle.std.specs.Prelude.{None, Ok};
 ghost use Rattle.std.specs.Prelude.{length, nat_lt, take, drop, vec_len, option_map};
 ghost use Rattle.std.specs.Prelude.{IfOk, IfErr, OnOk, OnErr, MatchOption, MatchResult};
 ghost use Rattle.std.specs.Str.{chars};
@@ -17,7 +18,7 @@ ghost use Rattle.tool.specs.Reading.{CanFeed, Edited, EndsIn, FailsAt, FailsIn, 
 ghost use Rattle.tool.specs.Reading.{GrowsNot, IsAt, NoEnd, Obeys, ObeysLine, ObeysNot, Steps, Stops};
 ghost use Rattle.tool.specs.Reading.{Takes, answer_text, lacks_memory};
 ghost use Rattle.tool.specs.ScriptEnds.{IsScriptRun};
-ghost use Rattle.tool.specs.Scripts.{Ask, Delete, SetWidth, Insert, request_of_line};
+ghost use Rattle.tool.specs.Scripts.{Ask, Delete, HasPiece, SetWidth, Insert, request_of_line};
 ghost use Rattle.tool.specs.Work.{LineWorks, RequestWorks};
 
 use crate::answers::{answer_of, write_bytes};
@@ -213,7 +214,7 @@ fn obey<W: Sink, S: ParagraphStore<Kept>>(
 }
 
 // What the bytes of a line ask for, if they are a line of a script. Whether they are UTF-8 is told
-// before there is need of memory.
+// before there is need of memory, which is taken for their characters and for the text of an insert.
 fn read_line(
     alloc: Global,
     queries: bool,
@@ -225,6 +226,7 @@ fn read_line(
         ≡ request_of_line queries line.now) }
     ensures err { OnErr result (utf8_valid_len line.now ≡ length line.now) }
     ensures memory { OnErr result (0 < length line.now) }
+    ensures part { OnErr result ((length text.new.items < length (chars line.now)) ⊎ HasPiece (chars line.now)) }
 {
     let (characters, _) = front(line);
     if characters.len() < line.len() {
@@ -238,6 +240,8 @@ fn read_line(
 fn push_characters(text: &str, characters: &mut Vec<char>) -> Result<(), AllocError>
     ensures ok { OnOk result (characters.new.items ≡ characters.old.items ++ chars text.now) }
     ensures memory { OnErr result (0 < length text.now) }
+    ensures part { OnErr result (length characters.new.items
+        < length characters.old.items + length (chars text.now)) }
 {
     for c in text.chars() {
         characters.push(c)?;
@@ -260,7 +264,7 @@ fn obey_line<W: Sink, S: ParagraphStore<Kept>>(
         (held_at session.old) (held_at session.new) reading.old reading.new
         (W.state writer.old) (W.state writer.new)) }
     ensures err { IfErr result (FailsAt (rules_of session.old.engine) options.now
-        reading.old.line.items reading.old.lines reading.old.written
+        reading.old.line.items reading.new.text.items reading.old.lines reading.old.written
         (held_at session.old) (held_at session.new) (W.state writer.old) (W.state writer.new)) }
     ensures works { LineWorks (rules_of session.old.engine) options.now.queries (held_at session.old)
         reading.old.line.items session.old.engine session.new.engine }
@@ -328,7 +332,7 @@ fn take_part<W: Sink, S: ParagraphStore<Kept>>(
     ensures ok { IfOk result (λ n. Takes (rules_of session.old.engine) options.now piece.now n
         session.old session.new reading.old reading.new (W.state writer.old) (W.state writer.new)) }
     ensures err { IfErr result (FailsIn (rules_of session.old.engine) options.now piece.now
-        session.old session.new reading.old (W.state writer.old) (W.state writer.new)) }
+        reading.new.text.items session.old session.new reading.old (W.state writer.old) (W.state writer.new)) }
     ensures rules { SameRules session.old.engine session.new.engine }
 {
     match line_end(piece) {

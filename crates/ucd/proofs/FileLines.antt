@@ -10,8 +10,8 @@ use Rattle.ucd.specs.declared.grammar.Entry.{Entry}
 use Rattle.std.specs.List.{list_all}
 use Rattle.std.specs.Char.{is_ascii}
 use Rattle.ucd.specs.Grammar.{Form, before_comment, content_of, fields_of, points_of, by_value, by_points, by_fields, reading_of, lines_of, parts_of}
-use Rattle.ucd.specs.Entries.{covers, value_at, IsTaken}
-use Rattle.ucd.specs.Files.{given_by, given, or_else, value_in, line_at, HasFault, IsFirstFault, AddsReading, AddsLine, IsReadingCause, IsLineCause, HoldsFile, IsFaultFor}
+use Rattle.ucd.specs.Entries.{covers, value_at, IsTaken, NamesSome}
+use Rattle.ucd.specs.Files.{given_by, given, or_else, value_in, line_at, HasFault, IsFirstFault, AddsReading, AddsLine, IsReadingCause, IsLineCause, HoldsFile, IsFaultFor, WantsMemoryAt}
 
 -- the lines that are left
 abbrev pub lines_left : Option (List ℕ) → List (List ℕ)
@@ -182,11 +182,16 @@ module _ {V : Type 0} (form : Form V) where
         let some = value_of_line lines k j c lt (omega arith) before in
         free (c, names.0, names.1, rw (held.values c names.0) some)
 
-    memory_at : (e : Entry V) → reading_of form (line_at form lines k) ≡ Ok (Some e) → ¬ (IsTaken es e) → IsFaultFor form lines (k + 1) cause.Memory
-    memory_at e is free j why lt fault = elim (cases_lt j k) [
-      | inl before ↦ held.good j why before fault
-      | inr from ↦ let here : j ≡ k = omega arith in not_named e is free why (rw here at fault)
-    ]
+    memory_at : (e : Entry V) → reading_of form (line_at form lines k) ≡ Ok (Some e) → ¬ (IsTaken es e) → NamesSome e → WantsMemoryAt form lines k
+    memory_at e is free names = record {
+      entry = e;
+      reads = is;
+      names = names;
+      good = λ j why le fault. elim (cases_lt j k) [
+        | inl before ↦ held.good j why before fault
+        | inr from ↦ let here : j ≡ k = omega arith in not_named e is free why (rw here at fault)
+      ];
+    }
 
     -- the next line is refused
     refused : (r : Result (Option (Entry V)) Cause) → reading_of form (line_at form lines k) ≡ r → (why : Cause) → IsReadingCause form r es why → IsFaultFor form lines (k + 1) why
@@ -195,7 +200,7 @@ module _ {V : Type 0} (form : Form V) where
         let line = line_of_value lines k c (rw (held.values c character) at some) in
         let here : IsSome (given form (line_at form lines k) c) = rw is (entry_given e c character covered) in
         fault_for cause.NamedBefore (inr (refl, (line.0, c, line.1, line.2, here)))
-    refused (Ok (Some e)) is cause.Memory (free, some) = memory_at e is free
+    refused (Ok (Some e)) is cause.Memory (free, some) = (omega arith, subst (WantsMemoryAt form lines) {x = k} (omega arith) (memory_at e is free some))
     refused (Ok (Some e)) is why because = absurd because
     refused (Err other) is why because = fault_for why (inl (is ∙ ap Err (sym because)))
 

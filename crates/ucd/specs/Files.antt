@@ -1,5 +1,5 @@
 -- What the lines of a file name together, and which line is at fault.
-use Rattle.std.specs.Prelude.{◌≡◌, ℕ, ◌-◌, ◌<◌, ◌⊎◌, ◌&&◌, List, [], ◌∷◌, length, slice_index_or, Option, Some, None, IsSome, Result, Ok, Err, if◌then◌else◌}
+use Rattle.std.specs.Prelude.{◌≡◌, ℕ, ◌-◌, ◌<◌, ◌≤◌, ◌⊎◌, ◌&&◌, List, [], ◌∷◌, length, slice_index_or, Option, Some, None, IsSome, Result, Ok, Err, if◌then◌else◌}
 use Rattle.std.specs.Char.{IsScalar}
 use lib.Utf8.{scalar}
 use Rattle.ucd.specs.declared.fault.Cause.{Cause}
@@ -74,9 +74,16 @@ module _ {V : Type 0} (form : Form V) where
     pub good : IsGood lines
     pub values : (c : ℕ) → IsScalar c → value_at es c ≡ value_in lines c
 
-  -- a line, counted from 1, is the first that is refused; where memory ran out, neither it nor one before it is
+  -- line k names a character, and neither it nor one before it is refused: so it alone wants memory
+  pub record WantsMemoryAt (lines : List (List ℕ)) (k : ℕ) : Type 0 where
+    pub entry : Entry V
+    pub reads : reading_of form (line_at lines k) ≡ Ok (Some entry)
+    pub names : NamesSome entry
+    pub good : (j : ℕ) (why : Cause) → j ≤ k → ¬ (HasFault lines j why)
+
+  -- a line, counted from 1, is the first that is refused; or memory ran out at it
   abbrev pub IsFaultFor : List (List ℕ) → ℕ → Cause → Type 0
-  IsFaultFor lines line cause.Memory = (j : ℕ) (why : Cause) → j < line → ¬ (HasFault lines j why)
+  IsFaultFor lines line cause.Memory = (0 < line) × WantsMemoryAt lines (line - 1)
   IsFaultFor lines line why = (0 < line) × IsFirstFault lines (line - 1) why
 
   abbrev pub IsLineFault : List (List ℕ) → LineFault → Type 0

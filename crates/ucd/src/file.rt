@@ -1,14 +1,13 @@
 //! A table file, read line by line.
-ghost use Rattle.std.specs.Prelude.{IfOk, IfErr, OnOk};
+ghost use Rattle.std.specs.Prelude.{◌≡◌, [], IfOk, IfErr, OnOk};
 ghost use Rattle.ucd.specs.Grammar.{lines_of};
 ghost use Rattle.ucd.specs.Files.{AddsLine, IsLineCause, HoldsFile, IsLineFault};
 
 use crate::fault::Cause;
 use crate::grammar::{Property, cut, read_line};
 use crate::range_table::RangeTable;
-use std::alloc::Global;
 
-/// A line at fault, counted from 1, and why. The line says nothing where memory ran out.
+/// A line at fault, counted from 1, and why; or the line at which memory ran out.
 #[derive(Clone, Copy)]
 pub struct LineFault {
     pub line: usize,
@@ -26,17 +25,13 @@ fn add_line<V: Property>(table: &mut RangeTable<V>, line: &[u8]) -> Result<(), C
     }
 }
 
-/// What a file says, if no line of it is at fault.
-pub fn read_file<V: Property>(alloc: Global, file: &[u8]) -> Result<RangeTable<V>, LineFault>
+/// What a file says, if no line of it is at fault, put into a table that names nothing yet.
+pub fn read_file<V: Property>(table: RangeTable<V>, file: &[u8]) -> Result<RangeTable<V>, LineFault>
+    requires { table ≡ [] }
     ensures ok { IfOk result (HoldsFile V.form (lines_of file.now)) }
     ensures err { IfErr result (IsLineFault V.form (lines_of file.now)) }
 {
-    let Ok(mut table) = RangeTable::new(alloc) else {
-        return Err(LineFault {
-            line: 0,
-            cause: Cause::Memory,
-        });
-    };
+    let mut table = table;
     let mut line = 0;
     let mut rest = Some(file);
     while let Some(text) = rest {

@@ -24,7 +24,7 @@ use crate::line_class::LineClass;
 use crate::pages::{Pages, pages_of, put_entries, unnamed_points};
 use crate::points::points_of;
 use crate::properties::Properties;
-use crate::range_table::{ApartEntries, CODE_POINTS};
+use crate::range_table::{ApartEntries, CODE_POINTS, RangeTable};
 use crate::width::Width;
 use std::alloc::{AllocError, Global};
 use std::collections::BTreeMap;
@@ -81,7 +81,10 @@ fn read_table<V: Property>(
     ensures ok { IfOk result (HoldsFile V.form (lines_of file.now)) }
     ensures err { IfErr result (IsFaultIn number V.form (lines_of file.now)) }
 {
-    match read_file(alloc, file) {
+    let Ok(table) = RangeTable::new(alloc) else {
+        return Err(TableFault::memory());
+    };
+    match read_file(table, file) {
         Ok(table) => Ok(table.into_entries()),
         Err(fault) => Err(TableFault::in_file(number, fault)),
     }

@@ -12,20 +12,20 @@ returns-in-Ok-finish-clause-steps g c = λ reader_start writer_start engine_star
     read_nothing (rules_of c.args.engine.now) c.args.width c.args.print.now reader_start writer_start engine_start _ _
     c.args.engine.now _ _ c.args.held.now _ stands c.in-Ok.ensures.ok c.if-len-eq0.true _ c.finish.new.engine
     (Ok tt)
-    c.in-Ok-finish.ensures.ends c.in-Ok-finish.ensures.counts c.finish.ensures.at_most
+    c.in-Ok-finish.ensures.ends c.in-Ok-finish.ensures.counts c.finish.ensures.at_most c.finish.ensures.inside
 
 pub returns-in-Err-finish-clause-steps : goal.returns-in-Err-finish-clause-steps
 returns-in-Err-finish-clause-steps g c = λ reader_start writer_start engine_start stands.
     read_nothing (rules_of c.args.engine.now) c.args.width c.args.print.now reader_start writer_start engine_start _ _
     c.args.engine.now _ _ c.args.held.now _ stands c.in-Ok.ensures.ok c.if-len-eq0.true _ c.finish.new.engine
     (Err c.in-Err-finish.fault)
-    c.in-Err-finish.ensures.ends tt c.finish.ensures.at_most
+    c.in-Err-finish.ensures.ends tt c.finish.ensures.at_most c.finish.ensures.inside
 
 pub returns-in_default-clause-steps : goal.returns-in_default-clause-steps
 returns-in_default-clause-steps g c = λ reader_start writer_start engine_start stands.
     read_memory (rules_of c.args.engine.now) c.args.width c.args.print.now reader_start writer_start engine_start _ _
     c.args.engine.now _ _ c.args.held.now _ stands c.in-Ok.ensures.ok c.gather.new.engine c.gather.ensures.at_most
-    c.in_default.ensures.memory c.in_default.ensures.ended
+    c.in_default.ensures.memory c.in_default.ensures.ended c.in_default.ensures.decoded
 
 pub returns-in-Err-write-clause-steps : goal.returns-in-Err-write-clause-steps
 returns-in-Err-write-clause-steps g c = λ reader_start writer_start engine_start stands.

@@ -1,5 +1,6 @@
-use Rattle.std.proofs.Common.{◌≡◌, ◌+◌, ◌++◌, ℕ, List, Option, Some, None, [], ◌∷◌, drop, get_or, option_map, string_bytes, sym, ap, ◌∙◌, arith, refl, rules}
+use Rattle.std.proofs.Common.{Bool, false, is_some, ◌≡◌, ◌+◌, ◌++◌, ℕ, List, Option, Some, None, [], ◌∷◌, drop, get_or, option_map, string_bytes, sym, ap, ◌∙◌, arith, refl, rules}
 use Rattle.std.specs.Char.{IsScalar}
+use Rattle.std.proofs.lemmas.Bool.{true≢false}
 use Rattle.std.specs.Str.{chars}
 use Rattle.std.proofs.lemmas.List.{take_rest}
 use Rattle.std.proofs.lemmas.Str.{IsUtf8-string_bytes, chars-nil}
@@ -50,3 +51,11 @@ returns-in-None-clause-ok c =
 
 pub returns-clause-ok : goal.returns-clause-ok
 returns-clause-ok c = sym (all_written c.args.text.now (chars (string_bytes c.loop-at.piece)) c.loop-at.at (omega (arith, c.loop-at-test.false))) ∙ c.loop-at.invariant.whole
+
+-- an escape is wrong
+none_is : (o : Option (List ℕ)) → is_some o ≡ false → None ≡ o
+none_is None none = refl
+none_is (Some cs) none = absurd (true≢false none)
+
+pub returns-then-not-has_right_escapes-clause-ok : goal.returns-then-not-has_right_escapes-clause-ok
+returns-then-not-has_right_escapes-clause-ok c = none_is (unescaped c.args.text.now) (sym c.has_right_escapes.ensures ∙ c.if-not-has_right_escapes.true)

@@ -22,4 +22,4 @@ loop-rest-preserved g c =
     }
 
 pub returns-clause-ok : goal.returns-clause-ok
-returns-clause-ok g c = holds_file g.V.Property.form _ _ _ c.loop-rest.invariant.held (none_left _ _ (rw c.in_default-rest.is at c.loop-rest.invariant.left))
+returns-clause-ok g c = holds_file g.V.Property.form _ _ _ c.loop-rest.invariant.held (none_left _ _ (rw c.in_default.is at c.loop-rest.invariant.left))

@@ -39,7 +39,7 @@ returns-in-Some-clause-gathers c =
     let piece = c.deref.result.now in
     let bytes = take filled piece in
     let front = c.front-is_bad.result.0.now in
-    let found : FindsFault (rules_of c.args.engine.now) bytes old old (Some c.in-Some.fault) = record {
+    let found : FindsFault (rules_of c.args.engine.now) bytes old old c.args.engine.now c.args.engine.now (Some c.in-Some.fault) = record {
       wrong = c.in-Some.fault;
       ahead =
           subst (λ (t : List ℕ). IsFaultAhead (cut_by (rules_of c.args.engine.now)) t (is_bad bytes) (old.decoded + utf8_valid_len bytes) c.in-Some.fault)
@@ -50,8 +50,9 @@ returns-in-Some-clause-gathers c =
           (front_len bytes front c.front-is_bad.ensures.text) c.in-Some.ensures.some));
       fault_is = refl;
       same = refl;
+      engine = refl;
     } in
-    inl (subst (λ (p : List ℕ). FindsFault (rules_of c.args.engine.now) (take filled p) old old (Some c.in-Some.fault)) c.deref.ensures.value found)
+    inl (subst (λ (p : List ℕ). FindsFault (rules_of c.args.engine.now) (take filled p) old old c.args.engine.now c.args.engine.now (Some c.in-Some.fault)) c.deref.ensures.value found)
 
 pub keep_bytes-requires-clause-within : goal.keep_bytes-requires-clause-within
 keep_bytes-requires-clause-within c =
