@@ -7,7 +7,8 @@
 #             that fail, Unicode's conformance tests, the libraries' tests, the stored runs, the format, the table
 #             of break marks, and the editor of examples/coedit under tmux
 # make test   the gate: every proof from nothing, the must-fail edits, the tests and the stored runs; then what the
-#             documents name, the cases, each allocation refused in turn, each call of a device failing, and the C library
+#             documents name, the cases, each allocation refused in turn, each call of a device failing, the C library,
+#             and what the documents show
 # make attack the other wrong bodies, many at a time, over what make has built: make attack CRATES="lines session"
 # make c      proves and builds the C library, as bin/libhordguli.a and bin/libhordguli.so.0 (CC, CXX, CFLAGS, LDFLAGS)
 # make install  lays down the command, the C library, the table files and the manual pages, which make, make c and
@@ -83,7 +84,8 @@ parallel:
 
 test:
 	@log=$$(mktemp) && bash -o pipefail -c "RT_JOBS=$$(.ci/lanes) rt ci | tee $$log && .ci/names $$log | tee -a $$log \
-		&& cases/run $$log | tee -a $$log && faults/run $$log | tee -a $$log && .ci/c $$log"; status=$$?; rm -f $$log; exit $$status
+		&& cases/run $$log | tee -a $$log && faults/run $$log | tee -a $$log && .ci/c $$log | tee -a $$log \
+		&& docs/run $$log"; status=$$?; rm -f $$log; exit $$status
 
 c:
 	$(MAKE) --no-print-directory --jobs=$(JOBS) lib-hordguli_c
