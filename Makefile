@@ -2,12 +2,13 @@
 #             make demo TEXT=FILE OPTIONS="--width 60 --basedir"
 # make        proves and builds the program, as bin/fribidi
 # make ucd    the seven table files of the Unicode version that crates/ucd/src/version.rt names, from Debian's package
-#             unicode-data, into ucd/
+#             unicode-data, into ucd/; where that is of another version, from a folder of files: make ucd UNICODE=FOLDER
 # make check  what to run before each commit, once make has built: what the documents name, the cases, the calls
 #             that fail, Unicode's conformance tests, the libraries' tests, the stored runs, the format, the table
 #             of break marks, and the editor of examples/coedit under tmux
 # make test   the gate: every proof from nothing, the must-fail edits, the tests and the stored runs; then what the
-#             documents name, the cases, each allocation refused in turn, each call of a device failing, and the C library
+#             documents name, the cases, each allocation refused in turn, each call of a device failing, the C library,
+#             and what the documents show
 # make attack the other wrong bodies, many at a time, over what make has built: make attack CRATES="lines session"
 # make c      proves and builds the C library, as bin/libhordguli.a and bin/libhordguli.so.0 (CC, CXX, CFLAGS, LDFLAGS)
 # make install  lays down the command, the C library, the table files and the manual pages, which make, make c and
@@ -18,7 +19,6 @@
 #             of a long text, and of hostile ones
 
 UNICODE = /usr/share/unicode
-VERSION := $(shell sed -n 's/^pub const UNICODE_VERSION: &str = "Unicode \(.*\)";/\1/p' crates/ucd/src/version.rt)
 JOBS := $(shell nproc)
 TABLES = DerivedBidiClass BidiBrackets BidiMirroring LineBreak DerivedGeneralCategory EastAsianWidth emoji-data
 OPTIONS = --width 44 --basedir
@@ -57,14 +57,7 @@ run-%:
 	.ci/prove $* run $(words)
 
 ucd:
-	@[ -f $(UNICODE)/extracted/DerivedBidiClass.txt ] || { apt-get update -q && apt-get install -qy unicode-data; }
-	@mkdir -p ucd
-	@cd $(UNICODE) && cp extracted/DerivedBidiClass.txt BidiBrackets.txt BidiMirroring.txt LineBreak.txt \
-		extracted/DerivedGeneralCategory.txt EastAsianWidth.txt emoji/emoji-data.txt $(CURDIR)/ucd/
-	@cp /usr/share/doc/unicode-data/copyright ucd/
-	@[ -n '$(VERSION)' ] || { echo "crates/ucd/src/version.rt names no version"; exit 1; }
-	@for file in ucd/*.txt; do head -n 12 $$file | grep -qF '$(VERSION)' \
-		|| { echo "$$file is not of Unicode $(VERSION)"; exit 1; }; done
+	@.ci/ucd '$(UNICODE)'
 
 # The program runs in a new folder, with copies of the files that are handed in: for each text of demo/, with its words.
 try = cd crates/fribidi && rt try $(foreach table,$(TABLES),--data ucd/$(table).txt=$(CURDIR)/ucd/$(table).txt)
@@ -91,7 +84,8 @@ parallel:
 
 test:
 	@log=$$(mktemp) && bash -o pipefail -c "RT_JOBS=$$(.ci/lanes) rt ci | tee $$log && .ci/names $$log | tee -a $$log \
-		&& cases/run $$log | tee -a $$log && faults/run $$log | tee -a $$log && .ci/c $$log"; status=$$?; rm -f $$log; exit $$status
+		&& cases/run $$log | tee -a $$log && faults/run $$log | tee -a $$log && .ci/c $$log | tee -a $$log \
+		&& docs/run $$log"; status=$$?; rm -f $$log; exit $$status
 
 c:
 	$(MAKE) --no-print-directory --jobs=$(JOBS) lib-hordguli_c

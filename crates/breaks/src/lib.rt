@@ -1,5 +1,15 @@
 //! The Unicode Line Breaking Algorithm (UAX #14): at which positions of a paragraph a line may, must
 //! or may not end.
+//!
+//! `marks` answers of the position after each character; `marks_into` writes the same into a kept list. Where
+//! lines then end at a width is in `lines`.
+//!
+//! ```rust
+//! let text: Vec<char> = "to go".chars().collect(alloc)?;
+//! let marks = marks(alloc, tables, &text, Tailoring::default())?;
+//! let wanted = [Mark::Never, Mark::Never, Mark::May, Mark::Never, Mark::Must];
+//! assert!(rt; marks.as_slice() == wanted.as_slice());
+//! ```
 #![tactic(auto)]
 
 mod entries;

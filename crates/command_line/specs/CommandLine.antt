@@ -56,9 +56,9 @@ print_rules =
     codes "nopad" ∷ codes "nomirror" ∷ codes "novisual" ∷ codes "basedir" ∷ codes "ltov" ∷ codes "vtol" ∷ codes "levels" ∷ []
     )
 
--- the command line: the words after the program's name, with these options, and texts
+-- the command line: the words after the program's name, with these options, and texts; it has a version to tell
 abbrev pub start : App
-start = on_top (λ s. record s { no_binary_name = true }) (new_app (codes "fribidi"))
+start = on_top (λ s. record s { no_binary_name = true; has_version = true }) (new_app (codes "fribidi"))
 
 unfoldable pub program : App
 program = fold with_rule start (layout_rules ++ (print_rules ++ script_rule ∷ queries_rule ∷ files_rule ∷ []))

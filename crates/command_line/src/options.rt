@@ -27,7 +27,7 @@ pub struct Settings<'a> {
 /// Why a command line is refused.
 #[derive(Debug, Drop, Error)]
 pub enum SettingsFault {
-    /// The words are no use of the program, or ask for help, which is the error's text.
+    /// The words are no use of the program, or ask for help or for the version, which is the error's text.
     #[error("{0}")]
     Words(clap::Error),
     #[error("fribidi: more than one base direction")]
@@ -43,7 +43,7 @@ pub enum SettingsFault {
 impl SettingsFault {
     ghost use Rattle.command_line.specs.Status.{lacks_folder, status_of_line};
 
-    /// The exit status: 0 for help, 1 where memory ran out, and else 2.
+    /// The exit status: 0 for help and for the version, 1 where memory ran out, and else 2.
     pub fn status(&self) -> u8
         ensures { result ≡ status_of_line self.now }
     {

@@ -10,6 +10,7 @@ ghost use Rattle.command_line.specs.CommandLine.{base_by, base_of, fits_queries,
 ghost use Rattle.command_line.specs.CommandLine.{layout_rules, print_rules};
 
 use crate::options::{Settings, SettingsFault};
+use crate::version::VERSION;
 use bidi::Base;
 use clap::error::ErrorKind;
 use clap::parser::ValueSource;
@@ -24,6 +25,7 @@ fn command<'a>(alloc: Global) -> Result<Command<'a>, AllocError>
 {
     let command = Command::new(alloc, "fribidi")
         .no_binary_name(true)
+        .version(VERSION)
         .about("Prints text as visual lines")
         .after_help(UNICODE_VERSION);
     let command = with_layout(alloc, command)?;

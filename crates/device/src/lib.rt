@@ -1,5 +1,14 @@
 //! Where bytes come from and go to. A device counts the bytes that passed and the calls that failed,
 //! so that a fault is answered only where the device failed.
+//!
+//! A `Source` gives bytes and a `Sink` takes them; `FromRead` and `ToWrite` are those over std's readers and
+//! writers, and `write_all` writes all bytes or tells how many were taken:
+//!
+//! ```rust
+//! let mut sink = ToWrite::new(room); // four bytes
+//! assert!(rt; write_all(&mut sink, b"abc") == Ok(()));
+//! assert!(rt; write_all(&mut sink, b"de") == Err(1)); // one byte was taken
+//! ```
 #![tactic(auto)]
 
 ghost use Rattle.std.specs.Prelude.{◌≡◌, ◌-◌, ◌^◌, ◌<◌, ◌≤◌, length, min, IfOk};

@@ -25,7 +25,8 @@ fn main(rt: HostRuntime) -> ExitCode {
         return ExitCode::SUCCESS;
     };
     let reported = report(&rt, &fault);
-    // Help that can't be written is a failure. Of another message the status is all that is left to tell.
+    // Help or a version that can't be written is a failure. Of another message the status is all that is left
+    // to tell.
     if reported.is_err() && fault.status() == 0 {
         let _ = eprintln!(&rt; "fribidi: cannot write help");
         return ExitCode::FAILURE;
@@ -33,7 +34,7 @@ fn main(rt: HostRuntime) -> ExitCode {
     ExitCode::from(fault.status())
 }
 
-// Help goes to standard output, and each other message to standard error.
+// Help and the version go to standard output, and each other message to standard error.
 fn report(rt: &HostRuntime, fault: &ProgramFault) -> io::Result<()> {
     match fault {
         ProgramFault::Line(SettingsFault::Words(error)) => error.print(rt),

@@ -1,4 +1,29 @@
 //! Lines of a paragraph: where each starts at a width, over the levels and the break marks.
+//!
+//! An `Engine` has the tables and the options, and lays out one paragraph at a time:
+//!
+//! ```rust
+//! if text.is_empty() || text.len() > PARAGRAPH_LIMIT || engine.first_cut(&text).is_some() {
+//!     return Err(Fail::new("no paragraph"));
+//! }
+//! match engine.lay_out(alloc, text, 8) {
+//!     Ok(laid) => Ok(laid),
+//!     Err((_, fault)) => Err(Fail::from(fault)),
+//! }
+//! ```
+//!
+//! A `Laid` is the layout, and lends its lines, each as it is shown:
+//!
+//! ```rust
+//! assert!(rt; laid.line_starts() == [0, 4].as_slice());
+//! if let Some(line) = laid.line(1) {
+//!     assert!(rt; line.levels() == [0, 1, 1, 1, 1, 0].as_slice());
+//!     assert!(rt; line.chars() == ['(', 'ם', 'ו', 'ל', 'ש', ')'].as_slice());
+//! }
+//! ```
+//!
+//! An engine also writes a paragraph's lines without keeping them (`write_paragraph`), and brings a layout to
+//! another width in place (`extents`, `reflow`). A text of many paragraphs is a session's matter.
 #![tactic(auto)]
 
 mod bytes;

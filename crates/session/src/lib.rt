@@ -1,5 +1,24 @@
 //! Sessions: a text under inserts, deletes and width changes, of which all that is kept is the layout of
 //! the whole current text.
+//!
+//! A `Session` is opened on an engine, a text and a width. Each edit answers its `Damage`: which lines gave
+//! way to how many others. Positions count characters; lines and columns count from 0.
+//!
+//! ```rust
+//! let damage = session.insert(4, "שלום")?; // after "abc\n"
+//! assert!(rt; damage.first_line == 0 && damage.old_lines == 1 && damage.new_lines == 2);
+//! session.set_width(2)?;
+//! assert!(rt; session.line_count() == 4 && session.line_start(3) == Some(6));
+//! let caret = Caret {
+//!     line: 2,
+//!     column: 1,
+//!     level: 1,
+//! };
+//! assert!(rt; session.caret(5) == Some(caret));
+//! ```
+//!
+//! Lines are lent (`line`), printed (`print`, `print_lines`), and found (`place`, `line_start`); the text is
+//! read back by `text` and `write_text`. An edit that is refused changes nothing.
 #![tactic(auto)]
 
 mod carets;

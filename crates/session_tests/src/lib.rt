@@ -7,3 +7,5 @@ mod files;
 mod layouts;
 #[cfg(test)]
 mod sessions;
+#[cfg(test)]
+mod snippets;

@@ -1,4 +1,23 @@
 //! Stores of paragraphs: a list of items with the sums of their characters and of their lines.
+//!
+//! A `ParagraphStore` holds items that are `Measured`, puts some in the place of others by one `replace`, and
+//! finds the item of a character or of a line. A `VecStore` is a list, and a `TreeStore` a balanced tree, in
+//! which a search looks at few items.
+//!
+//! ```rust
+//! let paragraphs = vec![in alloc; Paragraph(5, 1), Paragraph(90, 2)]?;
+//! let mut store = TreeStore::new(alloc);
+//! match store.replace(0..0, paragraphs) {
+//!     Ok(_) => find(rt, &store),
+//!     Err((_, fault)) => return Err(fault),
+//! }
+//! ```
+//!
+//! ```rust
+//! assert!(rt; store.total_chars() == 95 && store.total_lines() == 3);
+//! let found = store.find_line(2);
+//! assert!(rt; found.index == 1 && found.rest == 1 && found.chars_before == 5);
+//! ```
 #![tactic(auto)]
 
 mod found;

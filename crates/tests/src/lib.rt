@@ -8,6 +8,8 @@ mod levels;
 #[cfg(test)]
 mod marks;
 #[cfg(test)]
+mod snippets;
+#[cfg(test)]
 mod stores;
 #[cfg(test)]
 mod tables;

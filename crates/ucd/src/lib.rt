@@ -4,6 +4,16 @@
 //! file, line and cause. What is accepted is put into pages, which hold the properties of each code point in
 //! 16 bits, so that a look-up is two reads. The few characters that have a bracket or a mirror are named
 //! there by a bit each, and which one it is stands in a map beside the pages.
+//!
+//! `Tables` are made of the seven files of `FILE_NAMES`, as bytes (`UcdFiles`); all that is above takes them:
+//!
+//! ```rust
+//! let tables = Tables::read(alloc, files)?;
+//! assert!(rt; tables.bidi_class('א') == BidiClass::R);
+//! assert!(rt; tables.mirror('(') == Some(')'));
+//! let space = tables.properties(' '); // all of a character by one look
+//! assert!(rt; space.line_class() == LineClass::SP && !space.is_wide());
+//! ```
 #![tactic(auto)]
 
 mod bidi_class;

@@ -10,7 +10,8 @@ pub returns : goal.returns
 unfolding program
 returns c =
     let first : app_of c.after_help-command.result ≡ start = ap app_of_fields c.after_help-command.ensures
-    ∙ ap app_of_fields c.about.ensures ∙ ap app_of_fields c.no_binary_name.ensures ∙ ap (on_top (λ s. record s { no_binary_name = true })) c.new.ensures.app in
+    ∙ ap app_of_fields c.about.ensures ∙ ap app_of_fields c.version.ensures
+    ∙ ap (on_top (λ s. record s { has_version = true })) (ap app_of_fields c.no_binary_name.ensures ∙ ap (on_top (λ s. record s { no_binary_name = true })) c.new.ensures.app) in
     let layout = c.in_ok-command.ensures ∙ ap (λ app. fold with_rule app layout_rules) first in
     let print = c.in_ok-command-2.ensures ∙ ap (λ app. fold with_rule app print_rules) layout in
     let script = with_arg _ _ _ _ _ print c.script.ensures.rule c.script.ensures.local c.in_ok-command-3.ensures in

@@ -1,0 +1,93 @@
+//! What the first lines of `ucd`, `bidi`, `breaks` and `store` show: `docs/run` looks whether their lines stand here.
+use crate::files::{FILES, read};
+use bidi::{Base, resolve};
+use breaks::{Mark, Tailoring, marks};
+use std::alloc::{AllocError, Global};
+use std::process::Abort;
+use std::test::Fail;
+use store::{Measured, ParagraphStore, TreeStore};
+use ucd::{BidiClass, LineClass, TableFault, Tables, UcdFiles};
+
+fn look_up(rt: &impl Abort, alloc: Global, files: &UcdFiles<'_>) -> Result<(), TableFault> {
+    let tables = Tables::read(alloc, files)?;
+    assert!(rt; tables.bidi_class('א') == BidiClass::R);
+    assert!(rt; tables.mirror('(') == Some(')'));
+    let space = tables.properties(' '); // all of a character by one look
+    assert!(rt; space.line_class() == LineClass::SP && !space.is_wide());
+    Ok(())
+}
+
+#[test]
+fn look_ups(rt: HostRuntime) -> Result<(), Fail> {
+    Ok(look_up(&rt, rt.alloc(), &FILES)?)
+}
+
+fn find_levels(rt: &impl Abort, alloc: Global, tables: &Tables) -> Result<(), AllocError> {
+    let text: Vec<char> = "(שלום) ok".chars().collect(alloc)?;
+    let levels = resolve(alloc, tables, &text, Base::WeakLtr)?;
+    assert!(rt; levels.as_slice() == [1, 1, 1, 1, 1, 1, 1, 2, 2].as_slice());
+    Ok(())
+}
+
+#[test]
+fn levels(rt: HostRuntime) -> Result<(), Fail> {
+    let tables = read(rt.alloc(), &FILES)?;
+    let result = find_levels(&rt, rt.alloc(), &tables);
+    drop(tables);
+    Ok(result?)
+}
+
+fn find_marks(rt: &impl Abort, alloc: Global, tables: &Tables) -> Result<(), AllocError> {
+    let text: Vec<char> = "to go".chars().collect(alloc)?;
+    let marks = marks(alloc, tables, &text, Tailoring::default())?;
+    let wanted = [Mark::Never, Mark::Never, Mark::May, Mark::Never, Mark::Must];
+    assert!(rt; marks.as_slice() == wanted.as_slice());
+    Ok(())
+}
+
+#[test]
+fn break_marks(rt: HostRuntime) -> Result<(), Fail> {
+    let tables = read(rt.alloc(), &FILES)?;
+    let result = find_marks(&rt, rt.alloc(), &tables);
+    drop(tables);
+    Ok(result?)
+}
+
+// How many characters and lines it has.
+#[derive(Drop)]
+struct Paragraph(usize, usize);
+
+impl Measured for Paragraph {
+    ghost chars = { λ item. item.0 };
+
+    ghost lines = { λ item. item.1 };
+
+    fn chars(&self) -> usize {
+        self.0
+    }
+
+    fn lines(&self) -> usize {
+        self.1
+    }
+}
+
+fn search(rt: &impl Abort, alloc: Global) -> Result<(), AllocError> {
+    let paragraphs = vec![in alloc; Paragraph(5, 1), Paragraph(90, 2)]?;
+    let mut store = TreeStore::new(alloc);
+    match store.replace(0..0, paragraphs) {
+        Ok(_) => find(rt, &store),
+        Err((_, fault)) => return Err(fault),
+    }
+    Ok(())
+}
+
+fn find(rt: &impl Abort, store: &TreeStore<Paragraph>) {
+    assert!(rt; store.total_chars() == 95 && store.total_lines() == 3);
+    let found = store.find_line(2);
+    assert!(rt; found.index == 1 && found.rest == 1 && found.chars_before == 5);
+}
+
+#[test]
+fn searches(rt: HostRuntime) -> Result<(), Fail> {
+    Ok(search(&rt, rt.alloc())?)
+}
