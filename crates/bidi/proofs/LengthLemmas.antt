@@ -4,6 +4,7 @@ use Rattle.std.proofs.lemmas.Bool.{cases_Bool, cond-false, cond-true}
 use Rattle.std.proofs.lemmas.List.{length-map}
 use Rattle.std.proofs.lemmas.List.FromFn.{length-map-range_with_len}
 use Rattle.ucd.specs.Tables.{class_of, bracket_of}
+use Rattle.ucd.specs.declared.bracket.Bracket.{Bracket}
 use Rattle.ucd.specs.declared.tables.Tables.{Tables}
 use Rattle.ucd.specs.declared.bidi_class.BidiClass.{BidiClass}
 use Rattle.ucd.specs.declared.bidi_class.BidiClass.TheVariants.{L}
@@ -12,7 +13,7 @@ use Rattle.bidi.specs.declared.base.Base.TheVariants.{Rtl, Ltr, WeakRtl, WeakLtr
 use Rattle.bidi.specs.Base.{base_level_of, first_strong, strong_level}
 use Rattle.bidi.specs.Classes.{class_at}
 use Rattle.bidi.specs.Explicit.{directed, directed_at, level_at, type_at}
-use Rattle.bidi.specs.Levels.{levels_of, put_back, resolved}
+use Rattle.bidi.specs.Levels.{levels_of, paragraph_levels, put_back, resolved}
 use Rattle.bidi.specs.Sequences.{is_removed, stayed}
 
 -- a base level is 0 or 1
@@ -47,11 +48,15 @@ length-put_back before (class ∷ classes) (level ∷ levels) =
     ]
 
 -- so a paragraph has a level for each character
+pub length-paragraph_levels : (look : ℕ → Option Bracket) (text : List ℕ) (all : List BidiClass) (level : ℕ) → length (paragraph_levels look text all level) ≡ length all
+length-paragraph_levels look text all level =
+    let classes = directed all in
+    let places = stayed classes in
+    length-put_back level classes (resolved look level (map (slice_index text) places)
+    (map (class_at classes) places) (map (level_at level classes) places) (map (type_at level classes) places))
+    ∙ length-directed all
+
 pub length-levels_of : (tables : Tables) (text : List ℕ) (base : Base) → length (levels_of tables text base) ≡ length text
 length-levels_of tables text base =
-    let classes = directed (map (class_of tables) text) in
-    let places = stayed classes in
-    let level = base_level_of (map (class_of tables) text) base in
-    length-put_back level classes (resolved (bracket_of tables) level (map (slice_index text) places)
-    (map (class_at classes) places) (map (level_at level classes) places) (map (type_at level classes) places))
-    ∙ length-directed (map (class_of tables) text) ∙ length-map text (class_of tables)
+    let classes = map (class_of tables) text in
+    length-paragraph_levels (bracket_of tables) text classes (base_level_of classes base) ∙ length-map text (class_of tables)

@@ -1,5 +1,7 @@
 mod AloneLemmas
+mod BaseLemmas
 mod BracketLemmas
+mod BracketTypeLemmas
 mod ExplicitLemmas
 mod IsolateLemmas
 mod JumpLemmas

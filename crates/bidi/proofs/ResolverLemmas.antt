@@ -1,7 +1,7 @@
 -- What the tables say of a text's characters, as the resolver reads it.
 use Rattle.std.proofs.Common.{◌≡◌, ℕ, ◌<◌, Bool, true, false, List, [], ◌∷◌, length, get_or, map, replicate, Option, Some, None, is_some, refl, sym, ap, ◌∙◌, inl, inr}
 use Rattle.std.specs.List.{All, list_all, list_any}
-use Rattle.std.proofs.lemmas.Bool.{cases_Bool, both_ways}
+use Rattle.std.proofs.lemmas.Bool.{cases_Bool, cond-true, cond-false, both_ways}
 use Rattle.std.proofs.lemmas.List.{get_or-map, length-map}
 use Rattle.std.proofs.lemmas.List.Folds.{list_all-map, list_all_at, list_any_at}
 use Rattle.ucd.specs.Properties.{properties_of}
@@ -10,13 +10,16 @@ use Rattle.ucd.specs.declared.bracket.Bracket.{Bracket}
 use Rattle.ucd.specs.declared.properties.Properties.{Properties}
 use Rattle.ucd.specs.declared.tables.Tables.{Tables}
 use Rattle.bidi.specs.declared.base.Base.{Base}
+use Rattle.bidi.specs.declared.bracket_type.BracketType.{BracketType}
+use Rattle.bidi.specs.declared.bracket_type.BracketType.TheVariants.{Other, Opening, Closing}
 use Rattle.bidi.specs.Base.{base_level_of}
+use Rattle.bidi.specs.BracketTypes.{bracket_types, is_bracket, type_by}
 use Rattle.bidi.specs.Classes.{class_in}
 use Rattle.bidi.specs.Levels.{levels_of, paragraph_levels}
 use Rattle.bidi.specs.Plain.{has_bracket_in, is_flat}
 use Rattle.bidi.proofs.FlatLemmas.{zero_levels}
 
-all_from : {X : Type 0} (p : X → Bool) (xs : List X) → list_all p xs ≡ true → All (λ x. p x ≡ true) xs
+pub all_from : {X : Type 0} (p : X → Bool) (xs : List X) → list_all p xs ≡ true → All (λ x. p x ≡ true) xs
 all_from p xs e k d within =
     elim (cases_Bool (p (get_or xs k d))) [
       | inl passes ↦ passes
@@ -41,6 +44,30 @@ no_brackets tables text none k d within =
           (ap has_bracket_in (get_or-map (properties_of tables) text k d (properties_of tables 0) within) ∙ found)))
       | inr free ↦ free
     ])
+
+-- a list in which nothing is a bracket is that of a text without brackets
+is_none-by : (bracket : Option Bracket) (c : ℕ) → is_bracket (type_by bracket c) ≡ false → bracket ≡ None
+is_none-by None c e = refl
+is_none-by (Some bracket) c e =
+    elim (cases_Bool bracket.opens) [
+      | inl opens ↦ let f = sym (ap is_bracket (cond-true bracket.opens (Opening bracket.pair) (Closing c) opens)) ∙ e in absurd (cc)
+      | inr closes ↦ let f = sym (ap is_bracket (cond-false bracket.opens (Opening bracket.pair) (Closing c) closes)) ∙ e in absurd (cc)
+    ]
+
+none-by : (look : ℕ → Option Bracket) (text : List ℕ) → list_any is_bracket (bracket_types look text) ≡ false → All (λ c. look c ≡ None) text
+none-by look text none k d within =
+    let f : ℕ → BracketType = λ c. type_by (look c) c in
+    let brackets = bracket_types look text in
+    let there : k < length brackets = rw length-map within in
+    is_none-by (look (get_or text k d)) (get_or text k d) (
+    elim (cases_Bool (is_bracket (f (get_or text k d)))) [
+      | inl found ↦ absurd (both_ways (list_any is_bracket brackets) none (list_any_at is_bracket brackets k Other there (ap is_bracket (get_or-map f text k d Other within) ∙ found)))
+      | inr free ↦ free
+    ])
+
+pub none_are : (look : ℕ → Option Bracket) (text : List ℕ) (brackets : List BracketType) → brackets ≡ bracket_types look text
+    → list_any is_bracket brackets ≡ false → All (λ c. look c ≡ None) text
+none_are look text brackets are none = none-by look text (ap (list_any is_bracket) (sym are) ∙ none)
 
 module _ (tables : Tables) (text : List ℕ) (properties : List Properties) (base : Base) (level : ℕ) (are : properties ≡ map (properties_of tables) text)
     (is : level ≡ base_level_of (map class_in properties) base) where

@@ -1,4 +1,5 @@
 pub mod Base
+pub mod BracketTypes
 pub mod Brackets
 pub mod Classes
 pub mod Closers

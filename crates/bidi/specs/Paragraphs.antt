@@ -1,6 +1,7 @@
 -- What is found of the characters that X9 leaves before their sequences are resolved, and what is then written.
-use Rattle.std.specs.Prelude.{◌≡◌, ℕ, ◌<◌, max, false, None, All, List, length, map, slice_index}
-use Rattle.ucd.specs.Tables.{bracket_of}
+use Rattle.std.specs.Prelude.{◌≡◌, ℕ, ◌<◌, max, true, false, Option, None, All, List, length, map, slice_index}
+use Rattle.ucd.specs.declared.bracket.Bracket.{Bracket}
+use Rattle.bidi.specs.BracketTypes.{bracket_at, bracket_types}
 use Rattle.bidi.specs.Classes.{class_at}
 use Rattle.bidi.specs.Isolates.{matches_of}
 use Rattle.bidi.specs.Levels.{levels_in, put, resolved}
@@ -10,32 +11,41 @@ use Rattle.bidi.specs.Stayed.{HasAll}
 use Rattle.bidi.specs.declared.sequence_levels.Paragraph.{Paragraph}
 use Rattle.bidi.specs.declared.sequence_levels.Sequence.{Sequence}
 use Rattle.bidi.specs.declared.sequence_levels.Sides.{Sides}
-use Rattle.bidi.specs.declared.sequence_levels.Text.{Text}
+use Rattle.bidi.specs.declared.sequence_levels.Brackets.{Brackets}
 
--- a text that says that it has no bracket has none
-abbrev pub TellsBrackets : Text → Type 0
-TellsBrackets text = text.has_brackets ≡ false → All (λ c. bracket_of text.tables.now c ≡ None) text.characters.now
+-- a list that says something says it of each character
+abbrev pub AreFor : Brackets → ℕ → Type 0
+AreFor brackets n = brackets.has_any ≡ true → length brackets.types.now ≡ n
+
+-- these are the brackets of a text of so many characters, by a look-up
+pub record AreBracketsOf (brackets : Brackets) (n : ℕ) (look : ℕ → Option Bracket) (text : List ℕ) : Type 0 where
+  pub size : length text ≡ n
+  pub types : brackets.has_any ≡ true → brackets.types.now ≡ bracket_types look text
+  pub none : brackets.has_any ≡ false → All (λ c. look c ≡ None) text
+
+-- what holds of each text and look-up of which these are the brackets
+abbrev pub OfAllTexts : Brackets → ℕ → ((ℕ → Option Bracket) → List ℕ → Type 0) → Type 0
+OfAllTexts brackets n holds = (look : ℕ → Option Bracket) (text : List ℕ) → AreBracketsOf brackets n look text → holds look text
 
 -- of each character that stays all is known, and of each initiator its match
 pub record IsReady (p : Paragraph) : Type 0 where
   pub stayed : HasAll p.stayed.now
-  pub characters : length p.text.characters.now ≡ length p.stayed.now.levels.items
   pub matches : p.matches.now ≡ matches_of p.stayed.now.classes.items
   pub found : length p.matches.now ≡ length p.stayed.now.levels.items
-  pub brackets : TellsBrackets p.text
+  pub brackets : AreFor p.brackets (length p.stayed.now.levels.items)
 
 abbrev pub sequence_in : Paragraph → ℕ → List ℕ
 sequence_in p start = sequence_at p.stayed.now.classes.items p.stayed.now.levels.items start
 
 -- the levels with those of the sequence that begins at a place
-abbrev pub write_by : Paragraph → List ℕ → ℕ → List ℕ
-write_by p done start =
+abbrev pub write_by : (ℕ → Option Bracket) → List ℕ → Paragraph → List ℕ → ℕ → List ℕ
+write_by look text p done start =
     put done (sequence_in p start)
-    (levels_in (bracket_of p.text.tables.now) p.base p.text.characters.now p.stayed.now.classes.items
+    (levels_in look p.base text p.stayed.now.classes.items
     p.stayed.now.levels.items p.stayed.now.types.items (sequence_in p start))
 
-abbrev pub resolved_by : Paragraph → List ℕ
-resolved_by p = resolved (bracket_of p.text.tables.now) p.base p.text.characters.now p.stayed.now.classes.items p.stayed.now.levels.items p.stayed.now.types.items
+abbrev pub resolved_by : (ℕ → Option Bracket) → List ℕ → Paragraph → List ℕ
+resolved_by look text p = resolved look p.base text p.stayed.now.classes.items p.stayed.now.levels.items p.stayed.now.types.items
 
 -- the level of a sequence from one place to another, and the directions at its ends
 pub record AreSidesBetween (p : Paragraph) (first last : ℕ) (sides : Sides) : Type 0 where
@@ -51,6 +61,6 @@ pub record Takes (p : Paragraph) (start : ℕ) (sequence : Sequence) : Type 0 wh
   pub places_are : sequence.places.items ≡ sequence_in p start
   pub within : AreWithin (length p.stayed.now.levels.items) sequence.places.items
   pub some : 0 < length sequence.places.items
-  pub characters_are : sequence.characters.items ≡ map (slice_index p.text.characters.now) sequence.places.items
+  pub brackets_are : p.brackets.has_any ≡ true → sequence.brackets.items ≡ map (bracket_at p.brackets.types.now) sequence.places.items
   pub explicit_are : sequence.explicit.items ≡ map (class_at p.stayed.now.types.items) sequence.places.items
   pub types_are : sequence.types.items ≡ sequence.explicit.items

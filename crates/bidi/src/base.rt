@@ -86,6 +86,32 @@ fn first_strong_level_by(properties: &[Properties]) -> Option<u8>
     None
 }
 
+/// The base level of one paragraph, 0 or 1, by the classes of its characters.
+pub fn base_level_of(classes: &[BidiClass], base: Base) -> u8
+    ensures { result ≡ base_level_of classes.now base }
+{
+    match base {
+        Base::Rtl => 1,
+        Base::Ltr => 0,
+        Base::WeakRtl => first_strong_level_of(classes).unwrap_or(1),
+        Base::WeakLtr => first_strong_level_of(classes).unwrap_or(0),
+    }
+}
+
+fn first_strong_level_of(classes: &[BidiClass]) -> Option<u8>
+    ensures { result ≡ first_strong_level classes.now }
+{
+    let mut depth = 0;
+    for class in classes {
+        let level = strong_level(*class);
+        if depth == 0 && level.is_some() {
+            return level;
+        }
+        depth = depth_after(*class, depth);
+    }
+    None
+}
+
 /// The level that a strong character gives.
 pub(crate) fn strong_level(class: BidiClass) -> Option<u8>
     ensures { result ≡ (if is_strong class then Some (strong_level class) else None) }

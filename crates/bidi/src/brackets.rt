@@ -1,8 +1,11 @@
-//! Bracket pairs and the directions that they take (UAX #9, BD14 to BD16 and N0), over the characters
-//! of one isolating run sequence.
-ghost use Rattle.std.specs.Prelude.{◌≡◌, ℕ, ◌<◌, ◌≤◌, ◌&&◌, [], map, length, OnOk, Some, None};
+//! Bracket pairs and the directions that they take (UAX #9, BD14 to BD16 and N0), over what the characters
+//! of one isolating run sequence are as brackets.
+ghost use Rattle.std.specs.Prelude.{◌≡◌, ℕ, ◌<◌, ◌≤◌, ◌&&◌, [], map, length, List, OnOk, Option};
+ghost use Rattle.std.specs.Prelude.{Some, None};
 ghost use Rattle.std.specs.Prelude.{if◌then◌else◌, true, false, not};
-ghost use Rattle.ucd.specs.Tables.{bracket_of};
+ghost use Rattle.ucd.specs.declared.bracket.Bracket.{Bracket};
+ghost use Rattle.bidi.specs.BracketTypes.{bracket_types};
+ghost use Rattle.bidi.specs.declared.bracket_type.BracketType.TheVariants.{Other};
 ghost use Rattle.bidi.specs.Brackets.{brackets, canonical, is_other, pairs_of, resolve_pairs, is_direction};
 ghost use Rattle.bidi.specs.Brackets.{is_toward, stands, set_with, set_pair};
 ghost use Rattle.bidi.specs.Closers.{closers_of, closer_in, AreNested, newest, place_of, left_by};
@@ -12,9 +15,10 @@ ghost use Rattle.bidi.specs.Classes.{class_at};
 ghost use Rattle.bidi.specs.Neutral.{agree, side};
 ghost use Rattle.bidi.specs.Resolving.{IsClear};
 
+use crate::bracket_type::BracketType;
 use arrayvec::ArrayVec;
 use std::alloc::{AllocError, Global};
-use ucd::{BidiClass, Bracket, Tables};
+use ucd::BidiClass;
 
 /// How many openers are held at most (BD16).
 const MAX_OPENERS: usize = 63;
@@ -23,32 +27,32 @@ const MAX_OPENERS: usize = 63;
 #[derive(Clone, Copy, Debug, Default, PartialEq, Eq)]
 struct Opener {
     place: usize,
-    pair: char,
+    pair: u32,
 }
 
 // U+2329 and U+232A count as U+3008 and U+3009.
-fn canonical(character: char) -> char
+fn canonical(character: u32) -> u32
     ensures { result ≡ canonical character }
 {
     match character {
-        '\u{2329}' => '\u{3008}',
-        '\u{232A}' => '\u{3009}',
+        0x2329 => 0x3008,
+        0x232A => 0x3009,
         _ => character,
     }
 }
 
-// The bracket that a character is, which only a character of type ON is.
-fn bracket_at(tables: &Tables, character: char, class: BidiClass) -> Option<Bracket>
-    ensures { result ≡ (if is_other class then bracket_of tables.now character else None) }
+// What a character is as a bracket, which only a character of type ON is.
+fn bracket_in(bracket: BracketType, class: BidiClass) -> BracketType
+    ensures { result ≡ (if is_other class then bracket else Other) }
 {
     match class {
-        BidiClass::ON => tables.bracket(character),
-        _ => None,
+        BidiClass::ON => bracket,
+        _ => BracketType::Other,
     }
 }
 
 // The newest of the openers held that a closer matches, if there is one.
-fn matching(openers: &[Opener], closer: char) -> Option<usize>
+fn matching(openers: &[Opener], closer: u32) -> Option<usize>
     ensures { result ≡ newest openers.now closer }
 {
     let wanted = canonical(closer);
@@ -67,7 +71,7 @@ fn matching(openers: &[Opener], closer: char) -> Option<usize>
 fn close(
     openers: &mut ArrayVec<Opener, MAX_OPENERS>,
     closers: &mut [usize],
-    closer: char,
+    closer: u32,
     place: usize,
 )
     requires { (m : ℕ) → m < length openers.old.items → place_of openers.old.items m < length closers.old }
@@ -105,23 +109,23 @@ impl Pairs {
         }
     }
 
-    /// N0 over the types of a sequence, by its characters and by its types before W1.
+    /// N0 over the types of a sequence, by what its characters are as brackets and by its types before W1.
     pub fn resolve(
         &mut self,
-        tables: &Tables,
-        characters: &[char],
+        kinds: &[BracketType],
         explicit: &[BidiClass],
         types: &mut [BidiClass],
         embedding: BidiClass,
         sos: BidiClass,
     ) -> Result<(), AllocError>
-        requires characters { length characters.now ≡ length types.old }
+        requires kinds { length kinds.now ≡ length types.old }
         requires explicit { length explicit.now ≡ length types.old }
-        ensures { OnOk result (types.new
-            ≡ brackets (bracket_of tables.now) embedding sos characters.now explicit.now types.old) }
+        ensures { OnOk result ((look : ℕ → Option Bracket) (text : List ℕ)
+            → kinds.now ≡ bracket_types look text
+            → types.new ≡ brackets look embedding sos text explicit.now types.old) }
     {
         copy_types(types, &mut self.before)?;
-        find_pairs(tables, characters, types, &mut self.closers)?;
+        find_pairs(kinds, types, &mut self.closers)?;
         resolve_brackets(types, &self.before, explicit, &self.closers, embedding, sos);
         Ok(())
     }
@@ -137,31 +141,28 @@ pub(crate) fn copy_types(from: &[BidiClass], to: &mut Vec<BidiClass>) -> Result<
 
 // Puts the place of its closer for each opener into `closers`, and the length for each other place.
 fn find_pairs(
-    tables: &Tables,
-    characters: &[char],
+    kinds: &[BracketType],
     types: &[BidiClass],
     closers: &mut Vec<usize>,
 ) -> Result<(), AllocError>
-    requires { length characters.now ≡ length types.now }
-    ensures pairs { OnOk result (closers.new.items
-        ≡ closers_of (pairs_of (bracket_of tables.now) characters.now types.now) (length types.now)) }
+    requires { length kinds.now ≡ length types.now }
+    ensures pairs { OnOk result ((look : ℕ → Option Bracket) (text : List ℕ)
+        → kinds.now ≡ bracket_types look text
+        → closers.new.items ≡ closers_of (pairs_of look text types.now) (length types.now)) }
     ensures nested { OnOk result (AreNested types.now closers.new.items) }
 {
     fill(closers, types.len())?;
     let mut openers: ArrayVec<Opener, MAX_OPENERS> = ArrayVec::new();
     for place in 0..types.len() {
-        let character = characters[place];
-        if let Some(bracket) = bracket_at(tables, character, types[place]) {
-            if !bracket.opens {
-                close(&mut openers, closers, character, place);
-            } else if openers.is_full() {
-                return Ok(());
-            } else {
-                openers.push(Opener {
-                    place,
-                    pair: bracket.pair,
-                });
+        match bracket_in(kinds[place], types[place]) {
+            BracketType::Opening(pair) => {
+                if openers.is_full() {
+                    return Ok(());
+                }
+                openers.push(Opener { place, pair });
             }
+            BracketType::Closing(closer) => close(&mut openers, closers, closer, place),
+            BracketType::Other => {}
         }
     }
     Ok(())

@@ -1,36 +1,38 @@
 //! The levels of a paragraph's characters before L1 (UAX #9, X1 to I2).
-ghost use Rattle.std.specs.Prelude.{◌≡◌, ◌≤◌, true, map, length, slice_index, All, OnOk};
-ghost use Rattle.ucd.specs.Tables.{bracket_of};
+ghost use Rattle.std.specs.Prelude.{◌≡◌, ◌≤◌, true, map, length, All, OnOk};
+ghost use Rattle.bidi.specs.BracketTypes.{bracket_at};
 ghost use Rattle.bidi.specs.Isolates.{matches_of};
 ghost use Rattle.bidi.specs.Levels.{levels_by, paragraph_levels, put_back, resolved};
-ghost use Rattle.bidi.specs.Paragraphs.{TellsBrackets};
+ghost use Rattle.bidi.specs.Paragraphs.{AreFor, OfAllTexts};
 ghost use Rattle.bidi.specs.Plain.{is_plain};
 ghost use Rattle.bidi.specs.Sequences.{stayed};
 ghost use Rattle.bidi.specs.Stayed.{HasAll};
 
+use crate::bracket_type::BracketType;
 use crate::brackets::copy_types;
 use crate::classes::is_removed;
 use crate::explicit::{Stayed, explicit};
 use crate::isolates::{Isolates, direct, find_or_keep_matches};
-use crate::sequence_levels::{Paragraph, Sequence, Sides, Text, resolve_runs, resolve_types};
+use crate::sequence_levels::{Brackets, Paragraph, Sequence, Sides, resolve_runs, resolve_types};
 use crate::sequences::direction;
 use std::alloc::{AllocError, Global};
 use ucd::BidiClass;
 
-/// What the levels of a paragraph are found by: its characters, their classes and its level.
+/// What the levels of a paragraph are found by: what its characters are as brackets, their classes and its
+/// level.
 #[derive(Clone, Copy)]
 pub(crate) struct Classified<'a> {
-    pub text: Text<'a>,
+    pub brackets: Brackets<'a>,
     pub classes: &'a [BidiClass],
     pub base: u8,
 }
 
-/// What the levels of a paragraph are found in: the characters that X9 leaves, and what their sequences
-/// are found in.
+/// What the levels of a paragraph are found in: the characters that X9 leaves, what they are as brackets,
+/// and what their sequences are found in.
 #[derive(Debug, Drop)]
 pub(crate) struct Work {
     stayed: Stayed,
-    characters: Vec<char>,
+    brackets: Vec<BracketType>,
     lists: Lists,
 }
 
@@ -49,7 +51,7 @@ impl Work {
     pub fn new(alloc: Global) -> Work {
         Work {
             stayed: Stayed::new(alloc),
-            characters: Vec::new(alloc),
+            brackets: Vec::new(alloc),
             lists: Lists::new(alloc),
         }
     }
@@ -68,7 +70,7 @@ impl Lists {
 
 // Finds the levels of the characters that X9 leaves, of which the matches may be found.
 fn resolve_stayed(
-    text: &Text<'_>,
+    brackets: &Brackets<'_>,
     base: u8,
     stayed: &Stayed,
     is_found: bool,
@@ -77,10 +79,10 @@ fn resolve_stayed(
     requires stayed { HasAll stayed.now }
     requires found { is_found ≡ true
         → lists.old.isolates.found.items ≡ matches_of stayed.now.classes.items }
-    requires characters { length text.now.characters.now ≡ length stayed.now.levels.items }
-    requires brackets { TellsBrackets text.now }
-    ensures { OnOk result (lists.new.resolved.items ≡ resolved (bracket_of text.now.tables.now) base
-        text.now.characters.now stayed.now.classes.items stayed.now.levels.items stayed.now.types.items) }
+    requires brackets { AreFor brackets.now (length stayed.now.levels.items) }
+    ensures { OnOk result (OfAllTexts brackets.now (length stayed.now.levels.items) (λ look text.
+        lists.new.resolved.items ≡ resolved look base text stayed.now.classes.items stayed.now.levels.items
+        stayed.now.types.items)) }
 {
     find_or_keep_matches(&stayed.classes, is_found, &mut lists.isolates)?;
     lists.continued.clear();
@@ -88,7 +90,7 @@ fn resolve_stayed(
     lists.resolved.clear();
     lists.resolved.extend_from_slice(&stayed.levels)?;
     let paragraph = Paragraph {
-        text: *text,
+        brackets: *brackets,
         base,
         stayed,
         matches: &lists.isolates.found,
@@ -101,22 +103,38 @@ fn resolve_stayed(
     )
 }
 
-// The characters that X9 leaves.
-fn stayed_characters(
-    text: &[char],
+// What the characters that X9 leaves are as brackets.
+fn stayed_brackets(
+    all: &[BracketType],
     classes: &[BidiClass],
-    characters: &mut Vec<char>,
+    brackets: &mut Vec<BracketType>,
 ) -> Result<(), AllocError>
-    requires { length text.now ≡ length classes.now }
-    ensures { OnOk result (characters.new.items ≡ map (slice_index text.now) (stayed classes.now)) }
+    requires { length all.now ≡ length classes.now }
+    ensures { OnOk result (brackets.new.items ≡ map (bracket_at all.now) (stayed classes.now)) }
 {
-    characters.clear();
-    for at in 0..text.len() {
+    brackets.clear();
+    for at in 0..all.len() {
         if !is_removed(classes[at]) {
-            characters.push(text[at])?;
+            brackets.push(all[at])?;
         }
     }
     Ok(())
+}
+
+// The same of a paragraph that may have none.
+fn any_stayed_brackets(
+    all: &Brackets<'_>,
+    classes: &[BidiClass],
+    brackets: &mut Vec<BracketType>,
+) -> Result<(), AllocError>
+    requires { AreFor all.now (length classes.now) }
+    ensures { OnOk result (all.now.has_any ≡ true
+        → brackets.new.items ≡ map (bracket_at all.now.types.now) (stayed classes.now)) }
+{
+    if !all.has_any {
+        return Ok(());
+    }
+    stayed_brackets(all.types, classes, brackets)
 }
 
 // The levels of all characters: one that X9 took out has the level of the nearest one before it
@@ -158,24 +176,23 @@ pub(crate) fn resolve_acting(
     work: &mut Work,
     levels: &mut Vec<u8>,
 ) -> Result<(), AllocError>
-    requires sizes { length paragraph.now.text.characters.now ≡ length paragraph.now.classes.now }
     requires found { is_found ≡ true
         → work.old.lists.isolates.found.items ≡ matches_of paragraph.now.classes.now }
     requires low { paragraph.now.base ≤ 1 }
-    requires brackets { TellsBrackets paragraph.now.text }
-    ensures { OnOk result (levels.new.items ≡ levels_by (bracket_of paragraph.now.text.tables.now)
-        paragraph.now.text.characters.now paragraph.now.classes.now paragraph.now.base) }
+    requires brackets { AreFor paragraph.now.brackets (length paragraph.now.classes.now) }
+    ensures { OnOk result (OfAllTexts paragraph.now.brackets (length paragraph.now.classes.now) (λ look text.
+        levels.new.items ≡ levels_by look text paragraph.now.classes.now paragraph.now.base)) }
 {
     let acting = paragraph.classes;
     let base = paragraph.base;
     explicit(acting, base, &mut work.stayed)?;
-    stayed_characters(paragraph.text.characters, acting, &mut work.characters)?;
+    any_stayed_brackets(&paragraph.brackets, acting, &mut work.brackets)?;
     let is_found = are_still_found(is_found, &work.stayed.classes, acting);
-    let text = Text {
-        characters: &work.characters,
-        ..paragraph.text
+    let brackets = Brackets {
+        types: &work.brackets,
+        ..paragraph.brackets
     };
-    resolve_stayed(&text, base, &work.stayed, is_found, &mut work.lists)?;
+    resolve_stayed(&brackets, base, &work.stayed, is_found, &mut work.lists)?;
     put_back(acting, base, &work.lists.resolved, levels)?;
     Ok(())
 }
@@ -187,11 +204,10 @@ pub(crate) fn resolve_classes(
     work: &mut Work,
     levels: &mut Vec<u8>,
 ) -> Result<(), AllocError>
-    requires sizes { length paragraph.now.text.characters.now ≡ length paragraph.now.classes.now }
     requires low { paragraph.now.base ≤ 1 }
-    requires brackets { TellsBrackets paragraph.now.text }
-    ensures { OnOk result (levels.new.items ≡ paragraph_levels (bracket_of paragraph.now.text.tables.now)
-        paragraph.now.text.characters.now paragraph.now.classes.now paragraph.now.base) }
+    requires brackets { AreFor paragraph.now.brackets (length paragraph.now.classes.now) }
+    ensures { OnOk result (OfAllTexts paragraph.now.brackets (length paragraph.now.classes.now) (λ look text.
+        levels.new.items ≡ paragraph_levels look text paragraph.now.classes.now paragraph.now.base)) }
 {
     let is_found = direct(paragraph.classes, &mut work.lists.isolates, acting)?;
     let paragraph = Classified {
@@ -208,12 +224,11 @@ pub(crate) fn resolve_plain(
     work: &mut Work,
     levels: &mut Vec<u8>,
 ) -> Result<(), AllocError>
-    requires sizes { length paragraph.now.text.characters.now ≡ length paragraph.now.classes.now }
     requires low { paragraph.now.base ≤ 1 }
     requires plain { All (λ class. is_plain class ≡ true) paragraph.now.classes.now }
-    requires brackets { TellsBrackets paragraph.now.text }
-    ensures { OnOk result (levels.new.items ≡ paragraph_levels (bracket_of paragraph.now.text.tables.now)
-        paragraph.now.text.characters.now paragraph.now.classes.now paragraph.now.base) }
+    requires brackets { AreFor paragraph.now.brackets (length paragraph.now.classes.now) }
+    ensures { OnOk result (OfAllTexts paragraph.now.brackets (length paragraph.now.classes.now) (λ look text.
+        levels.new.items ≡ paragraph_levels look text paragraph.now.classes.now paragraph.now.base)) }
 {
     let classes = paragraph.classes;
     let base = paragraph.base;
@@ -228,7 +243,7 @@ pub(crate) fn resolve_plain(
         eos: side,
     };
     resolve_types(
-        &paragraph.text,
+        &paragraph.brackets,
         classes,
         sides,
         &mut sequence.types,

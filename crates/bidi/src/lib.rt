@@ -13,6 +13,7 @@
 #![tactic(auto)]
 
 mod base;
+mod bracket_type;
 mod brackets;
 mod classes;
 mod cuts;
@@ -26,6 +27,7 @@ mod sequence_levels;
 mod sequences;
 mod weak;
 
-pub use base::{Base, base_level, base_level_by};
+pub use base::{Base, base_level, base_level_by, base_level_of};
+pub use bracket_type::BracketType;
 pub use cuts::{first_cut, is_cut, paragraphs_are_pieces};
-pub use resolver::{Resolver, resolve};
+pub use resolver::{Resolver, resolve, resolve_by};

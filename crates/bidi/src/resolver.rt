@@ -1,16 +1,20 @@
 //! The levels of paragraphs before L1 (UAX #9, X1 to I2), found in lists that are used again for each.
-ghost use Rattle.std.specs.Prelude.{◌≡◌, ◌≤◌, false, map, length, replicate, IfOk, OnOk};
+ghost use Rattle.std.specs.Prelude.{◌≡◌, ℕ, ◌≤◌, map, length, replicate, IfOk, List, OnOk, Option, true};
 ghost use Rattle.std.specs.List.{list_all, list_any};
 ghost use Rattle.ucd.specs.Properties.{properties_of};
 ghost use Rattle.ucd.specs.Tables.{class_of, bracket_of};
+ghost use Rattle.ucd.specs.declared.bracket.Bracket.{Bracket};
 ghost use Rattle.bidi.specs.Base.{base_level_of};
+ghost use Rattle.bidi.specs.BracketTypes.{bracket_types, is_bracket, type_by};
 ghost use Rattle.bidi.specs.Classes.{class_in};
 ghost use Rattle.bidi.specs.Levels.{levels_of, paragraph_levels};
+ghost use Rattle.bidi.specs.Paragraphs.{AreFor, OfAllTexts};
 ghost use Rattle.bidi.specs.Plain.{has_bracket_in, is_flat, is_plain};
 
-use crate::base::{Base, base_level_by};
+use crate::base::{Base, base_level_by, base_level_of};
+use crate::bracket_type::{BracketType, bracket_type};
 use crate::levels::{Classified, Work, resolve_classes, resolve_plain};
-use crate::sequence_levels::Text;
+use crate::sequence_levels::Brackets;
 use std::alloc::{AllocError, Global};
 use ucd::{BidiClass, Properties, Tables};
 
@@ -60,13 +64,32 @@ fn are_plain(classes: &[BidiClass]) -> bool
     classes.iter().all(|class| is_plain(*class))
 }
 
-fn are_flat(properties: &[Properties]) -> bool
+fn are_flat(classes: &[BidiClass]) -> bool
+    ensures { result ≡ list_all is_flat classes.now }
+{
+    classes.iter().all(|class| is_flat(*class))
+}
+
+// The same by what the tables say of characters.
+fn are_flat_by(properties: &[Properties]) -> bool
     ensures { result ≡ list_all (λ one. is_flat (class_in one)) properties.now }
 {
     properties.iter().all(|one| is_flat(one.bidi_class()))
 }
 
-fn has_brackets(properties: &[Properties]) -> bool
+fn is_bracket(bracket: BracketType) -> bool
+    ensures { result ≡ is_bracket bracket }
+{
+    !matches!(bracket, BracketType::Other)
+}
+
+fn has_brackets(brackets: &[BracketType]) -> bool
+    ensures { result ≡ list_any is_bracket brackets.now }
+{
+    brackets.iter().any(|bracket| is_bracket(*bracket))
+}
+
+fn has_brackets_by(properties: &[Properties]) -> bool
     ensures { result ≡ list_any has_bracket_in properties.now }
 {
     properties.iter().any(|one| one.has_bracket())
@@ -91,6 +114,68 @@ fn put_classes(properties: &[Properties], classes: &mut [BidiClass])
     }
 }
 
+// What a character is as a bracket, where the tables are asked only of one that is a bracket.
+fn type_of(tables: &Tables, character: char, properties: Properties) -> BracketType
+    requires { properties ≡ properties_of tables.now character }
+    ensures { result ≡ type_by (bracket_of tables.now character) character }
+{
+    if properties.has_bracket() {
+        bracket_type(tables, character)
+    } else {
+        BracketType::Other
+    }
+}
+
+// What the characters of a text are as brackets, in place of what the list has.
+fn take_brackets(
+    tables: &Tables,
+    text: &[char],
+    properties: &[Properties],
+    brackets: &mut Vec<BracketType>,
+) -> Result<(), AllocError>
+    requires { properties.now ≡ map (properties_of tables.now) text.now }
+    ensures { OnOk result (brackets.new.items ≡ bracket_types (bracket_of tables.now) text.now) }
+{
+    brackets.clear();
+    brackets.resize(text.len(), BracketType::Other)?;
+    put_brackets(tables, text, properties, brackets);
+    Ok(())
+}
+
+fn put_brackets(
+    tables: &Tables,
+    text: &[char],
+    properties: &[Properties],
+    brackets: &mut [BracketType],
+)
+    requires properties { properties.now ≡ map (properties_of tables.now) text.now }
+    requires brackets { length brackets.old ≡ length text.now }
+    ensures { brackets.new ≡ bracket_types (bracket_of tables.now) text.now }
+{
+    for at in 0..text.len() {
+        brackets[at] = type_of(tables, text[at], properties[at]);
+    }
+}
+
+// The same where there are some. True where there are.
+fn take_any_brackets(
+    tables: &Tables,
+    text: &[char],
+    properties: &[Properties],
+    brackets: &mut Vec<BracketType>,
+) -> Result<bool, AllocError>
+    requires { properties.now ≡ map (properties_of tables.now) text.now }
+    ensures any { IfOk result (λ any. any ≡ list_any has_bracket_in properties.now) }
+    ensures brackets { IfOk result (λ any. any ≡ true
+        → brackets.new.items ≡ bracket_types (bracket_of tables.now) text.now) }
+{
+    let has_any = has_brackets_by(properties);
+    if has_any {
+        take_brackets(tables, text, properties, brackets)?;
+    }
+    Ok(has_any)
+}
+
 // So many levels 0, in place of what the list has.
 fn put_zeros(levels: &mut Vec<u8>, len: usize) -> Result<(), AllocError>
     ensures { OnOk result (levels.new.items ≡ replicate len 0) }
@@ -105,6 +190,7 @@ fn put_zeros(levels: &mut Vec<u8>, len: usize) -> Result<(), AllocError>
 #[derive(Debug)]
 pub struct Resolver {
     classes: Vec<BidiClass>,
+    brackets: Vec<BracketType>,
     acting: Vec<BidiClass>,
     work: Work,
 }
@@ -113,6 +199,7 @@ impl Drop for Resolver {
     fn drop(self) {
         let Resolver {
             classes: _,
+            brackets: _,
             acting: _,
             work: _,
         } = self;
@@ -124,6 +211,7 @@ impl Resolver {
     pub fn new(alloc: Global) -> Resolver {
         Resolver {
             classes: Vec::new(alloc),
+            brackets: Vec::new(alloc),
             acting: Vec::new(alloc),
             work: Work::new(alloc),
         }
@@ -148,7 +236,7 @@ impl Resolver {
         ensures len { OnOk result (length levels.new.items ≡ length text.now) }
     {
         let level = base_level_by(properties, base);
-        if level == 0 && are_flat(properties) {
+        if level == 0 && are_flat_by(properties) {
             put_zeros(levels, properties.len())?;
         } else {
             self.resolve_raised(tables, text, properties, level, levels)?;
@@ -171,21 +259,71 @@ impl Resolver {
             ≡ paragraph_levels (bracket_of tables.now) text.now (map class_in properties.now) base) }
     {
         take_classes(properties, &mut self.classes)?;
+        let has_any = take_any_brackets(tables, text, properties, &mut self.brackets)?;
         let paragraph = Classified {
-            text: Text {
-                tables,
-                characters: text,
-                has_brackets: has_brackets(properties),
+            brackets: Brackets {
+                types: &self.brackets,
+                has_any,
             },
             classes: &self.classes,
             base,
         };
-        let work = &mut self.work;
-        if are_plain(paragraph.classes) {
-            resolve_plain(&paragraph, work, levels)
-        } else {
-            resolve_classes(&paragraph, &mut self.acting, work, levels)
+        resolve_classified(&paragraph, &mut self.acting, &mut self.work, levels)
+    }
+
+    /// The base level of one paragraph, 0 or 1, and in place of what `levels` has the level of each
+    /// of its characters before L1, from 0 to 126, by their classes and by what each is as a bracket:
+    /// those of every text and every look-up of which these are the brackets. The list may be any, also
+    /// one that is no paragraph. After want of memory the resolver serves as before, and nothing is known
+    /// of `levels`.
+    pub fn resolve_by(
+        &mut self,
+        classes: &[BidiClass],
+        brackets: &[BracketType],
+        base: Base,
+        levels: &mut Vec<u8>,
+    ) -> Result<u8, AllocError>
+        requires { length brackets.now ≡ length classes.now }
+        ensures level { IfOk result (λ level. level ≡ base_level_of classes.now base) }
+        ensures levels { OnOk result ((look : ℕ → Option Bracket) (text : List ℕ)
+            → brackets.now ≡ bracket_types look text
+            → levels.new.items ≡ paragraph_levels look text classes.now (base_level_of classes.now base)) }
+        ensures len { OnOk result (length levels.new.items ≡ length classes.now) }
+    {
+        let level = base_level_of(classes, base);
+        if level == 0 && are_flat(classes) {
+            put_zeros(levels, classes.len())?;
+            return Ok(level);
         }
+        let paragraph = Classified {
+            brackets: Brackets {
+                types: brackets,
+                has_any: has_brackets(brackets),
+            },
+            classes,
+            base: level,
+        };
+        resolve_classified(&paragraph, &mut self.acting, &mut self.work, levels)?;
+        Ok(level)
+    }
+}
+
+// The levels of a paragraph of a base level, whatever its classes.
+fn resolve_classified(
+    paragraph: &Classified<'_>,
+    acting: &mut Vec<BidiClass>,
+    work: &mut Work,
+    levels: &mut Vec<u8>,
+) -> Result<(), AllocError>
+    requires low { paragraph.now.base ≤ 1 }
+    requires brackets { AreFor paragraph.now.brackets (length paragraph.now.classes.now) }
+    ensures { OnOk result (OfAllTexts paragraph.now.brackets (length paragraph.now.classes.now) (λ look text.
+        levels.new.items ≡ paragraph_levels look text paragraph.now.classes.now paragraph.now.base)) }
+{
+    if are_plain(paragraph.classes) {
+        resolve_plain(paragraph, work, levels)
+    } else {
+        resolve_classes(paragraph, acting, work, levels)
     }
 }
 
@@ -214,5 +352,25 @@ pub fn resolve(
     let properties = properties_of(alloc, tables, text)?;
     let mut levels = Vec::new(alloc);
     Resolver::new(alloc).resolve(tables, text, &properties, base, &mut levels)?;
+    Ok(levels)
+}
+
+/// The level of each character of one paragraph before L1, from 0 to 126 (UAX #9, X1 to I2), by the
+/// classes of its characters and by what each is as a bracket: those of every text and every look-up of
+/// which these are the brackets. The list may be any, also one that is no paragraph.
+pub fn resolve_by(
+    alloc: Global,
+    classes: &[BidiClass],
+    brackets: &[BracketType],
+    base: Base,
+) -> Result<Vec<u8>, AllocError>
+    requires { length brackets.now ≡ length classes.now }
+    ensures levels { IfOk result (λ levels. (look : ℕ → Option Bracket) (text : List ℕ)
+        → brackets.now ≡ bracket_types look text
+        → levels.items ≡ paragraph_levels look text classes.now (base_level_of classes.now base)) }
+    ensures len { IfOk result (λ levels. length levels.items ≡ length classes.now) }
+{
+    let mut levels = Vec::new(alloc);
+    Resolver::new(alloc).resolve_by(classes, brackets, base, &mut levels)?;
     Ok(levels)
 }

@@ -1,35 +1,35 @@
 //! The levels of isolating run sequences (UAX #9, W1 to I2), one sequence after another.
-ghost use Rattle.std.specs.Prelude.{◌≡◌, ◌-◌, ◌<◌, ◌≤◌, false, map, replicate, length, slice_index};
+ghost use Rattle.std.specs.Prelude.{◌≡◌, ◌-◌, ◌<◌, ◌≤◌, true, false, map, replicate, length, take, drop};
 ghost use Rattle.std.specs.Prelude.{IfSome, OnOk};
 ghost use Rattle.std.specs.List.{range_with_len};
-ghost use Rattle.ucd.specs.Tables.{bracket_of};
+ghost use Rattle.bidi.specs.BracketTypes.{bracket_at};
 ghost use Rattle.bidi.specs.Classes.{class_at};
 ghost use Rattle.bidi.specs.Levels.{put, sequence_levels};
-ghost use Rattle.bidi.specs.Paragraphs.{AreSides, AreSidesBetween, IsReady, Takes, TellsBrackets};
+ghost use Rattle.bidi.specs.Paragraphs.{AreFor, AreSides, AreSidesBetween, IsReady, OfAllTexts, Takes};
 ghost use Rattle.bidi.specs.Paragraphs.{resolved_by, sequence_in, write_by};
 ghost use Rattle.bidi.specs.Runs.{AreWithin, IsRunEnd, marked};
 
+use crate::bracket_type::BracketType;
 use crate::brackets::{Pairs, copy_types};
 use crate::explicit::Stayed;
 use crate::neutral::resolve_neutral;
 use crate::sequences::{direction, eos, gather, next_run, run_end, sos};
 use crate::weak::resolve_weak;
 use std::alloc::{AllocError, Global};
-use ucd::{BidiClass, Tables};
+use ucd::BidiClass;
 
-/// The characters of a paragraph or of a part of it, and the tables that say which of them are brackets.
+/// What the characters of a paragraph or of a part of it are as brackets.
 #[derive(Clone, Copy)]
-pub(crate) struct Text<'a> {
-    pub tables: &'a Tables,
-    pub characters: &'a [char],
-    /// Where it is false, none of the characters is a bracket.
-    pub has_brackets: bool,
+pub(crate) struct Brackets<'a> {
+    pub types: &'a [BracketType],
+    /// Where it is false, none of the characters is a bracket, and the list may be any.
+    pub has_any: bool,
 }
 
 /// The characters that X9 leaves, with what is found of them before their sequences are resolved.
 #[derive(Clone, Copy)]
 pub(crate) struct Paragraph<'a> {
-    pub text: Text<'a>,
+    pub brackets: Brackets<'a>,
     pub base: u8,
     pub stayed: &'a Stayed,
     pub matches: &'a [usize],
@@ -74,37 +74,45 @@ fn sides_between(paragraph: &Paragraph<'_>, first: usize, last: usize) -> Sides
 
 /// The levels of a sequence, by all rules over its types, from the weak to the implicit ones.
 pub(crate) fn resolve_types(
-    text: &Text<'_>,
+    brackets: &Brackets<'_>,
     explicit: &[BidiClass],
     sides: Sides,
     types: &mut [BidiClass],
     pairs: &mut Pairs,
     levels: &mut [u8],
 ) -> Result<(), AllocError>
-    requires characters { length text.now.characters.now ≡ length types.old }
-    requires brackets { TellsBrackets text.now }
+    requires brackets { AreFor brackets.now (length types.old) }
     requires explicit { explicit.now ≡ types.old }
     requires levels { length levels.old ≡ length types.old }
     requires bounded { sides.level ≤ 125 }
-    ensures { OnOk result (levels.new
-        ≡ sequence_levels (bracket_of text.now.tables.now) sides.level sides.sos sides.eos
-        text.now.characters.now types.old) }
+    ensures { OnOk result (OfAllTexts brackets.now (length types.old) (λ look text.
+        levels.new ≡ sequence_levels look sides.level sides.sos sides.eos text types.old)) }
 {
     resolve_weak(types, sides.sos);
-    if text.has_brackets {
+    if brackets.has_any {
         let embedding = direction(sides.level);
-        let characters = text.characters;
-        pairs.resolve(
-            text.tables,
-            characters,
-            explicit,
-            types,
-            embedding,
-            sides.sos,
-        )?;
+        pairs.resolve(brackets.types, explicit, types, embedding, sides.sos)?;
     }
     resolve_neutral(types, sides.level, sides.sos, sides.eos, levels);
     Ok(())
+}
+
+// What the characters from one place up to another are as brackets.
+fn part<'a>(brackets: &Brackets<'a>, start: usize, end: usize) -> Brackets<'a>
+    requires order { start ≤ end }
+    requires within { brackets.now.has_any ≡ true → end ≤ length brackets.now.types.now }
+    ensures same { result.has_any ≡ brackets.now.has_any }
+    ensures types { brackets.now.has_any ≡ true
+        → result.types.now ≡ take (end - start) (drop start brackets.now.types.now) }
+{
+    if brackets.has_any {
+        Brackets {
+            types: &brackets.types[start..end],
+            ..*brackets
+        }
+    } else {
+        *brackets
+    }
 }
 
 // The types of a sequence, at its places.
@@ -123,20 +131,36 @@ fn take_types(
     Ok(())
 }
 
-// The characters of a sequence, at its places.
-fn take_characters(
-    all: &[char],
+// What the characters of a sequence are as brackets, at its places.
+fn take_brackets(
+    all: &[BracketType],
     places: &[usize],
-    characters: &mut Vec<char>,
+    brackets: &mut Vec<BracketType>,
 ) -> Result<(), AllocError>
     requires { AreWithin (length all.now) places.now }
-    ensures { OnOk result (characters.new.items ≡ map (slice_index all.now) places.now) }
+    ensures { OnOk result (brackets.new.items ≡ map (bracket_at all.now) places.now) }
 {
-    characters.clear();
+    brackets.clear();
     for place in places {
-        characters.push(all[*place])?;
+        brackets.push(all[*place])?;
     }
     Ok(())
+}
+
+// The same of a paragraph that may have none.
+fn take_any_brackets(
+    all: &Brackets<'_>,
+    places: &[usize],
+    brackets: &mut Vec<BracketType>,
+) -> Result<(), AllocError>
+    requires { all.now.has_any ≡ true → AreWithin (length all.now.types.now) places.now }
+    ensures { OnOk result (all.now.has_any ≡ true
+        → brackets.new.items ≡ map (bracket_at all.now.types.now) places.now) }
+{
+    if !all.has_any {
+        return Ok(());
+    }
+    take_brackets(all.types, places, brackets)
 }
 
 // Writes the level of each character of a sequence to its place.
@@ -151,11 +175,11 @@ fn put_levels(levels: &mut [u8], places: &[usize], values: &[u8])
 }
 
 /// What the levels of a sequence are found in, used again for each sequence: the places of its
-/// characters, these, their explicit types, their types and their levels.
+/// characters, what these are as brackets, their explicit types, their types and their levels.
 #[derive(Debug, Drop)]
 pub(crate) struct Sequence {
     places: Vec<usize>,
-    characters: Vec<char>,
+    brackets: Vec<BracketType>,
     explicit: Vec<BidiClass>,
     pub types: Vec<BidiClass>,
     pub pairs: Pairs,
@@ -166,7 +190,7 @@ impl Sequence {
     pub fn new(alloc: Global) -> Sequence {
         Sequence {
             places: Vec::new(alloc),
-            characters: Vec::new(alloc),
+            brackets: Vec::new(alloc),
             explicit: Vec::new(alloc),
             types: Vec::new(alloc),
             pairs: Pairs::new(alloc),
@@ -188,11 +212,7 @@ impl Sequence {
             start,
             &mut self.places,
         )?;
-        take_characters(
-            paragraph.text.characters,
-            &self.places,
-            &mut self.characters,
-        )?;
+        take_any_brackets(&paragraph.brackets, &self.places, &mut self.brackets)?;
         take_types(&stayed.types, &self.places, &mut self.explicit)?;
         copy_types(&self.explicit, &mut self.types)
     }
@@ -210,16 +230,15 @@ impl Sequence {
         requires run { (start < end) × (end ≤ length paragraph.now.stayed.now.levels.items) }
         requires alone { sequence_in paragraph.now start ≡ range_with_len start (end - start) }
         requires resolved { length resolved.old ≡ length paragraph.now.stayed.now.levels.items }
-        ensures { OnOk result (resolved.new ≡ write_by paragraph.now resolved.old start) }
+        ensures { OnOk result (OfAllTexts paragraph.now.brackets
+            (length paragraph.now.stayed.now.levels.items) (λ look text.
+            resolved.new ≡ write_by look text paragraph.now resolved.old start)) }
     {
         let explicit = &paragraph.stayed.types[start..end];
         copy_types(explicit, &mut self.types)?;
-        let text = Text {
-            characters: &paragraph.text.characters[start..end],
-            ..paragraph.text
-        };
+        let brackets = part(&paragraph.brackets, start, end);
         resolve_types(
-            &text,
+            &brackets,
             explicit,
             sides_between(paragraph, start, end - 1),
             &mut self.types,
@@ -241,7 +260,9 @@ impl Sequence {
         requires paragraph { IsReady paragraph.now }
         requires run { IsRunEnd paragraph.now.stayed.now.levels.items start end }
         requires resolved { length resolved.old ≡ length paragraph.now.stayed.now.levels.items }
-        ensures { OnOk result (resolved.new ≡ write_by paragraph.now resolved.old start) }
+        ensures { OnOk result (OfAllTexts paragraph.now.brackets
+            (length paragraph.now.stayed.now.levels.items) (λ look text.
+            resolved.new ≡ write_by look text paragraph.now resolved.old start)) }
     {
         match next_run(&paragraph.stayed.levels, paragraph.matches, end) {
             Some(_) => self.resolve_gathered(paragraph, start, resolved),
@@ -260,17 +281,19 @@ impl Sequence {
         requires paragraph { IsReady paragraph.now }
         requires within { start < length paragraph.now.stayed.now.levels.items }
         requires resolved { length resolved.old ≡ length paragraph.now.stayed.now.levels.items }
-        ensures { OnOk result (resolved.new ≡ write_by paragraph.now resolved.old start) }
+        ensures { OnOk result (OfAllTexts paragraph.now.brackets
+            (length paragraph.now.stayed.now.levels.items) (λ look text.
+            resolved.new ≡ write_by look text paragraph.now resolved.old start)) }
     {
         self.take(paragraph, start)?;
         let sides = sides_of(paragraph, &self.places);
         self.levels.resize(self.types.len(), 0)?;
-        let text = Text {
-            characters: &self.characters,
-            ..paragraph.text
+        let brackets = Brackets {
+            types: &self.brackets,
+            ..paragraph.brackets
         };
         resolve_types(
-            &text,
+            &brackets,
             &self.explicit,
             sides,
             &mut self.types,
@@ -302,7 +325,8 @@ pub(crate) fn resolve_runs(
     requires paragraph { IsReady paragraph.now }
     requires continued { continued.old ≡ replicate (length paragraph.now.stayed.now.levels.items) false }
     requires done { done.old ≡ paragraph.now.stayed.now.levels.items }
-    ensures { OnOk result (done.new ≡ resolved_by paragraph.now) }
+    ensures { OnOk result (OfAllTexts paragraph.now.brackets (length paragraph.now.stayed.now.levels.items)
+        (λ look text. done.new ≡ resolved_by look text paragraph.now)) }
 {
     let levels = paragraph.stayed.levels.as_slice();
     let mut start = 0;

@@ -3,11 +3,13 @@ ghost use Rattle.std.specs.Prelude.{◌≡◌, map, IfOk};
 ghost use Rattle.ucd.specs.Properties.{properties_of};
 
 use crate::files::{FILES, read};
-use bidi::{Base, Resolver, base_level, base_level_by, resolve};
+use bidi::{
+    Base, BracketType, Resolver, base_level, base_level_by, base_level_of, resolve, resolve_by,
+};
 use plain::levels::plain_levels;
 use std::alloc::{AllocError, Global};
 use std::test::Fail;
-use ucd::{Properties, Tables};
+use ucd::{BidiClass, Properties, Tables};
 
 // One of each class that the weak and neutral rules tell apart, and two brackets.
 const CHARACTERS: [char; 12] = [
@@ -52,6 +54,62 @@ fn put_levels(
     Ok(level == base_level(tables, text, base) && level == base_level_by(&properties, base))
 }
 
+fn classes_of(alloc: Global, tables: &Tables, text: &[char]) -> Result<Vec<BidiClass>, AllocError> {
+    text.iter().map(|c| tables.bidi_class(*c)).collect(alloc)
+}
+
+// What a character is as a bracket.
+fn bracket_type(tables: &Tables, character: char) -> BracketType {
+    match tables.bracket(character) {
+        Some(bracket) => {
+            if bracket.opens {
+                BracketType::Opening(u32::from(bracket.pair))
+            } else {
+                BracketType::Closing(u32::from(character))
+            }
+        }
+        None => BracketType::Other,
+    }
+}
+
+fn brackets_of(
+    alloc: Global,
+    tables: &Tables,
+    text: &[char],
+) -> Result<Vec<BracketType>, AllocError> {
+    text.iter().map(|c| bracket_type(tables, *c)).collect(alloc)
+}
+
+// Puts the levels of lists of classes and of brackets in place of what `levels` has, and answers whether
+// the base level is the one that is found by itself.
+fn put_levels_of(
+    resolver: &mut Resolver,
+    classes: &[BidiClass],
+    brackets: &[BracketType],
+    base: Base,
+    levels: &mut Vec<u8>,
+) -> Result<bool, AllocError> {
+    if classes.len() != brackets.len() {
+        return Ok(false);
+    }
+    let level = resolver.resolve_by(classes, brackets, base, levels)?;
+    Ok(level == base_level_of(classes, base))
+}
+
+// The same of the classes and brackets of a text.
+fn put_levels_by(
+    alloc: Global,
+    resolver: &mut Resolver,
+    tables: &Tables,
+    text: &[char],
+    base: Base,
+    levels: &mut Vec<u8>,
+) -> Result<bool, AllocError> {
+    let classes = classes_of(alloc, tables, text)?;
+    let brackets = brackets_of(alloc, tables, text)?;
+    put_levels_of(resolver, &classes, &brackets, base, levels)
+}
+
 // Whether these are the levels from a place on.
 fn are_from(levels: &[u8], place: usize, wanted: &[u8]) -> bool {
     match levels.get(place..) {
@@ -60,8 +118,8 @@ fn are_from(levels: &[u8], place: usize, wanted: &[u8]) -> bool {
     }
 }
 
-// Whether a resolver finds these levels of a list, from a place on.
-fn is_found(
+// Whether a resolver finds these levels of a list, from a place on, by its characters.
+fn is_found_of_text(
     alloc: Global,
     resolver: &mut Resolver,
     tables: &Tables,
@@ -73,6 +131,36 @@ fn is_found(
     let mut levels = Vec::new(alloc);
     let is_base = put_levels(alloc, resolver, tables, text, base, &mut levels)?;
     Ok(is_base && are_from(&levels, place, wanted))
+}
+
+// Whether it finds them by their classes and by what they are as brackets.
+fn is_found_by(
+    alloc: Global,
+    resolver: &mut Resolver,
+    tables: &Tables,
+    text: &[char],
+    base: Base,
+    place: usize,
+    wanted: &[u8],
+) -> Result<bool, AllocError> {
+    let mut levels = Vec::new(alloc);
+    let is_base = put_levels_by(alloc, resolver, tables, text, base, &mut levels)?;
+    Ok(is_base && are_from(&levels, place, wanted))
+}
+
+// Whether it finds them either way.
+fn is_found(
+    alloc: Global,
+    resolver: &mut Resolver,
+    tables: &Tables,
+    text: &[char],
+    base: Base,
+    place: usize,
+    wanted: &[u8],
+) -> Result<bool, AllocError> {
+    let by_text = is_found_of_text(alloc, resolver, tables, text, base, place, wanted)?;
+    let by_lists = is_found_by(alloc, resolver, tables, text, base, place, wanted)?;
+    Ok(by_text & by_lists)
 }
 
 // The list after a PDF that matches nothing. That is taken out by X9 and opens nothing, so the levels after
@@ -219,6 +307,19 @@ fn finds(
     Ok(is_base && are_digits(&levels, digits.as_bytes()))
 }
 
+// Whether it finds them by the classes and brackets of the text.
+fn finds_by(
+    alloc: Global,
+    resolver: &mut Resolver,
+    tables: &Tables,
+    text: &[char],
+    digits: &str,
+) -> Result<bool, AllocError> {
+    let mut levels = Vec::new(alloc);
+    let is_base = put_levels_by(alloc, resolver, tables, text, Base::WeakLtr, &mut levels)?;
+    Ok(is_base && are_digits(&levels, digits.as_bytes()))
+}
+
 // Whether they are found of a text by no resolver that serves again.
 fn resolves_to(
     alloc: Global,
@@ -239,9 +340,10 @@ fn has_levels(
 ) -> Result<bool, AllocError> {
     let text: Vec<char> = row.text.chars().collect(alloc)?;
     let is_found = finds(alloc, resolver, tables, &text, row.levels);
+    let is_found_by = finds_by(alloc, resolver, tables, &text, row.levels);
     let is_once = resolves_to(alloc, tables, &text, Base::WeakLtr, row.levels);
     drop(text);
-    Ok(is_found? && is_once?)
+    Ok(is_found? & is_found_by? & is_once?)
 }
 
 fn have_levels(
@@ -300,6 +402,145 @@ fn levels_of_separators(rt: HostRuntime) -> Result<(), Fail> {
     let tables = read(rt.alloc(), &FILES)?;
     let result = all_resolve(rt.alloc(), &tables, &SEPARATED);
     drop(tables);
+    assert!(rt; result?);
+    Ok(())
+}
+
+// A paragraph by its classes and brackets, and the levels of its characters, each as a digit.
+struct ListRow {
+    classes: &'static [BidiClass],
+    brackets: &'static [BracketType],
+    base: Base,
+    levels: &'static str,
+}
+
+const INNER: &[BidiClass] = &[
+    BidiClass::R,
+    BidiClass::L,
+    BidiClass::ON,
+    BidiClass::L,
+    BidiClass::ON,
+];
+
+// The third character opens a pair that the last one closes, by numbers of their own or by code points; then
+// one of another number, which closes none; then a closing bracket that overtakes an isolate, a bracket that
+// is no neutral, and lists without brackets.
+static LIST_ROWS: [ListRow; 8] = [
+    ListRow {
+        classes: INNER,
+        brackets: &[
+            BracketType::Other,
+            BracketType::Other,
+            BracketType::Opening(7),
+            BracketType::Other,
+            BracketType::Closing(7),
+        ],
+        base: Base::WeakLtr,
+        levels: "12222",
+    },
+    ListRow {
+        classes: INNER,
+        brackets: &[
+            BracketType::Other,
+            BracketType::Other,
+            BracketType::Opening(0x232A),
+            BracketType::Other,
+            BracketType::Closing(0x3009),
+        ],
+        base: Base::WeakLtr,
+        levels: "12222",
+    },
+    ListRow {
+        classes: INNER,
+        brackets: &[
+            BracketType::Other,
+            BracketType::Other,
+            BracketType::Opening(7),
+            BracketType::Other,
+            BracketType::Closing(8),
+        ],
+        base: Base::WeakLtr,
+        levels: "12221",
+    },
+    ListRow {
+        classes: INNER,
+        brackets: &[
+            BracketType::Other,
+            BracketType::Other,
+            BracketType::Closing(7),
+            BracketType::Other,
+            BracketType::Opening(7),
+        ],
+        base: Base::WeakLtr,
+        levels: "12221",
+    },
+    ListRow {
+        classes: &[
+            BidiClass::ON,
+            BidiClass::RLI,
+            BidiClass::L,
+            BidiClass::ON,
+            BidiClass::PDI,
+            BidiClass::R,
+            BidiClass::ON,
+        ],
+        brackets: &[
+            BracketType::Opening(41),
+            BracketType::Other,
+            BracketType::Other,
+            BracketType::Closing(41),
+            BracketType::Other,
+            BracketType::Other,
+            BracketType::Closing(41),
+        ],
+        base: Base::Ltr,
+        levels: "0021010",
+    },
+    ListRow {
+        classes: &[BidiClass::R, BidiClass::L, BidiClass::R],
+        brackets: &[
+            BracketType::Other,
+            BracketType::Opening(41),
+            BracketType::Closing(41),
+        ],
+        base: Base::WeakLtr,
+        levels: "121",
+    },
+    ListRow {
+        classes: &[BidiClass::L, BidiClass::EN, BidiClass::WS],
+        brackets: &[BracketType::Other, BracketType::Other, BracketType::Other],
+        base: Base::WeakRtl,
+        levels: "000",
+    },
+    ListRow {
+        classes: &[],
+        brackets: &[],
+        base: Base::Rtl,
+        levels: "",
+    },
+];
+
+// Whether they are found of the lists of a row by no resolver that serves again.
+fn are_of_row(alloc: Global, row: &ListRow) -> Result<bool, AllocError> {
+    if row.classes.len() != row.brackets.len() {
+        return Ok(false);
+    }
+    let levels = resolve_by(alloc, row.classes, row.brackets, row.base)?;
+    Ok(are_digits(&levels, row.levels.as_bytes()))
+}
+
+fn are_of_rows(alloc: Global, rows: &[ListRow]) -> Result<bool, AllocError> {
+    for row in rows {
+        if !are_of_row(alloc, row)? {
+            return Ok(false);
+        }
+    }
+    Ok(true)
+}
+
+#[test]
+fn levels_of_lists(rt: HostRuntime) -> Result<(), Fail> {
+    let result = are_of_rows(rt.alloc(), &LIST_ROWS);
     assert!(rt; result?);
     Ok(())
 }

@@ -1,7 +1,7 @@
-use Rattle.std.proofs.Common.{◌≡◌, ℕ, ◌≤◌, List, length, map, get_or, slice_index, not, None, Option, sym, ap, subst, ◌∙◌, inl, inr, arith}
+use Rattle.std.proofs.Common.{◌≡◌, ℕ, ◌≤◌, List, length, map, get_or, slice_index, not, Bool, None, Option, refl, sym, ap, ◌∙◌, inl, inr, arith}
 use Rattle.std.proofs.lemmas.Bool.{cases_lt}
 use Rattle.std.proofs.lemmas.List.{get_or-map, get_or_past, length-map}
-use Rattle.ucd.specs.Tables.{bracket_of}
+use Rattle.bidi.specs.BracketTypes.{bracket_at}
 use Rattle.ucd.specs.declared.bracket.Bracket.{Bracket}
 use Rattle.ucd.specs.declared.bidi_class.BidiClass.{BidiClass}
 use Rattle.bidi.specs.declared.explicit.Stayed.{Stayed}
@@ -10,7 +10,8 @@ use Rattle.bidi.specs.Explicit.{level_at, type_at}
 use Rattle.bidi.specs.Levels.{levels_by, put_back, resolved}
 use Rattle.bidi.specs.Sequences.{is_removed, stayed}
 use Rattle.bidi.specs.Stayed.{HasAll, IsStayed}
-use Rattle.std.specs.List.{All}
+use Rattle.bidi.specs.Paragraphs.{AreBracketsOf}
+use Rattle.bidi.proofs.BracketTypeLemmas.{types-kept}
 use Rattle.bidi.proofs.PartLemmas.{All-kept}
 use Rattle.bidi.proofs.ExplicitLemmas.{level_at-bound}
 use Rattle.bidi.specs.Isolates.{matches_of}
@@ -47,19 +48,12 @@ all_levels bracket text classes base characters left done kept there e =
 pub resolve_stayed-requires-clause-stayed : goal.resolve_stayed-requires-clause-stayed
 resolve_stayed-requires-clause-stayed c = whole c.args.paragraph.now.classes.now c.args.paragraph.now.base c.explicit.new.stayed c.requires.low c.in_ok-explicit.ensures
 
-pub resolve_stayed-requires-clause-characters : goal.resolve_stayed-requires-clause-characters
-resolve_stayed-requires-clause-characters c =
-    let kept : IsStayed c.args.paragraph.now.classes.now c.args.paragraph.now.base c.explicit.new.stayed = c.in_ok-explicit.ensures in
-    ap length (c.deref-2.ensures.value ∙ c.in_ok-stayed_characters.ensures) ∙ length-map (stayed c.args.paragraph.now.classes.now) (slice_index c.args.paragraph.now.text.characters.now)
-    ∙ sym (ap length kept.levels_are ∙ length-map (stayed c.args.paragraph.now.classes.now) (level_at c.args.paragraph.now.base c.args.paragraph.now.classes.now))
-
 pub resolve_stayed-requires-clause-brackets : goal.resolve_stayed-requires-clause-brackets
-resolve_stayed-requires-clause-brackets c = λ none.
-    let P : ℕ → Type 0 = λ b. bracket_of c.args.paragraph.now.text.tables.now b ≡ None in
-    subst (All P) (sym (c.deref-2.ensures.value ∙ c.in_ok-stayed_characters.ensures))
-    (All-kept P c.args.paragraph.now.text.characters.now (length c.args.paragraph.now.classes.now)
-    (λ k. not (is_removed (class_at c.args.paragraph.now.classes.now k))) c.requires.sizes
-    (c.requires.brackets none))
+resolve_stayed-requires-clause-brackets c = λ any.
+    let p = c.args.paragraph.now in
+    let kept : IsStayed p.classes.now p.base c.explicit.new.stayed = c.in_ok-explicit.ensures in
+    ap length (c.deref-2.ensures.value ∙ c.in_ok-any_stayed_brackets.ensures any) ∙ length-map (stayed p.classes.now) (bracket_at p.brackets.types.now)
+    ∙ sym (ap length kept.levels_are ∙ length-map (stayed p.classes.now) (level_at p.base p.classes.now))
 
 pub resolve_stayed-requires-clause-found : goal.resolve_stayed-requires-clause-found
 resolve_stayed-requires-clause-found c = λ found.
@@ -70,10 +64,19 @@ resolve_stayed-requires-clause-found c = λ found.
     c.requires.found both.0 ∙ ap matches_of (sym all)
 
 pub returns : goal.returns
-returns c =
-    let kept : IsStayed c.args.paragraph.now.classes.now c.args.paragraph.now.base c.explicit.new.stayed = c.in_ok-explicit.ensures in
+returns c look text are =
+    let p = c.args.paragraph.now in
+    let places = stayed p.classes.now in
+    let kept : IsStayed p.classes.now p.base c.explicit.new.stayed = c.in_ok-explicit.ensures in
+    let sized : length text ≡ length p.classes.now = are.size in
+    let part = map (slice_index text) places in
+    let test : ℕ → Bool = λ k. not (is_removed (class_at p.classes.now k)) in
+    let parts : AreBracketsOf (record { types = c.deref-2.result; has_any = p.brackets.has_any }) (length c.explicit.new.stayed.levels.items) look part = record {
+      size = length-map places (slice_index text) ∙ sym (ap length kept.levels_are ∙ length-map places (level_at p.base p.classes.now));
+      types = λ any. c.deref-2.ensures.value ∙ c.in_ok-any_stayed_brackets.ensures any
+          ∙ ap (λ types. map (bracket_at types) places) (are.types any) ∙ sym (types-kept look text test 0 (length p.classes.now) (omega arith));
+      none = λ none. All-kept (λ b. look b ≡ None) text (length p.classes.now) test sized (are.none none);
+    } in
     c.in_ok-put_back.ensures
-    ∙ ap (put_back c.args.paragraph.now.base c.args.paragraph.now.classes.now) c.deref-3.ensures.value
-    ∙ all_levels (bracket_of c.args.paragraph.now.text.tables.now) c.args.paragraph.now.text.characters.now
-    c.args.paragraph.now.classes.now c.args.paragraph.now.base c.deref-2.result.now c.explicit.new.stayed _ kept
-    (c.deref-2.ensures.value ∙ c.in_ok-stayed_characters.ensures) c.in_ok-resolve_stayed.ensures
+    ∙ ap (put_back p.base p.classes.now) c.deref-3.ensures.value
+    ∙ all_levels look text p.classes.now p.base part c.explicit.new.stayed _ kept refl (c.in_ok-resolve_stayed.ensures look part parts)

@@ -1,19 +1,19 @@
 use Rattle.std.proofs.Common.{◌≡◌, ℕ, ◌-◌, ◌<◌, ◌≤◌, false, List, length, get_or, Option, Some, None, IfSome, if◌then◌else◌, sym, ap, ◌∙◌, arith}
 use Rattle.std.proofs.lemmas.Bool.{cond-true, cond-false}
 use Rattle.std.proofs.lemmas.List.{get_or-replicate, length-replicate}
-use Rattle.ucd.specs.Tables.{bracket_of}
 use Rattle.bidi.specs.Isolates.{match_at}
 use Rattle.bidi.specs.Runs.{IsRunEnd, next_start, sequence_at}
+use Rattle.bidi.proofs.BracketTypeLemmas.{some_text}
 use Rattle.bidi.proofs.RunLemmas.{last_match, match_at-above, next_start-within}
 use Rattle.bidi.proofs.LevelLemmas.{Resolves-start, Resolves-next, Resolves-end, marked-is, length-marked, write}
 use Rattle.bidi.proofs.sequence_levels.resolve_runs.Goals as goal
 use Rattle.bidi.proofs.sequence_levels.resolve_runs.Goals.{then-not-continued-start+in_ok-resolve, else-not-continued-start}
 
 pub loop-start-init : goal.loop-start-init
-loop-start-init c =
+loop-start-init c look text are =
     let levels = c.args.paragraph.now.stayed.now.levels.items in
-    rw c.requires.done (Resolves-start (bracket_of c.args.paragraph.now.text.tables.now) c.args.paragraph.now.base
-    c.args.paragraph.now.text.characters.now c.args.paragraph.now.stayed.now.classes.items levels
+    rw c.requires.done (Resolves-start look c.args.paragraph.now.base
+    text c.args.paragraph.now.stayed.now.classes.items levels
     c.args.paragraph.now.stayed.now.types.items c.args.continued.now
     (ap length c.requires.continued ∙ length-replicate (length levels) false)
     (λ j within. ap (λ marks. get_or marks j false) c.requires.continued ∙ get_or-replicate (length levels) j false false within))
@@ -36,10 +36,14 @@ in_list levels m (Some place) e = (next_start-within levels m place (sym e)).1
 pub mark-requires : goal.mark-requires
 mark-requires c =
     let next = rw c.as_slice-levels.ensures.value at c.next_run.ensures in
-    rw c.loop-start.invariant.marks (in_list c.args.paragraph.now.stayed.now.levels.items (get_or c.args.paragraph.now.matches.now (c.run_end-end.result - 1) 0) c.next_run.result next)
+    let n = length c.args.paragraph.now.stayed.now.levels.items in
+    let some = some_text c.args.paragraph.now.brackets n c.requires.paragraph.brackets in
+    let now = c.loop-start.invariant some.0 some.1 some.2 in
+    rw now.marks (in_list c.args.paragraph.now.stayed.now.levels.items (get_or c.args.paragraph.now.matches.now (c.run_end-end.result - 1) 0) c.next_run.result next)
 
 pub loop-start-preserved : goal.loop-start-preserved
-loop-start-preserved c =
+loop-start-preserved c look text are =
+    let now = c.loop-start.invariant look text are in
     let classes = c.args.paragraph.now.stayed.now.classes.items in
     let levels = c.args.paragraph.now.stayed.now.levels.items in
     let types = c.args.paragraph.now.stayed.now.types.items in
@@ -57,31 +61,31 @@ loop-start-preserved c =
     let far : end - 1 < match_at classes (end - 1) = match_at-above classes (end - 1) (omega arith) in
     let written : c.if-not-continued-start.done
     ≡ (if get_or flags c.loop-start.start false then c.loop-start.done else write
-    (bracket_of c.args.paragraph.now.text.tables.now) c.args.paragraph.now.base
-    c.args.paragraph.now.text.characters.now classes levels types c.loop-start.done
+    look c.args.paragraph.now.base
+    text classes levels types c.loop-start.done
     (sequence_at classes levels c.loop-start.start)) =
     elim c.if-not-continued-start.branch [
-      | then-not-continued-start+in_ok-resolve w ↦ w.done-is ∙ w.in_ok-resolve.ensures
+      | then-not-continued-start+in_ok-resolve w ↦ w.done-is ∙ w.in_ok-resolve.ensures look text are
           ∙ sym (cond-false (get_or flags c.loop-start.start false) c.loop-start.done
-          (write (bracket_of c.args.paragraph.now.text.tables.now) c.args.paragraph.now.base
-          c.args.paragraph.now.text.characters.now classes levels types c.loop-start.done
+          (write look c.args.paragraph.now.base
+          text classes levels types c.loop-start.done
           (sequence_at classes levels c.loop-start.start)) w.if-not-continued-start.true)
       | else-not-continued-start w ↦ w.done-is
           ∙ sym (cond-true (get_or flags c.loop-start.start false) c.loop-start.done
-          (write (bracket_of c.args.paragraph.now.text.tables.now) c.args.paragraph.now.base
-          c.args.paragraph.now.text.characters.now classes levels types c.loop-start.done
+          (write look c.args.paragraph.now.base
+          text classes levels types c.loop-start.done
           (sequence_at classes levels c.loop-start.start)) w.if-not-continued-start.false)
     ] in
-    Resolves-next (bracket_of c.args.paragraph.now.text.tables.now) c.args.paragraph.now.base
-    c.args.paragraph.now.text.characters.now classes levels types sizes c.loop-start.start end flags
-    c.mark.new.continued c.loop-start.done c.if-not-continued-start.done run c.loop-start.invariant written
-    (ap length c.mark.ensures ∙ length-marked flags c.next_run.result ∙ c.loop-start.invariant.marks)
+    Resolves-next look c.args.paragraph.now.base
+    text classes levels types sizes c.loop-start.start end flags
+    c.mark.new.continued c.loop-start.done c.if-not-continued-start.done run now written
+    (ap length c.mark.ensures ∙ length-marked flags c.next_run.result ∙ now.marks)
     (λ j inside edge. ap (λ marks. get_or marks j false) c.mark.ensures
-    ∙ marked-is levels (match_at classes (end - 1)) j flags c.next_run.result next c.loop-start.invariant.marks (omega arith) inside edge)
+    ∙ marked-is levels (match_at classes (end - 1)) j flags c.next_run.result next now.marks (omega arith) inside edge)
 
 pub returns : goal.returns
-returns c = Resolves-end (bracket_of c.args.paragraph.now.text.tables.now) c.args.paragraph.now.base
-    c.args.paragraph.now.text.characters.now c.args.paragraph.now.stayed.now.classes.items
+returns c look text are = Resolves-end look c.args.paragraph.now.base
+    text c.args.paragraph.now.stayed.now.classes.items
     c.args.paragraph.now.stayed.now.levels.items c.args.paragraph.now.stayed.now.types.items c.loop-start.start
     c.loop-start.continued c.loop-start.done
-    (rw c.as_slice-levels.ensures.value at c.loop-start-test.false) c.loop-start.invariant
+    (rw c.as_slice-levels.ensures.value at c.loop-start-test.false) (c.loop-start.invariant look text are)

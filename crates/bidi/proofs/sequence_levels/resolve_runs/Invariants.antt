@@ -1,12 +1,11 @@
 use Rattle.std.proofs.Common.{◌-◌, length}
-use Rattle.ucd.specs.Tables.{bracket_of}
+use Rattle.bidi.specs.Paragraphs.{OfAllTexts}
 use Rattle.bidi.proofs.LevelLemmas.{Resolves}
 use Rattle.bidi.proofs.sequence_levels.resolve_runs.Given as goal
 
 abbrev pub invariant-loop-start : goal.invariant-loop-start
-invariant-loop-start l = Resolves (bracket_of l.paragraph.text.tables.now) l.paragraph.base
-    l.paragraph.text.characters.now l.paragraph.stayed.now.classes.items l.paragraph.stayed.now.levels.items
-    l.paragraph.stayed.now.types.items l.start l.continued l.done
+invariant-loop-start l = OfAllTexts l.paragraph.brackets (length l.paragraph.stayed.now.levels.items) (λ look text. Resolves look l.paragraph.base text
+    l.paragraph.stayed.now.classes.items l.paragraph.stayed.now.levels.items l.paragraph.stayed.now.types.items l.start l.continued l.done)
 
 abbrev pub decreases-loop-start : goal.decreases-loop-start
 decreases-loop-start l = length l.paragraph.stayed.now.levels.items - l.start
