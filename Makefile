@@ -23,18 +23,19 @@ JOBS := $(shell nproc)
 TABLES = DerivedBidiClass BidiBrackets BidiMirroring LineBreak DerivedGeneralCategory EastAsianWidth emoji-data
 OPTIONS = --width 44 --basedir
 
-.PHONY: all program ucd demo check tmux parallel test attack bench-program conformance bench c install uninstall
+.PHONY: all program ucd demo check tmux parallel test attack bench-program conformance-program conformance bench c install uninstall
 
-all: programs = fribidi bench refused
+all: programs = fribidi conformance refused
 program: programs = fribidi
 bench-program: programs = fribidi bench
+conformance-program: programs = conformance
 
 # The crates are proved where they have changed, those that don't stand on one another side by side, and the programs run,
 # which stay in out/.
-all program bench-program:
+all program bench-program conformance-program:
 	$(MAKE) --no-print-directory --jobs=$(JOBS) $(programs:%=run-%)
 	mkdir -p bin
-	for name in $(filter fribidi bench,$(programs)); do cp crates/$$name/out/$$name bin/$$name; done
+	for name in $(filter fribidi bench conformance,$(programs)); do cp crates/$$name/out/$$name bin/$$name; done
 
 # (store isn't above ucd, but begins when the tables' proofs leave processors idle)
 lib-bidi lib-breaks lib-store: lib-ucd
@@ -45,7 +46,9 @@ lib-tool: lib-session lib-command_line lib-text_run
 lib-trials lib-hordguli_c: lib-session
 run-fribidi run-refused: lib-tool
 run-refused: lib-trials
-run-bench: lib-session
+lib-tables: lib-ucd
+run-bench: lib-session lib-tables
+run-conformance: lib-lines lib-tables
 
 run-fribidi: words = -- --help
 run-bench: words = -- edits tree 1 1
@@ -102,7 +105,7 @@ install uninstall:
 attack:
 	attack/run $(CRATES)
 
-conformance: bench-program ucd
+conformance: conformance-program ucd
 	conformance/run
 
 bench: bench-program c ucd parallel

@@ -1,5 +1,5 @@
 /* What the C calls find of the paragraphs that standard input names, one a line, for Unicode's conformance tests, in the
- * form of the program `bench`: conformance marks-of FOLDER, or conformance lines-of FOLDER DIRECTION.
+ * form of the program `conformance`: conformance marks-of FOLDER, or conformance lines-of FOLDER DIRECTION.
  *
  * A paragraph is put into a session, whose one line is told. The tests also have texts with a separator inside, which are
  * taken as one paragraph there: a session cuts them, so for these the calls without a session give the levels, and L1 and

@@ -13,15 +13,9 @@
 //! - `bench fill UCD CHARACTERS` prints how long a paragraph takes to be laid out and filled again.
 //! - `bench store KIND PARAGRAPHS TIMES` prints how long a store of paragraphs takes, a `list` or a
 //!   `tree`, to be made, and for a replacement and for a search.
-//!
-//! And tells what is found of paragraphs whose characters are named on standard input, for `conformance/run`:
-//!
-//! - `bench marks-of UCD` prints the break marks of each.
-//! - `bench lines-of UCD DIRECTION` prints the base level, the levels and the order of each, in one line.
 #![tactic(auto)]
 
 mod calls;
-mod conformance;
 mod edits;
 mod fill;
 mod levels;
@@ -52,11 +46,9 @@ enum Subject {
     Marks,
     Fill,
     Store,
-    MarksOf,
-    LinesOf,
 }
 
-const SUBJECTS: [(&str, Subject); 11] = [
+const SUBJECTS: [(&str, Subject); 9] = [
     ("edits", Subject::Edits),
     ("session", Subject::Session),
     ("calls", Subject::Calls),
@@ -66,8 +58,6 @@ const SUBJECTS: [(&str, Subject); 11] = [
     ("marks", Subject::Marks),
     ("fill", Subject::Fill),
     ("store", Subject::Store),
-    ("marks-of", Subject::MarksOf),
-    ("lines-of", Subject::LinesOf),
 ];
 
 // What is asked for. Functions here hold little where one of many calls may fail, since all that is held
@@ -107,8 +97,6 @@ fn run_on_tables(rt: &HostRuntime, subject: Subject, folder: &str, words: &[Stri
         Subject::Levels => levels::run(rt, folder, number(words, 3)),
         Subject::Layouts => levels::lay_out_each(rt, folder, number(words, 3)),
         Subject::Marks => marks::run(rt, folder, number(words, 3)),
-        Subject::MarksOf => conformance::marks_of(rt, folder),
-        Subject::LinesOf => conformance::lines_of(rt, folder, word(words, 3)),
         _ => fill::run(rt, folder, number(words, 3)),
     }
 }

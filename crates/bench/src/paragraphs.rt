@@ -10,9 +10,9 @@ use bidi::{Base, resolve};
 use breaks::{Mark, Tailoring, marks};
 use lines::{Engine, Laid, Options, PARAGRAPH_LIMIT};
 use std::alloc::{AllocError, Global};
-use std::fs;
 use std::time::Instant;
-use ucd::{FILE_NAMES, Tables, UcdFiles};
+use tables::in_folder;
+use ucd::Tables;
 
 /// A paragraph of these words, in an order that looks random.
 pub struct Kind {
@@ -39,7 +39,7 @@ pub fn measure_all(
     folder: &str,
     characters: usize,
 ) -> Result<()> {
-    let tables = tables(rt, folder)?;
+    let tables = in_folder(rt, folder)?;
     measure_kinds(rt, subject, &tables, kinds, characters)
 }
 
@@ -67,54 +67,14 @@ fn measure_kind(
     measure(rt, subject, tables, &text, kind.name)
 }
 
-fn table_file(rt: &HostRuntime, folder: &str, name: &str) -> Result<Vec<u8>> {
-    let path = format!(in rt.alloc(); "{folder}/{name}")?;
-    Ok(fs::read(rt, path.as_str())?)
-}
-
 /// An engine with the tables of the files of a folder.
 pub fn engine(rt: &HostRuntime, folder: &str) -> Result<Engine> {
-    Ok(Engine::new(tables(rt, folder)?, Options::default()))
+    Ok(Engine::new(in_folder(rt, folder)?, Options::default()))
 }
 
 /// Lets go of an engine. Only this function does, since the proof of each that does walks through all the
 /// lists that an engine has.
 pub fn let_go(_engine: Engine) {}
-
-/// The tables of the files of a folder.
-pub fn tables(rt: &HostRuntime, folder: &str) -> Result<Tables> {
-    let mut files = Vec::new(rt.alloc());
-    for name in &FILE_NAMES {
-        files.push(table_file(rt, folder, name)?)?;
-    }
-    read_tables(rt.alloc(), &files)
-}
-
-// The tables of the files in the order of their names.
-fn read_tables(alloc: Global, files: &[Vec<u8>]) -> Result<Tables> {
-    let [
-        bidi_class,
-        bidi_brackets,
-        bidi_mirroring,
-        line_break,
-        general_category,
-        east_asian_width,
-        emoji_data,
-    ] = files
-    else {
-        bail!("there are seven table files");
-    };
-    let files = UcdFiles {
-        bidi_class,
-        bidi_brackets,
-        bidi_mirroring,
-        line_break,
-        general_category,
-        east_asian_width,
-        emoji_data,
-    };
-    Ok(Tables::read(alloc, &files)?)
-}
 
 /// So many characters of these words.
 pub fn text_of(alloc: Global, words: &[&str], characters: usize) -> Result<Vec<char>, AllocError> {

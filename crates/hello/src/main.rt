@@ -2,8 +2,6 @@
 //! what stands below the line on proofs, and the gate compares the two.
 #![tactic(auto)]
 
-mod tables;
-
 use anyhow::Result;
 use device::ToWrite;
 use lines::{Engine, Options, Print};

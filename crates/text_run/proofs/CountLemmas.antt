@@ -1,10 +1,13 @@
 -- What an engine counts, one call after another.
-use Rattle.std.proofs.Common.{◌≡◌, ℕ, ◌+◌, ◌-◌, ◌^◌, ◌≤◌, min, Bool, true, false, refl, sym, ap, ◌∙◌, arith, true≢false, if◌then◌else◌}
+use Rattle.std.proofs.Common.{◌≡◌, ℕ, ◌+◌, ◌-◌, ◌^◌, ◌≤◌, min, Bool, true, false, Some, refl, sym, ap, ◌∙◌, arith, true≢false, if◌then◌else◌}
 use Rattle.lines.specs.Engine.{analysed_of, counted, filled_of, written_of, Prints, RisesBy}
 use Rattle.lines.specs.Printing.{skips_lines}
 use Rattle.lines.specs.declared.engine.Engine.{Engine}
 use Rattle.lines.specs.declared.print.Print.{Print}
 use Rattle.text_run.specs.Counts.{PrintsAtMost}
+use Rattle.text_run.specs.TextRun.{HasPrinted}
+use Rattle.text_run.specs.declared.faults.RunFault.{RunFault}
+use Rattle.text_run.specs.declared.faults.RunFault.TheVariants as f
 
 min_twice : (b count m n : ℕ) → min (min (count + m) b + n) b ≡ min (count + (m + n)) b
 min_twice b count m n = omega arith
@@ -90,3 +93,13 @@ module _ (print : Print) where
       unless_skips (skips_lines print) (written_of old) (written_of new) n a.written skips,
     );
   }
+
+-- what was printed is told of a fault of the input, and of others nothing is
+pub printed_as : (fault : RunFault) (n : ℕ) (print : Print) (old new : Engine) → Prints n print old new → HasPrinted (Some fault) n print old new
+printed_as f.Read n print old new counts = counts
+printed_as (f.Write m) n print old new counts = tt
+printed_as (f.NotUtf8 m) n print old new counts = counts
+printed_as f.ParagraphTooLong n print old new counts = counts
+printed_as f.TextTooLong n print old new counts = counts
+printed_as (f.BadLine m) n print old new counts = counts
+printed_as f.Memory n print old new counts = tt

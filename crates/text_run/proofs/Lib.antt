@@ -1,6 +1,7 @@
 pub mod CountLemmas
 pub mod Devices
 pub mod Fronts
+pub mod LeftLemmas
 pub mod LongLemmas
 pub mod PieceLemmas
 pub mod PrintLemmas

@@ -25,10 +25,11 @@ use Rattle.text_run.specs.declared.text.TheConstants.{PIECE}
 use Rattle.text_run.specs.TextRun.{AtEnd, AtFailure, are_within, input_fault, front_of, front_paragraphs, is_bad, written_of, Gave, HasPrinted, HasRead, PrintsNoMore, WantsMemory}
 use Rattle.text_run.specs.Counts.{PrintsAtMost}
 use Rattle.text_run.specs.Streaming.{Ends, FindsFault, Finishes, Gathers, IsAt, IsBeginning, IsFront, IsFaultAhead, IsOpen, IsRead, Stands, Steps, StopsWriting, Writes, last_lines}
-use Rattle.text_run.proofs.CountLemmas.{at_most_more, at_most_none, at_most_printed, prints_more}
+use Rattle.text_run.proofs.CountLemmas.{at_most_more, at_most_none, at_most_printed, printed_as, prints_more}
 use Rattle.text_run.proofs.Devices.{Took-nothing}
-use Rattle.text_run.proofs.Fronts.{first_paragraph, front_join, front_more, front_none}
-use Rattle.text_run.proofs.StreamLemmas.{Consumes-append, Consumes-kept, IsSent, Stops, at_fault, at_long, at_memory, at_write, at_written, ends_write, front_is, gave_all, had_all, pars_sent, sent_ahead, sent_within, short_is, within_more, written_whole, Wrote-append}
+use Rattle.text_run.proofs.Fronts.{front_join, front_more, front_none}
+use Rattle.text_run.proofs.LeftLemmas.{front_some, last_pars, last_within, left_by, not_none, pars_some}
+use Rattle.text_run.proofs.StreamLemmas.{Consumes-append, Consumes-kept, IsSent, Stops, at_fault, at_long, at_memory, at_write, at_written, ends_write, front_is, gave_all, had_all, pars_sent, sent_ahead, sent_within, within_more, written_whole, Wrote-append}
 use Rattle.text_run.proofs.Utf8Lemmas.{bad_stays, is_bad-after, nothing_valid, utf8_error_len-nil, utf8_front, utf8_valid_len-after}
 use lib.Utf8.{encode}
 
@@ -40,24 +41,8 @@ encoded_len (c ∷ cs) = omega (arith, length-append (encode c) (encode_utf8_all
 not_all : (m n : ℕ) → m < n → (m == n) ≡ false
 not_all m n less = grind (arith, nat_tests)
 
-not_none : (text : List ℕ) → 0 < length text → (length text == 0) ≡ false
-not_none text some = grind (arith, nat_tests)
-
 is_all : (m n : ℕ) → m ≡ n → (m == n) ≡ true
 is_all m n is = grind (arith, nat_tests)
-
--- the last paragraph of a text, if there is one
-last_pars : (rules : Rules) (text : List ℕ) → IsOpen (cut_by rules) text → paragraphs (cut_by rules) text ≡ (if length text == 0 then [] else text ∷ [])
-last_pars rules [] is_open = refl
-last_pars rules (a ∷ text) is_open =
-    let filled : (length (a ∷ text) == 0) ≡ false = grind (arith, nat_tests) in
-    is_open.uncut (omega arith) ∙ sym (ap (λ (b : Bool). if b then [] else (a ∷ text) ∷ []) filled)
-
-last_within : (text : List ℕ) → length text ≤ 1048576 → are_within (if length text == 0 then [] else text ∷ []) ≡ true
-last_within [] short = refl
-last_within (a ∷ text) short =
-    let filled : (length (a ∷ text) == 0) ≡ false = grind (arith, nat_tests) in
-    ap (λ (b : Bool). are_within (if b then [] else (a ∷ text) ∷ [])) filled ∙ ap (λ (b : Bool). b && true) (short_is (a ∷ text) short)
 
 not_bad : (bytes : List ℕ) → is_some (utf8_error_len bytes) ≡ false → utf8_error_len bytes ≡ None
 not_bad bytes good = go (utf8_error_len bytes) good
@@ -69,38 +54,6 @@ not_bad bytes good = go (utf8_error_len bytes) good
 some_bad : (bytes : List ℕ) → is_some (utf8_error_len bytes) ≡ true → 0 < length bytes
 some_bad [] bad = absurd (true≢false (sym bad ∙ ap is_some utf8_error_len-nil))
 some_bad (b ∷ bytes) bad = omega arith
-
--- what was printed is told of a fault of the input, and of others nothing is
-printed_as : (fault : RunFault) (n : ℕ) (print : Print) (old new : Engine) → Prints n print old new → HasPrinted (Some fault) n print old new
-printed_as f.Read n print old new counts = counts
-printed_as (f.Write m) n print old new counts = tt
-printed_as (f.NotUtf8 m) n print old new counts = counts
-printed_as f.ParagraphTooLong n print old new counts = counts
-printed_as f.TextTooLong n print old new counts = counts
-printed_as (f.BadLine m) n print old new counts = counts
-printed_as f.Memory n print old new counts = tt
-
--- characters are decoded of bytes whose front isn't empty
-front_some : (bytes : List ℕ) → 0 < utf8_valid_len bytes → 0 < length (front_of bytes)
-front_some bytes some = go (front_of bytes) refl
-  where
-    valid : List ℕ
-    valid = take (utf8_valid_len bytes) bytes
-
-    go : (cs : List ℕ) → front_of bytes ≡ cs → 0 < length (front_of bytes)
-    go [] none =
-        let encoded : encode_utf8_all (front_of bytes) ≡ valid = encodes-chars valid (utf8_front bytes) in
-        absurd (omega (arith, some, length-take-le (utf8_valid_len bytes) bytes (utf8_valid_len_le bytes), ap length (sym encoded ∙ ap encode_utf8_all none)))
-    go (c ∷ cs) is = omega (arith, ap length is)
-
--- the first k of n paragraphs are not all of them, nor all but the one that bad bytes follow
-left_by : (k n : ℕ) (bad : Bool) → k < n → (bad ≡ true → k + 1 < n) → (if bad then k + 1 else k) < n
-left_by k n true less more = more refl
-left_by k n false less more = less
-
-pars_some : (is_cut : ℕ → ℕ → Bool) (text : List ℕ) → 0 < length text → 0 < length (paragraphs is_cut text)
-pars_some is_cut [] some = absurd (omega arith)
-pars_some is_cut (c ∷ text) some = omega (arith, ap length (first_paragraph is_cut c text).2)
 
 module _ (rules : Rules) (width : ℕ) (print : Print) (reader_old writer_old : Device) (engine_old : Engine) (reader writer : Device) (engine : Engine) (held : Held) where
   abbrev Holds : List ℕ → List ℕ → Type 0

@@ -226,7 +226,8 @@ fn read_line(
         ≡ request_of_line queries line.now) }
     ensures err { OnErr result (utf8_valid_len line.now ≡ length line.now) }
     ensures memory { OnErr result (0 < length line.now) }
-    ensures part { OnErr result ((length text.new.items < length (chars line.now)) ⊎ HasPiece (chars line.now)) }
+    ensures part { OnErr result ((length text.new.items < length (chars line.now))
+        ⊎ HasPiece (chars line.now)) }
 {
     let (characters, _) = front(line);
     if characters.len() < line.len() {
@@ -332,7 +333,8 @@ fn take_part<W: Sink, S: ParagraphStore<Kept>>(
     ensures ok { IfOk result (λ n. Takes (rules_of session.old.engine) options.now piece.now n
         session.old session.new reading.old reading.new (W.state writer.old) (W.state writer.new)) }
     ensures err { IfErr result (FailsIn (rules_of session.old.engine) options.now piece.now
-        reading.new.text.items session.old session.new reading.old (W.state writer.old) (W.state writer.new)) }
+        reading.new.text.items session.old session.new reading.old
+        (W.state writer.old) (W.state writer.new)) }
     ensures rules { SameRules session.old.engine session.new.engine }
 {
     match line_end(piece) {

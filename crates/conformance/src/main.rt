@@ -1,18 +1,54 @@
-//! What is found of the paragraphs that standard input names, one a line, for Unicode's conformance tests.
-use crate::paragraphs::{lay_out, let_go, tables};
+//! Tells what is found of the paragraphs that standard input names, one a line, each by the hexadecimal numbers of its
+//! characters, for Unicode's conformance tests (`conformance/run`), with the table files of the folder UCD:
+//!
+//! - `conformance marks-of UCD` prints the break marks of each.
+//! - `conformance lines-of UCD DIRECTION` prints the base level, the levels and the order of each, in one line.
+//!
+//! Without words it says this.
+#![tactic(auto)]
+
 use anyhow::{Result, bail};
 use bidi::Base;
 use breaks::{Mark, Tailoring, marks};
-use lines::{Engine, Laid, Options};
+use lines::{Engine, Laid, Options, PARAGRAPH_LIMIT};
 use std::alloc::Global;
+use std::env;
 use std::io;
 use std::io::{BufRead, BufReader, BufWriter, Write};
+use tables::in_folder;
 use ucd::Tables;
 
-/// Prints the marks of the positions of each paragraph, one after each of its characters: `x` where no line
-/// ends, `/` where one may and `!` where one must.
-pub fn marks_of(rt: &HostRuntime, folder: &str) -> Result<()> {
-    let tables = tables(rt, folder)?;
+const USAGE: &str = "conformance marks-of UCD, or conformance lines-of UCD ltr|rtl|wltr|wrtl";
+
+fn main(rt: HostRuntime) -> Result<()> {
+    let words: Vec<String> = env::args(&rt)?.collect(rt.alloc())?;
+    run(&rt, &words)
+}
+
+fn run(rt: &HostRuntime, words: &[String]) -> Result<()> {
+    let subject = word(words, 1);
+    if subject == "marks-of" {
+        return marks_of(rt, word(words, 2));
+    }
+    if subject == "lines-of" {
+        return lines_of(rt, word(words, 2), word(words, 3));
+    }
+    println!(rt; "{USAGE}")?;
+    Ok(())
+}
+
+// The word at a place, where the first is the name of the program. One that is missing is empty.
+fn word(words: &[String], place: usize) -> &str {
+    match words.get(place) {
+        Some(word) => word.as_str(),
+        None => "",
+    }
+}
+
+// Prints the marks of the positions of each paragraph, one after each of its characters: `x` where no line
+// ends, `/` where one may and `!` where one must.
+fn marks_of(rt: &HostRuntime, folder: &str) -> Result<()> {
+    let tables = in_folder(rt, folder)?;
     write_marks_of(rt, &tables)
 }
 
@@ -52,10 +88,10 @@ fn sign(mark: Mark) -> char {
     }
 }
 
-/// Lays each paragraph out in one line, and prints its base level and, of what is shown, the levels after L1
-/// and the logical positions in visual order: `1; 1 2; 1 0`. The direction is `ltr`, `rtl`, `wltr` or `wrtl`,
-/// as the command's options have them.
-pub fn lines_of(rt: &HostRuntime, folder: &str, direction: &str) -> Result<()> {
+// Lays each paragraph out in one line, and prints its base level and, of what is shown, the levels after L1
+// and the logical positions in visual order: `1; 1 2; 1 0`. The direction is `ltr`, `rtl`, `wltr` or `wrtl`,
+// as the command's options have them.
+fn lines_of(rt: &HostRuntime, folder: &str, direction: &str) -> Result<()> {
     let mut engine = engine(rt, folder, direction)?;
     let answer = write_lines_of(rt, &mut engine);
     let_go(engine);
@@ -81,7 +117,7 @@ fn write_laid<W: Write>(
     output: &mut W,
 ) -> Result<()> {
     let text = characters(alloc, line)?;
-    let laid = lay_out(alloc, engine, text, u16::MAX)?;
+    let laid = lay_out(alloc, engine, text)?;
     write_line(output, &laid)
 }
 
@@ -107,7 +143,7 @@ fn engine(rt: &HostRuntime, folder: &str, direction: &str) -> Result<Engine> {
         nobreak: true,
         ..Options::default()
     };
-    Ok(Engine::new(tables(rt, folder)?, options))
+    Ok(Engine::new(in_folder(rt, folder)?, options))
 }
 
 // The characters that a line names by their hexadecimal numbers.
@@ -152,3 +188,19 @@ fn write_places<W: Write>(output: &mut W, places: &[u32]) -> Result<()> {
     }
     Ok(writeln!(output)?)
 }
+
+// Lays a paragraph out in one line.
+fn lay_out(alloc: Global, engine: &mut Engine, text: Vec<char>) -> Result<Laid> {
+    let is_long = text.len() > PARAGRAPH_LIMIT;
+    if text.is_empty() || is_long || engine.first_cut(&text).is_some() {
+        bail!("that is no paragraph");
+    }
+    match engine.lay_out(alloc, text, u16::MAX) {
+        Ok(laid) => Ok(laid),
+        Err(_) => bail!("out of memory"),
+    }
+}
+
+// Lets go of an engine. Only this function does, since the proof of each that does walks through all the lists
+// that an engine has.
+fn let_go(_engine: Engine) {}
