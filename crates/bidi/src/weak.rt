@@ -2,7 +2,7 @@
 ghost use Rattle.std.specs.Prelude.{◌≡◌, ◌<◌, not, if◌then◌else◌};
 ghost use Rattle.bidi.specs.Classes.{is_strong};
 ghost use Rattle.bidi.specs.Waiting.{mark_type, digit_type, number_type, written, completes, row_after};
-ghost use Rattle.bidi.specs.Waiting.{is_weak, start_after};
+ghost use Rattle.bidi.specs.Waiting.{is_settled, is_weak, start_after};
 ghost use Rattle.bidi.specs.Weak.{is_mark, is_left, mark_after, w3_type, weak};
 
 use crate::fill::fill;
@@ -40,24 +40,47 @@ pub(crate) fn resolve_weak(types: &mut [BidiClass], sos: BidiClass)
     let mut start = 0;
     for at in 0..types.len() {
         let class = types[at];
-        let marked = mark_type(before, class);
-        let number = w3_type(digit_type(strong, marked));
-        if is_weak(number) {
-            let value = written(row, is_left(strong), number);
-            if completes(row, number) {
-                fill(types, start, at, value);
-            }
-            types[at] = value;
-            start = start_after(row, number, start, at);
-            row = row_after(row, number);
-        } else {
-            types[at] = number;
+        if is_settled(class) {
+            types[at] = w3_type(class);
             start = at + 1;
             row = Row::Nothing;
+            before = class;
+            strong = strong_after(class, strong);
+        } else {
+            let marked = mark_type(before, class);
+            let number = w3_type(digit_type(strong, marked));
+            if is_weak(number) {
+                let value = written(row, is_left(strong), number);
+                if completes(row, number) {
+                    fill(types, start, at, value);
+                }
+                types[at] = value;
+                start = start_after(row, number, start, at);
+                row = row_after(row, number);
+            } else {
+                types[at] = number;
+                start = at + 1;
+                row = Row::Nothing;
+            }
+            before = unmarked_after(class, before);
+            strong = strong_after(marked, strong);
         }
-        before = unmarked_after(class, before);
-        strong = strong_after(marked, strong);
     }
+}
+
+// Whether only W3 makes anything of a type, whatever stands before it and after it. Most types are such.
+fn is_settled(class: BidiClass) -> bool
+    ensures { result ≡ is_settled class }
+{
+    !matches!(
+        class,
+        BidiClass::NSM
+            | BidiClass::EN
+            | BidiClass::ES
+            | BidiClass::ET
+            | BidiClass::AN
+            | BidiClass::CS
+    )
 }
 
 // Whether W4 to W7 make anything of a type.
