@@ -114,3 +114,9 @@ pub record AreTypesSoFar (sos : BidiClass) (old current : List BidiClass) (befor
   pub waiting : take at current ≡ take start current ++ replicate (at - start) ON
   pub whole : take start current ++ types_after row (at - start) (w3_type strong) (read_types before strong (drop at old))
       ≡ types_after Nothing 0 (w3_type sos) (read_types sos sos old)
+
+-- whatever the walk knew at a place, it then knows the same of its types with those of a row settled
+abbrev pub SettlesRow : List BidiClass → ℕ → BidiClass → List BidiClass → ℕ → Type 0
+SettlesRow current at class settled next =
+    (sos : BidiClass) (old : List BidiClass) (before strong : BidiClass) (row : Row) (start : ℕ) → AreTypesSoFar sos old current before strong row start at
+    → AreTypesSoFar sos old settled class (if is_strong class then class else strong) Nothing next next

@@ -288,7 +288,13 @@ impl Resolver {
             classes: &self.classes,
             base,
         };
-        resolve_classified(&paragraph, summary.is_plain, &mut self.acting, &mut self.work, levels)
+        resolve_classified(
+            &paragraph,
+            summary.is_plain,
+            &mut self.acting,
+            &mut self.work,
+            levels,
+        )
     }
 
     /// The base level of one paragraph, 0 or 1, and in place of what `levels` has the level of each
@@ -324,7 +330,13 @@ impl Resolver {
             base: level,
         };
         let all_plain = are_plain(classes);
-        resolve_classified(&paragraph, all_plain, &mut self.acting, &mut self.work, levels)?;
+        resolve_classified(
+            &paragraph,
+            all_plain,
+            &mut self.acting,
+            &mut self.work,
+            levels,
+        )?;
         Ok(level)
     }
 }

@@ -1,8 +1,8 @@
 //! The weak rules (UAX #9, W1 to W7), in one walk over the types of one isolating run sequence.
-ghost use Rattle.std.specs.Prelude.{◌≡◌, ◌<◌, not, if◌then◌else◌};
-ghost use Rattle.bidi.specs.Classes.{is_strong};
+ghost use Rattle.std.specs.Prelude.{◌≡◌, ◌<◌, ◌≤◌, true, length, not, if◌then◌else◌};
+ghost use Rattle.bidi.specs.Classes.{class_at, is_strong};
 ghost use Rattle.bidi.specs.Waiting.{mark_type, digit_type, number_type, written, completes, row_after};
-ghost use Rattle.bidi.specs.Waiting.{is_settled, is_weak, start_after};
+ghost use Rattle.bidi.specs.Waiting.{is_settled, is_weak, start_after, SettlesRow};
 ghost use Rattle.bidi.specs.Weak.{is_mark, is_left, mark_after, w3_type, weak};
 
 use crate::fill::fill;
@@ -38,11 +38,12 @@ pub(crate) fn resolve_weak(types: &mut [BidiClass], sos: BidiClass)
     let mut row = Row::Nothing;
     // Where the types begin that wait.
     let mut start = 0;
-    for at in 0..types.len() {
+    let mut at = 0;
+    while at < types.len() {
         let class = types[at];
         if is_settled(class) {
-            types[at] = w3_type(class);
-            start = at + 1;
+            at = settle_row(types, at, class);
+            start = at;
             row = Row::Nothing;
             before = class;
             strong = strong_after(class, strong);
@@ -64,8 +65,28 @@ pub(crate) fn resolve_weak(types: &mut [BidiClass], sos: BidiClass)
             }
             before = unmarked_after(class, before);
             strong = strong_after(marked, strong);
+            at += 1;
         }
     }
+}
+
+// W3 of a row of equal types of which the other rules make nothing. Answers where the row ends.
+fn settle_row(types: &mut [BidiClass], start: usize, class: BidiClass) -> usize
+    requires within { start < length types.old }
+    requires class { class_at types.old start ≡ class }
+    requires settled { is_settled class ≡ true }
+    ensures above { start < result }
+    ensures within { result ≤ length types.new }
+    ensures settled { SettlesRow types.old start class types.new result }
+{
+    let value = w3_type(class);
+    types[start] = value;
+    let mut at = start + 1;
+    while at < types.len() && types[at] == class {
+        types[at] = value;
+        at += 1;
+    }
+    at
 }
 
 // Whether only W3 makes anything of a type, whatever stands before it and after it. Most types are such.
