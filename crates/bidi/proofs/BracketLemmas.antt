@@ -1,5 +1,5 @@
 -- The walk of N0: which places a set bracket sets, which strong types stand between two places, and what the pairs so far have changed.
-use Rattle.std.proofs.Common.{◌≡◌, ℕ, suc, ◌+◌, ◌-◌, ◌<◌, ◌≤◌, ◌==◌, ◌⊎◌, nat_lt, Bool, true, false, ◌&&◌, not, if◌then◌else◌, List, [], ◌∷◌, length, get_or, set, take, drop, map, fold, reverse, slice_range, slice_index, Option, Some, None, refl, sym, ap, subst, ◌∙◌, inl, inr, arith, length-drop}
+use Rattle.std.proofs.Common.{◌≡◌, ℕ, zero, suc, ◌+◌, ◌-◌, ◌<◌, ◌≤◌, ◌==◌, ◌⊎◌, nat_lt, Bool, true, false, ◌&&◌, not, if◌then◌else◌, List, [], ◌∷◌, length, get_or, set, take, drop, map, fold, reverse, slice_range, slice_index, Option, Some, None, refl, sym, ap, subst, ◌∙◌, inl, inr, arith, length-drop}
 use Rattle.std.specs.List.{list_any, list_all, range_with_len}
 use Rattle.std.proofs.lemmas.Bool.{cond-true, cond-false, cases_Bool, cases_eq, cases_lt, cases_order, eq-eqb, ne_eqb, lt-ltb, le-ltb, both_ways, or_left, or_right, or_from, or_cases, and_parts, and_from, and_left}
 use Rattle.std.proofs.lemmas.List.{length-map, length-take, length-take-le, get_or-take, get_or-drop, same_lists, take_more, reverse-append, get_or_default, length-set, get_or-set_other}
@@ -342,6 +342,15 @@ pub record Resolved (embedding sos : BidiClass) (explicit : List BidiClass) (clo
   pub so_far : fold (λ types a. pair_step embedding sos (map is_mark explicit) types a (closer_in closers a)) current (range_with_len k (length old - k))
       ≡ resolve_pairs embedding sos (map is_mark explicit) (closer_in closers) old
 
+pub Resolved-start : (embedding sos : BidiClass) (explicit : List BidiClass) (closers : List ℕ) (old : List BidiClass) → Resolved embedding sos explicit closers old old 0
+Resolved-start embedding sos explicit closers old =
+    let f : List BidiClass → ℕ → List BidiClass = λ types a. pair_step embedding sos (map is_mark explicit) types a (closer_in closers a) in
+    let size : length old - 0 ≡ length old = omega arith in
+    record {
+      changed = record { sizes = refl; cases = λ q below. inl refl };
+      so_far = ap (λ n. fold f old (range_with_len 0 n)) size;
+    }
+
 Resolved-step : (embedding sos : BidiClass) (explicit : List BidiClass) (closers : List ℕ) (old current next : List BidiClass) (k : ℕ)
     → Resolved embedding sos explicit closers old current k → k < length old
     → pair_step embedding sos (map is_mark explicit) current k (closer_in closers k) ≡ next
@@ -386,6 +395,21 @@ Resolved-none embedding sos explicit closers old current k r within free next sa
     (ap (pair_step embedding sos marks current k) (cond-false (nat_lt b (length closers)) (Some b) None (le-ltb b (length closers) free)) ∙ sym same)
     (subst P (sym same) (Changed-next closers old current k r.changed))
 
+-- and past more of them
+pub Resolved-skip : (embedding sos : BidiClass) (explicit : List BidiClass) (closers : List ℕ) (old current : List BidiClass) (n k j : ℕ) → j ≡ n + k → j ≤ length old
+    → ((m : ℕ) → k ≤ m → m < j → length closers ≤ slice_index closers m) → Resolved embedding sos explicit closers old current k → Resolved embedding sos explicit closers old current j
+Resolved-skip embedding sos explicit closers old current zero k j e within free r =
+    let same : k ≡ j = omega arith in subst (λ x. Resolved embedding sos explicit closers old current x) same r
+Resolved-skip embedding sos explicit closers old current (suc n) k j e within free r =
+    Resolved-skip embedding sos explicit closers old current n (k + 1) j (omega arith) within (λ m above below. free m (omega arith) below)
+    (Resolved-none embedding sos explicit closers old current k r (omega arith) (free k (omega arith) (omega arith)) current refl)
+
+pub IsClear-skip : (left : Bool) (before : List BidiClass) (place next further : ℕ) → place ≤ further → IsClear left before place next → IsClear left before further next
+IsClear-skip left before place next further order clear = record {
+  bounded = clear.bounded;
+  passed = λ m above below. clear.passed m (omega arith) below;
+}
+
 -- the nearest strong type, one place farther back
 pub context-more : (sos : BidiClass) (types : List BidiClass) (k : ℕ) (e : BidiClass) → k < length types
     → context sos types (k + 1) ≡ (if is_direction (get_or types k e) then get_or types k e else context sos types k)
@@ -400,9 +424,3 @@ direction_is sos types a b left embedding same other strong l s h g =
     ∙ ap (λ v. if stands left types a b then Some (side left) else (if v then Some (side (if agree left (is_left strong) then left else not left)) else None)) g
     ∙ ap (λ v. if stands left types a b then Some (side left) else (if stands (not left) types a b then Some (side (if agree left (is_left v) then left else not left)) else None)) s
     ∙ ap (λ v. pair_direction v sos types a b) l
-
-pub IsClear-next : (left : Bool) (before : List BidiClass) (place next further : ℕ) → IsClear left before place next → further ≡ next → IsClear left before (place + 1) further
-IsClear-next left before place next further clear same = record {
-  bounded = omega (arith, clear.bounded);
-  passed = λ m above below. clear.passed m (omega arith) (omega arith);
-}

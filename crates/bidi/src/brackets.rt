@@ -1,10 +1,10 @@
 //! Bracket pairs and the directions that they take (UAX #9, BD14 to BD16 and N0), over what the characters
 //! of one isolating run sequence are as brackets.
-ghost use Rattle.std.specs.Prelude.{◌≡◌, ℕ, ◌<◌, ◌≤◌, ◌&&◌, [], map, length, List, OnOk, Option};
+ghost use Rattle.std.specs.Prelude.{◌≡◌, ℕ, ◌<◌, ◌≤◌, ◌&&◌, [], map, length, slice_index, List, OnOk, Option};
 ghost use Rattle.std.specs.Prelude.{Some, None};
 ghost use Rattle.std.specs.Prelude.{if◌then◌else◌, true, false, not};
 ghost use Rattle.ucd.specs.declared.bracket.Bracket.{Bracket};
-ghost use Rattle.bidi.specs.BracketTypes.{bracket_types};
+ghost use Rattle.bidi.specs.BracketTypes.{bracket_at, bracket_types, is_bracket};
 ghost use Rattle.bidi.specs.declared.bracket_type.BracketType.TheVariants.{Other};
 ghost use Rattle.bidi.specs.Brackets.{brackets, canonical, is_other, pairs_of, resolve_pairs, context, is_direction};
 ghost use Rattle.bidi.specs.Brackets.{is_toward, stands, set_with, set_pair};
@@ -15,7 +15,7 @@ ghost use Rattle.bidi.specs.Classes.{class_at};
 ghost use Rattle.bidi.specs.Neutral.{agree, side};
 ghost use Rattle.bidi.specs.Resolving.{IsClear};
 
-use crate::bracket_type::BracketType;
+use crate::bracket_type::{BracketType, is_bracket};
 use arrayvec::ArrayVec;
 use std::alloc::{AllocError, Global};
 use ucd::BidiClass;
@@ -153,7 +153,8 @@ fn find_pairs(
 {
     fill(closers, types.len())?;
     let mut openers: ArrayVec<Opener, MAX_OPENERS> = ArrayVec::new();
-    for place in 0..types.len() {
+    let mut place = next_bracket(kinds, 0);
+    while place < types.len() {
         match bracket_in(kinds[place], types[place]) {
             BracketType::Opening(pair) => {
                 if openers.is_full() {
@@ -164,8 +165,23 @@ fn find_pairs(
             BracketType::Closing(closer) => close(&mut openers, closers, closer, place),
             BracketType::Other => {}
         }
+        place = next_bracket(kinds, place + 1);
     }
     Ok(())
+}
+
+// The least place from `from` on at which a bracket stands, or else the length.
+fn next_bracket(kinds: &[BracketType], from: usize) -> usize
+    requires { from ≤ length kinds.now }
+    ensures reached { from ≤ result }
+    ensures within { result ≤ length kinds.now }
+    ensures passed { (m : ℕ) → from ≤ m → m < result → is_bracket (bracket_at kinds.now m) ≡ false }
+{
+    let mut at = from;
+    while at < kinds.len() && !is_bracket(kinds[at]) {
+        at += 1;
+    }
+    at
 }
 
 // The least place from `from` on, and before a limit, with a strong type of direction L, or of direction R; or
@@ -216,15 +232,31 @@ fn resolve_brackets(
     // Up to where no strong type of a direction stands after the place, as the types were before N0.
     let mut same = 0;
     let mut other = 0;
-    for place in 0..types.len() {
+    let mut place = next_pair(closers, 0);
+    while place < types.len() {
         let closer = closers[place];
-        if closer < types.len() {
-            let has_same = stands_inside(types, before, left, place, closer, &mut same);
-            let has_other = stands_inside(types, before, !left, place, closer, &mut other);
-            let direction = pair_direction(types, place, left, sos, has_same, has_other);
-            set_pair(types, explicit, place, closer, direction);
-        }
+        let has_same = stands_inside(types, before, left, place, closer, &mut same);
+        let has_other = stands_inside(types, before, !left, place, closer, &mut other);
+        let direction = pair_direction(types, place, left, sos, has_same, has_other);
+        set_pair(types, explicit, place, closer, direction);
+        place = next_pair(closers, place + 1);
     }
+}
+
+// The least place from `from` on at which a pair opens, or else the length.
+fn next_pair(closers: &[usize], from: usize) -> usize
+    requires { from ≤ length closers.now }
+    ensures reached { from ≤ result }
+    ensures within { result ≤ length closers.now }
+    ensures passed { (m : ℕ) → from ≤ m → m < result → length closers.now ≤ slice_index closers.now m }
+    ensures stops { result < length closers.now
+        → slice_index closers.now result < length closers.now }
+{
+    let mut at = from;
+    while at < closers.len() && closers[at] >= closers.len() {
+        at += 1;
+    }
+    at
 }
 
 // Whether a strong type of a direction stands inside a pair. `next` moves to the next place after

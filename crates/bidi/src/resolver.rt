@@ -12,7 +12,7 @@ ghost use Rattle.bidi.specs.Paragraphs.{AreFor, OfAllTexts};
 ghost use Rattle.bidi.specs.Plain.{has_bracket_in, is_flat, is_plain};
 
 use crate::base::{Base, base_level_by, base_level_of};
-use crate::bracket_type::{BracketType, bracket_type};
+use crate::bracket_type::{BracketType, bracket_type, is_bracket};
 use crate::levels::{Classified, Work, resolve_classes, resolve_plain};
 use crate::sequence_levels::Brackets;
 use std::alloc::{AllocError, Global};
@@ -75,12 +75,6 @@ fn are_flat_by(properties: &[Properties]) -> bool
     ensures { result ≡ list_all (λ one. is_flat (class_in one)) properties.now }
 {
     properties.iter().all(|one| is_flat(one.bidi_class()))
-}
-
-fn is_bracket(bracket: BracketType) -> bool
-    ensures { result ≡ is_bracket bracket }
-{
-    !matches!(bracket, BracketType::Other)
 }
 
 fn has_brackets(brackets: &[BracketType]) -> bool
