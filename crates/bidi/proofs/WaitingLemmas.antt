@@ -1,14 +1,14 @@
 -- One step of the walk over the weak rules.
 use Rattle.std.proofs.Common.{◌≡◌, ℕ, ◌+◌, ◌-◌, ◌<◌, ◌≤◌, Bool, true, false, not, if◌then◌else◌, List, [], ◌∷◌, ◌++◌, length, get_or, set, take, drop, replicate, refl, sym, ap, subst, ◌∙◌, inl, inr, arith, append_assoc}
-use Rattle.std.proofs.lemmas.Bool.{cond-true, cond-false, cases_Bool}
+use Rattle.std.proofs.lemmas.Bool.{cond-true, cond-false, cases_Bool, not_from_false}
 use Rattle.std.proofs.lemmas.List.{append-nil, length-set, length-take-le, drop-drop, drop-set-lt, drop_more, drop_all, take-take, take-append-le, take-set, take-set-le, take_all, take_more_set, replicate_more}
 use Rattle.ucd.specs.declared.bidi_class.BidiClass.{BidiClass}
-use Rattle.ucd.specs.declared.bidi_class.BidiClass.TheVariants.{L, R, AL, EN, ES, ET, AN, CS, ON}
+use Rattle.ucd.specs.declared.bidi_class.BidiClass.TheVariants.{L, R, AL, EN, ES, ET, AN, CS, NSM, ON}
 use Rattle.bidi.specs.declared.weak.Row.{Row}
 use Rattle.bidi.specs.declared.weak.Row.TheVariants.{Nothing, European, Arabic, EuropeanTerminators, EuropeanSeparator, ArabicSeparator, Terminators}
-use Rattle.bidi.specs.Classes.{is_strong}
+use Rattle.bidi.specs.Classes.{class_at, is_strong}
 use Rattle.bidi.specs.Weak.{is_mark, is_left, w3_type, weak}
-use Rattle.bidi.specs.Waiting.{is_weak, mark_type, digit_type, read_types, waits, lengthens, completes, written, row_after, start_after, types_after, AreTypesSoFar}
+use Rattle.bidi.specs.Waiting.{is_settled, is_weak, mark_type, digit_type, read_types, waits, lengthens, completes, written, row_after, start_after, types_after, AreTypesSoFar, SettlesRow}
 use Rattle.bidi.proofs.WeakLemmas.{left-w3, weak-is}
 
 -- the strong type after a type, before W3 and after it
@@ -261,6 +261,61 @@ types-other sos old current before strong row start at so_far d within marked ty
     subst P (other-row row type other) (
     types-next sos old current before strong row start at so_far d within marked type type current is_marked is_type (sym (other-written row (is_left strong) type other))
     refl refl front (at + 1) (sym begins))
+
+twice : {X : Type 0} (b : Bool) (x y : X) → (if b then x else (if b then x else y)) ≡ (if b then x else y)
+twice true x y = refl
+twice false x y = refl
+
+-- past a type of which W3 alone makes something
+not_mark : (class : BidiClass) → is_settled class ≡ true → is_mark class ≡ false
+not_mark NSM e = absurd (cc)
+not_mark _ e = refl
+
+settled-mark : (before class : BidiClass) → is_settled class ≡ true → class ≡ mark_type before class
+settled-mark before NSM e = absurd (cc)
+settled-mark before _ e = refl
+
+settled-type : (strong class : BidiClass) → is_settled class ≡ true → w3_type class ≡ w3_type (digit_type strong class)
+settled-type strong EN e = absurd (cc)
+settled-type strong _ e = refl
+
+settled-other : (class : BidiClass) → is_settled class ≡ true → is_weak (w3_type class) ≡ false
+settled-other EN e = absurd (cc)
+settled-other ES e = absurd (cc)
+settled-other ET e = absurd (cc)
+settled-other AN e = absurd (cc)
+settled-other CS e = absurd (cc)
+settled-other _ e = refl
+
+pub types-settled : (sos : BidiClass) (old current : List BidiClass) (before strong : BidiClass) (row : Row) (start at : ℕ) → AreTypesSoFar sos old current before strong row start at
+    → (d : BidiClass) → at < length current → is_settled (get_or current at d) ≡ true
+    → AreTypesSoFar sos old (set current at (w3_type (get_or current at d))) (get_or current at d) (if is_strong (get_or current at d) then get_or current at d else strong) Nothing (at + 1) (at + 1)
+types-settled sos old current before strong row start at so_far d within e =
+    let class = get_or current at d in
+    let type = w3_type class in
+    let P : BidiClass → Type 0 = λ b. AreTypesSoFar sos old (set current at type) b (if is_strong class then class else strong) Nothing (at + 1) (at + 1) in
+    subst P (cond-true (not (is_mark class)) class before (not_from_false (is_mark class) (not_mark class e))) (
+    types-other sos old current before strong row start at so_far d within class type (settled-mark before class e) (settled-type strong class e) (settled-other class e))
+
+-- past a row of equal types of which W3 alone makes something: its first,
+pub types-row-first : (current : List BidiClass) (at : ℕ) (class type : BidiClass) → at < length current → class_at current at ≡ class → is_settled class ≡ true → type ≡ w3_type class
+    → SettlesRow current at class (set current at type) (at + 1)
+types-row-first current at class type within here e is sos old before strong row start so_far =
+    let P : BidiClass → BidiClass → Type 0 = λ c t. AreTypesSoFar sos old (set current at t) c (if is_strong c then c else strong) Nothing (at + 1) (at + 1) in
+    let there : is_settled (class_at current at) ≡ true = ap is_settled here ∙ e in
+    subst (λ t. P class t) (sym is) (subst (λ c. P c (w3_type c)) here (types-settled sos old current before strong row start at so_far ON within there))
+
+-- and one more
+pub types-row-next : (first : List BidiClass) (start : ℕ) (class type : BidiClass) (current : List BidiClass) (at : ℕ)
+    → at < length current → get_or current at L ≡ class → is_settled class ≡ true → type ≡ w3_type class → SettlesRow first start class current at
+    → SettlesRow first start class (set current at type) (at + 1)
+types-row-next first start class type current at within here e is settled sos old before strong row begins so_far =
+    let s = if is_strong class then class else strong in
+    let now = settled sos old before strong row begins so_far in
+    let P : BidiClass → BidiClass → Type 0 = λ c t. AreTypesSoFar sos old (set current at t) c (if is_strong c then c else s) Nothing (at + 1) (at + 1) in
+    let there : is_settled (get_or current at L) ≡ true = ap is_settled here ∙ e in
+    let next = subst (λ t. P class t) (sym is) (subst (λ c. P c (w3_type c)) here (types-settled sos old current class s Nothing at at now L within there)) in
+    subst (λ x. AreTypesSoFar sos old (set current at type) class x Nothing (at + 1) (at + 1)) (twice (is_strong class) class strong) next
 
 -- at the end, what waits stays ON
 pub types-end : (sos : BidiClass) (old current : List BidiClass) (before strong : BidiClass) (row : Row) (start at : ℕ) → AreTypesSoFar sos old current before strong row start at
