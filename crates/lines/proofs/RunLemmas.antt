@@ -1,6 +1,6 @@
 -- L2 on level runs, each named by the place that it begins at, is L2 on characters.
 use Rattle.std.proofs.Common.{◌≡◌, ℕ, zero, suc, ◌+◌, ◌-◌, ◌%◌, ◌<◌, ◌≤◌, ◌==◌, max, Bool, true, false, List, [], ◌∷◌, ◌++◌, length}
-use Rattle.std.proofs.Common.{◌≡◌, ℕ, zero, suc, ◌+◌, ◌-◌, ◌%◌, ◌<◌, ◌≤◌, ◌==◌, nat_le, max, Bool, true, false, List, [], ◌∷◌, ◌++◌, length}
+use Rattle.std.proofs.Common.{◌≡◌, ℕ, zero, suc, ◌+◌, ◌-◌, ◌%◌, ◌<◌, ◌≤◌, ◌==◌, nat_le, max, min, Bool, true, false, List, [], ◌∷◌, ◌++◌, length}
 use Rattle.std.proofs.Common.{get_or, set, map, take, drop, reverse, Option, Some, None, unwrap_or, if◌then◌else◌}
 use Rattle.std.proofs.Common.{refl, sym, ap, ap₂, subst, ◌∙◌, inl, inr, arith, append_assoc, zero-add}
 use borrow.Rule.Slice.PartMut.{put_mid, same_len_mid}
@@ -21,6 +21,7 @@ use Rattle.bidi.specs.Runs.{AreWithin}
 use Rattle.lines.specs.LevelRuns.{level_run_len, run_at, run_shown, same_len, turned, turned_by}
 use Rattle.lines.specs.Mirroring.{mirrored, visual_chars}
 use Rattle.lines.specs.Order.{has_odd, highest, is_at_least, is_odd, lowest_odd, order_by, order_of, places, reverse_runs, reversed_from}
+use Rattle.lines.proofs.LevelLemmas.{Extremes, Extremes-next}
 use Rattle.lines.proofs.OrderLemmas.{reversed_permute}
 
 -- ---- a test with one answer at all of some places
@@ -679,3 +680,79 @@ RunsWritten-end t levels line runs chars k at w past =
     let whole : take k runs ≡ runs = take_all k runs past in
     let at_is : at ≡ length chars = w.place ∙ ap (λ (xs : List ℕ). length (flat_map (run_shown levels) xs)) whole ∙ sym w.sizes in
     sym (take_all at chars (omega arith)) ∙ w.done ∙ ap (λ (xs : List ℕ). visual_chars t levels line (flat_map (run_shown levels) xs)) whole
+
+-- ---- the highest level and the lowest odd one, run by run
+
+-- the level of a run's places
+same_at : (levels : List ℕ) (level s count j : ℕ) → j < same_len levels level s count → get_or levels (s + j) 0 ≡ level
+same_at levels level s zero j inside = absurd (omega arith)
+same_at levels level s (suc count) j inside =
+    let here : Bool = get_or levels s 0 == level in
+    let more : ℕ = suc (same_len levels level (s + 1) count) in
+    elim (cases_Bool here) [
+      | inl on ↦
+          let longer : (if here then more else zero) ≡ more = cond-true here more zero on in
+          elim (cases_eq j 0) [
+            | inl first ↦
+                let at : s + j ≡ s = omega arith in
+                ap (λ (k : ℕ). get_or levels k 0) at ∙ eqb-true (get_or levels s 0) level on
+            | inr later ↦
+                let at : s + 1 + (j - 1) ≡ s + j = omega arith in
+                ap (λ (k : ℕ). get_or levels k 0) (sym at) ∙ same_at levels level (s + 1) count (j - 1) (omega (arith, longer))
+          ]
+      | inr off ↦
+          let none : (if here then more else zero) ≡ zero = cond-false here more zero off in
+          absurd (omega (arith, none))
+    ]
+
+abbrev lowered : Option ℕ → ℕ → Option ℕ
+lowered lowest level = if is_odd level then Some (min (unwrap_or lowest level) level) else lowest
+
+lowered_again : (lowest : Option ℕ) (level : ℕ) → lowered lowest level ≡ lowered (lowered lowest level) level
+lowered_again lowest level =
+    let low : ℕ = min (unwrap_or lowest level) level in
+    elim (cases_Bool (is_odd level)) [
+      | inl odd ↦
+          let once : lowered lowest level ≡ Some low = cond-true (is_odd level) (Some low) lowest odd in
+          let same : min low level ≡ low = omega arith in
+          once ∙ sym (ap (λ (o : Option ℕ). lowered o level) once ∙ cond-true (is_odd level) (Some (min low level)) (Some low) odd ∙ ap Some same)
+      | inr even ↦
+          let once : lowered lowest level ≡ lowest = cond-false (is_odd level) (Some low) lowest even in
+          ap (λ (o : Option ℕ). lowered o level) (sym once)
+    ]
+
+-- some characters of one level
+Extremes-same : (levels : List ℕ) (start level top : ℕ) (lowest : Option ℕ) (n : ℕ) → Extremes levels start top lowest → start + suc n ≤ length levels
+    → ((j : ℕ) → j < suc n → get_or levels (start + j) 0 ≡ level) → Extremes levels (start + suc n) (max top level) (lowered lowest level)
+Extremes-same levels start level top lowest zero w within same =
+    let at : start + 0 ≡ start = omega arith in
+    let here : get_or levels start 0 ≡ level = ap (λ (k : ℕ). get_or levels k 0) (sym at) ∙ same 0 (omega arith) in
+    let end_is : start + 1 ≡ start + suc 0 = omega arith in
+    subst (λ (k : ℕ). Extremes levels k (max top level) (lowered lowest level)) end_is
+    (Extremes-next levels start top (max top level) lowest (lowered lowest level) w (omega arith) (ap (max top) (sym here)) (ap (lowered lowest) (sym here)))
+Extremes-same levels start level top lowest (suc n) w within same =
+    let before = Extremes-same levels start level top lowest n w (omega arith) (λ j inside. same j (omega arith)) in
+    let at : start + suc n + 1 ≡ start + suc (suc n) = omega arith in
+    let here : get_or levels (start + suc n) 0 ≡ level = same (suc n) (omega arith) in
+    let most : max top level ≡ max (max top level) (get_or levels (start + suc n) 0) = omega (arith, here) in
+    subst (λ (k : ℕ). Extremes levels k (max top level) (lowered lowest level)) at
+    (Extremes-next levels (start + suc n) (max top level) (max top level) (lowered lowest level) (lowered lowest level) before (omega arith) most
+    (lowered_again lowest level ∙ ap (lowered (lowered lowest level)) (sym here)))
+
+pub Extremes-run : (levels : List ℕ) (start top next : ℕ) (lowest after : Option ℕ) (len : ℕ) → Extremes levels start top lowest → len ≡ level_run_len levels start
+    → start + len ≤ length levels → next ≡ max top (get_or levels start 0) → after ≡ lowered lowest (get_or levels start 0)
+    → Extremes levels (start + len) next after
+Extremes-run levels start top next lowest after len w len_is within most low =
+    let level : ℕ = get_or levels start 0 in
+    let n : ℕ = same_len levels level (start + 1) (length levels - (start + 1)) in
+    let all : Extremes levels (start + suc n) (max top level) (lowered lowest level) =
+    Extremes-same levels start level top lowest n w (omega (arith, len_is, within)) (λ j inside.
+    elim (cases_eq j 0) [
+      | inl first ↦ let at : start + j ≡ start = omega arith in ap (λ (k : ℕ). get_or levels k 0) at
+      | inr later ↦
+          let at : start + 1 + (j - 1) ≡ start + j = omega arith in
+          ap (λ (k : ℕ). get_or levels k 0) (sym at) ∙ same_at levels level (start + 1) (length levels - (start + 1)) (j - 1) (omega arith)
+    ]) in
+    subst (λ (k : ℕ). Extremes levels (start + k) next after) (sym len_is)
+    (subst (λ (o : Option ℕ). Extremes levels (start + suc n) next o) (sym low)
+    (subst (λ (t : ℕ). Extremes levels (start + suc n) t (lowered lowest level)) (sym most) all))

@@ -102,27 +102,36 @@ pub fn order_runs(levels: &[u8], items: &mut [u32]) -> usize
     ensures within { AreWithin (length levels.now) (take result items.new) }
     ensures few { result ≤ length items.new }
 {
-    let count = find_runs(levels, items);
-    reverse_levels(levels, &mut items[..count]);
+    let (count, highest, lowest) = find_runs(levels, items);
+    reverse_levels(levels, highest, lowest, &mut items[..count]);
     count
 }
 
-// Writes where each level run of a line begins to the front of a list, and says how many there are.
-fn find_runs(levels: &[u8], items: &mut [u32]) -> usize
+// Writes where each level run of a line begins to the front of a list. Says how many there are, and the highest
+// level, 0 where there is none, and the lowest odd one, if there is one.
+fn find_runs(levels: &[u8], items: &mut [u32]) -> (usize, u8, Option<u8>)
     requires len { length items.old ≡ length levels.now }
     requires limit { length levels.now ≤ PARAGRAPH_LIMIT }
-    ensures runs { flat_map (run_at levels.now) (take result items.new) ≡ places levels.now }
-    ensures within { AreWithin (length levels.now) (take result items.new) }
-    ensures few { result ≤ length items.new }
+    ensures runs { flat_map (run_at levels.now) (take result.0 items.new) ≡ places levels.now }
+    ensures within { AreWithin (length levels.now) (take result.0 items.new) }
+    ensures few { result.0 ≤ length items.new }
+    ensures highest { result.1 ≡ highest levels.now }
+    ensures lowest { result.2 ≡ lowest_odd levels.now }
+    ensures ordered { IfSome result.2 (λ lowest. (0 < lowest) × (lowest ≤ result.1)) }
 {
     let mut count = 0;
+    let mut highest = 0;
+    let mut lowest = None;
     let mut start = 0;
     while start < levels.len() {
         items[count] = start as u32;
         count += 1;
+        let level = levels[start];
+        highest = highest.max(level);
+        lowest = lower_odd(lowest, level);
         start += level_run_len(levels, start);
     }
-    count
+    (count, highest, lowest)
 }
 
 /// How many characters the level run has that begins at a place.
@@ -245,34 +254,21 @@ fn is_mark_at(line: &[Properties], place: u32) -> bool
 }
 
 // Reverses the intervals of each level from the highest down to the lowest odd one, if there is one.
-fn reverse_levels(levels: &[u8], items: &mut [u32])
-    requires { AreWithin (length levels.now) items.old }
+fn reverse_levels(levels: &[u8], top: u8, low: Option<u8>, items: &mut [u32])
+    requires within { AreWithin (length levels.now) items.old }
+    requires highest { top ≡ highest levels.now }
+    requires lowest { low ≡ lowest_odd levels.now }
+    requires ordered { IfSome low (λ lowest. (0 < lowest) × (lowest ≤ top)) }
     ensures { items.new ≡ turned levels.now items.old }
 {
-    let (highest, lowest) = highest_and_lowest_odd(levels);
-    if let Some(lowest) = lowest {
+    if let Some(lowest) = low {
         // Ends, since an odd level is not 0.
-        let mut level = highest;
+        let mut level = top;
         while level >= lowest {
             reverse_runs(levels, level, items);
             level -= 1;
         }
     }
-}
-
-// The highest level, 0 where there is none, and the lowest odd one, if there is one.
-fn highest_and_lowest_odd(levels: &[u8]) -> (u8, Option<u8>)
-    ensures highest { result.0 ≡ highest levels.now }
-    ensures lowest { result.1 ≡ lowest_odd levels.now }
-    ensures ordered { IfSome result.1 (λ lowest. (0 < lowest) × (lowest ≤ result.0)) }
-{
-    let mut highest = 0;
-    let mut lowest = None;
-    for level in levels {
-        highest = highest.max(*level);
-        lowest = lower_odd(lowest, *level);
-    }
-    (highest, lowest)
 }
 
 // The lowest odd level, with one more level.

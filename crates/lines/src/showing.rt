@@ -1,8 +1,8 @@
 //! What is shown of each line of a paragraph: its levels after L1, and its shown part in visual order (L2)
 //! with mirrors (L4).
-ghost use Rattle.std.specs.Prelude.{◌≡◌, ◌<◌, ◌≤◌, ℕ, List, true, false, OnOk};
+ghost use Rattle.std.specs.Prelude.{◌≡◌, ◌-◌, ◌<◌, ◌≤◌, ℕ, List, true, false, OnOk};
 ghost use Rattle.std.specs.Prelude.{length, map, take, slice_index};
-ghost use Rattle.std.specs.List.{range_with_len};
+ghost use Rattle.std.specs.List.{range_with_len, suffix_len};
 ghost use Rattle.ucd.specs.Properties.{properties_of};
 ghost use Rattle.bidi.specs.Classes.{class_in};
 ghost use Rattle.lines.specs.Spaces.{line_levels};
@@ -354,16 +354,32 @@ fn shown_of(line: &[Place]) -> Shown
     ensures columns { result.columns ≡ columns (shown line.now) }
     ensures within { result.len ≤ length line.now }
 {
-    let mut shown = Shown { len: 0, columns: 0 };
-    let mut columns = 0;
-    for (k, place) in line.iter().enumerate() {
-        columns += place.columns as u32;
-        if !place.is_trailing {
-            shown = Shown {
-                len: k as u32 + 1,
-                columns,
-            };
-        }
+    let len = shown_len(line);
+    Shown {
+        len: len as u32,
+        columns: columns(&line[..len]),
     }
-    shown
+}
+
+// How many of its characters: all but the trailing ones at its end.
+fn shown_len(line: &[Place]) -> usize
+    ensures { result ≡ length line.now - suffix_len (λ p. p.is_trailing) line.now }
+{
+    let mut len = line.len();
+    while len > 0 && line[len - 1].is_trailing {
+        len -= 1;
+    }
+    len
+}
+
+// The columns of a piece.
+fn columns(piece: &[Place]) -> u32
+    requires { length piece.now ≤ PARAGRAPH_LIMIT }
+    ensures { result ≡ columns piece.now }
+{
+    let mut columns = 0;
+    for place in piece {
+        columns += place.columns as u32;
+    }
+    columns
 }

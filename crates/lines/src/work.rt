@@ -24,7 +24,7 @@ ghost use Rattle.lines.specs.declared.engine.TheConstants.{PARAGRAPH_LIMIT};
 
 use crate::bytes::WriteFault;
 use crate::counts::{Counts, raise};
-use crate::extents::Extents;
+use crate::extents::{Extents, look_up};
 use crate::fill::{Fill, Lists, Shown};
 use crate::filling::line_starts;
 use crate::laid::Laid;
@@ -332,11 +332,8 @@ fn take_properties(
 ) -> Result<(), AllocError>
     ensures { OnOk result (properties.new.items ≡ map (properties_of tables.now) text.now) }
 {
-    properties.clear();
-    properties.reserve(text.len())?;
-    for c in text {
-        properties.push(tables.properties(*c))?;
-    }
+    properties.resize(text.len(), tables.properties('\0'))?;
+    look_up(tables, text, properties);
     Ok(())
 }
 

@@ -11,7 +11,7 @@ use Rattle.lines.proofs.order.order_runs.Goals as goal
 pub returns-clause-runs : goal.returns-clause-runs
 returns-clause-runs c =
     let levels = c.args.levels.now in
-    let count = c.find_runs-count.result in
+    let count = c.find_runs-count.result.0 in
     let starts = take count c.find_runs-count.new.items in
     let size = length-turned levels starts ∙ length-take-le count c.find_runs-count.new.items c.find_runs-count.ensures.few in
     ap (flat_map (run_shown levels)) (front_written c.reverse_levels.new.items c.find_runs-count.new.items count (ap length c.reverse_levels.ensures ∙ size) ∙ c.reverse_levels.ensures)
@@ -20,7 +20,7 @@ returns-clause-runs c =
 pub returns-clause-within : goal.returns-clause-within
 returns-clause-within c =
     let levels = c.args.levels.now in
-    let count = c.find_runs-count.result in
+    let count = c.find_runs-count.result.0 in
     let starts = take count c.find_runs-count.new.items in
     let size = length-turned levels starts ∙ length-take-le count c.find_runs-count.new.items c.find_runs-count.ensures.few in
     subst (λ (xs : List ℕ). AreWithin (length levels) xs)
