@@ -1,8 +1,8 @@
 -- Places without their clusters: what filling and showing read of them but clusters.
-use Rattle.std.proofs.Common.{◌≡◌, ℕ, zero, suc, ◌+◌, ◌-◌, ◌<◌, nat_le, Bool, true, false, ◌&&◌, List, [], ◌∷◌, ◌++◌}
+use Rattle.std.proofs.Common.{◌≡◌, ℕ, zero, suc, ◌+◌, ◌-◌, ◌<◌, ◌≤◌, nat_le, Bool, true, false, ◌&&◌, List, [], ◌∷◌, ◌++◌}
 use Rattle.std.proofs.Common.{length, map, take, drop, reverse, set, get_or, Some, unwrap_or, slice_range, refl, sym, ap, ap₂, ◌∙◌, arith}
 use Rattle.std.proofs.Math.Seq.{set-append_seam, get_or-append_seam}
-use Rattle.std.proofs.lemmas.List.{length-map, take-map, drop-map, reverse-append, take_more, drop_more, length-take-le, append_assoc}
+use Rattle.std.proofs.lemmas.List.{append-nil, drop_all, length-set, take_all, take_more_set, length-map, take-map, drop-map, reverse-append, take_more, drop_more, length-take-le, append_assoc}
 use Rattle.std.specs.List.{fold, prefix_len, suffix_len}
 use Rattle.ucd.specs.declared.tables.Tables.{Tables}
 use Rattle.bidi.specs.Brackets.{greatest}
@@ -209,3 +209,33 @@ parts_bare n xs (s ∷ t ∷ starts) = ap₂ (λ (p : Shown) (ps : List Shown). 
 
 pub same_shown : (n : ℕ) (xs ys : List Place) (starts : List ℕ) → AreAlike xs ys → shown_from n xs starts ≡ shown_from n ys starts
 same_shown n xs ys starts alike = sym (parts_bare n xs starts) ∙ ap (λ zs. shown_from n zs starts) alike ∙ parts_bare n ys starts
+
+-- the first k places are put, and those of what is left make the whole with them
+pub record PlacesPut (t : Tables) (text : List ℕ) (marks : List Mark) (current : List Place) (k : ℕ) : Type 0 where
+  pub sizes : length current ≡ length text
+  pub within : k ≤ length text
+  pub whole : take k current ++ bare_places t (drop k text) (drop k marks) ≡ bare_places t text marks
+
+pub PlacesPut-next : (t : Tables) (text : List ℕ) (marks : List Mark) (current : List Place) (k c : ℕ) (mark d : Mark) (p : Place) → PlacesPut t text marks current k
+    → k < length text → length marks ≡ length text → c ≡ get_or text k c → mark ≡ get_or marks k d → p ≡ place t c mark false
+    → PlacesPut t text marks (set current k p) (k + 1)
+PlacesPut-next t text marks current k c mark d p w below same c_is mark_is is =
+    let first : drop k text ≡ c ∷ drop (k + 1) text = drop_more text k c below ∙ ap (λ (x : ℕ). x ∷ drop (k + 1) text) (sym c_is) in
+    let own : drop k marks ≡ mark ∷ drop (k + 1) marks = drop_more marks k d (omega arith) ∙ ap (λ (m : Mark). m ∷ drop (k + 1) marks) (sym mark_is) in
+    let rest : List Place = bare_places t (drop (k + 1) text) (drop (k + 1) marks) in
+    record {
+      sizes = length-set current k p ∙ w.sizes;
+      within = omega (arith, below);
+      whole = ap (λ (front : List Place). front ++ rest) (take_more_set current k p (omega (arith, w.sizes)))
+          ∙ append_assoc (take k current) (p ∷ []) rest
+          ∙ ap (λ (q : Place). take k current ++ q ∷ rest) is
+          ∙ sym (ap₂ (λ (cs : List ℕ) (ms : List Mark). take k current ++ bare_places t cs ms) first own)
+          ∙ w.whole;
+    }
+
+pub PlacesPut-end : (t : Tables) (text : List ℕ) (marks : List Mark) (current : List Place) (k : ℕ) → PlacesPut t text marks current k → length text ≤ k
+    → current ≡ bare_places t text marks
+PlacesPut-end t text marks current k w past =
+    sym (append-nil current)
+    ∙ ap₂ ◌++◌ (sym (take_all k current (omega (arith, w.sizes)))) (sym (ap (λ (cs : List ℕ). bare_places t cs (drop k marks)) (drop_all k text past)))
+    ∙ w.whole

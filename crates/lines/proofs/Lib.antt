@@ -16,6 +16,7 @@ mod NeighbourLemmas
 mod OrderLemmas
 pub mod PageLemmas
 pub mod PlaceLemmas
+mod RunLemmas
 mod ShowLemmas
 pub mod SkippedLemmas
 mod SpaceLemmas
@@ -26,4 +27,5 @@ mod WorkedBytes
 mod WorkedOrder
 mod WorkedRows
 pub mod WriteLemmas
+mod WrittenLemmas
 mod PlainLemmas

@@ -4,7 +4,7 @@ use Rattle.std.proofs.Common.{get_or, map, take, drop, reverse, Option, Some, No
 use Rattle.std.specs.List.{position_or_len, prefix_len, range_with_len}
 use Rattle.std.specs.List.Sorted.{IsPermutation}
 use Rattle.std.proofs.lemmas.Bool.{cases_Bool, cond-true, cond-false}
-use Rattle.std.proofs.lemmas.List.{append-nil, drop-drop, drop_all, length-reverse, length-take-le, reverse-append, take_all}
+use Rattle.std.proofs.lemmas.List.{append-nil, get_or_default, drop-drop, drop_all, length-reverse, length-take-le, reverse-append, take_all}
 use Rattle.std.proofs.lemmas.List.FromFn.{get_or-range_with_len, length-range_with_len}
 use Rattle.std.proofs.lemmas.List.Sorted.{All-permutation, IsPermutation-refl, IsPermutation-trans, IsPermutation-cons, IsPermutation-middle, IsPermutation-append_right, length_permutation}
 use Rattle.std.proofs.lemmas.List.Sums.{prefix_len-le-length, prefix_len_passes, prefix_len_stops}
@@ -13,6 +13,7 @@ use Rattle.std.proofs.Math.Seq.{take-add}
 use borrow.Rule.Slice.PartMut.{put_mid, same_len_mid}
 use Rattle.ucd.specs.declared.bidi_class.BidiClass.{BidiClass}
 use Rattle.bidi.specs.Runs.{AreWithin}
+use Rattle.lines.specs.LevelRuns.{turned, turned_by}
 use Rattle.lines.specs.Order.{highest, is_at_least, lowest_odd, order_by, order_of, places, reverse_runs, reversed_from, reverse_with_next, has_base, ltov_of, vtol_of}
 
 pub range_more : (a n : ℕ) → range_with_len a (n + 1) ≡ range_with_len a n ++ (a + n) ∷ []
@@ -90,40 +91,44 @@ Reversed-end test old current start w past =
     ∙ w.done
 
 -- what the levels are done with, from the highest one down: those above `level`
-pub record Turned (levels : List ℕ) (top low : ℕ) (current : List ℕ) (level : ℕ) : Type 0 where
+pub record Turned (levels items : List ℕ) (top low : ℕ) (current : List ℕ) (level : ℕ) : Type 0 where
   pub from : low ≤ level + 1
   pub to : level ≤ top
-  pub done : current ≡ reversed_from levels (level + 1) (top - level) (places levels)
+  pub done : current ≡ reversed_from levels (level + 1) (top - level) items
 
-pub Turned-start : (levels : List ℕ) (top low : ℕ) (current : List ℕ) → current ≡ places levels → low ≤ top → Turned levels top low current top
-Turned-start levels top low current is below =
+pub Turned-start : (levels items : List ℕ) (top low : ℕ) → low ≤ top → Turned levels items top low items top
+Turned-start levels items top low below =
     let e : top - top ≡ 0 = omega arith in
-    record { from = omega arith; to = omega arith; done = is ∙ ap (λ count. reversed_from levels (top + 1) count (places levels)) (sym e) }
+    record { from = omega arith; to = omega arith; done = ap (λ count. reversed_from levels (top + 1) count items) (sym e) }
 
 -- past one more level
-pub Turned-next : (levels : List ℕ) (top low : ℕ) (current : List ℕ) (level before : ℕ) (after : List ℕ) → Turned levels top low current level
-    → before + 1 ≡ level → low ≤ level → after ≡ reverse_runs (is_at_least levels level) [] current → Turned levels top low after before
-Turned-next levels top low current level before after w e more is =
+pub Turned-next : (levels items : List ℕ) (top low : ℕ) (current : List ℕ) (level before : ℕ) (after : List ℕ) → Turned levels items top low current level
+    → before + 1 ≡ level → low ≤ level → after ≡ reverse_runs (is_at_least levels level) [] current → Turned levels items top low after before
+Turned-next levels items top low current level before after w e more is =
     let count : suc (top - level) ≡ top - before = omega (arith, w.to) in
-    let so_far : current ≡ reversed_from levels (suc level) (top - level) (places levels) =
-    w.done ∙ ap (λ from. reversed_from levels from (top - level) (places levels)) (add-one level) in
+    let so_far : current ≡ reversed_from levels (suc level) (top - level) items =
+    w.done ∙ ap (λ from. reversed_from levels from (top - level) items) (add-one level) in
     record {
       from = omega arith;
       to = omega (arith, w.to);
       done = is ∙ ap (reverse_runs (is_at_least levels level) []) so_far
-          ∙ ap (λ n. reversed_from levels level n (places levels)) count
-          ∙ ap (λ from. reversed_from levels from (top - before) (places levels)) (sym e);
+          ∙ ap (λ n. reversed_from levels level n items) count
+          ∙ ap (λ from. reversed_from levels from (top - before) items) (sym e);
     }
 
-pub Turned-end : (levels : List ℕ) (top low : ℕ) (current : List ℕ) (level : ℕ) → Turned levels top low current level → level < low
-    → top ≡ highest levels → Some low ≡ lowest_odd levels → current ≡ order_of levels
-unfolding order_of
-Turned-end levels top low current level w past most lowest =
+pub Turned-end : (levels items : List ℕ) (top low : ℕ) (current : List ℕ) (level : ℕ) → Turned levels items top low current level → level < low
+    → top ≡ highest levels → Some low ≡ lowest_odd levels → current ≡ turned levels items
+unfolding turned
+Turned-end levels items top low current level w past most lowest =
     let from : level + 1 ≡ low = omega (arith, w.from) in
     let count : top - level ≡ suc (highest levels) - low = omega (arith, w.to) in
-    w.done ∙ ap (λ n. reversed_from levels (level + 1) n (places levels)) count
-    ∙ ap (λ n. reversed_from levels n (suc (highest levels) - low) (places levels)) from
-    ∙ ap (order_by levels) lowest
+    w.done ∙ ap (λ n. reversed_from levels (level + 1) n items) count
+    ∙ ap (λ n. reversed_from levels n (suc (highest levels) - low) items) from
+    ∙ ap (turned_by levels items) lowest
+
+pub unturned : (levels items : List ℕ) → None ≡ lowest_odd levels → items ≡ turned levels items
+unfolding turned
+unturned levels items none = ap (turned_by levels items) none
 
 pub without_odd : (levels current : List ℕ) → current ≡ places levels → None ≡ lowest_odd levels → current ≡ order_of levels
 unfolding order_of
@@ -191,10 +196,16 @@ permuted_within n xs p k within =
     omega (arith, get_or-range_with_len 0 n j d short))
     k 0 within
 
-pub Turned-within : (levels : List ℕ) (top low : ℕ) (current : List ℕ) (level : ℕ) → Turned levels top low current level → AreWithin (length levels) current
-Turned-within levels top low current level w =
-    permuted_within (length levels) current (subst (λ (xs : List ℕ). IsPermutation (places levels) xs) (sym w.done)
-    (reversed_permute levels (level + 1) (top - level) (places levels)))
+-- places in another order are as low
+pub permuted_below : (n : ℕ) (xs ys : List ℕ) → IsPermutation xs ys → AreWithin n xs → AreWithin n ys
+permuted_below n xs ys p within k short =
+    All-permutation (λ x. x < n) xs ys p (λ j d inside. omega (arith, within j inside, get_or_default xs j d 0 inside)) k 0 short
+
+pub Turned-within : (n : ℕ) (levels items : List ℕ) (top low : ℕ) (current : List ℕ) (level : ℕ) → AreWithin n items → Turned levels items top low current level
+    → AreWithin n current
+Turned-within n levels items top low current level within w =
+    permuted_below n items current
+    (subst (λ (xs : List ℕ). IsPermutation items xs) (sym w.done) (reversed_permute levels (level + 1) (top - level) items)) within
 
 pub length-order : (levels : List ℕ) → length (order_of levels) ≡ length levels
 length-order levels = length_permutation (places levels) (order_of levels) (order_of_permutes levels) ∙ length-range_with_len 0 (length levels)
@@ -204,6 +215,11 @@ module _ (reordernsm : Bool) (classes : List BidiClass) (levels : List ℕ) wher
   length-vtol vtol is =
       ap length is ∙ length_permutation (places levels) (vtol_of reordernsm classes levels) (vtol_permutes reordernsm classes levels)
       ∙ length-range_with_len 0 (length levels)
+
+  pub vtol_within : (vtol : List ℕ) → vtol ≡ vtol_of reordernsm classes levels → AreWithin (length levels) vtol
+  vtol_within vtol is =
+      subst (λ (xs : List ℕ). AreWithin (length levels) xs) (sym is)
+      (permuted_within (length levels) (vtol_of reordernsm classes levels) (vtol_permutes reordernsm classes levels))
 
   pub order_permutes : (vtol : List ℕ) → vtol ≡ vtol_of reordernsm classes levels → IsPermutation (range_with_len 0 (length vtol)) vtol
   order_permutes vtol is =

@@ -1,14 +1,15 @@
--- No place is left where the text has ended.
-use Rattle.std.proofs.Common.{◌≡◌, ℕ, ◌≤◌, Bool, List, [], ◌++◌, length, drop, sym, ap, ◌∙◌, append-nil}
-use Rattle.std.proofs.lemmas.List.{drop_all}
-use Rattle.ucd.specs.declared.tables.Tables.{Tables}
-use Rattle.breaks.specs.declared.mark.Mark.{Mark}
-use Rattle.lines.specs.Places.{places}
-use Rattle.lines.specs.declared.places.Place.{Place}
+-- The columns of the printable characters of ASCII.
+use Rattle.std.proofs.Common.{◌≡◌, ℕ, ◌<◌, ◌≤◌, Option, Some, None, false, nat_le, nat_lt, unwrap_or, if◌then◌else◌, sym, ap, ◌∙◌}
+use Rattle.std.proofs.lemmas.Bool.{cond-true, le-leb, lt-ltb}
+use Rattle.unicode_width.specs.Width.{alone, char_width}
+use Rattle.lines.specs.Places.{columns_of}
 
-pub past_text : (t : Tables) (k : ℕ) (text : List ℕ) (marks : List Mark) (ends : List Bool) → length text ≤ k → places t (drop k text) (drop k marks) (drop k ends) ≡ []
-past_text t k text marks ends h = ap (λ s. places t s (drop k marks) (drop k ends)) (drop_all k text h)
+printable : (c : ℕ) → 32 ≤ c → c < 127 → char_width false c ≡ Some 1
+unfolding char_width
+printable c low high =
+    let printed : Option ℕ = if nat_le 32 c then Some 1 else None in
+    let others : Option ℕ = if nat_le 160 c then Some (alone false c).0 else None in
+    cond-true (nat_lt c 127) printed others (lt-ltb c 127 high) ∙ cond-true (nat_le 32 c) (Some 1) None (le-leb 32 c low)
 
--- so the places so far are all
-pub all_so_far : (all so_far left : List Place) → so_far ++ left ≡ all → left ≡ [] → so_far ≡ all
-all_so_far all so_far left whole none = sym (append-nil so_far) ∙ ap (◌++◌ so_far) (sym none) ∙ whole
+pub printable_columns : (c : ℕ) → 32 ≤ c → c < 127 → 1 ≡ columns_of c
+printable_columns c low high = sym (ap (λ (o : Option ℕ). unwrap_or o 0) (printable c low high))

@@ -1,3 +1,4 @@
+pub mod Asked
 pub mod Bare
 pub mod BarePlaces
 pub mod Beginnings
@@ -11,6 +12,7 @@ pub mod Filling
 pub mod Groups
 pub mod Kept
 pub mod Layouts
+pub mod LevelRuns
 pub mod Lists
 pub mod Mirroring
 pub mod Order

@@ -1,5 +1,5 @@
 -- What is written of the lines of a paragraph, each at the place of its characters.
-use Rattle.std.specs.Prelude.{◌≡◌, ℕ, ◌+◌, ◌<◌, ◌≤◌, List, length, map, take, slice_index, slice_index_or, slice_range}
+use Rattle.std.specs.Prelude.{◌≡◌, ℕ, ◌+◌, ◌<◌, ◌≤◌, List, [], ◌∷◌, length, map, take, slice_index, slice_index_or, slice_range}
 use Rattle.ucd.specs.Tables.{class_of}
 use Rattle.ucd.specs.declared.tables.Tables.{Tables}
 use Rattle.bidi.specs.Runs.{AreWithin}
@@ -40,6 +40,12 @@ module _ (tables : Tables) (options : Options) (base : ℕ) (text levels : List 
         vtol = vtol;
         chars = visual_chars tables part_levels (take part.len line) vtol;
       }
+
+  -- the lines that start there, of which so much is shown; each ends where the next one starts, the last one with the paragraph
+  abbrev pub lines_shown : List ℕ → List Shown → List Line
+  lines_shown (s ∷ []) (part ∷ parts) = line_showing part s (length text) ∷ []
+  lines_shown (s ∷ t ∷ starts) (part ∷ parts) = line_showing part s t ∷ lines_shown (t ∷ starts) parts
+  lines_shown starts parts = []
 
 -- its shown part stands in the lists
 pub record IsPlaced (tables : Tables) (options : Options) (base : ℕ) (text old : List ℕ) (s e : ℕ) (part : Shown) (levels ltov vtol chars : List ℕ) : Type 0 where

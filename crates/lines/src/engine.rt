@@ -14,12 +14,13 @@ ghost use Rattle.lines.specs.Printing.{FailedAs, skips_lines};
 use crate::bytes::write_base;
 use crate::counts::{Counts, raise};
 use crate::extents::{Extents, Room};
-use crate::fill::{Fill, Lists};
+use crate::fill::Fill;
 use crate::laid::Laid;
 use crate::options::Options;
 use crate::paragraph::LentRules;
 use crate::print::{Print, PrintFault};
 use crate::work::{LayoutLists, Parts, Workspace};
+use crate::writing::Form;
 use bidi::{base_level, first_cut, is_cut};
 use breaks::{Mark, Tailoring, marks_are_as_many};
 use device::Sink;
@@ -297,10 +298,8 @@ impl Engine {
             tables: &self.tables,
             options: self.options,
         };
-        let Ok(base) = work.lay_out(alloc, &rules, text, width, kept, counts) else {
-            return Err(PrintFault::Memory);
-        };
-        write_lists(alloc, &mut kept.lines, text, base, writer, width, print)
+        let form = Form { width, print };
+        work.write(alloc, &rules, text, &form, kept, counts, writer)
     }
 
     // The base level of a paragraph. Counts the characters.
@@ -415,32 +414,5 @@ impl Engine {
             options: self.options,
         };
         work.fill(alloc, &rules, laid, width, &mut self.counts)
-    }
-}
-
-// Writes the lines that some lists hold.
-fn write_lists<W: Sink>(
-    alloc: Global,
-    lists: &mut Lists,
-    text: &[char],
-    base: u8,
-    writer: &mut W,
-    width: u16,
-    print: &Print,
-) -> Result<(), PrintFault>
-    requires sound { AreSound lists.old }
-    requires within { AreWithin (length text.now) (held_lines lists.old) }
-    ensures ok { OnOk result (Wrote (lines_bytes width print.now base text.now (held_lines lists.old))
-        (W.state writer.old) (W.state writer.new)) }
-    ensures err { IfErr result (λ fault.
-        FailedAs fault (lines_bytes width print.now base text.now (held_lines lists.old))
-        (W.state writer.old) (W.state writer.new)) }
-{
-    let fill = Fill::of(std::mem::replace(lists, Lists::new(alloc)));
-    let written = fill.write_after(text, base, writer, 0, width, print);
-    *lists = fill.into_lists();
-    match written {
-        Ok(_) => Ok(()),
-        Err(fault) => Err(PrintFault::Write(fault)),
     }
 }

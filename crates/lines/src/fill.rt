@@ -140,26 +140,6 @@ impl Fill {
         );
     }
 
-    /// The lists alone, of lines that are done with.
-    pub(crate) fn into_lists(self) -> Lists {
-        let Fill {
-            starts,
-            shown,
-            levels,
-            ltov,
-            vtol,
-            chars,
-        } = self;
-        Lists {
-            starts,
-            shown,
-            levels,
-            ltov,
-            vtol,
-            chars,
-        }
-    }
-
     /// Where each line starts.
     pub(crate) fn starts(&self) -> &[u32]
         ensures { result.now ≡ map start_of self.now.lines }

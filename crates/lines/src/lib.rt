@@ -46,6 +46,7 @@ mod showing;
 mod spaces;
 mod visual_line;
 mod work;
+mod writing;
 
 pub use bytes::{WriteFault, write_chars};
 pub use engine::{Engine, PARAGRAPH_LIMIT};

@@ -2,12 +2,15 @@
 ghost use Rattle.std.specs.Prelude.{◌≡◌, ◌<◌, ◌≤◌, ◌==◌, ◌++◌, min, if◌then◌else◌};
 ghost use Rattle.std.specs.Prelude.{ℕ, Bool, true, false, List, [], length, map, take, drop, slice_index};
 ghost use Rattle.std.specs.Prelude.{unwrap_or, IfSome};
-ghost use Rattle.std.specs.List.{position_or_len, prefix_len, range_with_len};
+ghost use Rattle.std.specs.Prelude.{◌+◌, reverse};
+ghost use Rattle.std.specs.List.{flat_map, position_or_len, prefix_len, range_with_len};
 ghost use Rattle.std.specs.List.Sorted.{IsPermutation};
 ghost use Rattle.bidi.specs.Runs.{AreWithin};
 ghost use Rattle.ucd.specs.declared.bidi_class.BidiClass.{BidiClass};
 ghost use Rattle.bidi.specs.Classes.{class_in};
 ghost use Rattle.lines.specs.Groups.{is_bound, AreBound, IsAlone, IsGroup, StandsTogether};
+ghost use Rattle.lines.specs.LevelRuns.{level_run_len, run_at, run_shown, turned};
+ghost use Rattle.lines.specs.Order.{places};
 ghost use Rattle.lines.specs.Order.{has_base, highest, is_at_least, is_mark_at, is_odd, lowest_odd, ltov_of};
 ghost use Rattle.lines.specs.Order.{order_of, reverse_runs, reverse_with_next, vtol_of, AreInverse};
 ghost use Rattle.lines.specs.declared.engine.TheConstants.{PARAGRAPH_LIMIT};
@@ -33,7 +36,6 @@ pub fn order(
     ensures within { AreWithin (length levels.now) vtol.new }
     ensures inverse { AreInverse (length levels.now) vtol.new ltov.new }
 {
-    identity(vtol);
     arrange(line, levels, reordernsm, vtol);
     invert(vtol, ltov);
 }
@@ -63,20 +65,122 @@ pub fn identity(items: &mut [u32])
     requires { length items.old ≤ PARAGRAPH_LIMIT }
     ensures { items.new ≡ range_with_len 0 (length items.old) }
 {
+    count_from(0, items);
+}
+
+// Writes a place, the one after it, and so on.
+fn count_from(start: u32, items: &mut [u32])
+    requires { start + length items.old ≤ PARAGRAPH_LIMIT }
+    ensures { items.new ≡ range_with_len start (length items.old) }
+{
     for (k, item) in items.iter_mut().enumerate() {
-        *item = k as u32;
+        *item = start + k as u32;
     }
 }
 
-// Puts places into visual order.
-fn arrange(line: &[Properties], levels: &[u8], reordernsm: bool, vtol: &mut [u32])
+/// Writes the places of a line in visual order.
+pub fn arrange(line: &[Properties], levels: &[u8], reordernsm: bool, vtol: &mut [u32])
     requires line { length levels.now ≤ length line.now }
-    requires vtol { vtol.old ≡ range_with_len 0 (length levels.now) }
-    ensures { vtol.new ≡ vtol_of reordernsm (map class_in line.now) levels.now }
+    requires vtol { length vtol.old ≡ length levels.now }
+    requires limit { length levels.now ≤ PARAGRAPH_LIMIT }
+    ensures vtol { vtol.new ≡ vtol_of reordernsm (map class_in line.now) levels.now }
+    ensures within { AreWithin (length levels.now) vtol.new }
 {
-    reverse_levels(levels, vtol);
+    let count = order_runs(levels, vtol);
+    lay_runs(levels, count, vtol);
     if reordernsm {
         reverse_groups(line, levels, vtol);
+    }
+}
+
+/// Writes where each level run of a line begins, in visual order, to the front of a list, and says how many
+/// runs there are: so the rule moves runs, and not characters.
+pub fn order_runs(levels: &[u8], items: &mut [u32]) -> usize
+    requires len { length items.old ≡ length levels.now }
+    requires limit { length levels.now ≤ PARAGRAPH_LIMIT }
+    ensures runs { flat_map (run_shown levels.now) (take result items.new) ≡ order_of levels.now }
+    ensures within { AreWithin (length levels.now) (take result items.new) }
+    ensures few { result ≤ length items.new }
+{
+    let (count, highest, lowest) = find_runs(levels, items);
+    reverse_levels(levels, highest, lowest, &mut items[..count]);
+    count
+}
+
+// Writes where each level run of a line begins to the front of a list. Says how many there are, and the highest
+// level, 0 where there is none, and the lowest odd one, if there is one.
+fn find_runs(levels: &[u8], items: &mut [u32]) -> (usize, u8, Option<u8>)
+    requires len { length items.old ≡ length levels.now }
+    requires limit { length levels.now ≤ PARAGRAPH_LIMIT }
+    ensures runs { flat_map (run_at levels.now) (take result.0 items.new) ≡ places levels.now }
+    ensures within { AreWithin (length levels.now) (take result.0 items.new) }
+    ensures few { result.0 ≤ length items.new }
+    ensures highest { result.1 ≡ highest levels.now }
+    ensures lowest { result.2 ≡ lowest_odd levels.now }
+    ensures ordered { IfSome result.2 (λ lowest. (0 < lowest) × (lowest ≤ result.1)) }
+{
+    let mut count = 0;
+    let mut highest = 0;
+    let mut lowest = None;
+    let mut start = 0;
+    while start < levels.len() {
+        items[count] = start as u32;
+        count += 1;
+        let level = levels[start];
+        highest = highest.max(level);
+        lowest = lower_odd(lowest, level);
+        start += level_run_len(levels, start);
+    }
+    (count, highest, lowest)
+}
+
+/// How many characters the level run has that begins at a place.
+pub fn level_run_len(levels: &[u8], start: usize) -> usize
+    requires { start < length levels.now }
+    ensures len { result ≡ level_run_len levels.now start }
+    ensures within { (0 < result) × (start + result ≤ length levels.now) }
+{
+    let level = levels[start];
+    let mut end = start + 1;
+    while end < levels.len() && levels[end] == level {
+        end += 1;
+    }
+    end - start
+}
+
+// Writes the places of all runs of a line, whose beginnings stand at the front of the same list. From the
+// last run on, since it ends with the list, and no run has fewer places than it has beginnings.
+fn lay_runs(levels: &[u8], count: usize, items: &mut [u32])
+    requires count { count ≤ length items.old }
+    requires within { AreWithin (length levels.now) (take count items.old) }
+    requires limit { length levels.now ≤ PARAGRAPH_LIMIT }
+    requires whole { length (flat_map (run_shown levels.now) (take count items.old)) ≡ length items.old }
+    ensures { items.new ≡ flat_map (run_shown levels.now) (take count items.old) }
+{
+    let mut left = count;
+    let mut end = items.len();
+    while left > 0 {
+        left -= 1;
+        let start = items[left];
+        let len = level_run_len(levels, start as usize);
+        lay_run(
+            start,
+            levels[start as usize] % 2 == 1,
+            &mut items[end - len..end],
+        );
+        end -= len;
+    }
+}
+
+// Writes the places of a run.
+fn lay_run(start: u32, is_odd: bool, items: &mut [u32])
+    requires { start + length items.old ≤ PARAGRAPH_LIMIT }
+    ensures { items.new ≡ (if is_odd then reverse (range_with_len start (length items.old))
+        else range_with_len start (length items.old)) }
+{
+    count_from(start, items);
+    if is_odd {
+        items.reverse();
     }
 }
 
@@ -150,34 +254,21 @@ fn is_mark_at(line: &[Properties], place: u32) -> bool
 }
 
 // Reverses the intervals of each level from the highest down to the lowest odd one, if there is one.
-fn reverse_levels(levels: &[u8], vtol: &mut [u32])
-    requires { vtol.old ≡ range_with_len 0 (length levels.now) }
-    ensures { vtol.new ≡ order_of levels.now }
+fn reverse_levels(levels: &[u8], top: u8, low: Option<u8>, items: &mut [u32])
+    requires within { AreWithin (length levels.now) items.old }
+    requires highest { top ≡ highest levels.now }
+    requires lowest { low ≡ lowest_odd levels.now }
+    requires ordered { IfSome low (λ lowest. (0 < lowest) × (lowest ≤ top)) }
+    ensures { items.new ≡ turned levels.now items.old }
 {
-    let (highest, lowest) = highest_and_lowest_odd(levels);
-    if let Some(lowest) = lowest {
+    if let Some(lowest) = low {
         // Ends, since an odd level is not 0.
-        let mut level = highest;
+        let mut level = top;
         while level >= lowest {
-            reverse_runs(levels, level, vtol);
+            reverse_runs(levels, level, items);
             level -= 1;
         }
     }
-}
-
-// The highest level, 0 where there is none, and the lowest odd one, if there is one.
-fn highest_and_lowest_odd(levels: &[u8]) -> (u8, Option<u8>)
-    ensures highest { result.0 ≡ highest levels.now }
-    ensures lowest { result.1 ≡ lowest_odd levels.now }
-    ensures ordered { IfSome result.1 (λ lowest. (0 < lowest) × (lowest ≤ result.0)) }
-{
-    let mut highest = 0;
-    let mut lowest = None;
-    for level in levels {
-        highest = highest.max(*level);
-        lowest = lower_odd(lowest, *level);
-    }
-    (highest, lowest)
 }
 
 // The lowest odd level, with one more level.

@@ -29,6 +29,14 @@ pub struct Place {
     pub ends_cluster: bool,
 }
 
+// What stands in a list before a place is put there.
+const NOTHING: Place = Place {
+    columns: 0,
+    is_trailing: false,
+    mark: Mark::Never,
+    ends_cluster: false,
+};
+
 impl Place {
     // A character, of which it isn't known whether a cluster ends after it.
     fn of(properties: Properties, c: char, mark: Mark) -> Place
@@ -47,6 +55,11 @@ impl Place {
 fn columns(c: char) -> u8
     ensures { result ≡ columns_of c }
 {
+    // Most characters are letters of ASCII, which need no look at a table.
+    let code = c as u32;
+    if code >= 0x20 && code < 0x7f {
+        return 1;
+    }
     match c.width() {
         Some(width) => width as u8,
         None => 0,
@@ -85,29 +98,27 @@ pub fn take_places(
     ensures len { OnOk result (length places.new.items ≡ length text.now) }
 {
     marks_are_as_many(tables, text, Tailoring { whole_numbers });
-    places.clear();
-    places.reserve(text.len())?;
-    push_places(tables, text, properties, marks, places)?;
+    places.resize(text.len(), NOTHING)?;
+    put_places(tables, text, properties, marks, places);
     Ok(())
 }
 
-// Adds a place for each character.
-fn push_places(
+// Puts the place of each character over what a list has.
+fn put_places(
     tables: &Tables,
     text: &[char],
     properties: &[Properties],
     marks: &[Mark],
-    places: &mut Vec<Place>,
-) -> Result<(), AllocError>
+    places: &mut [Place],
+)
     requires marks { length marks.now ≡ length text.now }
     requires properties { properties.now ≡ map (properties_of tables.now) text.now }
-    requires none { places.old.items ≡ [] }
-    ensures places { OnOk result (places.new.items ≡ bare_places tables.now text.now marks.now) }
+    requires len { length places.old ≡ length text.now }
+    ensures { places.new ≡ bare_places tables.now text.now marks.now }
 {
     let mut k = 0;
     while k < text.len() {
-        places.push(Place::of(properties[k], text[k], marks[k]))?;
+        places[k] = Place::of(properties[k], text[k], marks[k]);
         k += 1;
     }
-    Ok(())
 }

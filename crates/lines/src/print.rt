@@ -49,6 +49,7 @@ impl Default for Print {
 }
 
 impl Print {
+    ghost use Rattle.lines.specs.Asked.{asks_places};
     ghost use Rattle.lines.specs.Printing.{skips_lines};
 
     // Whether nothing is printed of a line but the direction, which needs no lines.
@@ -56,6 +57,13 @@ impl Print {
         ensures { result ≡ skips_lines self.now }
     {
         !self.visual && !self.ltov && !self.vtol && !self.levels
+    }
+
+    // Whether places are printed, or characters as they are, which are found by their places.
+    pub(crate) fn asks_places(&self) -> bool
+        ensures { result ≡ asks_places self.now }
+    {
+        self.ltov || self.vtol || (self.visual && !self.mirrored)
     }
 }
 

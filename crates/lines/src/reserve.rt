@@ -1,5 +1,5 @@
 //! Lists that are used again.
-ghost use Rattle.std.specs.Prelude.{◌≡◌};
+ghost use Rattle.std.specs.Prelude.{◌≡◌, ◌≤◌, length, OnOk};
 
 use std::alloc::AllocError;
 
@@ -8,4 +8,15 @@ pub fn reserve<T>(list: &mut Vec<T>, len: usize) -> Result<(), AllocError>
     ensures { list.new.items ≡ list.old.items }
 {
     list.reserve_exact(len.saturating_sub(list.len()))
+}
+
+/// Sees to it that a list has at least so many items.
+pub fn grow<T: Copy>(list: &mut Vec<T>, len: usize, item: T) -> Result<(), AllocError>
+    ensures { OnOk result (len ≤ length list.new.items) }
+{
+    if list.len() < len {
+        reserve(list, len)?;
+        list.resize(len, item)?;
+    }
+    Ok(())
 }

@@ -1,8 +1,8 @@
 //! What is shown of each line of a paragraph: its levels after L1, and its shown part in visual order (L2)
 //! with mirrors (L4).
-ghost use Rattle.std.specs.Prelude.{◌≡◌, ◌<◌, ◌≤◌, ℕ, List, true, false, OnOk};
+ghost use Rattle.std.specs.Prelude.{◌≡◌, ◌-◌, ◌<◌, ◌≤◌, ℕ, List, true, false, OnOk};
 ghost use Rattle.std.specs.Prelude.{length, map, take, slice_index};
-ghost use Rattle.std.specs.List.{range_with_len};
+ghost use Rattle.std.specs.List.{range_with_len, suffix_len};
 ghost use Rattle.ucd.specs.Properties.{properties_of};
 ghost use Rattle.bidi.specs.Classes.{class_in};
 ghost use Rattle.lines.specs.Spaces.{line_levels};
@@ -23,8 +23,8 @@ ghost use Rattle.lines.specs.declared.engine.TheConstants.{PARAGRAPH_LIMIT};
 
 use crate::counts::raise;
 use crate::fill::{Lists, Shown};
-use crate::mirror::visual_chars;
-use crate::order::{identity, order};
+use crate::mirror::{visual_chars, visual_runs};
+use crate::order::{arrange, identity, order, order_runs};
 use crate::paragraph::{Paragraph, Spans, Text};
 use crate::places::Place;
 use crate::reserve::reserve;
@@ -223,8 +223,8 @@ fn show_line(
     );
 }
 
-// L1 on a line; true only where all levels are 0 then.
-fn reset_line(properties: &[Properties], base: u8, levels: &mut [u8]) -> bool
+/// L1 on a line; true only where all levels are 0 then.
+pub(crate) fn reset_line(properties: &[Properties], base: u8, levels: &mut [u8]) -> bool
     requires { length properties.now ≡ length levels.old }
     ensures levels { levels.new ≡ line_levels base (map class_in properties.now) levels.old }
     ensures flat { result ≡ true → (k : ℕ) → slice_index levels.new k ≡ 0 }
@@ -258,8 +258,8 @@ fn are_even(levels: &[u8]) -> bool
     odd == 0
 }
 
-// Whether no level is odd, which needs no look at levels that are all 0.
-fn is_plain(levels: &[u8], is_flat: bool) -> bool
+/// Whether no level is odd, which needs no look at levels that are all 0.
+pub(crate) fn is_plain(levels: &[u8], is_flat: bool) -> bool
     requires { is_flat ≡ true → (k : ℕ) → slice_index levels.now k ≡ 0 }
     ensures { result ≡ true → (k : ℕ) → is_odd (slice_index levels.now k) ≡ false }
 {
@@ -281,9 +281,9 @@ fn show_plain(part: &[char], ltov: &mut [u32], vtol: &mut [u32], chars: &mut [ch
     chars.copy_from_slice(part);
 }
 
-// Writes what belongs to the shown part of a line, which is as long as these levels: its order, and its
-// characters in visual order.
-fn show_part(
+/// Writes what belongs to the shown part of a line, which is as long as these levels: its order, and its
+/// characters in visual order.
+pub(crate) fn show_part(
     line: &Text<'_>,
     levels: &[u8],
     is_flat: bool,
@@ -323,6 +323,30 @@ fn show_part(
     }
 }
 
+/// Writes the characters of the shown part of a line, which is as long as these levels, in visual order, and
+/// nothing else of it: the list of places is left with whatever it took to find that order.
+pub(crate) fn show_chars(line: &Text<'_>, levels: &[u8], places: &mut [u32], chars: &mut [char])
+    requires line { IsLookedUp line.now }
+    requires limit { length line.now.characters.now ≤ PARAGRAPH_LIMIT }
+    requires levels { length levels.now ≤ length line.now.characters.now }
+    requires places { length places.old ≡ length levels.now }
+    requires chars { length chars.old ≡ length levels.now }
+    ensures { chars.new ≡ visual_chars line.now.rules.tables.now levels.now
+        (take (length levels.now) line.now.characters.now)
+        (vtol_of line.now.rules.options.reordernsm (map class_in line.now.properties.now) levels.now) }
+{
+    let part = &line.characters[..levels.len()];
+    let properties = &line.properties[..levels.len()];
+    if line.rules.options.reordernsm {
+        arrange(line.properties, levels, true, places);
+        visual_chars(line.rules.tables, part, properties, levels, places, chars);
+        return;
+    }
+    let count = order_runs(levels, places);
+    let runs = &places[..count];
+    visual_runs(line.rules.tables, part, properties, levels, runs, chars);
+}
+
 // How much of a line is shown: all but its tail.
 fn shown_of(line: &[Place]) -> Shown
     requires { length line.now ≤ PARAGRAPH_LIMIT }
@@ -330,16 +354,32 @@ fn shown_of(line: &[Place]) -> Shown
     ensures columns { result.columns ≡ columns (shown line.now) }
     ensures within { result.len ≤ length line.now }
 {
-    let mut shown = Shown { len: 0, columns: 0 };
-    let mut columns = 0;
-    for (k, place) in line.iter().enumerate() {
-        columns += place.columns as u32;
-        if !place.is_trailing {
-            shown = Shown {
-                len: k as u32 + 1,
-                columns,
-            };
-        }
+    let len = shown_len(line);
+    Shown {
+        len: len as u32,
+        columns: columns(&line[..len]),
     }
-    shown
+}
+
+// How many of its characters: all but the trailing ones at its end.
+fn shown_len(line: &[Place]) -> usize
+    ensures { result ≡ length line.now - suffix_len (λ p. p.is_trailing) line.now }
+{
+    let mut len = line.len();
+    while len > 0 && line[len - 1].is_trailing {
+        len -= 1;
+    }
+    len
+}
+
+// The columns of a piece.
+fn columns(piece: &[Place]) -> u32
+    requires { length piece.now ≤ PARAGRAPH_LIMIT }
+    ensures { result ≡ columns piece.now }
+{
+    let mut columns = 0;
+    for place in piece {
+        columns += place.columns as u32;
+    }
+    columns
 }

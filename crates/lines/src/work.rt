@@ -1,5 +1,5 @@
 //! The layout of one paragraph, in lists that are used again for the next.
-ghost use Rattle.std.specs.Prelude.{◌≡◌, ◌≤◌, length, map, IfOk, OnOk};
+ghost use Rattle.std.specs.Prelude.{◌≡◌, ◌≤◌, ◌⊎◌, List, length, map, IfErr, IfOk, OnOk};
 ghost use Rattle.ucd.specs.Properties.{properties_of};
 ghost use Rattle.bidi.specs.Levels.{levels_of};
 ghost use Rattle.breaks.specs.Marks.{marks_of};
@@ -9,23 +9,34 @@ ghost use Rattle.lines.specs.Counts.{FillsAll, FillsSome};
 ghost use Rattle.lines.specs.Engine.{counted};
 ghost use Rattle.lines.specs.Extents.{shown_from};
 ghost use Rattle.lines.specs.Filling.{line_starts_of};
+ghost use Rattle.lines.specs.Kept.{AreStarts};
 ghost use Rattle.lines.specs.Layouts.{AreWithin, base_of, lines_of};
-ghost use Rattle.lines.specs.Lists.{held_lines, AreSound};
+ghost use Rattle.lines.specs.Pages.{lines_bytes, paragraph_bytes};
+ghost use Rattle.lines.specs.Printing.{FailedAs};
+ghost use Rattle.lines.specs.Visual.{lines_from};
+ghost use Rattle.lines.specs.Writing.{PassedOn, StoppedIn};
+ghost use Rattle.lines.specs.declared.places.Place.{Place};
+ghost use Rattle.device.specs.Device.{Wrote};
+ghost use Rattle.lines.specs.Lists.{held_lines, AreSound, HasRoom};
 ghost use Rattle.lines.specs.Paragraphs.{IsLookedUp, lines_at, rules_in};
 ghost use Rattle.lines.specs.Places.{places_of};
 ghost use Rattle.lines.specs.declared.engine.TheConstants.{PARAGRAPH_LIMIT};
 
+use crate::bytes::WriteFault;
 use crate::counts::{Counts, raise};
-use crate::extents::Extents;
-use crate::fill::{Fill, Lists};
+use crate::extents::{Extents, look_up};
+use crate::fill::{Fill, Lists, Shown};
 use crate::filling::line_starts;
 use crate::laid::Laid;
-use crate::paragraph::{LentRules, Paragraph, Text};
+use crate::paragraph::{LentRules, Paragraph, Spans, Text};
 use crate::places::{Place, take_places};
-use crate::reserve::reserve;
+use crate::print::PrintFault;
+use crate::reserve::{grow, reserve};
 use crate::showing::{show_lines, take_shown};
+use crate::writing::{Form, write_each};
 use bidi::Resolver;
 use breaks::{Mark, Tailoring, marks_into};
+use device::Sink;
 use std::alloc::{AllocError, Global};
 use ucd::{Properties, Tables};
 
@@ -86,7 +97,10 @@ impl Workspace {
     ghost use Rattle.lines.specs.Extents.{extents_of};
     ghost use Rattle.lines.specs.Layouts.{AreWithin, IsLaidOut, base_of, fill_of, layout_of};
     ghost use Rattle.lines.specs.Lists.{held_lines, AreSound};
+    ghost use Rattle.device.specs.Device.{Wrote};
+    ghost use Rattle.lines.specs.Pages.{paragraph_bytes};
     ghost use Rattle.lines.specs.Paragraphs.{rules_in};
+    ghost use Rattle.lines.specs.Printing.{FailedAs};
 
     /// Empty lists, which take no memory.
     pub(crate) fn new(alloc: Global) -> Workspace {
@@ -123,22 +137,12 @@ impl Workspace {
         ensures counts { OnOk result (LaysOutAll (length text.now) counts.old counts.new) }
         ensures at_most { LaysOutSome (length text.now) counts.old counts.new }
     {
-        let base = self.resolve(rules, text, &mut kept.levels, &mut counts.analysed)?;
-        let properties = self.properties.as_slice();
-        reserve(&mut kept.marks, text.len())?;
-        let whole_numbers = rules.options.whole_numbers;
-        marks_into(
-            rules.tables,
-            text,
-            properties,
-            Tailoring { whole_numbers },
-            &mut kept.marks,
-        )?;
+        let base = self.analyse(rules, text, kept, &mut counts.analysed)?;
         let paragraph = Paragraph {
             text: Text {
                 rules: *rules,
                 characters: text,
-                properties,
+                properties: self.properties.as_slice(),
                 base,
             },
             levels: &kept.levels,
@@ -146,6 +150,86 @@ impl Workspace {
         };
         let places = &mut self.places;
         put_lines(alloc, &paragraph, places, width, &mut kept.lines, counts)?;
+        Ok(base)
+    }
+
+    /// Writes the lines of a paragraph, of which no more is kept than how long they are. Where there is no
+    /// memory, nothing is written.
+    pub(crate) fn write<W: Sink>(
+        &mut self,
+        alloc: Global,
+        rules: &LentRules<'_>,
+        text: &[char],
+        form: &Form<'_>,
+        kept: &mut LayoutLists,
+        counts: &mut Counts,
+        writer: &mut W,
+    ) -> Result<(), PrintFault>
+        requires { length text.now ≤ PARAGRAPH_LIMIT }
+        ensures ok { OnOk result (Wrote
+            (paragraph_bytes (rules_in rules.now) form.now.width form.now.print.now text.now)
+            (W.state writer.old) (W.state writer.new)) }
+        ensures err { IfErr result (λ fault. FailedAs fault
+            (paragraph_bytes (rules_in rules.now) form.now.width form.now.print.now text.now)
+            (W.state writer.old) (W.state writer.new)) }
+        ensures counts { OnOk result (LaysOutAll (length text.now) counts.old counts.new) }
+        ensures at_most { LaysOutSome (length text.now) counts.old counts.new }
+    {
+        let Ok(base) = self.analyse(rules, text, kept, &mut counts.analysed) else {
+            return Err(PrintFault::Memory);
+        };
+        let paragraph = Paragraph {
+            text: Text {
+                rules: *rules,
+                characters: text,
+                properties: self.properties.as_slice(),
+                base,
+            },
+            levels: &kept.levels,
+            marks: &kept.marks,
+        };
+        let places = &mut self.places;
+        write_lines(
+            alloc,
+            &paragraph,
+            places,
+            form,
+            &mut kept.lines,
+            counts,
+            writer,
+        )
+    }
+
+    // The base level of a paragraph, and its levels and break marks, put into some lists. What the tables say
+    // of its characters stays. Counts the characters.
+    fn analyse(
+        &mut self,
+        rules: &LentRules<'_>,
+        text: &[char],
+        kept: &mut LayoutLists,
+        analysed: &mut u64,
+    ) -> Result<u8, AllocError>
+        ensures base { IfOk result (λ base. base ≡ base_of (rules_in rules.now) text.now) }
+        ensures levels { OnOk result
+            (kept.new.levels.items ≡ levels_of rules.now.tables.now text.now rules.now.options.base) }
+        ensures len { OnOk result (length kept.new.levels.items ≡ length text.now) }
+        ensures marks { OnOk result (kept.new.marks.items
+            ≡ marks_of rules.now.tables.now rules.now.options.whole_numbers text.now) }
+        ensures properties { OnOk result
+            (self.new.properties.items ≡ map (properties_of rules.now.tables.now) text.now) }
+        ensures counts { analysed.new ≡ counted analysed.old (length text.now) }
+        ensures least { analysed.old ≤ analysed.new }
+    {
+        let base = self.resolve(rules, text, &mut kept.levels, analysed)?;
+        reserve(&mut kept.marks, text.len())?;
+        let whole_numbers = rules.options.whole_numbers;
+        marks_into(
+            rules.tables,
+            text,
+            &self.properties,
+            Tailoring { whole_numbers },
+            &mut kept.marks,
+        )?;
         Ok(base)
     }
 
@@ -248,11 +332,8 @@ fn take_properties(
 ) -> Result<(), AllocError>
     ensures { OnOk result (properties.new.items ≡ map (properties_of tables.now) text.now) }
 {
-    properties.clear();
-    properties.reserve(text.len())?;
-    for c in text {
-        properties.push(tables.properties(*c))?;
-    }
+    properties.resize(text.len(), tables.properties('\0'))?;
+    look_up(tables, text, properties);
     Ok(())
 }
 
@@ -275,10 +356,199 @@ fn extents_of_places(
     ensures least { filled.old ≤ filled.new }
 {
     let mut starts = Vec::new(alloc);
-    line_starts(alloc, text, places, width, nobreak, &mut starts, filled)?;
     let mut shown = Vec::new(alloc);
-    take_shown(places, &starts, &mut shown)?;
+    put_spans(
+        alloc,
+        text,
+        places,
+        width,
+        nobreak,
+        &mut starts,
+        &mut shown,
+        filled,
+    )?;
     Ok(Extents { starts, shown })
+}
+
+// Puts where the lines of a paragraph start, and how much of each is shown, into some lists, by its places, of
+// which it isn't known where clusters end.
+fn put_spans(
+    alloc: Global,
+    text: &[char],
+    places: &mut [Place],
+    width: u16,
+    nobreak: bool,
+    starts: &mut Vec<u32>,
+    shown: &mut Vec<Shown>,
+    filled: &mut u64,
+) -> Result<(), AllocError>
+    requires len { length places.old ≡ length text.now }
+    requires within { length text.now ≤ PARAGRAPH_LIMIT }
+    ensures starts { OnOk result (starts.new.items
+        ≡ line_starts_of nobreak width (with_ends places.old (cluster_ends text.now))) }
+    ensures shown { OnOk result (shown.new.items
+        ≡ shown_from (length text.now) (with_ends places.old (cluster_ends text.now)) starts.new.items) }
+    ensures ordered { OnOk result (AreStarts (length text.now) starts.new.items) }
+    ensures counts { filled.new ≡ counted filled.old (length text.now) }
+    ensures least { filled.old ≤ filled.new }
+{
+    line_starts(alloc, text, places, width, nobreak, starts, filled)?;
+    take_shown(places, starts, shown)
+}
+
+// Writes the lines of a paragraph of which all is known but them.
+fn write_lines<W: Sink>(
+    alloc: Global,
+    paragraph: &Paragraph<'_>,
+    places: &mut Vec<Place>,
+    form: &Form<'_>,
+    lists: &mut Lists,
+    counts: &mut Counts,
+    writer: &mut W,
+) -> Result<(), PrintFault>
+    requires text { IsLookedUp paragraph.now.text }
+    requires base { paragraph.now.text.base
+        ≡ base_of (rules_in paragraph.now.text.rules) paragraph.now.text.characters.now }
+    requires levels { paragraph.now.levels.now ≡ levels_of paragraph.now.text.rules.tables.now
+        paragraph.now.text.characters.now paragraph.now.text.rules.options.base }
+    requires len { length paragraph.now.levels.now ≡ length paragraph.now.text.characters.now }
+    requires marks { paragraph.now.marks.now ≡ marks_of paragraph.now.text.rules.tables.now
+        paragraph.now.text.rules.options.whole_numbers paragraph.now.text.characters.now }
+    requires within { length paragraph.now.text.characters.now ≤ PARAGRAPH_LIMIT }
+    ensures ok { OnOk result (Wrote (paragraph_bytes (rules_in paragraph.now.text.rules)
+        form.now.width form.now.print.now paragraph.now.text.characters.now)
+        (W.state writer.old) (W.state writer.new)) }
+    ensures err { IfErr result (λ fault. FailedAs fault (paragraph_bytes
+        (rules_in paragraph.now.text.rules) form.now.width form.now.print.now
+        paragraph.now.text.characters.now) (W.state writer.old) (W.state writer.new)) }
+    ensures counts { OnOk result
+        (FillsAll (length paragraph.now.text.characters.now) counts.old counts.new) }
+    ensures at_most { FillsSome (length paragraph.now.text.characters.now) counts.old counts.new }
+{
+    let text = &paragraph.text;
+    let Ok(()) = take_spans(
+        alloc,
+        paragraph,
+        places,
+        form.width,
+        lists,
+        &mut counts.filled,
+    ) else {
+        return Err(PrintFault::Memory);
+    };
+    raise(&mut counts.written, text.characters.len());
+    match write_spans(writer, form, text, paragraph.levels, lists) {
+        Ok(_) => Ok(()),
+        Err(fault) => Err(PrintFault::Write(fault)),
+    }
+}
+
+// Puts where the lines of a paragraph start, and how much of each is shown, into some lists, and gives the
+// others of them room for a line.
+fn take_spans(
+    alloc: Global,
+    paragraph: &Paragraph<'_>,
+    places: &mut Vec<Place>,
+    width: u16,
+    lists: &mut Lists,
+    filled: &mut u64,
+) -> Result<(), AllocError>
+    requires text { IsLookedUp paragraph.now.text }
+    requires marks { paragraph.now.marks.now ≡ marks_of paragraph.now.text.rules.tables.now
+        paragraph.now.text.rules.options.whole_numbers paragraph.now.text.characters.now }
+    requires within { length paragraph.now.text.characters.now ≤ PARAGRAPH_LIMIT }
+    ensures starts { OnOk result (lists.new.starts.items
+        ≡ line_starts_of paragraph.now.text.rules.options.nobreak width
+        (places_of paragraph.now.text.rules.tables.now paragraph.now.text.rules.options.whole_numbers
+        paragraph.now.text.characters.now)) }
+    ensures shown { OnOk result (lists.new.shown.items
+        ≡ shown_from (length paragraph.now.text.characters.now)
+        (places_of paragraph.now.text.rules.tables.now paragraph.now.text.rules.options.whole_numbers
+        paragraph.now.text.characters.now) lists.new.starts.items) }
+    ensures ordered { OnOk result
+        (AreStarts (length paragraph.now.text.characters.now) lists.new.starts.items) }
+    ensures room { OnOk result (HasRoom (length paragraph.now.text.characters.now) lists.new) }
+    ensures counts { filled.new ≡ counted filled.old (length paragraph.now.text.characters.now)
+        ⊎ filled.new ≡ filled.old }
+    ensures all { OnOk result
+        (filled.new ≡ counted filled.old (length paragraph.now.text.characters.now)) }
+    ensures least { filled.old ≤ filled.new }
+{
+    let text = &paragraph.text;
+    take_places(
+        text.rules.tables,
+        text.characters,
+        text.properties,
+        text.rules.options.whole_numbers,
+        paragraph.marks,
+        places,
+    )?;
+    make_room(lists, text.characters.len())?;
+    put_spans(
+        alloc,
+        text.characters,
+        places,
+        width,
+        text.rules.options.nobreak,
+        &mut lists.starts,
+        &mut lists.shown,
+        filled,
+    )
+}
+
+// Sees to it that lists have room for so many characters.
+fn make_room(lists: &mut Lists, len: usize) -> Result<(), AllocError>
+    ensures { OnOk result (HasRoom len lists.new) }
+{
+    grow(&mut lists.levels, len, 0)?;
+    grow(&mut lists.ltov, len, 0)?;
+    grow(&mut lists.vtol, len, 0)?;
+    grow(&mut lists.chars, len, '\0')
+}
+
+// Writes the lines of a paragraph that start and are shown as some lists say.
+fn write_spans<W: Sink>(
+    writer: &mut W,
+    form: &Form<'_>,
+    text: &Text<'_>,
+    levels: &[u8],
+    lists: &mut Lists,
+) -> Result<u64, WriteFault>
+    requires text { IsLookedUp text.now }
+    requires limit { length text.now.characters.now ≤ PARAGRAPH_LIMIT }
+    requires starts { AreStarts (length text.now.characters.now) lists.old.starts.items }
+    requires shown { (places : List Place) × (lists.old.shown.items
+        ≡ shown_from (length text.now.characters.now) places lists.old.starts.items) }
+    requires levels { length levels.now ≡ length text.now.characters.now }
+    requires room { HasRoom (length text.now.characters.now) lists.old }
+    ensures ok { (places : List Place) → lists.old.shown.items
+        ≡ shown_from (length text.now.characters.now) places lists.old.starts.items
+        → IfOk result (λ n. PassedOn (lines_bytes form.now.width form.now.print.now text.now.base
+        text.now.characters.now (lines_from text.now.rules.tables.now text.now.rules.options text.now.base
+        text.now.characters.now levels.now places lists.old.starts.items)) 0
+        (W.state writer.old) (W.state writer.new) n) }
+    ensures err { (places : List Place) → lists.old.shown.items
+        ≡ shown_from (length text.now.characters.now) places lists.old.starts.items
+        → IfErr result (λ fault. StoppedIn (lines_bytes form.now.width form.now.print.now text.now.base
+        text.now.characters.now (lines_from text.now.rules.tables.now text.now.rules.options text.now.base
+        text.now.characters.now levels.now places lists.old.starts.items)) 0
+        (W.state writer.old) (W.state writer.new) fault.written) }
+{
+    let spans = Spans {
+        starts: &lists.starts,
+        shown: &lists.shown,
+    };
+    write_each(
+        writer,
+        form,
+        text,
+        &spans,
+        levels,
+        &mut lists.levels,
+        &mut lists.ltov,
+        &mut lists.vtol,
+        &mut lists.chars,
+    )
 }
 
 // Puts the lines of a paragraph into some lists.

@@ -6,9 +6,9 @@ use Rattle.lines.proofs.order.order.Goals as goal
 pub invert-requires : goal.invert-requires
 invert-requires c =
     let classes = map class_in c.args.line.now in
-    let size = length-vtol c.args.reordernsm classes c.args.levels.now c.arrange.new.vtol c.arrange.ensures in
+    let size = length-vtol c.args.reordernsm classes c.args.levels.now c.arrange.new.vtol c.arrange.ensures.vtol in
     record {
-      places = order_permutes c.args.reordernsm classes c.args.levels.now c.arrange.new.vtol c.arrange.ensures;
+      places = order_permutes c.args.reordernsm classes c.args.levels.now c.arrange.new.vtol c.arrange.ensures.vtol;
       len = c.requires.ltov ∙ sym size;
       within = omega (arith, size, c.requires.within);
     }
@@ -17,11 +17,11 @@ pub returns : goal.returns
 returns c =
     let classes = map class_in c.args.line.now in
     let vtol = c.arrange.new.vtol in
-    let size = length-vtol c.args.reordernsm classes c.args.levels.now vtol c.arrange.ensures in
+    let size = length-vtol c.args.reordernsm classes c.args.levels.now vtol c.arrange.ensures.vtol in
     let inverse = rw size at c.invert.ensures.inverse in
     record {
-      vtol = c.arrange.ensures;
-      ltov = is_ltov c.args.reordernsm classes c.args.levels.now vtol _ c.arrange.ensures c.invert.ensures.ltov;
+      vtol = c.arrange.ensures.vtol;
+      ltov = is_ltov c.args.reordernsm classes c.args.levels.now vtol _ c.arrange.ensures.vtol c.invert.ensures.ltov;
       within = λ k h. inverse.vtol_within k (omega (arith, h, size));
       inverse = inverse;
     }

@@ -3,7 +3,7 @@ use Rattle.lines.proofs.OrderLemmas.{Turned}
 use Rattle.lines.proofs.order.reverse_levels.Given as goal
 
 abbrev pub invariant-loop-level : goal.invariant-loop-level
-invariant-loop-level l = Turned l.levels l.highest l.lowest l.vtol l.level
+invariant-loop-level l = Turned l.levels l.fn.items l.top l.lowest l.items l.level
 
 abbrev pub decreases-loop-level : goal.decreases-loop-level
 decreases-loop-level l = l.level + 1 - l.lowest

@@ -1,10 +1,11 @@
-use Rattle.std.proofs.Common.{◌∙◌, length, sym, arith}
+use Rattle.std.proofs.Common.{◌≡◌, ◌∙◌, List, OnOk, length, refl, subst, sym, arith}
 use Rattle.lines.specs.Bare.{with_ends}
 use Rattle.lines.specs.Clusters.{cluster_ends}
+use Rattle.lines.specs.declared.fill.Shown.{Shown}
 use Rattle.lines.proofs.BareLemmas.{same_shown, with_alike}
 use Rattle.lines.proofs.ClusterLemmas.{length-cluster_ends}
 use Rattle.lines.proofs.ShowLemmas.{taken_shown}
-use Rattle.lines.proofs.work.extents_of_places.Goals as goal
+use Rattle.lines.proofs.work.put_spans.Goals as goal
 
 pub returns-clause-shown : goal.returns-clause-shown
 returns-clause-shown c =
@@ -14,5 +15,6 @@ returns-clause-shown c =
     let starts = c.line_starts.new.starts.items in
     let ends = cluster_ends text in
     let alike = c.in_ok-line_starts.ensures.alike ∙ sym (with_alike old ends (length-cluster_ends text ∙ sym c.requires.len)) in
-    taken_shown (length text) (length new) new starts c.deref.result.now (omega arith) c.deref.ensures.value c.in_ok-take_shown.ensures
-    ∙ same_shown (length text) new (with_ends old ends) starts alike
+    let same = taken_shown (length text) (length new) new starts c.deref.result.now (omega arith) c.deref.ensures.value refl
+    ∙ same_shown (length text) new (with_ends old ends) starts alike in
+    subst (λ (parts : List Shown). OnOk c.take_shown.result (c.take_shown.new.shown.items ≡ parts)) same c.take_shown.ensures

@@ -1,0 +1,127 @@
+-- Lines that are written as they are shown are those of the paragraph.
+use Rattle.std.proofs.Common.{◌≡◌, ℕ, zero, suc, ◌+◌, ◌-◌, ◌<◌, ◌≤◌, ◌==◌, Bool, List, [], ◌∷◌, length, map, take, drop, get_or, Option, Some, refl, sym, ap, ap₂, ◌∙◌, arith}
+use Rattle.std.specs.Prelude.{option_map, slice_get, slice_range}
+use Rattle.std.proofs.lemmas.List.{length-map, length-take-le, take-take}
+use Rattle.ucd.specs.Tables.{class_of}
+use Rattle.ucd.specs.declared.bidi_class.BidiClass.{BidiClass}
+use Rattle.ucd.specs.declared.tables.Tables.{Tables}
+use Rattle.lines.specs.Asked.{visual_part, visual_shown}
+use Rattle.lines.specs.Bytes.{line_bytes}
+use Rattle.lines.specs.Extents.{shown_between, shown_from}
+use Rattle.bidi.specs.Levels.{levels_of}
+use Rattle.lines.specs.Filling.{line_starts_of}
+use Rattle.lines.specs.Layouts.{Rules, base_of}
+use Rattle.lines.specs.Pages.{lines_bytes, paragraph_bytes}
+use Rattle.lines.specs.Places.{places_of}
+use Rattle.lines.specs.Mirroring.{visual_chars}
+use Rattle.lines.specs.Order.{ltov_of, vtol_of}
+use Rattle.lines.specs.Showing.{line_showing, lines_shown, nothing_shown}
+use Rattle.lines.specs.Spaces.{line_levels}
+use Rattle.lines.specs.Visual.{Line, Visual, end_of, lines_from, visual_of}
+use Rattle.lines.specs.declared.options.Options.{Options}
+use Rattle.lines.specs.declared.places.Place.{Place}
+use Rattle.lines.specs.declared.fill.Shown.{Shown}
+use Rattle.lines.specs.declared.print.Print.{Print}
+use Rattle.lines.proofs.PageLemmas.{piece_at, pieces}
+use Rattle.lines.proofs.ShowLemmas.{length_range}
+
+length-line_levels : (base : ℕ) (classes : List BidiClass) (levels : List ℕ) → length levels ≡ length classes → length (line_levels base classes levels) ≡ length levels
+length-line_levels base [] levels same = sym same
+length-line_levels base (class ∷ classes) [] same = refl
+length-line_levels base (class ∷ classes) (level ∷ levels) same = ap suc (length-line_levels base classes levels (omega (arith, same)))
+
+module _ (tables : Tables) (options : Options) (base : ℕ) where
+  -- a line by what is found of it
+  pub is_part : (is_first : Bool) (line : List ℕ) (columns : ℕ) (levels ltov vtol chars : List ℕ) (classes : List BidiClass)
+      → classes ≡ map (class_of tables) line → ltov ≡ ltov_of options.reordernsm classes levels → vtol ≡ vtol_of options.reordernsm classes levels
+      → chars ≡ visual_chars tables levels (take (length levels) line) (vtol_of options.reordernsm classes levels)
+      → record {
+        is_first = is_first;
+        base = base;
+        len = length line;
+        text = take (length levels) line;
+        columns = columns;
+        levels = levels;
+        ltov = ltov;
+        vtol = vtol;
+        chars = chars;
+      } ≡ visual_part tables options base is_first line columns levels
+  is_part is_first line columns levels ltov vtol chars classes e t v c = rw (t, v, c, e) refl
+
+  module _ (text old : List ℕ) where
+    -- the k-th line
+    line_at : (starts : List ℕ) (parts : List Shown) (k : ℕ) → length parts ≡ length starts → k < length starts
+        → slice_get (lines_shown tables options base text old starts parts) k
+        ≡ Some (line_showing tables options base text old (get_or parts k nothing_shown) (get_or starts k 0) (end_of (length text) starts k))
+    line_at [] parts k same below = absurd (omega (arith, below))
+    line_at (s ∷ starts) [] k same below = absurd (omega (arith, same))
+    line_at (s ∷ []) (part ∷ parts) zero same below = refl
+    line_at (s ∷ []) (part ∷ parts) (suc k) same below = absurd (omega (arith, below))
+    line_at (s ∷ t ∷ starts) (part ∷ parts) zero same below = refl
+    line_at (s ∷ t ∷ starts) (part ∷ parts) (suc k) same below = line_at (t ∷ starts) parts k (omega (arith, same)) (omega (arith, below))
+
+    pub length-lines_shown : (starts : List ℕ) (parts : List Shown) → length parts ≡ length starts → length (lines_shown tables options base text old starts parts) ≡ length starts
+    length-lines_shown [] parts same = refl
+    length-lines_shown (s ∷ []) [] same = absurd (omega (arith, same))
+    length-lines_shown (s ∷ t ∷ starts) [] same = absurd (omega (arith, same))
+    length-lines_shown (s ∷ []) (part ∷ parts) same = refl
+    length-lines_shown (s ∷ t ∷ starts) (part ∷ parts) same = ap suc (length-lines_shown (t ∷ starts) parts (omega (arith, same)))
+
+    -- so much is shown of each as its places say
+    pub shown_lines : (places : List Place) (starts : List ℕ)
+        → lines_shown tables options base text old starts (shown_from (length text) places starts) ≡ lines_from tables options base text old places starts
+    shown_lines places [] = refl
+    shown_lines places (s ∷ []) = refl
+    shown_lines places (s ∷ t ∷ starts) = ap (λ (lines : List Line). line_showing tables options base text old (shown_between places s t) s t ∷ lines) (shown_lines places (t ∷ starts))
+
+    -- the bytes of the k-th line
+    pub piece_is : (width : ℕ) (print : Print) (starts : List ℕ) (parts : List Shown) (k e : ℕ) (part : Shown) → length parts ≡ length starts → k < length starts
+        → e ≡ end_of (length text) starts k → part ≡ get_or parts k nothing_shown → get_or starts k 0 + part.len ≤ e → e ≤ length text → length old ≡ length text
+        → line_bytes width print
+        (visual_shown tables options base (k == 0) (slice_range text (get_or starts k 0) e) (slice_range old (get_or starts k 0) e) part)
+        ≡ get_or (pieces width print base text (lines_shown tables options base text old starts parts)) k []
+    piece_is width print starts parts k e part same below e_is part_is within most sizes =
+        let lines : List Line = lines_shown tables options base text old starts parts in
+        let s : ℕ = get_or starts k 0 in
+        let line : List ℕ = slice_range text s e in
+        let classes : List BidiClass = map (class_of tables) line in
+        let levels : List ℕ = take part.len (line_levels base classes (slice_range old s e)) in
+        let vtol : List ℕ = vtol_of options.reordernsm classes levels in
+        let whole : length (slice_range old s e) ≡ length classes =
+        length_range old s e (omega arith) (omega (arith, most, sizes)) ∙ sym (length-map line (class_of tables) ∙ length_range text s e (omega arith) most) in
+        let size : length levels ≡ part.len =
+        length-take-le part.len (line_levels base classes (slice_range old s e))
+        (omega (arith, length-line_levels base classes (slice_range old s e) whole, whole, length_range old s e (omega arith) (omega (arith, most, sizes)))) in
+        let count : s + length levels - s ≡ length levels = omega arith in
+        let text_is : take (length levels) line ≡ slice_range text s (s + length levels) =
+        take-take (length levels) (e - s) (drop s text) (omega arith) ∙ ap (λ (n : ℕ). take n (drop s text)) (sym count) in
+        let view : List ℕ → List ℕ → Visual =
+        λ t u. record {
+          is_first = k == 0;
+          base = base;
+          len = 0;
+          text = t;
+          columns = part.columns;
+          levels = levels;
+          ltov = ltov_of options.reordernsm classes levels;
+          vtol = vtol;
+          chars = visual_chars tables levels u vtol;
+        } in
+        let got : slice_get lines k ≡ Some (line_showing tables options base text old part s e) =
+        line_at starts parts k same below ∙ ap₂ (λ (p : Shown) (x : ℕ). Some (line_showing tables options base text old p s x)) (sym part_is) (sym e_is) in
+        ap₂ (λ (t u : List ℕ). line_bytes width print (view t u)) text_is (ap (λ (n : ℕ). take n line) size)
+        ∙ piece_at width print base text lines k (visual_of base text lines k (line_showing tables options base text old part s e))
+        (omega (arith, below, length-lines_shown starts parts same)) (sym (ap (option_map (visual_of base text lines k)) got))
+
+-- the bytes of the paragraph are those of its lines, by what is found of it
+pub page_is : (rules : Rules) (width : ℕ) (print : Print) (text : List ℕ) (base : ℕ) (levels starts : List ℕ) → base ≡ base_of rules text
+    → levels ≡ levels_of rules.tables text rules.options.base
+    → starts ≡ line_starts_of rules.options.nobreak width (places_of rules.tables rules.options.whole_numbers text)
+    → lines_bytes width print base text (lines_from rules.tables rules.options base text levels (places_of rules.tables rules.options.whole_numbers text) starts)
+    ≡ paragraph_bytes rules width print text
+page_is rules width print text base levels starts b l s =
+    let places : List Place = places_of rules.tables rules.options.whole_numbers text in
+    let bytes : ℕ → List ℕ → List ℕ → List ℕ = λ b l s. lines_bytes width print b text (lines_from rules.tables rules.options b text l places s) in
+    ap (λ (x : ℕ). bytes x levels starts) b
+    ∙ ap (λ (ls : List ℕ). bytes (base_of rules text) ls starts) l
+    ∙ ap (bytes (base_of rules text) (levels_of rules.tables text rules.options.base)) s

@@ -1,5 +1,0 @@
-use Rattle.lines.proofs.LevelLemmas.{Extremes}
-use Rattle.lines.proofs.order.highest_and_lowest_odd.Given as goal
-
-abbrev pub invariant-loop-level : goal.invariant-loop-level
-invariant-loop-level l = Extremes l.levels l.level-index l.highest l.lowest

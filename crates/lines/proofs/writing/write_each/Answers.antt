@@ -1,0 +1,88 @@
+use Rattle.std.proofs.Common.{◌≡◌, ◌-◌, ◌<◌, ◌∙◌, take, drop, get_or, length, slice_range, refl, ap, sym, arith}
+use Rattle.std.proofs.lemmas.List.{drop-map, take-map}
+use Rattle.ucd.specs.Properties.{properties_of}
+use Rattle.lines.specs.Showing.{lines_shown, nothing_shown}
+use Rattle.lines.specs.Writing.{StoppedIn}
+use Rattle.lines.proofs.PageLemmas.{pieces, piece_within, pieces_all, pieces_whole}
+use Rattle.lines.proofs.ShowLemmas.{length_range, length-shown_from, shown_within}
+use Rattle.lines.proofs.WriteLemmas.{pieces-more, pieces-stopped, same_fault}
+use Rattle.lines.proofs.WrittenLemmas.{length-lines_shown, piece_is}
+use Rattle.lines.proofs.writing.write_each.Goals as goal
+
+pub bounds-shown-k : goal.bounds-shown-k
+bounds-shown-k g c =
+    omega (arith, ap length c.requires.shown.1, length-shown_from (length c.args.text.now.characters.now) c.requires.shown.0 c.args.spans.now.starts.now, c.loop-k-test.true)
+
+pub write_line-requires-clause-line : goal.write_line-requires-clause-line
+write_line-requires-clause-line g c =
+    let text = c.args.text.now in
+    let f = properties_of text.rules.tables.now in
+    let start = get_or c.args.spans.now.starts.now c.loop-k.k 0 in
+    let len = c.end_of-end.result - start in
+    ap (λ ps. take len (drop start ps)) c.requires.text ∙ ap (take len) (drop-map f start text.characters.now) ∙ take-map f len (drop start text.characters.now)
+
+pub write_line-requires-clause-shown : goal.write_line-requires-clause-shown
+write_line-requires-clause-shown g c =
+    let text = c.args.text.now.characters.now in
+    let starts = c.args.spans.now.starts.now in
+    let start = get_or starts c.loop-k.k 0 in
+    let ends = c.end_of-end.ensures.within c.requires.starts in
+    let within = shown_within (length text) c.requires.shown.0 starts c.args.spans.now.shown.now c.loop-k.k c.end_of-end.result _ nothing_shown
+    c.requires.starts c.loop-k-test.true c.end_of-end.ensures.end c.requires.shown.1 refl in
+    let line : length (slice_range text start c.end_of-end.result) ≡ c.end_of-end.result - start =
+    length_range text start c.end_of-end.result (omega (arith, ends.0)) ends.1 in
+    omega (arith, within, line)
+
+-- one line more
+pub loop-k-preserved : goal.loop-k-preserved
+loop-k-preserved g c =
+    let text = c.args.text.now in
+    let starts = c.args.spans.now.starts.now in
+    let shown = c.args.spans.now.shown.now in
+    let lines = lines_shown text.rules.tables.now text.rules.options text.base text.characters.now c.args.levels.now starts shown in
+    let form = c.args.form.now in
+    let same = ap length c.requires.shown.1 ∙ length-shown_from (length text.characters.now) c.requires.shown.0 starts in
+    let ends = c.end_of-end.ensures.within c.requires.starts in
+    let within = shown_within (length text.characters.now) c.requires.shown.0 starts shown c.loop-k.k c.end_of-end.result _ nothing_shown
+    c.requires.starts c.loop-k-test.true c.end_of-end.ensures.end c.requires.shown.1 refl in
+    let next = piece_is text.rules.tables.now text.rules.options text.base text.characters.now c.args.levels.now form.width form.print.now starts shown c.loop-k.k
+    c.end_of-end.result _ same c.loop-k-test.true c.end_of-end.ensures.end refl within ends.1 c.requires.levels in
+    let inside : c.loop-k.k < length lines = omega (arith, length-lines_shown text.rules.tables.now text.rules.options text.base text.characters.now c.args.levels.now starts shown same, c.loop-k-test.true) in
+    record {
+      within = omega (arith, c.loop-k-test.true);
+      passed = pieces-more (pieces form.width form.print.now text.base text.characters.now lines) c.loop-k.k
+          (piece_within form.width form.print.now text.base text.characters.now lines c.loop-k.k inside) next c.loop-k.invariant.passed c.in_ok-written.ensures.ok;
+      counted = c.in_ok-written.ensures.counted;
+    }
+
+pub returns-in_err-written-clause-err : goal.returns-in_err-written-clause-err
+returns-in_err-written-clause-err g c =
+    let text = c.args.text.now in
+    let starts = c.args.spans.now.starts.now in
+    let shown = c.args.spans.now.shown.now in
+    let lines = lines_shown text.rules.tables.now text.rules.options text.base text.characters.now c.args.levels.now starts shown in
+    let form = c.args.form.now in
+    let same = ap length c.requires.shown.1 ∙ length-shown_from (length text.characters.now) c.requires.shown.0 starts in
+    let ends = c.end_of-end.ensures.within c.requires.starts in
+    let within = shown_within (length text.characters.now) c.requires.shown.0 starts shown c.loop-k.k c.end_of-end.result _ nothing_shown
+    c.requires.starts c.loop-k-test.true c.end_of-end.ensures.end c.requires.shown.1 refl in
+    let next = piece_is text.rules.tables.now text.rules.options text.base text.characters.now c.args.levels.now form.width form.print.now starts shown c.loop-k.k
+    c.end_of-end.result _ same c.loop-k-test.true c.end_of-end.ensures.end refl within ends.1 c.requires.levels in
+    let inside : c.loop-k.k < length lines = omega (arith, length-lines_shown text.rules.tables.now text.rules.options text.base text.characters.now c.args.levels.now starts shown same, c.loop-k-test.true) in
+    let stopped = pieces-stopped (pieces form.width form.print.now text.base text.characters.now lines) c.loop-k.k
+    (piece_within form.width form.print.now text.base text.characters.now lines c.loop-k.k inside) next c.loop-k.invariant.passed c.in_err-written.ensures.err in
+    same_fault _ _ (λ w. StoppedIn _ _ _ _ w) c.from_residual.ensures.1
+    (rw (sym (pieces_whole form.width form.print.now text.base text.characters.now lines)) stopped)
+
+-- all of them
+pub returns-clause-ok : goal.returns-clause-ok
+returns-clause-ok g c =
+    let text = c.args.text.now in
+    let starts = c.args.spans.now.starts.now in
+    let shown = c.args.spans.now.shown.now in
+    let lines = lines_shown text.rules.tables.now text.rules.options text.base text.characters.now c.args.levels.now starts shown in
+    let form = c.args.form.now in
+    let same = ap length c.requires.shown.1 ∙ length-shown_from (length text.characters.now) c.requires.shown.0 starts in
+    let count = length-lines_shown text.rules.tables.now text.rules.options text.base text.characters.now c.args.levels.now starts shown same in
+    let all = pieces_all form.width form.print.now text.base text.characters.now lines c.loop-k.k (omega (arith, count, c.loop-k-test.false)) in
+    rw (sym all) c.loop-k.invariant.passed

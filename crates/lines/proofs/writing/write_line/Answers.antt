@@ -1,0 +1,29 @@
+use Rattle.std.proofs.Common.{◌≡◌, ◌∙◌, ℕ, List, IfErr, IfOk, map, take, ap, ap₂, subst}
+use Rattle.ucd.specs.Tables.{class_of}
+use Rattle.bidi.specs.Classes.{class_in}
+use Rattle.lines.specs.Asked.{visual_part}
+use Rattle.lines.specs.Bytes.{line_bytes}
+use Rattle.lines.specs.Spaces.{line_levels}
+use Rattle.lines.specs.Writing.{PassedOn, StoppedIn}
+use Rattle.lines.proofs.PlainLemmas.{classes_are}
+use Rattle.lines.proofs.writing.write_line.Goals as goal
+
+pub returns-clause-ok : goal.returns-clause-ok
+returns-clause-ok g c =
+    let line = c.args.line.now in
+    let tables = line.rules.tables.now in
+    let classes = ap (map class_in) c.requires.line ∙ classes_are tables line.characters.now in
+    let levels = ap (take c.args.shown.len) (c.reset_line-is_flat.ensures.levels ∙ ap₂ (line_levels line.base) classes c.copy_from_slice.ensures.after) in
+    subst (λ (ls : List ℕ). IfOk c.write_part.result (λ n. PassedOn (line_bytes c.args.form.now.width c.args.form.now.print.now
+    (visual_part tables line.rules.options line.base c.args.is_first line.characters.now c.args.shown.columns ls)) c.args.done
+    (g.W.Sink.state c.args.writer.now) (g.W.Sink.state c.write_part.new.writer) n)) levels c.write_part.ensures.ok
+
+pub returns-clause-err : goal.returns-clause-err
+returns-clause-err g c =
+    let line = c.args.line.now in
+    let tables = line.rules.tables.now in
+    let classes = ap (map class_in) c.requires.line ∙ classes_are tables line.characters.now in
+    let levels = ap (take c.args.shown.len) (c.reset_line-is_flat.ensures.levels ∙ ap₂ (line_levels line.base) classes c.copy_from_slice.ensures.after) in
+    subst (λ (ls : List ℕ). IfErr c.write_part.result (λ fault. StoppedIn (line_bytes c.args.form.now.width c.args.form.now.print.now
+    (visual_part tables line.rules.options line.base c.args.is_first line.characters.now c.args.shown.columns ls)) c.args.done
+    (g.W.Sink.state c.args.writer.now) (g.W.Sink.state c.write_part.new.writer) fault.written)) levels c.write_part.ensures.err

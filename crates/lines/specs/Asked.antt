@@ -1,0 +1,38 @@
+-- A line of which only what is printed is found. Only the code speaks of these.
+use Rattle.std.specs.Prelude.{ℕ, Bool, ◌&&◌, ◌||◌, not, List, length, map, take}
+use Rattle.ucd.specs.Tables.{class_of}
+use Rattle.ucd.specs.declared.tables.Tables.{Tables}
+use Rattle.lines.specs.Mirroring.{visual_chars}
+use Rattle.lines.specs.Order.{ltov_of, vtol_of}
+use Rattle.lines.specs.Spaces.{line_levels}
+use Rattle.lines.specs.Visual.{Visual}
+use Rattle.lines.specs.declared.options.Options.{Options}
+use Rattle.lines.specs.declared.fill.Shown.{Shown}
+use Rattle.lines.specs.declared.print.Print.{Print}
+
+-- a line of a paragraph, or what is shown of it, by its characters
+module _ (tables : Tables) (options : Options) (base : ℕ) (is_first : Bool) (line : List ℕ) where
+  -- by the levels of its shown part after L1
+  abbrev pub visual_part : ℕ → List ℕ → Visual
+  visual_part columns levels =
+      let classes = map (class_of tables) line in
+      let vtol = vtol_of options.reordernsm classes levels in
+      record {
+        is_first = is_first;
+        base = base;
+        len = length line;
+        text = take (length levels) line;
+        columns = columns;
+        levels = levels;
+        ltov = ltov_of options.reordernsm classes levels;
+        vtol = vtol;
+        chars = visual_chars tables levels (take (length levels) line) vtol;
+      }
+
+  -- by the levels of the whole line before L1
+  abbrev pub visual_shown : List ℕ → Shown → Visual
+  visual_shown old part = visual_part part.columns (take part.len (line_levels base (map (class_of tables) line) old))
+
+-- a print in which places stand, or characters as they are
+abbrev pub asks_places : Print → Bool
+asks_places print = print.ltov || (print.vtol || (print.visual && not print.mirrored))
