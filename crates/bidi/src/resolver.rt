@@ -102,7 +102,7 @@ fn take_classes(
     ensures brackets { IfOk result (λ summary.
         summary.has_brackets ≡ list_any has_bracket_in properties.now) }
 {
-    classes.clear();
+    // All are written below, so what the list has is as good as anything.
     classes.resize(properties.len(), BidiClass::L)?;
     Ok(put_classes(properties, classes))
 }
