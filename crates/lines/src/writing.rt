@@ -93,8 +93,8 @@ pub(crate) fn write_each<W: Sink>(
     Ok(written)
 }
 
-// Writes a line, by its levels before L1.
-fn write_line<W: Sink>(
+/// Writes a line, by its levels before L1.
+pub(crate) fn write_line<W: Sink>(
     writer: &mut W,
     done: u64,
     form: &Form<'_>,
