@@ -1,5 +1,5 @@
-//! A paragraph inside which no line must end, where lines end at mandatory breaks only and none of its characters
-//! are printed: it is one line, of which neither break marks nor columns are found.
+//! A paragraph inside which no line must end, where lines end at mandatory breaks only and none of its
+//! characters are printed: it is one line, of which neither break marks nor columns are found.
 ghost use Rattle.std.specs.Prelude.{◌≡◌, ◌<◌, ◌≤◌, Bool, true, false, length, IfOk, IfErr};
 ghost use Rattle.breaks.specs.Bases.{resolved};
 ghost use Rattle.lines.specs.Pages.{lines_bytes};
@@ -60,8 +60,8 @@ fn shown_len(text: &Text<'_>) -> usize
     len
 }
 
-/// Writes such a paragraph, by its levels before L1, and says how many bytes it is. What belongs to it is put to
-/// the front of lists that are long enough.
+/// Writes such a paragraph, by its levels before L1, and says how many bytes it is. What belongs to it is put
+/// to the front of lists that are long enough.
 pub(crate) fn write_whole<W: Sink>(
     writer: &mut W,
     form: &Form<'_>,

@@ -341,8 +341,8 @@ fn extents_of_places(
     Ok(Extents { starts, shown })
 }
 
-// Puts where the lines of a paragraph start, and how much of each is shown, into some lists, by its places, of
-// which it isn't known where clusters end.
+// Puts where the lines of a paragraph start, and how much of each is shown, into some lists, by its places,
+// of which it isn't known where clusters end.
 fn put_spans(
     alloc: Global,
     text: &[char],

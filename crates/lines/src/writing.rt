@@ -28,8 +28,8 @@ pub(crate) struct Form<'a> {
     pub(crate) print: &'a Print,
 }
 
-/// Writes all lines of a paragraph, by the levels before L1, and says how many bytes they are. What belongs to
-/// a line is put to the front of lists that are long enough.
+/// Writes all lines of a paragraph, by the levels before L1, and says how many bytes they are. What belongs
+/// to a line is put to the front of lists that are long enough.
 pub(crate) fn write_each<W: Sink>(
     writer: &mut W,
     form: &Form<'_>,
