@@ -23,6 +23,7 @@ mod SpaceLemmas
 mod StayLemmas
 mod TogetherLemmas
 pub mod VisualLemmas
+mod WholeLemmas
 mod WorkedBytes
 mod WorkedOrder
 mod WorkedRows

@@ -25,4 +25,5 @@ pub mod Showing
 pub mod Spaces
 pub mod Sums
 pub mod Visual
+pub mod Whole
 pub mod Writing

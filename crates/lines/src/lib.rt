@@ -45,6 +45,7 @@ mod reserve;
 mod showing;
 mod spaces;
 mod visual_line;
+mod whole;
 mod work;
 mod writing;
 

@@ -107,7 +107,7 @@ pub fn order_runs(levels: &[u8], items: &mut [u32]) -> usize
     count
 }
 
-// Writes where each level run of a line begins to the front of a list. Says how many there are, and the highest
+// Writes where each level run of a line begins to the front of a list. Says how many there are, the highest
 // level, 0 where there is none, and the lowest odd one, if there is one.
 fn find_runs(levels: &[u8], items: &mut [u32]) -> (usize, u8, Option<u8>)
     requires len { length items.old ≡ length levels.now }

@@ -66,8 +66,8 @@ fn columns(c: char) -> u8
     }
 }
 
-// Whether a class is one of those that count for nothing at the end of a line.
-fn is_trailing(class: LineClass) -> bool
+/// Whether a class is one of those that count for nothing at the end of a line.
+pub(crate) fn is_trailing(class: LineClass) -> bool
     ensures { (is_mark : Bool) → result
         ≡ is_one_of (SP ∷ BK ∷ CR ∷ LF ∷ NL ∷ []) (resolved class is_mark) }
 {

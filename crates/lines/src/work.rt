@@ -1,12 +1,12 @@
 //! The layout of one paragraph, in lists that are used again for the next.
-ghost use Rattle.std.specs.Prelude.{◌≡◌, ◌≤◌, ◌⊎◌, List, length, map, IfErr, IfOk, OnOk};
+ghost use Rattle.std.specs.Prelude.{◌≡◌, ◌<◌, ◌≤◌, true, false, List, length, map, IfErr, IfOk, OnOk};
 ghost use Rattle.ucd.specs.Properties.{properties_of};
 ghost use Rattle.bidi.specs.Levels.{levels_of};
 ghost use Rattle.breaks.specs.Marks.{marks_of};
 ghost use Rattle.lines.specs.Bare.{with_ends};
 ghost use Rattle.lines.specs.Clusters.{cluster_ends};
 ghost use Rattle.lines.specs.Counts.{FillsAll, FillsSome};
-ghost use Rattle.lines.specs.Engine.{counted};
+ghost use Rattle.lines.specs.Engine.{counted, RisesBy};
 ghost use Rattle.lines.specs.Extents.{shown_from};
 ghost use Rattle.lines.specs.Filling.{line_starts_of};
 ghost use Rattle.lines.specs.Kept.{AreStarts};
@@ -14,6 +14,7 @@ ghost use Rattle.lines.specs.Layouts.{AreWithin, base_of, lines_of};
 ghost use Rattle.lines.specs.Pages.{lines_bytes, paragraph_bytes};
 ghost use Rattle.lines.specs.Printing.{FailedAs};
 ghost use Rattle.lines.specs.Visual.{lines_from};
+ghost use Rattle.lines.specs.Whole.{IsWhole};
 ghost use Rattle.lines.specs.Writing.{PassedOn, StoppedIn};
 ghost use Rattle.lines.specs.declared.places.Place.{Place};
 ghost use Rattle.device.specs.Device.{Wrote};
@@ -33,6 +34,7 @@ use crate::places::{Place, take_places};
 use crate::print::PrintFault;
 use crate::reserve::{grow, reserve};
 use crate::showing::{show_lines, take_shown};
+use crate::whole::{is_whole, write_whole};
 use crate::writing::{Form, write_each};
 use bidi::Resolver;
 use breaks::{Mark, Tailoring, marks_into};
@@ -137,7 +139,8 @@ impl Workspace {
         ensures counts { OnOk result (LaysOutAll (length text.now) counts.old counts.new) }
         ensures at_most { LaysOutSome (length text.now) counts.old counts.new }
     {
-        let base = self.analyse(rules, text, kept, &mut counts.analysed)?;
+        let base = self.resolve(rules, text, &mut kept.levels, &mut counts.analysed)?;
+        take_marks(rules, text, &self.properties, &mut kept.marks)?;
         let paragraph = Paragraph {
             text: Text {
                 rules: *rules,
@@ -175,62 +178,30 @@ impl Workspace {
         ensures counts { OnOk result (LaysOutAll (length text.now) counts.old counts.new) }
         ensures at_most { LaysOutSome (length text.now) counts.old counts.new }
     {
-        let Ok(base) = self.analyse(rules, text, kept, &mut counts.analysed) else {
+        let levels = &mut kept.levels;
+        let Ok(base) = self.resolve(rules, text, levels, &mut counts.analysed) else {
+            return Err(PrintFault::Memory);
+        };
+        let text = Text {
+            rules: *rules,
+            characters: text,
+            properties: self.properties.as_slice(),
+            base,
+        };
+        if is_one_line(form, &text) {
+            return write_one_line(form, &text, &kept.levels, &mut kept.lines, counts, writer);
+        }
+        let Ok(()) = take_marks(rules, text.characters, text.properties, &mut kept.marks) else {
             return Err(PrintFault::Memory);
         };
         let paragraph = Paragraph {
-            text: Text {
-                rules: *rules,
-                characters: text,
-                properties: self.properties.as_slice(),
-                base,
-            },
+            text,
             levels: &kept.levels,
             marks: &kept.marks,
         };
         let places = &mut self.places;
-        write_lines(
-            alloc,
-            &paragraph,
-            places,
-            form,
-            &mut kept.lines,
-            counts,
-            writer,
-        )
-    }
-
-    // The base level of a paragraph, and its levels and break marks, put into some lists. What the tables say
-    // of its characters stays. Counts the characters.
-    fn analyse(
-        &mut self,
-        rules: &LentRules<'_>,
-        text: &[char],
-        kept: &mut LayoutLists,
-        analysed: &mut u64,
-    ) -> Result<u8, AllocError>
-        ensures base { IfOk result (λ base. base ≡ base_of (rules_in rules.now) text.now) }
-        ensures levels { OnOk result
-            (kept.new.levels.items ≡ levels_of rules.now.tables.now text.now rules.now.options.base) }
-        ensures len { OnOk result (length kept.new.levels.items ≡ length text.now) }
-        ensures marks { OnOk result (kept.new.marks.items
-            ≡ marks_of rules.now.tables.now rules.now.options.whole_numbers text.now) }
-        ensures properties { OnOk result
-            (self.new.properties.items ≡ map (properties_of rules.now.tables.now) text.now) }
-        ensures counts { analysed.new ≡ counted analysed.old (length text.now) }
-        ensures least { analysed.old ≤ analysed.new }
-    {
-        let base = self.resolve(rules, text, &mut kept.levels, analysed)?;
-        reserve(&mut kept.marks, text.len())?;
-        let whole_numbers = rules.options.whole_numbers;
-        marks_into(
-            rules.tables,
-            text,
-            &self.properties,
-            Tailoring { whole_numbers },
-            &mut kept.marks,
-        )?;
-        Ok(base)
+        let lists = &mut kept.lines;
+        write_lines(alloc, &paragraph, places, form, lists, counts, writer)
     }
 
     // The base level of a paragraph, and its levels, put into a list. What the tables say of its characters
@@ -370,8 +341,8 @@ fn extents_of_places(
     Ok(Extents { starts, shown })
 }
 
-// Puts where the lines of a paragraph start, and how much of each is shown, into some lists, by its places, of
-// which it isn't known where clusters end.
+// Puts where the lines of a paragraph start, and how much of each is shown, into some lists, by its places,
+// of which it isn't known where clusters end.
 fn put_spans(
     alloc: Global,
     text: &[char],
@@ -394,6 +365,78 @@ fn put_spans(
 {
     line_starts(alloc, text, places, width, nobreak, starts, filled)?;
     take_shown(places, starts, shown)
+}
+
+// The break marks of a paragraph, in place of what a list has.
+fn take_marks(
+    rules: &LentRules<'_>,
+    text: &[char],
+    properties: &[Properties],
+    marks: &mut Vec<Mark>,
+) -> Result<(), AllocError>
+    requires { properties.now ≡ map (properties_of rules.now.tables.now) text.now }
+    ensures { OnOk result (marks.new.items
+        ≡ marks_of rules.now.tables.now rules.now.options.whole_numbers text.now) }
+{
+    reserve(marks, text.len())?;
+    let whole_numbers = rules.options.whole_numbers;
+    let tailoring = Tailoring { whole_numbers };
+    marks_into(rules.tables, text, properties, tailoring, marks)
+}
+
+// Whether a paragraph is one line of which no characters are printed.
+fn is_one_line(form: &Form<'_>, text: &Text<'_>) -> bool
+    requires { IsLookedUp text.now }
+    ensures nobreak { result ≡ true → text.now.rules.options.nobreak ≡ true }
+    ensures unseen { result ≡ true → form.now.print.now.visual ≡ false }
+    ensures some { result ≡ true → 0 < length text.now.characters.now }
+    ensures whole { result ≡ true → IsWhole text.now.rules.tables.now text.now.characters.now }
+{
+    if !text.rules.options.nobreak || form.print.visual || text.characters.is_empty() {
+        return false;
+    }
+    is_whole(text)
+}
+
+// Writes such a paragraph.
+fn write_one_line<W: Sink>(
+    form: &Form<'_>,
+    text: &Text<'_>,
+    levels: &[u8],
+    lists: &mut Lists,
+    counts: &mut Counts,
+    writer: &mut W,
+) -> Result<(), PrintFault>
+    requires text { IsLookedUp text.now }
+    requires limit { length text.now.characters.now ≤ PARAGRAPH_LIMIT }
+    requires some { 0 < length text.now.characters.now }
+    requires whole { IsWhole text.now.rules.tables.now text.now.characters.now }
+    requires nobreak { text.now.rules.options.nobreak ≡ true }
+    requires unseen { form.now.print.now.visual ≡ false }
+    requires base { text.now.base ≡ base_of (rules_in text.now.rules) text.now.characters.now }
+    requires levels { levels.now ≡ levels_of text.now.rules.tables.now text.now.characters.now
+        text.now.rules.options.base }
+    requires len { length levels.now ≡ length text.now.characters.now }
+    ensures ok { OnOk result (Wrote (paragraph_bytes (rules_in text.now.rules)
+        form.now.width form.now.print.now text.now.characters.now)
+        (W.state writer.old) (W.state writer.new)) }
+    ensures err { IfErr result (λ fault. FailedAs fault (paragraph_bytes (rules_in text.now.rules)
+        form.now.width form.now.print.now text.now.characters.now)
+        (W.state writer.old) (W.state writer.new)) }
+    ensures counts { OnOk result (FillsAll (length text.now.characters.now) counts.old counts.new) }
+    ensures at_most { FillsSome (length text.now.characters.now) counts.old counts.new }
+{
+    let Ok(()) = make_room(lists, text.characters.len()) else {
+        return Err(PrintFault::Memory);
+    };
+    raise(&mut counts.filled, text.characters.len());
+    raise(&mut counts.written, text.characters.len());
+    let row = &mut lists.levels;
+    let (ltov, vtol, chars) = (&mut lists.ltov, &mut lists.vtol, &mut lists.chars);
+    match write_whole(writer, form, text, levels, row, ltov, vtol, chars) {
+        Ok(_) => Ok(()),
+        Err(fault) => Err(PrintFault::Write(fault)),
+    }
 }
 
 // Writes the lines of a paragraph of which all is known but them.
@@ -468,11 +511,9 @@ fn take_spans(
     ensures ordered { OnOk result
         (AreStarts (length paragraph.now.text.characters.now) lists.new.starts.items) }
     ensures room { OnOk result (HasRoom (length paragraph.now.text.characters.now) lists.new) }
-    ensures counts { filled.new ≡ counted filled.old (length paragraph.now.text.characters.now)
-        ⊎ filled.new ≡ filled.old }
-    ensures all { OnOk result
+    ensures counts { OnOk result
         (filled.new ≡ counted filled.old (length paragraph.now.text.characters.now)) }
-    ensures least { filled.old ≤ filled.new }
+    ensures at_most { RisesBy (length paragraph.now.text.characters.now) filled.old filled.new }
 {
     let text = &paragraph.text;
     take_places(

@@ -28,8 +28,8 @@ pub(crate) struct Form<'a> {
     pub(crate) print: &'a Print,
 }
 
-/// Writes all lines of a paragraph, by the levels before L1, and says how many bytes they are. What belongs to
-/// a line is put to the front of lists that are long enough.
+/// Writes all lines of a paragraph, by the levels before L1, and says how many bytes they are. What belongs
+/// to a line is put to the front of lists that are long enough.
 pub(crate) fn write_each<W: Sink>(
     writer: &mut W,
     form: &Form<'_>,
@@ -93,8 +93,8 @@ pub(crate) fn write_each<W: Sink>(
     Ok(written)
 }
 
-// Writes a line, by its levels before L1.
-fn write_line<W: Sink>(
+/// Writes a line, by its levels before L1.
+pub(crate) fn write_line<W: Sink>(
     writer: &mut W,
     done: u64,
     form: &Form<'_>,

@@ -1,0 +1,300 @@
+-- A paragraph whose characters but the last end no line is one line, where lines end at mandatory breaks only.
+use Rattle.std.proofs.Common.{◌≡◌, ℕ, zero, suc, ◌+◌, ◌-◌, ◌<◌, ◌≤◌, Bool, true, false, not, ◌&&◌, ◌⊎◌, List, [], ◌∷◌, ◌++◌, length, map, take, drop, get_or}
+use Rattle.std.proofs.Common.{slice_range, if◌then◌else◌, refl, sym, ap, ap₂, subst, ◌∙◌, inl, inr, arith}
+use Rattle.std.specs.List.{suffix_len}
+use Rattle.std.proofs.lemmas.Bool.{and_left, and_parts, both_ways, cases_Bool, cases_eq, cond-true, cond-false, not-true, or_parts}
+use Rattle.std.proofs.lemmas.List.{append-nil, get_or-map, length-take-le, take_all}
+use Rattle.std.proofs.lemmas.List.Sums.{suffix_len_is}
+use Rattle.ucd.specs.Properties.{properties_of}
+use Rattle.ucd.specs.Tables.{class_of}
+use Rattle.ucd.specs.declared.line_class.LineClass.TheVariants.{BK, CR, LF, NL}
+use Rattle.ucd.specs.declared.properties.Properties.{Properties}
+use Rattle.ucd.specs.declared.tables.Tables.{Tables}
+use Rattle.breaks.specs.Bases.{Base, Character, alone, base_class, bases_of, character, class_of as base_class_of, joined, stays_with}
+use Rattle.breaks.specs.Classes.{is_one_of}
+use Rattle.breaks.specs.Marks.{marks_after, marks_of}
+use Rattle.breaks.specs.Rules.{Rule, mark_by, rules, rows_before_numbers, rows_of_numbers, rows_after_numbers}
+use Rattle.breaks.specs.declared.mark.Mark.{Mark}
+use Rattle.breaks.specs.declared.mark.Mark.TheVariants.{Never}
+use Rattle.lines.specs.Asked.{visual_shown}
+use Rattle.lines.specs.Bytes.{direction_line, line_bytes, numbers_line, visual_line}
+use Rattle.lines.specs.Clusters.{cluster_ends}
+use Rattle.lines.specs.Filling.{is_must, line_starts_of, must_end, nothing, place_at, shown, starts, stop}
+use Rattle.lines.specs.Order.{ltov_of, vtol_of}
+use Rattle.lines.specs.Pages.{lines_bytes}
+use Rattle.lines.specs.Places.{is_trailing_in, places, places_of}
+use Rattle.lines.specs.Spaces.{line_levels}
+use Rattle.lines.specs.Visual.{Line, Visual, line_between, lines_from, visual_of}
+use Rattle.lines.specs.Whole.{IsShownLen, IsWhole}
+use Rattle.lines.specs.declared.options.Options.{Options}
+use Rattle.lines.specs.declared.places.Place.{Place}
+use Rattle.lines.specs.declared.print.Print.{Print}
+use Rattle.lines.proofs.ClusterLemmas.{length-cluster_ends}
+use Rattle.lines.proofs.FillingLemmas.{stop_at, stop_none}
+use Rattle.lines.proofs.SkippedLemmas.{length-places}
+
+-- ---- rules that give no mandatory break
+
+-- each gives another mark, or doesn't hold
+Quiet : List Rule → List Base → List Base → Type 0
+Quiet [] before after = Unit {0}
+Quiet (rule ∷ rules) before after = ((is_must rule.mark ≡ false) ⊎ (rule.holds before after ≡ false)) × Quiet rules before after
+
+quiet_mark : (rules : List Rule) (before after : List Base) → Quiet rules before after → is_must (mark_by rules before after) ≡ false
+unfolding Quiet
+quiet_mark [] before after quiet = refl
+quiet_mark (rule ∷ rules) before after quiet =
+    let rest = quiet_mark rules before after quiet.1 in
+    elim (cases_Bool (rule.holds before after)) [
+      | inl holds ↦
+          ap is_must (cond-true (rule.holds before after) rule.mark (mark_by rules before after) holds)
+          ∙ elim quiet.0 [ inl tame ↦ tame | inr fails ↦ absurd (both_ways (rule.holds before after) fails holds) ]
+      | inr fails ↦ ap is_must (cond-false (rule.holds before after) rule.mark (mark_by rules before after) fails) ∙ rest
+    ]
+
+abbrev tame : List Rule → Bool
+tame [] = true
+tame (rule ∷ rules) = not (is_must rule.mark) && tame rules
+
+tame_quiet : (rules : List Rule) (before after : List Base) → tame rules ≡ true → Quiet rules before after
+unfolding Quiet
+tame_quiet [] before after is = tt
+tame_quiet (rule ∷ rules) before after is =
+    let both = and_parts (not (is_must rule.mark)) (tame rules) is in
+    (inl (not-true (is_must rule.mark) both.0), tame_quiet rules before after both.1)
+
+-- a base after which no rule asks for one, but at the end
+abbrev ends_no_line : Base → Type 0
+ends_no_line b = (is_one_of (BK ∷ []) (base_class_of b) ≡ false) × (is_one_of (CR ∷ LF ∷ NL ∷ []) (base_class_of b) ≡ false)
+
+quiet_rules : (whole_numbers : Bool) (before after : List Base) (b a : Base) → ends_no_line b → Quiet (rules whole_numbers) (b ∷ before) (a ∷ after)
+unfolding Quiet rules rows_before_numbers rows_of_numbers rows_after_numbers
+quiet_rules true before after b a ends = (
+  inr refl,
+  (
+    inr (and_left (is_one_of (BK ∷ []) (base_class_of b)) true ends.0),
+    (
+      inl refl,
+      (
+        inr (and_left (is_one_of (CR ∷ LF ∷ NL ∷ []) (base_class_of b)) true ends.1),
+        tame_quiet (drop 4 (rules true)) (b ∷ before) (a ∷ after) refl,
+      ),
+    ),
+  ),
+)
+quiet_rules false before after b a ends = (
+  inr refl,
+  (
+    inr (and_left (is_one_of (BK ∷ []) (base_class_of b)) true ends.0),
+    (
+      inl refl,
+      (
+        inr (and_left (is_one_of (CR ∷ LF ∷ NL ∷ []) (base_class_of b)) true ends.1),
+        tame_quiet (drop 4 (rules false)) (b ∷ before) (a ∷ after) refl,
+      ),
+    ),
+  ),
+)
+
+-- ---- the marks of such bases
+
+-- none but the last is mandatory
+pub Tame : List Mark → Type 0
+Tame [] = Unit {0}
+Tame (m ∷ []) = Unit {0}
+Tame (m ∷ n ∷ marks) = (is_must m ≡ false) × Tame (n ∷ marks)
+
+-- no base but the last ends a line
+QuietBases : List Base → Type 0
+QuietBases [] = Unit {0}
+QuietBases (b ∷ []) = Unit {0}
+QuietBases (b ∷ a ∷ bases) = ends_no_line b × QuietBases (a ∷ bases)
+
+tame_before : (m : Mark) (marks : List Mark) → is_must m ≡ false → Tame marks → Tame (m ∷ marks)
+unfolding Tame
+tame_before m [] other rest = tt
+tame_before m (n ∷ marks) other rest = (other, rest)
+
+tame_inside : (attached : List Character) (marks : List Mark) → Tame marks → Tame (map (λ _. Never) attached ++ marks)
+tame_inside [] marks rest = rest
+tame_inside (c ∷ attached) marks rest = tame_before Never (map (λ _. Never) attached ++ marks) refl (tame_inside attached marks rest)
+
+tame_marks : (whole_numbers : Bool) (before bases : List Base) → QuietBases bases → Tame (marks_after whole_numbers before bases)
+unfolding Tame QuietBases
+tame_marks whole_numbers before [] quiet = tt
+tame_marks whole_numbers before (b ∷ []) quiet = tame_inside b.attached (mark_by (rules whole_numbers) (b ∷ before) [] ∷ []) tt
+tame_marks whole_numbers before (b ∷ a ∷ bases) quiet =
+    tame_inside b.attached (mark_by (rules whole_numbers) (b ∷ before) (a ∷ bases) ∷ marks_after whole_numbers (b ∷ before) (a ∷ bases))
+    (tame_before (mark_by (rules whole_numbers) (b ∷ before) (a ∷ bases)) (marks_after whole_numbers (b ∷ before) (a ∷ bases))
+    (quiet_mark (rules whole_numbers) (b ∷ before) (a ∷ bases) (quiet_rules whole_numbers before bases b a quiet.0))
+    (tame_marks whole_numbers (b ∷ before) (a ∷ bases) quiet.1))
+
+-- ---- the bases of such characters
+
+abbrev ends_none : Character → Type 0
+ends_none c = (is_one_of (BK ∷ []) (base_class c.class) ≡ false) × (is_one_of (CR ∷ LF ∷ NL ∷ []) (base_class c.class) ≡ false)
+
+-- no character but the last ends a line
+QuietText : List Character → Type 0
+QuietText [] = Unit {0}
+QuietText (c ∷ []) = Unit {0}
+QuietText (c ∷ d ∷ text) = ends_none c × QuietText (d ∷ text)
+
+whole_quiet : (t : Tables) (text : List ℕ) → IsWhole t text → QuietText (map (character t) text)
+unfolding QuietText
+whole_quiet t [] is = tt
+whole_quiet t (c ∷ []) is = tt
+whole_quiet t (c ∷ d ∷ text) is = (
+  or_parts (is_one_of (BK ∷ []) (base_class (character t c).class)) (is_one_of (CR ∷ LF ∷ NL ∷ []) (base_class (character t c).class)) (is 0 (omega arith)),
+  whole_quiet t (d ∷ text) (λ j below. is (suc j) (omega arith)),
+)
+
+quiet_before : (b : Base) (bases : List Base) → ends_no_line b → QuietBases bases → QuietBases (b ∷ bases)
+unfolding QuietBases
+quiet_before b [] ends quiet = tt
+quiet_before b (a ∷ bases) ends quiet = (ends, quiet)
+
+rest_quiet : (b : Base) (bases : List Base) → QuietBases (b ∷ bases) → QuietBases bases
+unfolding QuietBases
+rest_quiet b [] quiet = tt
+rest_quiet b (a ∷ bases) quiet = quiet.1
+
+joined_quiet : (c : Character) (bases : List Base) → ends_none c → QuietBases bases → QuietBases (joined c bases)
+unfolding QuietBases
+joined_quiet c [] ends quiet = tt
+joined_quiet c (b ∷ bases) ends quiet = quiet_before (record { first = c; attached = b.first ∷ b.attached }) bases ends (rest_quiet b bases quiet)
+
+bases_quiet : (text : List Character) → QuietText text → QuietBases (bases_of text)
+unfolding QuietBases QuietText
+bases_quiet [] quiet = tt
+bases_quiet (c ∷ []) quiet = tt
+bases_quiet (c ∷ d ∷ text) quiet =
+    let rest = bases_quiet (d ∷ text) quiet.1 in
+    elim (cases_Bool (stays_with c d)) [
+      | inl stays ↦
+          subst (λ (bases : List Base). QuietBases bases) (sym (cond-true (stays_with c d) (joined c (bases_of (d ∷ text))) (alone c ∷ bases_of (d ∷ text)) stays))
+          (joined_quiet c (bases_of (d ∷ text)) quiet.0 rest)
+      | inr apart ↦
+          subst (λ (bases : List Base). QuietBases bases) (sym (cond-false (stays_with c d) (joined c (bases_of (d ∷ text))) (alone c ∷ bases_of (d ∷ text)) apart))
+          (quiet_before (alone c) (bases_of (d ∷ text)) quiet.0 rest)
+    ]
+
+quiet_marks : (t : Tables) (whole_numbers : Bool) (text : List ℕ) → IsWhole t text → Tame (marks_of t whole_numbers text)
+unfolding marks_of
+quiet_marks t whole_numbers text is = tame_marks whole_numbers [] (bases_of (map (character t) text)) (bases_quiet (map (character t) text) (whole_quiet t text is))
+
+-- ---- places with such marks
+
+tame_places : (t : Tables) (text : List ℕ) (marks : List Mark) (ends : List Bool) (j : ℕ) → Tame marks → j + 1 < length (places t text marks ends)
+    → must_end (places t text marks ends) j ≡ false
+unfolding Tame
+tame_places t [] marks ends j quiet below = absurd (omega (arith, below))
+tame_places t (c ∷ text) [] ends j quiet below = absurd (omega (arith, below))
+tame_places t (c ∷ text) (m ∷ marks) [] j quiet below = absurd (omega (arith, below))
+tame_places t (c ∷ []) (m ∷ marks) (e ∷ ends) j quiet below = absurd (omega (arith, below))
+tame_places t (c ∷ d ∷ text) (m ∷ []) (e ∷ ends) j quiet below = absurd (omega (arith, below))
+tame_places t (c ∷ d ∷ text) (m ∷ n ∷ marks) (e ∷ ends) zero quiet below = quiet.0
+tame_places t (c ∷ d ∷ text) (m ∷ n ∷ marks) (e ∷ ends) (suc j) quiet below =
+    tame_places t (d ∷ text) (n ∷ marks) ends j quiet.1 (omega (arith, below))
+
+trailing_place : (t : Tables) (text : List ℕ) (marks : List Mark) (ends : List Bool) (k : ℕ) → k < length (places t text marks ends)
+    → (place_at (places t text marks ends) k).is_trailing ≡ is_trailing_in t (get_or text k 0)
+trailing_place t [] marks ends k below = absurd (omega (arith, below))
+trailing_place t (c ∷ text) [] ends k below = absurd (omega (arith, below))
+trailing_place t (c ∷ text) (m ∷ marks) [] k below = absurd (omega (arith, below))
+trailing_place t (c ∷ text) (m ∷ marks) (e ∷ ends) zero below = refl
+trailing_place t (c ∷ text) (m ∷ marks) (e ∷ ends) (suc k) below = trailing_place t text marks ends k (omega (arith, below))
+
+stop_last : (rest : List Place) → 0 < length rest → ((j : ℕ) → j + 1 < length rest → must_end rest j ≡ false) → stop rest ≡ length rest - 1
+stop_last rest some fails =
+    let last : ℕ = length rest - 1 in
+    elim (cases_Bool (must_end rest last)) [
+      | inl must ↦ stop_at rest last (omega arith) (λ j below. fails j (omega arith)) must
+      | inr not_must ↦ stop_none rest (λ j below.
+          elim (cases_eq j last) [ inl e ↦ ap (must_end rest) e ∙ not_must | inr ne ↦ fails j (omega arith) ])
+    ]
+
+passed : (nobreak : Bool) (width place left : ℕ) (rest : List Place) → length rest ≤ left → starts nobreak width place left rest ≡ []
+passed nobreak width place left [] within = refl
+passed nobreak width place zero (p ∷ rest) within = absurd (omega (arith, within))
+passed nobreak width place (suc left) (p ∷ rest) within = passed nobreak width (suc place) left rest (omega (arith, within))
+
+one_start : (width : ℕ) (rest : List Place) → 0 < length rest → ((j : ℕ) → j + 1 < length rest → must_end rest j ≡ false)
+    → line_starts_of true width rest ≡ 0 ∷ []
+unfolding line_starts_of
+one_start width [] some fails = absurd (omega (arith, some))
+one_start width (p ∷ rest) some fails =
+    let last = stop_last (p ∷ rest) some fails in
+    ap (λ (ss : List ℕ). 0 ∷ ss) (passed true width 1 (suc (stop (p ∷ rest)) - 1) rest (omega (arith, last)))
+
+-- ---- what is printed of such a paragraph, where it isn't its characters
+
+whole_range : {X : Type 0} (xs : List X) (n : ℕ) → n ≡ length xs → slice_range xs 0 n ≡ xs
+whole_range xs n e = take_all (n - 0) xs (omega arith)
+
+shown_is : (t : Tables) (text : List ℕ) (marks : List Mark) (ends : List Bool) (len : ℕ) → length (places t text marks ends) ≡ length text
+    → IsShownLen t text len → len ≡ length (shown (slice_range (places t text marks ends) 0 (length text)))
+shown_is t text marks ends len size is =
+    let all : List Place = places t text marks ends in
+    let tail : suffix_len (λ (p : Place). p.is_trailing) all ≡ length all - len =
+    suffix_len_is (λ (p : Place). p.is_trailing) all len nothing (omega (arith, is.within, size))
+    (λ k from below. trailing_place t text marks ends k below ∙ is.tail k from (omega (arith, below, size)))
+    (λ some. trailing_place t text marks ends (len - 1) (omega (arith, is.within, size)) ∙ is.last some) in
+    let whole : length (shown all) ≡ len =
+    length-take-le (length all - suffix_len (λ (p : Place). p.is_trailing) all) all (omega arith) ∙ omega (arith, tail, is.within, size) in
+    sym (ap (λ (ps : List Place). length (shown ps)) (whole_range all (length text) (sym size)) ∙ whole)
+
+unseen : (width : ℕ) (print : Print) (a b : Visual) → print.visual ≡ false → a.is_first ≡ b.is_first → a.base ≡ b.base → a.ltov ≡ b.ltov → a.vtol ≡ b.vtol
+    → a.levels ≡ b.levels → line_bytes width print a ≡ line_bytes width print b
+unseen width print a b off first base ltov vtol levels =
+    ap₂ ◌++◌
+    (ap₂ ◌++◌
+    (ap₂ ◌++◌
+    (ap₂ ◌++◌ (cond-false print.visual (visual_line width print a) [] off ∙ sym (cond-false print.visual (visual_line width print b) [] off))
+    (ap₂ (λ (f : Bool) (x : ℕ). if print.basedir && f then direction_line x else []) first base))
+    (ap (λ (xs : List ℕ). if print.ltov then numbers_line xs else []) ltov))
+    (ap (λ (xs : List ℕ). if print.vtol then numbers_line xs else []) vtol))
+    (ap (λ (xs : List ℕ). if print.levels then numbers_line xs else []) levels)
+
+pub whole_bytes : (t : Tables) (options : Options) (base width : ℕ) (print : Print) (text levels : List ℕ) (len : ℕ) → print.visual ≡ false → options.nobreak ≡ true
+    → 0 < length text → length levels ≡ length text → length (marks_of t options.whole_numbers text) ≡ length text → IsWhole t text → IsShownLen t text len
+    → line_bytes width print (visual_shown t options base true text levels (record { len = len; columns = 0 }))
+    ≡ lines_bytes width print base text (lines_from t options base text levels (places_of t options.whole_numbers text)
+    (line_starts_of options.nobreak width (places_of t options.whole_numbers text)))
+unfolding places_of
+whole_bytes t options base width print text levels len off nobreak some sizes many is shown_len =
+    let marks : List Mark = marks_of t options.whole_numbers text in
+    let ends : List Bool = cluster_ends text in
+    let all : List Place = places t text marks ends in
+    let n : ℕ = length text in
+    let size : length all ≡ n = length-places t text marks ends (omega (arith, many)) (length-cluster_ends text) in
+    let starts_are : line_starts_of options.nobreak width all ≡ 0 ∷ [] =
+    ap (λ (b : Bool). line_starts_of b width all) nobreak
+    ∙ one_start width all (omega (arith, size, some)) (λ j below. tame_places t text marks ends j (quiet_marks t options.whole_numbers text is) below) in
+    let line : Line = line_between t options base text levels all 0 n in
+    let levels_by : List ℕ → List ℕ → ℕ → List ℕ = λ cs ls m. take m (line_levels base (map (class_of t) cs) ls) in
+    let view : List ℕ → List ℕ → ℕ → Visual =
+    λ cs ls m. record {
+      is_first = true;
+      base = base;
+      len = 0;
+      text = [];
+      columns = 0;
+      levels = levels_by cs ls m;
+      ltov = ltov_of options.reordernsm (map (class_of t) cs) (levels_by cs ls m);
+      vtol = vtol_of options.reordernsm (map (class_of t) cs) (levels_by cs ls m);
+      chars = [];
+    } in
+    let bytes : List ℕ → List ℕ → ℕ → List ℕ = λ cs ls m. line_bytes width print (view cs ls m) in
+    unseen width print (visual_shown t options base true text levels (record { len = len; columns = 0 })) (view text levels len) off refl refl refl refl refl
+    ∙ ap (bytes text levels) (shown_is t text marks ends len size shown_len)
+    ∙ ap₂ (λ (cs ls : List ℕ). bytes cs ls (length (shown (slice_range all 0 n)))) (sym (whole_range text n refl)) (sym (whole_range levels n (sym sizes)))
+    ∙ unseen width print (view (slice_range text 0 n) (slice_range levels 0 n) (length (shown (slice_range all 0 n)))) (visual_of base text (line ∷ []) 0 line) off refl refl refl refl refl
+    ∙ sym (append-nil (line_bytes width print (visual_of base text (line ∷ []) 0 line)))
+    ∙ ap (λ (ss : List ℕ). lines_bytes width print base text (lines_from t options base text levels all ss)) (sym starts_are)
+
+-- what the tables say of a character
+pub looked_up : (t : Tables) (text : List ℕ) (properties : List Properties) (k : ℕ) (p : Properties) → properties ≡ map (properties_of t) text → k < length text
+    → p ≡ get_or properties k p → p ≡ properties_of t (get_or text k 0)
+looked_up t text properties k p are below is =
+    is ∙ ap (λ (ps : List Properties). get_or ps k p) are ∙ get_or-map (properties_of t) text k 0 p below

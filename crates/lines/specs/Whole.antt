@@ -1,0 +1,23 @@
+-- Paragraphs inside which no line must end (UAX #14, LB4 and LB5): one line, where lines end at mandatory breaks only. Only the code
+-- speaks of these.
+use Rattle.std.specs.Prelude.{◌≡◌, ℕ, ◌+◌, ◌-◌, ◌<◌, ◌≤◌, Bool, true, false, ◌||◌, List, [], ◌∷◌, length, slice_index}
+use Rattle.ucd.specs.declared.line_class.LineClass.{LineClass}
+use Rattle.ucd.specs.declared.line_class.LineClass.TheVariants.{BK, CR, LF, NL}
+use Rattle.ucd.specs.declared.tables.Tables.{Tables}
+use Rattle.breaks.specs.Bases.{base_class, character}
+use Rattle.breaks.specs.Classes.{is_one_of}
+use Rattle.lines.specs.Places.{is_trailing_in}
+
+-- a line must end after a character of a class, after LB1, unless another one is between CR and LF
+abbrev pub ends_line : LineClass → Bool
+ends_line class = is_one_of (BK ∷ []) (base_class class) || is_one_of (CR ∷ LF ∷ NL ∷ []) (base_class class)
+
+-- it is so of no character but the last
+abbrev pub IsWhole : Tables → List ℕ → Type 0
+IsWhole t text = (j : ℕ) → j + 1 < length text → ends_line (character t (slice_index text j)).class ≡ false
+
+-- so many characters are before those at the end that count for nothing there
+pub record IsShownLen (t : Tables) (text : List ℕ) (len : ℕ) : Type 0 where
+  pub within : len ≤ length text
+  pub tail : (k : ℕ) → len ≤ k → k < length text → is_trailing_in t (slice_index text k) ≡ true
+  pub last : 0 < len → is_trailing_in t (slice_index text (len - 1)) ≡ false

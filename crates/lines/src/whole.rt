@@ -1,0 +1,106 @@
+//! A paragraph inside which no line must end, where lines end at mandatory breaks only and none of its
+//! characters are printed: it is one line, of which neither break marks nor columns are found.
+ghost use Rattle.std.specs.Prelude.{◌≡◌, ◌<◌, ◌≤◌, Bool, true, false, length, IfOk, IfErr};
+ghost use Rattle.breaks.specs.Bases.{resolved};
+ghost use Rattle.lines.specs.Pages.{lines_bytes};
+ghost use Rattle.lines.specs.Paragraphs.{IsLookedUp, lines_at};
+ghost use Rattle.lines.specs.Whole.{ends_line, IsShownLen, IsWhole};
+ghost use Rattle.lines.specs.Writing.{PassedOn, StoppedIn};
+ghost use Rattle.lines.specs.declared.engine.TheConstants.{PARAGRAPH_LIMIT};
+
+use crate::bytes::WriteFault;
+use crate::fill::Shown;
+use crate::paragraph::Text;
+use crate::places::is_trailing;
+use crate::writing::{Form, write_line};
+use breaks::{Tailoring, marks_are_as_many};
+use device::Sink;
+use ucd::LineClass;
+
+/// Whether no line must end after a character of a paragraph but the last.
+pub(crate) fn is_whole(text: &Text<'_>) -> bool
+    requires { IsLookedUp text.now }
+    ensures { result ≡ true → IsWhole text.now.rules.tables.now text.now.characters.now }
+{
+    let properties = text.properties;
+    let last = properties.len().saturating_sub(1);
+    let mut k = 0;
+    while k < last {
+        if ends_line(properties[k].line_class()) {
+            return false;
+        }
+        k += 1;
+    }
+    true
+}
+
+// Whether a line must end after a class, unless it is CR before LF.
+fn ends_line(class: LineClass) -> bool
+    ensures { (is_mark : Bool) → result ≡ ends_line (resolved class is_mark) }
+{
+    match class {
+        LineClass::BK => true,
+        LineClass::CR => true,
+        LineClass::LF => true,
+        LineClass::NL => true,
+        _ => false,
+    }
+}
+
+// How many characters of a paragraph that is one line are shown: all but its tail.
+fn shown_len(text: &Text<'_>) -> usize
+    requires { IsLookedUp text.now }
+    ensures { IsShownLen text.now.rules.tables.now text.now.characters.now result }
+{
+    let properties = text.properties;
+    let mut len = properties.len();
+    while len > 0 && is_trailing(properties[len - 1].line_class()) {
+        len -= 1;
+    }
+    len
+}
+
+/// Writes such a paragraph, by its levels before L1, and says how many bytes it is. What belongs to it is put
+/// to the front of lists that are long enough.
+pub(crate) fn write_whole<W: Sink>(
+    writer: &mut W,
+    form: &Form<'_>,
+    text: &Text<'_>,
+    levels: &[u8],
+    row: &mut [u8],
+    ltov: &mut [u32],
+    vtol: &mut [u32],
+    chars: &mut [char],
+) -> Result<u64, WriteFault>
+    requires text { IsLookedUp text.now }
+    requires limit { length text.now.characters.now ≤ PARAGRAPH_LIMIT }
+    requires some { 0 < length text.now.characters.now }
+    requires whole { IsWhole text.now.rules.tables.now text.now.characters.now }
+    requires nobreak { text.now.rules.options.nobreak ≡ true }
+    requires unseen { form.now.print.now.visual ≡ false }
+    requires levels { length levels.now ≡ length text.now.characters.now }
+    requires row { length text.now.characters.now ≤ length row.old }
+    requires ltov { length text.now.characters.now ≤ length ltov.old }
+    requires vtol { length text.now.characters.now ≤ length vtol.old }
+    requires chars { length text.now.characters.now ≤ length chars.old }
+    ensures ok { IfOk result (λ n. PassedOn (lines_bytes form.now.width form.now.print.now text.now.base
+        text.now.characters.now (lines_at text.now levels.now form.now.width)) 0
+        (W.state writer.old) (W.state writer.new) n) }
+    ensures err { IfErr result (λ fault. StoppedIn (lines_bytes form.now.width form.now.print.now
+        text.now.base text.now.characters.now (lines_at text.now levels.now form.now.width)) 0
+        (W.state writer.old) (W.state writer.new) fault.written) }
+{
+    let whole_numbers = text.rules.options.whole_numbers;
+    marks_are_as_many(
+        text.rules.tables,
+        text.characters,
+        Tailoring { whole_numbers },
+    );
+    let shown = Shown {
+        len: shown_len(text) as u32,
+        columns: 0,
+    };
+    write_line(
+        writer, 0, form, text, true, shown, levels, row, ltov, vtol, chars,
+    )
+}
