@@ -11,9 +11,15 @@ typedef struct input {
     FriBidiCharType types[MOST];
     FriBidiBracketType brackets[MOST];
     FriBidiParType base;
-    int off, part; /* a line of it */
+    int off, part; /* a line of it, of these levels and in this direction */
     FriBidiFlags flags;
+    FriBidiLevel levels[MOST];
+    FriBidiParType resolved;
 } input;
+
+/* What is compared. */
+enum { DIRECTION, RESOLVED, LEVELS, TOP, LINE, CALLS };
+static const char *const call_names[CALLS] = {"direction", "base written", "levels", "greatest level", "line"};
 
 static calls theirs, ours;
 
@@ -31,34 +37,25 @@ typedef struct answer {
     FriBidiStrIndex map[MOST];
 } answer;
 
-/* A list of levels at a paragraph's places, of which a line is ordered: those of the annex, so that both have the same. */
-static void ask(const calls *of, const input *one, const FriBidiLevel *levels, FriBidiParType base, answer *found) {
+static void ask(const calls *of, const input *one, answer *found) {
     FriBidiParType plain_base = one->base;
     memset(found, 0, sizeof *found);
     found->direction = of->get_par_direction(one->types, one->length);
     found->resolved = one->base;
     found->top = of->get_par_embedding_levels_ex(one->types, one->brackets, one->length, &found->resolved, found->levels);
     found->plain_top = of->get_par_embedding_levels(one->types, one->length, &plain_base, found->plain);
-    if (levels == NULL) {
-        levels = found->levels;
-        base = found->resolved;
-    }
-    memcpy(found->line, levels, sizeof found->line);
+    memcpy(found->line, one->levels, sizeof found->line);
     for (int k = 0; k < MOST; k++) {
         found->string[k] = (FriBidiChar)(0x61 + k);
         found->map[k] = k;
     }
-    found->line_top = of->reorder_line(one->flags, one->types, one->part, one->off, base, found->line, found->string, found->map);
+    found->line_top = of->reorder_line(one->flags, one->types, one->part, one->off, one->resolved, found->line, found->string, found->map);
 }
-
-/* What is compared, and which of the predicates speak of it. */
-enum { DIRECTION, RESOLVED, LEVELS, TOP, LINE, CALLS };
-static const char *const call_names[CALLS] = {"direction", "base written", "levels", "greatest level", "line"};
 
 static int differs(int call, const input *one) {
     answer a, b;
-    ask(&ours, one, NULL, 0, &b);
-    ask(&theirs, one, b.levels, b.resolved, &a);
+    ask(&ours, one, &b);
+    ask(&theirs, one, &a);
     switch (call) {
     case DIRECTION: return a.direction != b.direction;
     case RESOLVED: return a.resolved != b.resolved;
@@ -79,6 +76,13 @@ static unsigned met(int call, const input *one) {
 
 /* ---- Lists at random ---- */
 
+/* The levels of a line's paragraph are those of ours, so that both order the same. */
+static void prepare(input *one) {
+    one->resolved = one->base;
+    memset(one->levels, 0, sizeof one->levels);
+    if (ours.get_par_embedding_levels_ex(one->types, one->brackets, one->length, &one->resolved, one->levels) == 0) exit(2);
+}
+
 static void draw(input *one) {
     static const FriBidiChar pairs[][2] = {{'(', ')'}, {'[', ']'}, {0x2329, 0x232A}, {0x3008, 0x3009}};
     uint32_t kinds = below(2) ? 23 : STAYING, few = below(3);
@@ -97,6 +101,7 @@ static void draw(input *one) {
     one->off = (int)below((uint32_t)one->length);
     one->part = 1 + (int)below((uint32_t)(one->length - one->off));
     if (below(2)) one->off = 0, one->part = one->length;
+    prepare(one);
 }
 
 /* ---- An input that differs, made shorter ---- */
@@ -115,6 +120,7 @@ static void shorten(int call, input *one) {
         for (int at = 0; at < one->length && one->length > 1; at++) {
             input other = *one;
             drop(&other, at);
+            prepare(&other);
             if (other.part > 0 && differs(call, &other) && met(call, &other) == 0) {
                 *one = other;
                 again = 1;
@@ -126,8 +132,8 @@ static void shorten(int call, input *one) {
 
 static void show(int call, const input *one) {
     answer a, b;
-    ask(&ours, one, NULL, 0, &b);
-    ask(&theirs, one, b.levels, b.resolved, &a);
+    ask(&ours, one, &b);
+    ask(&theirs, one, &a);
     printf("%s: base %s, line %d+%d, flags %u:", call_names[call], theirs.get_bidi_type_name((FriBidiCharType)one->base), one->off, one->part, (unsigned)one->flags);
     for (int k = 0; k < one->length; k++) {
         printf(" %s", theirs.get_bidi_type_name(one->types[k]));
