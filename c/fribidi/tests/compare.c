@@ -2,7 +2,7 @@
  * 23 kinds and brackets, and is asked for in one of the five base directions; half of the lists have no type that X9 takes out.
  * Where none of the predicates of docs/FRIBIDI.md holds the two agree, call by call. Each predicate is a function below of the
  * name that it has there. Of the inputs that meet one alone at least half differ. */
-#include "fribidi.h"
+#include "both.h"
 
 #define MOST 200
 

@@ -1,7 +1,7 @@
 /* Unicode's cases of BidiTest.txt and of BidiCharacterTest.txt: conformance LIBRARY FOLDER. The levels are those of
  * fribidi_get_par_embedding_levels_ex after fribidi_reorder_line, whose map, made of 0, 1, .., is the order. Characters that X9
  * takes out, whose level is an `x`, are passed over. */
-#include "fribidi.h"
+#include "both.h"
 
 #define MOST 256
 

@@ -1,6 +1,6 @@
 /* What a library says of each code point that has another type than LTR, a bracket or a mirror: points LIBRARY. A difference
  * between a call on one character and that on a string is told as a failure. */
-#include "fribidi.h"
+#include "both.h"
 
 int main(int argc, char **argv) {
     static FriBidiChar string[0x110000];

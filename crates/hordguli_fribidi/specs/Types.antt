@@ -62,4 +62,4 @@ direction_of level = if level == 0 then 272 else 273
 abbrev pub bracket_by : ℕ → Option Bracket
 bracket_by number =
     if number == 0 then None
-    else (if nat_le 2147483648 number then Some (record { pair = number - 2147483648; opens = true; }) else Some (record { pair = number; opens = false; }))
+    else (if nat_le 2147483648 number then Some (record { pair = number - 2147483648; opens = true }) else Some (record { pair = number; opens = false }))

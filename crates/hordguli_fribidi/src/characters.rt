@@ -13,7 +13,11 @@ fn entry_at(index: &[u8], pages: &[u8], c: u32) -> u8
     ensures { result ≡ entry_at index.now pages.now c }
 {
     let number = c as usize / 256;
-    let page = if number < index.len() { index[number] } else { 0 };
+    let page = if number < index.len() {
+        index[number]
+    } else {
+        0
+    };
     let at = page as usize * 256 + c as usize % 256;
     if at < pages.len() { pages[at] } else { 0 }
 }
@@ -23,7 +27,11 @@ fn wide_entry_at(index: &[u8], pages: &[u16], c: u32) -> u16
     ensures { result ≡ entry_at index.now pages.now c }
 {
     let number = c as usize / 256;
-    let page = if number < index.len() { index[number] } else { 0 };
+    let page = if number < index.len() {
+        index[number]
+    } else {
+        0
+    };
     let at = page as usize * 256 + c as usize % 256;
     if at < pages.len() { pages[at] } else { 0 }
 }
@@ -72,7 +80,11 @@ pub extern "C" fn hordguli_fribidi_core_number(
     ensures { result ≡ number_at index.now pages.now numbers.now c }
 {
     let entry = wide_entry_at(index, pages, c) as usize;
-    if entry < numbers.len() { numbers[entry] } else { 0 }
+    if entry < numbers.len() {
+        numbers[entry]
+    } else {
+        0
+    }
 }
 
 /// The brackets of the code points of a string, none where the type is not ON, if the arrays have its length.

@@ -25,7 +25,10 @@ fn classes_of(alloc: Global, types: &[u32]) -> Result<Vec<BidiClass>, AllocError
 fn brackets_by(alloc: Global, numbers: &[u32]) -> Result<Vec<BracketType>, AllocError>
     ensures { IfOk result (λ brackets. brackets.items ≡ bracket_types bracket_by numbers.now) }
 {
-    numbers.iter().map(|number| bracket_of(*number)).collect(alloc)
+    numbers
+        .iter()
+        .map(|number| bracket_of(*number))
+        .collect(alloc)
 }
 
 // Numbers that stand for no brackets.
@@ -38,11 +41,7 @@ fn no_brackets(alloc: Global, len: usize) -> Result<Vec<u32>, AllocError>
 }
 
 // The brackets of a paragraph, of which there are none where the lengths differ.
-fn brackets_of(
-    alloc: Global,
-    len: usize,
-    numbers: &[u32],
-) -> Result<Vec<BracketType>, AllocError>
+fn brackets_of(alloc: Global, len: usize, numbers: &[u32]) -> Result<Vec<BracketType>, AllocError>
     ensures brackets { IfOk result (λ brackets. brackets.items
         ≡ bracket_types bracket_by (brackets_of len numbers.now)) }
     ensures len { IfOk result (λ brackets. length brackets.items ≡ len) }

@@ -65,13 +65,7 @@ fn permute_if(len: usize, off: usize, places: &[u32], kept: &mut [u32], array: &
 }
 
 // The order of a line, and the level that is greatest after L1 and one, with lists of its length.
-fn order_line(
-    marks: bool,
-    types: &[u32],
-    base: u8,
-    levels: &mut [u8],
-    places: &mut [u32],
-) -> u32
+fn order_line(marks: bool, types: &[u32], base: u8, levels: &mut [u8], places: &mut [u32]) -> u32
     requires levels { length levels.old ≡ length types.now }
     requires places { length places.old ≡ length types.now }
     requires within { length types.now ≤ LENGTH_LIMIT }

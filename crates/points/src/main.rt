@@ -5,10 +5,8 @@
 
 use anyhow::{Result, bail};
 use std::alloc::Global;
-use std::env;
-use std::fs;
-use std::io;
 use std::io::{BufWriter, Write};
+use std::{env, fs, io};
 use ucd::{BidiClass, FILE_NAMES, Tables, UcdFiles};
 
 fn main(rt: HostRuntime) -> Result<()> {
@@ -80,7 +78,11 @@ fn write_point<W: Write>(tables: &Tables, c: char, output: &mut W) -> Result<()>
         writeln!(output, "{:x} class {}", c as u32, name_of(class))?;
     }
     if let Some(bracket) = tables.bracket(c) {
-        writeln!(output, "{:x} bracket {:x} {}", c as u32, bracket.pair as u32, bracket.opens)?;
+        writeln!(
+            output,
+            "{:x} bracket {:x} {}",
+            c as u32, bracket.pair as u32, bracket.opens
+        )?;
     }
     if let Some(mirror) = tables.mirror(c) {
         writeln!(output, "{:x} mirror {:x}", c as u32, mirror as u32)?;

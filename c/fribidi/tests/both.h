@@ -1,7 +1,7 @@
 /* FriBidi's calls twice: those of libfribidi.so.0 and ours, each by its own handle of the loader, so that neither stands in for
  * the other; the 23 types, and numbers at random. */
-#ifndef TESTS_FRIBIDI_H
-#define TESTS_FRIBIDI_H
+#ifndef TESTS_BOTH_H
+#define TESTS_BOTH_H
 
 #include <dlfcn.h>
 #include <fribidi.h>
