@@ -1,5 +1,5 @@
 -- The walk of N0: which places a set bracket sets, which strong types stand between two places, and what the pairs so far have changed.
-use Rattle.std.proofs.Common.{◌≡◌, ℕ, suc, ◌+◌, ◌-◌, ◌<◌, ◌≤◌, ◌==◌, ◌⊎◌, nat_lt, Bool, true, false, ◌&&◌, not, if◌then◌else◌, List, [], ◌∷◌, length, get_or, set, take, drop, map, fold, reverse, slice_range, slice_index, Option, Some, None, refl, sym, ap, subst, ◌∙◌, inl, inr, arith, length-drop}
+use Rattle.std.proofs.Common.{◌≡◌, ℕ, zero, suc, ◌+◌, ◌-◌, ◌<◌, ◌≤◌, ◌==◌, ◌⊎◌, nat_lt, Bool, true, false, ◌&&◌, not, if◌then◌else◌, List, [], ◌∷◌, length, get_or, set, take, drop, map, fold, reverse, slice_range, slice_index, Option, Some, None, refl, sym, ap, subst, ◌∙◌, inl, inr, arith, length-drop}
 use Rattle.std.specs.List.{list_any, list_all, range_with_len}
 use Rattle.std.proofs.lemmas.Bool.{cond-true, cond-false, cases_Bool, cases_eq, cases_lt, cases_order, eq-eqb, ne_eqb, lt-ltb, le-ltb, both_ways, or_left, or_right, or_from, or_cases, and_parts, and_from, and_left}
 use Rattle.std.proofs.lemmas.List.{length-map, length-take, length-take-le, get_or-take, get_or-drop, same_lists, take_more, reverse-append, get_or_default, length-set, get_or-set_other}
@@ -203,7 +203,7 @@ pub stands_as_before : (left : Bool) (types before : List BidiClass) (place clos
     → IsClear left before place old → ((m : ℕ) → place < m → m < closer → class_at types m ≡ class_at before m)
     → from ≤ next → place < from → ((m : ℕ) → place < m → m < from → m < old)
     → ((m : ℕ) → from ≤ m → m < next → is_toward left (class_at before m) ≡ false)
-    → (next < length before → is_toward left (class_at before next) ≡ true)
+    → (next < closer → is_toward left (class_at before next) ≡ true)
     → nat_lt next closer ≡ stands left types place closer
 stands_as_before left types before place closer old from next within sizes clear kept reached after covered passed stops =
     stands_is left types place closer next (omega arith) (omega arith)
@@ -211,7 +211,7 @@ stands_as_before left types before place closer old from next within sizes clear
       | inl early ↦ clear.passed m above (covered m above early)
       | inr late ↦ passed m late below
     ])
-    (λ inside. ap (is_toward left) (kept next (omega arith) inside) ∙ stops (omega arith))
+    (λ inside. ap (is_toward left) (kept next (omega arith) inside) ∙ stops inside)
 
 -- a place that a pair so far has set: it is in a row after a bracket of that pair, and none in the row is ON now
 pub record Touched (closers : List ℕ) (current : List BidiClass) (k q : ℕ) : Type 0 where
@@ -337,64 +337,83 @@ take-set_pair marks types a b None front within sizes = refl
 
 -- what the walk over the places of the openers knows at a place: the pairs from there on make the whole of the types as they are now,
 -- and what it carries along is the nearest strong type
-pub record Resolved (embedding sos : BidiClass) (explicit : List BidiClass) (closers : List ℕ) (old current : List BidiClass) (strong : BidiClass) (k : ℕ) : Type 0 where
+pub record Resolved (embedding sos : BidiClass) (explicit : List BidiClass) (closers : List ℕ) (old current : List BidiClass) (k : ℕ) : Type 0 where
   pub changed : Changed closers old current k
   pub so_far : fold (λ types a. pair_step embedding sos (map is_mark explicit) types a (closer_in closers a)) current (range_with_len k (length old - k))
       ≡ resolve_pairs embedding sos (map is_mark explicit) (closer_in closers) old
-  pub carried : strong ≡ context sos current k
 
-Resolved-step : (embedding sos : BidiClass) (explicit : List BidiClass) (closers : List ℕ) (old current next : List BidiClass) (strong further : BidiClass) (k : ℕ) (e : BidiClass)
-    → Resolved embedding sos explicit closers old current strong k → k < length old
-    → pair_step embedding sos (map is_mark explicit) current k (closer_in closers k) ≡ next → take k next ≡ take k current
-    → Changed closers old next (k + 1) → further ≡ (if is_direction (get_or next k e) then get_or next k e else strong)
-    → Resolved embedding sos explicit closers old next further (k + 1)
-Resolved-step embedding sos explicit closers old current next strong further k e r within step front changed carries =
+pub Resolved-start : (embedding sos : BidiClass) (explicit : List BidiClass) (closers : List ℕ) (old : List BidiClass) → Resolved embedding sos explicit closers old old 0
+Resolved-start embedding sos explicit closers old =
+    let f : List BidiClass → ℕ → List BidiClass = λ types a. pair_step embedding sos (map is_mark explicit) types a (closer_in closers a) in
+    let size : length old - 0 ≡ length old = omega arith in
+    record {
+      changed = record { sizes = refl; cases = λ q below. inl refl };
+      so_far = ap (λ n. fold f old (range_with_len 0 n)) size;
+    }
+
+Resolved-step : (embedding sos : BidiClass) (explicit : List BidiClass) (closers : List ℕ) (old current next : List BidiClass) (k : ℕ)
+    → Resolved embedding sos explicit closers old current k → k < length old
+    → pair_step embedding sos (map is_mark explicit) current k (closer_in closers k) ≡ next
+    → Changed closers old next (k + 1)
+    → Resolved embedding sos explicit closers old next (k + 1)
+Resolved-step embedding sos explicit closers old current next k r within step changed =
     let f : List BidiClass → ℕ → List BidiClass = λ types a. pair_step embedding sos (map is_mark explicit) types a (closer_in closers a) in
     let more : suc (length old - (k + 1)) ≡ length old - k = omega arith in
-    let inside : k < length next = omega (arith, changed.sizes) in
     record {
       changed = changed;
       so_far = ap (λ types. fold f types (range_with_len (k + 1) (length old - (k + 1)))) (sym step)
           ∙ ap (λ n. fold f current (range_with_len k n)) more
           ∙ r.so_far;
-      carried = carries
-          ∙ ap (λ b. if is_direction (get_or next k e) then get_or next k e else b) (r.carried ∙ ap (λ types. nearest is_direction sos (reverse types)) (sym front))
-          ∙ ap (nearest is_direction sos) (sym (ap reverse (take_more next k e inside) ∙ reverse-append (take k next) (get_or next k e ∷ [])));
     }
 
 -- past a place with a pair
-pub Resolved-pair : (embedding sos : BidiClass) (explicit : List BidiClass) (closers : List ℕ) (old current : List BidiClass) (strong further : BidiClass) (k : ℕ) (e : BidiClass)
-    → Resolved embedding sos explicit closers old current strong k → k < length old → length explicit ≡ length old
+pub Resolved-pair : (embedding sos : BidiClass) (explicit : List BidiClass) (closers : List ℕ) (old current : List BidiClass) (k : ℕ)
+    → Resolved embedding sos explicit closers old current k → k < length old → length explicit ≡ length old
     → slice_index closers k < length closers → k < slice_index closers k
     → (next : List BidiClass) → next ≡ set_pair (map is_mark explicit) current k (slice_index closers k) (pair_direction (is_left embedding) sos current k (slice_index closers k))
-    → further ≡ (if is_direction (get_or next k e) then get_or next k e else strong)
-    → Resolved embedding sos explicit closers old next further (k + 1)
-Resolved-pair embedding sos explicit closers old current strong further k e r within sizes paired after next made carries =
+    → Resolved embedding sos explicit closers old next (k + 1)
+Resolved-pair embedding sos explicit closers old current k r within sizes paired after next made =
     let marks : List Bool = map is_mark explicit in
     let b : ℕ = slice_index closers k in
-    let direction : Option BidiClass = pair_direction (is_left embedding) sos current k b in
-    let same : length current ≡ length old = r.changed.sizes in
     let size : length marks ≡ length old = length-map explicit is_mark ∙ sizes in
-    Resolved-step embedding sos explicit closers old current next strong further k e r within
+    Resolved-step embedding sos explicit closers old current next k r within
     (ap (pair_step embedding sos marks current k) (cond-true (nat_lt b (length closers)) (Some b) None (lt-ltb b (length closers) paired)) ∙ sym made)
-    (ap (take k) made ∙ take-set_pair marks current k b direction (omega arith) (omega arith) (omega arith))
     (let P : List BidiClass → Type 0 = λ types. Changed closers old types (k + 1) in
     subst P (sym made) (Changed-pair marks closers old current k (stands (is_left embedding) current k b) (stands (not (is_left embedding)) current k b)
     (is_left embedding) (if agree (is_left embedding) (is_left (context sos current k)) then is_left embedding else not (is_left embedding)) r.changed size paired))
-    carries
 
 -- and without one
-pub Resolved-none : (embedding sos : BidiClass) (explicit : List BidiClass) (closers : List ℕ) (old current : List BidiClass) (strong further : BidiClass) (k : ℕ) (e : BidiClass)
-    → Resolved embedding sos explicit closers old current strong k → k < length old → length closers ≤ slice_index closers k
-    → (next : List BidiClass) → next ≡ current → further ≡ (if is_direction (get_or next k e) then get_or next k e else strong)
-    → Resolved embedding sos explicit closers old next further (k + 1)
-Resolved-none embedding sos explicit closers old current strong further k e r within free next same carries =
+pub Resolved-none : (embedding sos : BidiClass) (explicit : List BidiClass) (closers : List ℕ) (old current : List BidiClass) (k : ℕ)
+    → Resolved embedding sos explicit closers old current k → k < length old → length closers ≤ slice_index closers k
+    → (next : List BidiClass) → next ≡ current
+    → Resolved embedding sos explicit closers old next (k + 1)
+Resolved-none embedding sos explicit closers old current k r within free next same =
     let marks : List Bool = map is_mark explicit in
     let b : ℕ = slice_index closers k in
     let P : List BidiClass → Type 0 = λ types. Changed closers old types (k + 1) in
-    Resolved-step embedding sos explicit closers old current next strong further k e r within
+    Resolved-step embedding sos explicit closers old current next k r within
     (ap (pair_step embedding sos marks current k) (cond-false (nat_lt b (length closers)) (Some b) None (le-ltb b (length closers) free)) ∙ sym same)
-    (ap (take k) same) (subst P (sym same) (Changed-next closers old current k r.changed)) carries
+    (subst P (sym same) (Changed-next closers old current k r.changed))
+
+-- and past more of them
+pub Resolved-skip : (embedding sos : BidiClass) (explicit : List BidiClass) (closers : List ℕ) (old current : List BidiClass) (n k j : ℕ) → j ≡ n + k → j ≤ length old
+    → ((m : ℕ) → k ≤ m → m < j → length closers ≤ slice_index closers m) → Resolved embedding sos explicit closers old current k → Resolved embedding sos explicit closers old current j
+Resolved-skip embedding sos explicit closers old current zero k j e within free r =
+    let same : k ≡ j = omega arith in subst (λ x. Resolved embedding sos explicit closers old current x) same r
+Resolved-skip embedding sos explicit closers old current (suc n) k j e within free r =
+    Resolved-skip embedding sos explicit closers old current n (k + 1) j (omega arith) within (λ m above below. free m (omega arith) below)
+    (Resolved-none embedding sos explicit closers old current k r (omega arith) (free k (omega arith) (omega arith)) current refl)
+
+pub IsClear-skip : (left : Bool) (before : List BidiClass) (place next further : ℕ) → place ≤ further → IsClear left before place next → IsClear left before further next
+IsClear-skip left before place next further order clear = record {
+  bounded = clear.bounded;
+  passed = λ m above below. clear.passed m (omega arith) below;
+}
+
+-- the nearest strong type, one place farther back
+pub context-more : (sos : BidiClass) (types : List BidiClass) (k : ℕ) (e : BidiClass) → k < length types
+    → context sos types (k + 1) ≡ (if is_direction (get_or types k e) then get_or types k e else context sos types k)
+context-more sos types k e within = ap (nearest is_direction sos) (ap reverse (take_more types k e within) ∙ reverse-append (take k types) (get_or types k e ∷ []))
 
 -- the direction of a pair, by what the walk knows
 pub direction_is : (sos : BidiClass) (types : List BidiClass) (a b : ℕ) (left embedding same other : Bool) (strong : BidiClass)
@@ -405,9 +424,3 @@ direction_is sos types a b left embedding same other strong l s h g =
     ∙ ap (λ v. if stands left types a b then Some (side left) else (if v then Some (side (if agree left (is_left strong) then left else not left)) else None)) g
     ∙ ap (λ v. if stands left types a b then Some (side left) else (if stands (not left) types a b then Some (side (if agree left (is_left v) then left else not left)) else None)) s
     ∙ ap (λ v. pair_direction v sos types a b) l
-
-pub IsClear-next : (left : Bool) (before : List BidiClass) (place next further : ℕ) → IsClear left before place next → further ≡ next → IsClear left before (place + 1) further
-IsClear-next left before place next further clear same = record {
-  bounded = omega (arith, clear.bounded);
-  passed = λ m above below. clear.passed m (omega arith) (omega arith);
-}

@@ -1,11 +1,13 @@
 -- The neutral and implicit rules in one walk, with a row of neutrals that waits for what stands after it.
-use Rattle.std.proofs.Common.{◌≡◌, ℕ, ◌+◌, ◌-◌, ◌<◌, ◌≤◌, true, false, not, List, [], ◌∷◌, ◌++◌, length, get_or, set, take, drop, map, replicate, refl, sym, ap, ◌∙◌, inl, inr, arith, append_assoc}
+use Rattle.std.proofs.Common.{◌≡◌, ℕ, ◌+◌, ◌-◌, ◌<◌, ◌≤◌, true, false, not, List, [], ◌∷◌, ◌++◌, length, get_or, set, take, drop, map, replicate, refl, sym, ap, subst, ◌∙◌, inl, inr, arith, append_assoc}
 use Rattle.std.proofs.lemmas.Bool.{cond-true, cond-false, cases_Bool, not_from_true, not_from_false}
 use Rattle.std.proofs.lemmas.List.{append-nil, length-set, drop_more, drop_all, take_all, take_more_set, replicate_more}
 use Rattle.ucd.specs.declared.bidi_class.BidiClass.{BidiClass}
+use Rattle.ucd.specs.declared.bidi_class.BidiClass.TheVariants.{L, ON}
+use Rattle.bidi.specs.Classes.{class_at}
 use Rattle.bidi.specs.Neighbours.{each_by, nearest}
 use Rattle.bidi.specs.Neutral.{between, implicit_level, is_neutral, neutral, neutral_at}
-use Rattle.bidi.specs.Rows.{row_level, levels_after, AreLevelsSoFar}
+use Rattle.bidi.specs.Rows.{row_level, levels_after, AreLevelsSoFar, PutsRow}
 use Rattle.bidi.specs.Sequences.{direction}
 
 -- the nearest type that is no neutral
@@ -104,3 +106,22 @@ module _ (level : ℕ) (sos eos : BidiClass) where
         ∙ ap (λ n. take start levels ++ replicate (n - start) (row_level level before eos)) (sym at_end)
         ∙ ap (λ xs. take start levels ++ levels_after level eos (at - start) before xs) (sym (drop_all at types past))
         ∙ so_far.whole ∙ levels_after-is types
+
+-- past a row of equal types that are no neutrals: its first,
+pub levels-row-first : (level : ℕ) (types : List BidiClass) (levels : List ℕ) (at : ℕ) (class : BidiClass) (value : ℕ) → at < length types → class_at types at ≡ class
+    → is_neutral class ≡ false → value ≡ implicit_level level class → PutsRow level types levels at class (set levels at value) (at + 1)
+levels-row-first level types levels at class value within here other is sos eos before old start so_far size front =
+    let P : BidiClass → Type 0 = λ c. AreLevelsSoFar level sos eos types (set levels at value) c (at + 1) (at + 1) in
+    subst P here (levels-other level sos eos so_far ON levels value within (ap is_neutral here ∙ other) size
+    (front ∙ ap (λ c. take start old ++ replicate (at - start) (row_level level before c)) (sym here)) (is ∙ ap (implicit_level level) (sym here)))
+
+-- and one more
+pub levels-row-next : (level : ℕ) (types : List BidiClass) (first : List ℕ) (start : ℕ) (class : BidiClass) (value : ℕ) (levels : List ℕ) (at : ℕ) → at < length types → get_or types at L ≡ class
+    → is_neutral class ≡ false → value ≡ implicit_level level class → PutsRow level types first start class levels at → PutsRow level types first start class (set levels at value) (at + 1)
+levels-row-next level types first start class value levels at within here other is put sos eos before old begins so_far size front =
+    let now : AreLevelsSoFar level sos eos types levels class at at = put sos eos before old begins so_far size front in
+    let P : BidiClass → Type 0 = λ c. AreLevelsSoFar level sos eos types (set levels at value) c (at + 1) (at + 1) in
+    let none : at - at ≡ 0 = omega arith in
+    subst P here (levels-other level sos eos now L levels value within (ap is_neutral here ∙ other) refl
+    (sym (ap (λ n. take at levels ++ replicate n (row_level level class (get_or types at L))) none ∙ append-nil (take at levels)))
+    (is ∙ ap (implicit_level level) (sym here)))

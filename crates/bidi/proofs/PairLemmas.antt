@@ -1,5 +1,5 @@
 -- The walk that finds bracket pairs: it holds the openers that are live, the newest last.
-use Rattle.std.proofs.Common.{◌≡◌, ◌≢◌, ℕ, zero, suc, ◌+◌, ◌<◌, ◌≤◌, ◌⊎◌, ◌==◌, nat_lt, nat_le, Bool, true, false, ◌&&◌, ◌||◌, not, List, ◌++◌, ◌∷◌, [], map, length, take, get_or, fold, Option, Some, None, unwrap_or, if◌then◌else◌, count_by, refl, sym, ap, ◌∙◌, inl, inr, arith}
+use Rattle.std.proofs.Common.{◌≡◌, ◌≢◌, ℕ, zero, suc, ◌+◌, ◌<◌, ◌≤◌, ◌⊎◌, ◌==◌, nat_lt, nat_le, Bool, true, false, ◌&&◌, ◌||◌, not, List, ◌++◌, ◌∷◌, [], map, length, take, get_or, fold, Option, Some, None, unwrap_or, if◌then◌else◌, count_by, refl, sym, ap, subst, ◌∙◌, inl, inr, arith}
 use Rattle.std.specs.List.{list_any, range_with_len}
 use Rattle.std.proofs.lemmas.Bool.{cond-true, cond-false, false≢true, cases_Bool, cases_eq, cases_lt, and_left, and_right, and_from, and_parts, both_ways, eq-eqb, ne_eqb, le-leb, lt-leb, le-ltb, or_left, or_right, or_from, not-true, not_from_true, not_from_false, false_from_ne_true}
 use Rattle.std.proofs.lemmas.List.{append-nil, get_or_append_left, get_or_push, length_push, get_or-take, take-append-le}
@@ -463,6 +463,14 @@ module _ (bracket_of : ℕ → Option Bracket) (characters : List ℕ) (types : 
 
   pub Walks-other : (k : ℕ) (openers : List Opener) (closers : List ℕ) → opens k ≡ false → closes k ≡ false → Walks k openers closers → Walks (suc k) openers closers
   Walks-other k openers closers other none now = Walks-stay k openers closers (pairs-no k none) other now
+
+  -- and after more of them
+  pub Walks-skip : (n k j : ℕ) (openers : List Opener) (closers : List ℕ) → j ≡ n + k → ((m : ℕ) → k ≤ m → m < j → opens m ≡ false)
+      → ((m : ℕ) → k ≤ m → m < j → closes m ≡ false) → Walks k openers closers → Walks j openers closers
+  Walks-skip zero k j openers closers e other none now = let same : k ≡ j = omega arith in subst (λ x. Walks x openers closers) same now
+  Walks-skip (suc n) k j openers closers e other none now =
+      Walks-skip n (suc k) j openers closers (omega arith) (λ m above below. other m (omega arith) below) (λ m above below. none m (omega arith) below)
+      (Walks-other k openers closers (other k (omega arith) (omega arith)) (none k (omega arith) (omega arith)) now)
 
   -- after an opener
   pub Walks-open : (k : ℕ) (openers : List Opener) (closers : List ℕ) (bracket : Bracket) → opens k ≡ true → bracket_of (get_or characters k 0) ≡ Some bracket → length openers < 63

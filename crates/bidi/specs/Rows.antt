@@ -21,3 +21,10 @@ pub record AreLevelsSoFar (level : ℕ) (sos eos : BidiClass) (types : List Bidi
   pub sizes : length levels ≡ length types
   pub order : start ≤ at
   pub whole : take start levels ++ levels_after level eos (at - start) before (drop at types) ≡ levels_after level eos 0 sos types
+
+-- the levels of a row of equal types: whatever waits before it, if the levels of neutrals that do are written, those of the row are too
+abbrev pub PutsRow : ℕ → List BidiClass → List ℕ → ℕ → BidiClass → List ℕ → ℕ → Type 0
+PutsRow level types levels at class put next =
+    (sos eos before : BidiClass) (old : List ℕ) (start : ℕ) → AreLevelsSoFar level sos eos types old before start at → length levels ≡ length old
+    → take at levels ≡ take start old ++ replicate (at - start) (row_level level before class)
+    → AreLevelsSoFar level sos eos types put class next next

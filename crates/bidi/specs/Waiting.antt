@@ -1,7 +1,7 @@
 -- What the one walk of the weak rules keeps: types that wait for what stands after them, and what W1 to W3 and W7 look back at.
 use Rattle.std.specs.Prelude.{◌≡◌, ℕ, ◌+◌, ◌-◌, ◌≤◌, Bool, true, false, ◌&&◌, not, List, [], ◌∷◌, ◌++◌, length, map, take, drop, replicate, if◌then◌else◌}
 use Rattle.ucd.specs.declared.bidi_class.BidiClass.{BidiClass}
-use Rattle.ucd.specs.declared.bidi_class.BidiClass.TheVariants.{L, EN, ES, ET, AN, CS, ON}
+use Rattle.ucd.specs.declared.bidi_class.BidiClass.TheVariants.{L, EN, ES, ET, AN, CS, NSM, ON}
 use Rattle.bidi.specs.declared.weak.Row.{Row}
 use Rattle.bidi.specs.declared.weak.Row.TheVariants.{Nothing, European, Arabic, EuropeanTerminators, EuropeanSeparator, ArabicSeparator, Terminators}
 use Rattle.bidi.specs.Classes.{is_strong}
@@ -36,6 +36,17 @@ is_weak ET = true
 is_weak AN = true
 is_weak CS = true
 is_weak type = false
+
+-- whether W1, W2 and W4 to W7 make nothing of a type
+abbrev pub is_settled : BidiClass → Bool
+is_settled NSM = false
+is_settled type = not (is_weak type)
+
+-- whether a type is one of digits
+abbrev pub is_digit : BidiClass → Bool
+is_digit EN = true
+is_digit AN = true
+is_digit type = false
 
 -- whether a row of ET that begins here stands after a European number
 abbrev pub is_after_number : Row → Bool
@@ -109,3 +120,16 @@ pub record AreTypesSoFar (sos : BidiClass) (old current : List BidiClass) (befor
   pub waiting : take at current ≡ take start current ++ replicate (at - start) ON
   pub whole : take start current ++ types_after row (at - start) (w3_type strong) (read_types before strong (drop at old))
       ≡ types_after Nothing 0 (w3_type sos) (read_types sos sos old)
+
+-- whatever the walk knew at a place, it then knows the same of its types with those of a row settled
+abbrev pub SettlesRow : List BidiClass → ℕ → BidiClass → List BidiClass → ℕ → Type 0
+SettlesRow current at class settled next =
+    (sos : BidiClass) (old : List BidiClass) (before strong : BidiClass) (row : Row) (start : ℕ) → AreTypesSoFar sos old current before strong row start at
+    → AreTypesSoFar sos old settled class (if is_strong class then class else strong) Nothing next next
+
+-- what it knew after a digit, it then knows after the digits of that class that follow
+abbrev pub RepeatsDigit : List BidiClass → ℕ → BidiClass → BidiClass → List BidiClass → ℕ → Type 0
+RepeatsDigit current at class value repeated next =
+    (sos : BidiClass) (old : List BidiClass) (strong : BidiClass) (row : Row) → value ≡ written row (is_left strong) (w3_type (digit_type strong class))
+    → AreTypesSoFar sos old current class strong (row_after row (w3_type (digit_type strong class))) at at
+    → AreTypesSoFar sos old repeated class strong (row_after row (w3_type (digit_type strong class))) next next

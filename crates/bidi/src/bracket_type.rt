@@ -1,7 +1,7 @@
 //! What a character is as a bracket, apart from the character itself (UAX #9, BD14 and BD15).
 ghost use Rattle.std.specs.Prelude.{◌≡◌};
 ghost use Rattle.ucd.specs.Tables.{bracket_of};
-ghost use Rattle.bidi.specs.BracketTypes.{type_by};
+ghost use Rattle.bidi.specs.BracketTypes.{is_bracket, type_by};
 
 use ucd::Tables;
 
@@ -44,4 +44,11 @@ pub(crate) fn bracket_type(tables: &Tables, character: char) -> BracketType
         }
         None => BracketType::Other,
     }
+}
+
+/// Whether it is one.
+pub(crate) fn is_bracket(bracket: BracketType) -> bool
+    ensures { result ≡ is_bracket bracket }
+{
+    !matches!(bracket, BracketType::Other)
 }

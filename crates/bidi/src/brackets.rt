@@ -1,12 +1,12 @@
 //! Bracket pairs and the directions that they take (UAX #9, BD14 to BD16 and N0), over what the characters
 //! of one isolating run sequence are as brackets.
-ghost use Rattle.std.specs.Prelude.{◌≡◌, ℕ, ◌<◌, ◌≤◌, ◌&&◌, [], map, length, List, OnOk, Option};
+ghost use Rattle.std.specs.Prelude.{◌≡◌, ℕ, ◌<◌, ◌≤◌, ◌&&◌, [], map, length, slice_index, List, OnOk, Option};
 ghost use Rattle.std.specs.Prelude.{Some, None};
 ghost use Rattle.std.specs.Prelude.{if◌then◌else◌, true, false, not};
 ghost use Rattle.ucd.specs.declared.bracket.Bracket.{Bracket};
-ghost use Rattle.bidi.specs.BracketTypes.{bracket_types};
+ghost use Rattle.bidi.specs.BracketTypes.{bracket_at, bracket_types, is_bracket};
 ghost use Rattle.bidi.specs.declared.bracket_type.BracketType.TheVariants.{Other};
-ghost use Rattle.bidi.specs.Brackets.{brackets, canonical, is_other, pairs_of, resolve_pairs, is_direction};
+ghost use Rattle.bidi.specs.Brackets.{brackets, canonical, is_other, pairs_of, resolve_pairs, context, is_direction};
 ghost use Rattle.bidi.specs.Brackets.{is_toward, stands, set_with, set_pair};
 ghost use Rattle.bidi.specs.Closers.{closers_of, closer_in, AreNested, newest, place_of, left_by};
 ghost use Rattle.bidi.specs.Closers.{closed_by};
@@ -15,7 +15,7 @@ ghost use Rattle.bidi.specs.Classes.{class_at};
 ghost use Rattle.bidi.specs.Neutral.{agree, side};
 ghost use Rattle.bidi.specs.Resolving.{IsClear};
 
-use crate::bracket_type::BracketType;
+use crate::bracket_type::{BracketType, is_bracket};
 use arrayvec::ArrayVec;
 use std::alloc::{AllocError, Global};
 use ucd::BidiClass;
@@ -153,7 +153,8 @@ fn find_pairs(
 {
     fill(closers, types.len())?;
     let mut openers: ArrayVec<Opener, MAX_OPENERS> = ArrayVec::new();
-    for place in 0..types.len() {
+    let mut place = next_bracket(kinds, 0);
+    while place < types.len() {
         match bracket_in(kinds[place], types[place]) {
             BracketType::Opening(pair) => {
                 if openers.is_full() {
@@ -164,20 +165,37 @@ fn find_pairs(
             BracketType::Closing(closer) => close(&mut openers, closers, closer, place),
             BracketType::Other => {}
         }
+        place = next_bracket(kinds, place + 1);
     }
     Ok(())
 }
 
-// The least place from `from` on with a strong type of direction L, or of direction R.
-fn next_toward(types: &[BidiClass], left: bool, from: usize) -> usize
-    requires { from ≤ length types.now }
+// The least place from `from` on at which a bracket stands, or else the length.
+fn next_bracket(kinds: &[BracketType], from: usize) -> usize
+    requires { from ≤ length kinds.now }
+    ensures reached { from ≤ result }
+    ensures within { result ≤ length kinds.now }
+    ensures passed { (m : ℕ) → from ≤ m → m < result → is_bracket (bracket_at kinds.now m) ≡ false }
+{
+    let mut at = from;
+    while at < kinds.len() && !is_bracket(kinds[at]) {
+        at += 1;
+    }
+    at
+}
+
+// The least place from `from` on, and before a limit, with a strong type of direction L, or of direction R; or
+// else the limit, or `from` where that is after it.
+fn next_toward(types: &[BidiClass], left: bool, from: usize, limit: usize) -> usize
+    requires from { from ≤ length types.now }
+    requires limit { limit ≤ length types.now }
     ensures reached { from ≤ result }
     ensures bounded { result ≤ length types.now }
     ensures passed { (m : ℕ) → from ≤ m → m < result → is_toward left (class_at types.now m) ≡ false }
-    ensures stops { result < length types.now → is_toward left (class_at types.now result) ≡ true }
+    ensures stops { result < limit → is_toward left (class_at types.now result) ≡ true }
 {
     let mut at = from;
-    while at < types.len() && !is_toward(left, types[at]) {
+    while at < limit && !is_toward(left, types[at]) {
         at += 1;
     }
     at
@@ -211,24 +229,38 @@ fn resolve_brackets(
         ≡ resolve_pairs embedding sos (map is_mark explicit.now) (closer_in closers.now) types.old }
 {
     let left = is_left(embedding);
-    let mut strong = sos;
-    // The next strong types after the place, as the types were before N0.
+    // Up to where no strong type of a direction stands after the place, as the types were before N0.
     let mut same = 0;
     let mut other = 0;
-    for place in 0..types.len() {
+    let mut place = next_pair(closers, 0);
+    while place < types.len() {
         let closer = closers[place];
-        if closer < types.len() {
-            let has_same = stands_inside(types, before, left, place, closer, &mut same);
-            let has_other = stands_inside(types, before, !left, place, closer, &mut other);
-            let direction = pair_direction(left, strong, has_same, has_other);
-            set_pair(types, explicit, place, closer, direction);
-        }
-        strong = strong_after(types[place], strong);
+        let has_same = stands_inside(types, before, left, place, closer, &mut same);
+        let has_other = stands_inside(types, before, !left, place, closer, &mut other);
+        let direction = pair_direction(types, place, left, sos, has_same, has_other);
+        set_pair(types, explicit, place, closer, direction);
+        place = next_pair(closers, place + 1);
     }
 }
 
+// The least place from `from` on at which a pair opens, or else the length.
+fn next_pair(closers: &[usize], from: usize) -> usize
+    requires { from ≤ length closers.now }
+    ensures reached { from ≤ result }
+    ensures within { result ≤ length closers.now }
+    ensures passed { (m : ℕ) → from ≤ m → m < result → length closers.now ≤ slice_index closers.now m }
+    ensures stops { result < length closers.now
+        → slice_index closers.now result < length closers.now }
+{
+    let mut at = from;
+    while at < closers.len() && closers[at] >= closers.len() {
+        at += 1;
+    }
+    at
+}
+
 // Whether a strong type of a direction stands inside a pair. `next` moves to the next place after
-// the opener that had such a type before N0, or to the length.
+// the opener that had such a type before N0, or to the closer.
 fn stands_inside(
     types: &[BidiClass],
     before: &[BidiClass],
@@ -247,34 +279,53 @@ fn stands_inside(
     ensures clear { IsClear left before.now place next.new }
 {
     let from = (*next).max(place + 1);
-    *next = next_toward(before, left, from);
+    *next = next_toward(before, left, from, closer);
     if is_other(types[place]) {
         *next < closer
     } else {
         // Marks in a row after an earlier bracket, of which this one is one, have changed.
-        next_toward(types, left, place + 1) < closer
+        next_toward(types, left, place + 1, closer) < closer
     }
 }
 
 // The direction of a pair, by whether a strong type of the embedding direction stands inside, and
 // one of the other.
 fn pair_direction(
+    types: &[BidiClass],
+    place: usize,
     left: bool,
-    strong: BidiClass,
+    sos: BidiClass,
     has_same: bool,
     has_other: bool,
 ) -> Option<BidiClass>
-    ensures { result ≡ (if has_same then Some (side left)
-        else (if has_other
-        then Some (side (if agree left (is_left strong) then left else not left)) else None)) }
+    requires { place ≤ length types.now }
+    ensures { result ≡ (if has_same then Some (side left) else (if has_other
+        then Some (side (if agree left (is_left (context sos types.now place)) then left else not left))
+        else None)) }
 {
     if has_same {
         Some(side(left))
     } else if has_other {
-        Some(side(is_left(strong)))
+        Some(side(is_left(strong_before(types, place, sos))))
     } else {
         None
     }
+}
+
+// The nearest strong type before a place, or `sos`. It is asked for only of a pair that then is strong itself, so
+// that of a later one is sought no farther back.
+fn strong_before(types: &[BidiClass], place: usize, sos: BidiClass) -> BidiClass
+    requires { place ≤ length types.now }
+    ensures { result ≡ context sos types.now place }
+{
+    let mut at = place;
+    while at > 0 {
+        at -= 1;
+        if is_direction(types[at]) {
+            return types[at];
+        }
+    }
+    sos
 }
 
 fn is_left(class: BidiClass) -> bool
@@ -301,14 +352,14 @@ fn side(left: bool) -> BidiClass
     if left { BidiClass::L } else { BidiClass::R }
 }
 
-// The nearest strong type, after a character of this type. Numbers are strong here.
-fn strong_after(class: BidiClass, strong: BidiClass) -> BidiClass
-    ensures { result ≡ (if is_direction class then class else strong) }
+// Whether a type is strong here, as numbers are.
+fn is_direction(class: BidiClass) -> bool
+    ensures { result ≡ is_direction class }
 {
-    match class {
-        BidiClass::L | BidiClass::R | BidiClass::AL | BidiClass::EN | BidiClass::AN => class,
-        _ => strong,
-    }
+    matches!(
+        class,
+        BidiClass::L | BidiClass::R | BidiClass::AL | BidiClass::EN | BidiClass::AN
+    )
 }
 
 // Sets the types of a pair, if it takes a direction.

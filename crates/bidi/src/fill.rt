@@ -8,6 +8,19 @@ pub(crate) fn fill<T: Copy>(items: &mut [T], start: usize, end: usize, value: T)
     ensures front { take end items.new ≡ take start items.old ++ replicate (end - start) value }
     ensures rest { drop end items.new ≡ drop end items.old }
 {
+    if start < end {
+        // Most parts are short: one item takes no call for a row of them.
+        items[start] = value;
+        fill_more(items, start + 1, end, value);
+    }
+}
+
+fn fill_more<T: Copy>(items: &mut [T], start: usize, end: usize, value: T)
+    requires order { start ≤ end }
+    requires within { end ≤ length items.old }
+    ensures front { take end items.new ≡ take start items.old ++ replicate (end - start) value }
+    ensures rest { drop end items.new ≡ drop end items.old }
+{
     for at in start..end {
         items[at] = value;
     }

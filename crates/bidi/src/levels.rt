@@ -234,7 +234,7 @@ pub(crate) fn resolve_plain(
     let base = paragraph.base;
     let sequence = &mut work.lists.sequence;
     copy_types(classes, &mut sequence.types)?;
-    levels.clear();
+    // All are written below, so what the list has is as good as anything.
     levels.resize(classes.len(), base)?;
     let side = direction(base);
     let sides = Sides {

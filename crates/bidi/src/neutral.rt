@@ -1,7 +1,8 @@
 //! The neutral and implicit rules (UAX #9, N1, N2, I1 and I2), over the types of one isolating run sequence.
-ghost use Rattle.std.specs.Prelude.{◌≡◌, ◌≤◌, length, map};
+ghost use Rattle.std.specs.Prelude.{◌≡◌, ◌<◌, ◌≤◌, false, length, map};
 ghost use Rattle.bidi.specs.Neutral.{is_neutral, between, neutral, implicit_level};
-ghost use Rattle.bidi.specs.Rows.{row_level};
+ghost use Rattle.bidi.specs.Rows.{row_level, PutsRow};
+ghost use Rattle.bidi.specs.Classes.{class_at};
 ghost use Rattle.bidi.specs.Sequences.{direction};
 
 use crate::fill::fill;
@@ -25,18 +26,48 @@ pub(crate) fn resolve_neutral(
     // The nearest type that is no neutral, and the place after it, where a row may begin.
     let mut before = sos;
     let mut start = 0;
-    for at in 0..types.len() {
+    let mut at = 0;
+    while at < types.len() {
         let class = types[at];
-        if !is_neutral(class) {
+        if is_neutral(class) {
+            at += 1;
+        } else {
             if start < at {
                 fill(levels, start, at, row_level(level, before, class));
             }
-            levels[at] = implicit_level(level, class);
+            at = put_row(types, level, at, class, levels);
             before = class;
-            start = at + 1;
+            start = at;
         }
     }
     fill(levels, start, types.len(), row_level(level, before, eos));
+}
+
+// Writes the levels of a row of equal types that are no neutrals. Answers where the row ends.
+fn put_row(
+    types: &[BidiClass],
+    level: u8,
+    start: usize,
+    class: BidiClass,
+    levels: &mut [u8],
+) -> usize
+    requires length { length levels.old ≡ length types.now }
+    requires bounded { level ≤ 125 }
+    requires within { start < length types.now }
+    requires class { class_at types.now start ≡ class }
+    requires other { is_neutral class ≡ false }
+    ensures above { start < result }
+    ensures within { result ≤ length types.now }
+    ensures put { PutsRow level types.now levels.old start class levels.new result }
+{
+    let value = implicit_level(level, class);
+    levels[start] = value;
+    let mut at = start + 1;
+    while at < types.len() && types[at] == class {
+        levels[at] = value;
+        at += 1;
+    }
+    at
 }
 
 // The level of neutrals in a row, by the types on both sides.

@@ -12,7 +12,7 @@ ghost use Rattle.bidi.specs.Paragraphs.{AreFor, OfAllTexts};
 ghost use Rattle.bidi.specs.Plain.{has_bracket_in, is_flat, is_plain};
 
 use crate::base::{Base, base_level_by, base_level_of};
-use crate::bracket_type::{BracketType, bracket_type};
+use crate::bracket_type::{BracketType, bracket_type, is_bracket};
 use crate::levels::{Classified, Work, resolve_classes, resolve_plain};
 use crate::sequence_levels::Brackets;
 use std::alloc::{AllocError, Global};
@@ -77,40 +77,54 @@ fn are_flat_by(properties: &[Properties]) -> bool
     properties.iter().all(|one| is_flat(one.bidi_class()))
 }
 
-fn is_bracket(bracket: BracketType) -> bool
-    ensures { result ≡ is_bracket bracket }
-{
-    !matches!(bracket, BracketType::Other)
-}
-
 fn has_brackets(brackets: &[BracketType]) -> bool
     ensures { result ≡ list_any is_bracket brackets.now }
 {
     brackets.iter().any(|bracket| is_bracket(*bracket))
 }
 
-fn has_brackets_by(properties: &[Properties]) -> bool
-    ensures { result ≡ list_any has_bracket_in properties.now }
-{
-    properties.iter().any(|one| one.has_bracket())
+// What of a paragraph decides which rules it needs.
+#[derive(Clone, Copy)]
+struct Summary {
+    // Whether nothing is opened, closed or taken out.
+    is_plain: bool,
+    has_brackets: bool,
 }
 
-// The classes in what the tables say of characters, in place of what the list has.
-fn take_classes(properties: &[Properties], classes: &mut Vec<BidiClass>) -> Result<(), AllocError>
-    ensures { OnOk result (classes.new.items ≡ map class_in properties.now) }
+// The classes in what the tables say of characters, in place of what the list has, and what they come to.
+fn take_classes(
+    properties: &[Properties],
+    classes: &mut Vec<BidiClass>,
+) -> Result<Summary, AllocError>
+    ensures classes { OnOk result (classes.new.items ≡ map class_in properties.now) }
+    ensures plain { IfOk result (λ summary.
+        summary.is_plain ≡ list_all is_plain (map class_in properties.now)) }
+    ensures brackets { IfOk result (λ summary.
+        summary.has_brackets ≡ list_any has_bracket_in properties.now) }
 {
-    classes.clear();
+    // All are written below, so what the list has is as good as anything.
     classes.resize(properties.len(), BidiClass::L)?;
-    put_classes(properties, classes);
-    Ok(())
+    Ok(put_classes(properties, classes))
 }
 
-fn put_classes(properties: &[Properties], classes: &mut [BidiClass])
+fn put_classes(properties: &[Properties], classes: &mut [BidiClass]) -> Summary
     requires { length classes.old ≡ length properties.now }
-    ensures { classes.new ≡ map class_in properties.now }
+    ensures classes { classes.new ≡ map class_in properties.now }
+    ensures plain { result.is_plain ≡ list_all is_plain (map class_in properties.now) }
+    ensures brackets { result.has_brackets ≡ list_any has_bracket_in properties.now }
 {
+    let mut all_plain = true;
+    let mut any_bracket = false;
     for at in 0..properties.len() {
-        classes[at] = properties[at].bidi_class();
+        let one = properties[at];
+        let class = one.bidi_class();
+        classes[at] = class;
+        all_plain &= is_plain(class);
+        any_bracket |= one.has_bracket();
+    }
+    Summary {
+        is_plain: all_plain,
+        has_brackets: any_bracket,
     }
 }
 
@@ -157,23 +171,22 @@ fn put_brackets(
     }
 }
 
-// The same where there are some. True where there are.
+// The same where there are some.
 fn take_any_brackets(
     tables: &Tables,
     text: &[char],
     properties: &[Properties],
+    has_any: bool,
     brackets: &mut Vec<BracketType>,
-) -> Result<bool, AllocError>
+) -> Result<(), AllocError>
     requires { properties.now ≡ map (properties_of tables.now) text.now }
-    ensures any { IfOk result (λ any. any ≡ list_any has_bracket_in properties.now) }
-    ensures brackets { IfOk result (λ any. any ≡ true
+    ensures { OnOk result (has_any ≡ true
         → brackets.new.items ≡ bracket_types (bracket_of tables.now) text.now) }
 {
-    let has_any = has_brackets_by(properties);
-    if has_any {
-        take_brackets(tables, text, properties, brackets)?;
+    if !has_any {
+        return Ok(());
     }
-    Ok(has_any)
+    take_brackets(tables, text, properties, brackets)
 }
 
 // So many levels 0, in place of what the list has.
@@ -258,8 +271,9 @@ impl Resolver {
         ensures { OnOk result (levels.new.items
             ≡ paragraph_levels (bracket_of tables.now) text.now (map class_in properties.now) base) }
     {
-        take_classes(properties, &mut self.classes)?;
-        let has_any = take_any_brackets(tables, text, properties, &mut self.brackets)?;
+        let summary = take_classes(properties, &mut self.classes)?;
+        let has_any = summary.has_brackets;
+        take_any_brackets(tables, text, properties, has_any, &mut self.brackets)?;
         let paragraph = Classified {
             brackets: Brackets {
                 types: &self.brackets,
@@ -268,7 +282,13 @@ impl Resolver {
             classes: &self.classes,
             base,
         };
-        resolve_classified(&paragraph, &mut self.acting, &mut self.work, levels)
+        resolve_classified(
+            &paragraph,
+            summary.is_plain,
+            &mut self.acting,
+            &mut self.work,
+            levels,
+        )
     }
 
     /// The base level of one paragraph, 0 or 1, and in place of what `levels` has the level of each
@@ -303,24 +323,34 @@ impl Resolver {
             classes,
             base: level,
         };
-        resolve_classified(&paragraph, &mut self.acting, &mut self.work, levels)?;
+        let all_plain = are_plain(classes);
+        resolve_classified(
+            &paragraph,
+            all_plain,
+            &mut self.acting,
+            &mut self.work,
+            levels,
+        )?;
         Ok(level)
     }
 }
 
-// The levels of a paragraph of a base level, whatever its classes.
+// The levels of a paragraph of a base level, of which it is known whether anything is opened, closed or taken
+// out.
 fn resolve_classified(
     paragraph: &Classified<'_>,
+    all_plain: bool,
     acting: &mut Vec<BidiClass>,
     work: &mut Work,
     levels: &mut Vec<u8>,
 ) -> Result<(), AllocError>
+    requires plain { all_plain ≡ list_all is_plain paragraph.now.classes.now }
     requires low { paragraph.now.base ≤ 1 }
     requires brackets { AreFor paragraph.now.brackets (length paragraph.now.classes.now) }
     ensures { OnOk result (OfAllTexts paragraph.now.brackets (length paragraph.now.classes.now) (λ look text.
         levels.new.items ≡ paragraph_levels look text paragraph.now.classes.now paragraph.now.base)) }
 {
-    if are_plain(paragraph.classes) {
+    if all_plain {
         resolve_plain(paragraph, work, levels)
     } else {
         resolve_classes(paragraph, acting, work, levels)

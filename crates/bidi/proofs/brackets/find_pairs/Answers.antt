@@ -1,4 +1,4 @@
-use Rattle.std.proofs.Common.{◌≡◌, ◌<◌, ◌≤◌, ◌==◌, ◌+◌, ℕ, Bool, true, false, ◌&&◌, List, ◌++◌, ◌∷◌, [], length, get_or, Option, Some, None, if◌then◌else◌, suc, refl, sym, ap, ◌∙◌, inl, inr, arith}
+use Rattle.std.proofs.Common.{◌≡◌, ◌<◌, ◌≤◌, ◌==◌, ◌+◌, ◌-◌, ℕ, Bool, true, false, ◌&&◌, List, ◌++◌, ◌∷◌, [], length, get_or, Option, Some, None, if◌then◌else◌, suc, refl, sym, ap, ◌∙◌, inl, inr, arith}
 use Rattle.std.proofs.lemmas.Bool.{cond-true, cond-false, cases_Bool, and_left, eqb-true, eqb-false, not_from_true, not_from_false}
 use Rattle.std.proofs.lemmas.List.{get_or_default, get_or-map, length-map, length-set, with_items_is}
 use Rattle.ucd.specs.declared.bidi_class.BidiClass.{BidiClass}
@@ -8,13 +8,13 @@ use Rattle.bidi.specs.declared.bracket_type.BracketType.{BracketType}
 use Rattle.bidi.specs.declared.bracket_type.BracketType.TheVariants.{Other, Opening, Closing}
 use Rattle.bidi.specs.declared.brackets.Opener.{Opener}
 use Rattle.bidi.specs.Brackets.{is_closer, is_closing, is_opener, is_opening, is_other}
-use Rattle.bidi.specs.BracketTypes.{bracket_types, type_by}
+use Rattle.bidi.specs.BracketTypes.{bracket_at, bracket_types, is_bracket, type_by}
 use Rattle.bidi.specs.Closers.{closed_by, closers_of, left_by, newest, place_of}
 use Rattle.bidi.specs.Classes.{class_at}
 use Rattle.bidi.proofs.BracketTypeLemmas.{look_for, text_for, told}
-use Rattle.bidi.proofs.PairLemmas.{Walks, Walks-start, Walks-other, Walks-open, Walks-close, place-below, all-full, all-end, nested, before, length-closers_of}
+use Rattle.bidi.proofs.PairLemmas.{Walks, Walks-start, Walks-other, Walks-skip, Walks-open, Walks-close, place-below, all-full, all-end, nested, before, length-closers_of}
 use Rattle.bidi.proofs.brackets.find_pairs.Goals as goal
-use Rattle.bidi.proofs.brackets.find_pairs.Goals.{in-Opening+else-is_full, in-Closing, in-Other}
+use Rattle.bidi.proofs.brackets.find_pairs.Goals.{After-next_bracket-place-in-loop-place, in-Opening+else-is_full, in-Closing, in-Other}
 
 -- what the answers say of a bracket
 abbrev opens_by : BracketType → Bool
@@ -98,18 +98,48 @@ length-closed_by : (found : Option ℕ) (openers : List Opener) (closers : List 
 length-closed_by (Some m) openers closers k = length-set closers (place_of openers m) k
 length-closed_by None openers closers k = refl
 
+-- past places at which no bracket stands
+no_bracket : (bracket : BracketType) → is_bracket bracket ≡ false → bracket ≡ Other
+no_bracket Other e = refl
+no_bracket (Opening n) e = absurd (cc)
+no_bracket (Closing n) e = absurd (cc)
+
+other_told : (look : ℕ → Option Bracket) (text : List ℕ) (kinds : List BracketType) (types : List BidiClass) (k : ℕ)
+    → k < length types → length kinds ≡ length types → kinds ≡ bracket_types look text → is_bracket (bracket_at kinds k) ≡ false → Told look text types k Other
+other_told look text kinds types k within size are none =
+    let is : get_or kinds k Other ≡ Other = no_bracket (get_or kinds k Other) none in
+    told_of look text kinds types k Other within size are
+    (elim (cases_Bool (is_other (get_or types k L))) [
+      | inl other ↦ sym (cond-true (is_other (get_or types k L)) (get_or kinds k Other) Other other ∙ is)
+      | inr none ↦ sym (cond-false (is_other (get_or types k L)) (get_or kinds k Other) Other none)
+    ])
+
+skipped : (look : ℕ → Option Bracket) (text : List ℕ) (kinds : List BracketType) (types : List BidiClass) (k j : ℕ) (openers : List Opener) (closers : List ℕ)
+    → length kinds ≡ length types → kinds ≡ bracket_types look text → k ≤ j → j ≤ length types → ((m : ℕ) → k ≤ m → m < j → is_bracket (bracket_at kinds m) ≡ false)
+    → Walks look text types k openers closers → Walks look text types j openers closers
+skipped look text kinds types k j openers closers size are order within none now =
+    Walks-skip look text types (j - k) k j openers closers (omega arith)
+    (λ m above below. (other_told look text kinds types m (omega arith) size are (none m above below)).opens)
+    (λ m above below. (other_told look text kinds types m (omega arith) size are (none m above below)).closes) now
+
 -- one place further, in the program's sum
 next : (look : ℕ → Option Bracket) (text : List ℕ) (types : List BidiClass) (k : ℕ) (openers : List Opener) (closers : List ℕ)
     → Walks look text types (suc k) openers closers → Walks look text types (k + 1) openers closers
 next look text types k openers closers now = let e : k + 1 ≡ suc k = omega arith in rw e now
 
 pub loop-place-init : goal.loop-place-init
-loop-place-init c look text are = rw (c.new-openers.ensures, c.in_ok-fill.ensures) (Walks-start look text c.args.types.now)
+loop-place-init c = record {
+  within = omega (arith, c.next_bracket-place.ensures.within, c.requires);
+  walks = λ look text are.
+      rw (c.new-openers.ensures, c.in_ok-fill.ensures) (
+      skipped look text c.args.kinds.now c.args.types.now 0 c.next_bracket-place.result [] (closers_of [] (length c.args.types.now)) c.requires are
+      (omega arith) (omega (arith, c.next_bracket-place.ensures.within, c.requires)) c.next_bracket-place.ensures.passed (Walks-start look text c.args.types.now));
+}
 
 pub close-requires : goal.close-requires
 close-requires c = λ m h.
     let kinds = c.args.kinds.now in
-    let now = c.loop-place.invariant (look_for kinds) (text_for kinds) (told kinds) in
+    let now = c.loop-place.invariant.walks (look_for kinds) (text_for kinds) (told kinds) in
     let size = ap length c.deref_mut.ensures.value ∙ ap length now.found
     ∙ length-closers_of (before (look_for kinds) (text_for kinds) c.args.types.now c.loop-place.place) (length c.args.types.now) in
     let below = (place-below (look_for kinds) (text_for kinds) c.args.types.now c.loop-place.place c.loop-place.openers.items c.loop-place.closers.items now m h).0 in
@@ -121,7 +151,7 @@ returns-then-is_full-clause-pairs c look text are =
     let types = c.args.types.now in
     let k = c.loop-place.place in
     let openers = c.loop-place.openers.items in
-    let now = c.loop-place.invariant look text are in
+    let now = c.loop-place.invariant.walks look text are in
     let t = told_of look text c.args.kinds.now types k c.bracket_in.result c.loop-place-test.true c.requires are c.bracket_in.ensures in
     let full : c.is_full.result ≡ (length openers == 63) = c.is_full.ensures.value in
     now.found ∙ ap (λ l. closers_of l (length types)) (sym (
@@ -132,15 +162,15 @@ returns-then-is_full-clause-pairs c look text are =
 pub returns-then-is_full-clause-nested : goal.returns-then-is_full-clause-nested
 returns-then-is_full-clause-nested c =
     let kinds = c.args.kinds.now in
-    let now = c.loop-place.invariant (look_for kinds) (text_for kinds) (told kinds) in
+    let now = c.loop-place.invariant.walks (look_for kinds) (text_for kinds) (told kinds) in
     let within = c.loop-place-test.true in
     rw now.found (nested (look_for kinds) (text_for kinds) c.args.types.now c.loop-place.place (omega arith))
 
 pub returns-clause-pairs : goal.returns-clause-pairs
 returns-clause-pairs c look text are =
     let from = c.loop-place-test.false in
-    let to = c.loop-place.auto.place-end in
-    let now = c.loop-place.invariant look text are in
+    let to = c.loop-place.invariant.within in
+    let now = c.loop-place.invariant.walks look text are in
     now.found
     ∙ ap (λ l. closers_of l (length c.args.types.now))
     (sym (all-end look text c.args.types.now c.loop-place.place c.loop-place.openers.items c.loop-place.closers.items (omega arith) now))
@@ -148,17 +178,18 @@ returns-clause-pairs c look text are =
 pub returns-clause-nested : goal.returns-clause-nested
 returns-clause-nested c =
     let kinds = c.args.kinds.now in
-    let now = c.loop-place.invariant (look_for kinds) (text_for kinds) (told kinds) in
-    let to = c.loop-place.auto.place-end in
+    let now = c.loop-place.invariant.walks (look_for kinds) (text_for kinds) (told kinds) in
+    let to = c.loop-place.invariant.within in
     rw now.found (nested (look_for kinds) (text_for kinds) c.args.types.now c.loop-place.place (omega arith))
 
-pub loop-place-preserved : goal.loop-place-preserved
-loop-place-preserved c look text are =
+stepped : (c : After-next_bracket-place-in-loop-place) (look : ℕ → Option Bracket) (text : List ℕ) → c.args.kinds.now ≡ bracket_types look text
+    → Walks look text c.args.types.now (c.loop-place.place + 1) c.match-bracket_in.openers.items c.match-bracket_in.closers.items
+stepped c look text are =
     let types = c.args.types.now in
     let k = c.loop-place.place in
     let openers = c.loop-place.openers.items in
     let closers = c.loop-place.closers.items in
-    let now = c.loop-place.invariant look text are in
+    let now = c.loop-place.invariant.walks look text are in
     let told = told_of look text c.args.kinds.now types k c.bracket_in.result c.loop-place-test.true c.requires are c.bracket_in.ensures in
     next look text types k c.match-bracket_in.openers.items c.match-bracket_in.closers.items (elim c.match-bracket_in.branch [
       | in-Opening+else-is_full w ↦
@@ -184,3 +215,14 @@ loop-place-preserved c look text are =
           rw (w.openers-is, w.closers-is) (Walks-other look text types k openers closers
           (told.opens ∙ ap opens_by w.in-Other.is) (told.closes ∙ ap closes_by w.in-Other.is) now)
     ])
+
+pub loop-place-preserved : goal.loop-place-preserved
+loop-place-preserved c =
+    let passed = c.next_bracket-place-in-loop-place.ensures in
+    record {
+      within = omega (arith, passed.within, c.requires);
+      walks = λ look text are.
+          skipped look text c.args.kinds.now c.args.types.now (c.loop-place.place + 1) c.next_bracket-place-in-loop-place.result
+          c.match-bracket_in.openers.items c.match-bracket_in.closers.items c.requires are
+          passed.reached (omega (arith, passed.within, c.requires)) passed.passed (stepped c look text are);
+    }

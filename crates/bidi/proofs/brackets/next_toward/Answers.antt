@@ -8,6 +8,6 @@ pub loop-at-preserved : goal.loop-at-preserved
 loop-at-preserved c = record {
   reached = omega arith;
   bounded = omega arith;
-  passed = none_more (is_toward c.args.left) c.args.types.now c.args.from c.loop-at.at ON L c.loop-at.invariant.passed c.loop-at-test.true
+  passed = none_more (is_toward c.args.left) c.args.types.now c.args.from c.loop-at.at ON L c.loop-at.invariant.passed (omega (arith, c.loop-at-test.true, c.requires.limit))
       (sym c.is_toward.ensures ∙ c.if-not-is_toward.true);
 }

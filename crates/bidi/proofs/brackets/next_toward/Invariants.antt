@@ -11,4 +11,4 @@ invariant-loop-at l = record {
 }
 
 abbrev pub decreases-loop-at : goal.decreases-loop-at
-decreases-loop-at l = length l.types - l.at
+decreases-loop-at l = l.limit - l.at

@@ -1,23 +1,16 @@
-use Rattle.std.proofs.Common.{◌≡◌, ℕ, ◌+◌, ◌-◌, ◌<◌, ◌≤◌, List, [], ◌∷◌, ◌++◌, length, take, drop, set, replicate, sym, ap, ◌∙◌, arith, append_assoc}
-use Rattle.std.proofs.lemmas.List.{drop-drop, drop-set-lt, replicate_more, take_more_set}
+use Rattle.std.proofs.Common.{◌≡◌, ℕ, ◌<◌, ◌+◌, ◌-◌, List, ◌∷◌, [], ◌++◌, suc, length, set, take, replicate, ap, ◌∙◌, arith, append_assoc}
+use Rattle.std.proofs.lemmas.List.{take_more_set}
 use Rattle.bidi.proofs.fill.fill.Goals as goal
 
--- one more place
-front_more : {T : Type 0} (old items : List T) (start at : ℕ) (value : T) → start ≤ at → at < length items → take at items ≡ take start old ++ replicate (at - start) value
-    → take (at + 1) (set items at value) ≡ take start old ++ replicate (at + 1 - start) value
-front_more old items start at value order within front =
-    let more : (at - start) + 1 ≡ at + 1 - start = omega arith in
-    take_more_set items at value within ∙ ap (λ xs. xs ++ value ∷ []) front
-    ∙ append_assoc (take start old) (replicate (at - start) value) (value ∷ [])
-    ∙ ap (λ xs. take start old ++ xs) (replicate_more (at - start) value)
+-- the first item, and the others after it
+with_first : {T : Type 0} (old : List T) (start end : ℕ) (value : T) → start < end → start < length old
+    → take (start + 1) (set old start value) ++ replicate (end - (start + 1)) value ≡ take start old ++ replicate (end - start) value
+with_first old start end value some within =
+    let more : suc (end - (start + 1)) ≡ end - start = omega arith in
+    ap (λ xs. xs ++ replicate (end - (start + 1)) value) (take_more_set old start value within)
+    ∙ append_assoc (take start old) (value ∷ []) (replicate (end - (start + 1)) value)
     ∙ ap (λ n. take start old ++ replicate n value) more
 
-rest_more : {T : Type 0} (old items : List T) (at : ℕ) (value : T) → drop at items ≡ drop at old → drop (at + 1) (set items at value) ≡ drop (at + 1) old
-rest_more old items at value rest =
-    drop-set-lt (at + 1) items at value (omega arith) ∙ sym (drop-drop 1 at items) ∙ ap (drop 1) rest ∙ drop-drop 1 at old
-
-pub loop-at-preserved : goal.loop-at-preserved
-loop-at-preserved g c = record {
-  front = front_more c.args.items.now c.loop-at.items c.args.start c.loop-at.at c.args.value (omega arith) (omega arith) c.loop-at.invariant.front;
-  rest = rest_more c.args.items.now c.loop-at.items c.loop-at.at c.args.value c.loop-at.invariant.rest;
-}
+pub returns-then-start-end-clause-front : goal.returns-then-start-end-clause-front
+returns-then-start-end-clause-front g c =
+    c.fill_more.ensures.front ∙ with_first c.args.items.now c.args.start c.args.end c.args.value (omega arith) (omega arith)

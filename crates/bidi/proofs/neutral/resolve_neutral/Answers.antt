@@ -2,12 +2,15 @@ use Rattle.std.proofs.Common.{◌≡◌, ℕ, ◌-◌, ◌≤◌, List, ◌++◌
 use Rattle.std.proofs.lemmas.List.{append-nil}
 use Rattle.ucd.specs.declared.bidi_class.BidiClass.TheVariants.{L}
 use Rattle.bidi.specs.Rows.{row_level}
-use Rattle.bidi.proofs.NeutralLemmas.{levels-row, levels-other, levels-end}
+use Rattle.bidi.proofs.NeutralLemmas.{levels-row, levels-end}
 use Rattle.bidi.proofs.neutral.resolve_neutral.Goals as goal
-use Rattle.bidi.proofs.neutral.resolve_neutral.Goals.{then-not-is_neutral, else-not-is_neutral, then-start-at, else-start-at}
+use Rattle.bidi.proofs.neutral.resolve_neutral.Goals.{then-start-at, else-start-at}
 
 pub loop-at-init : goal.loop-at-init
-loop-at-init c = record { sizes = c.requires.length; order = omega arith; whole = refl }
+loop-at-init c = record {
+  within = omega arith;
+  so_far = record { sizes = c.requires.length; order = omega arith; whole = refl };
+}
 
 -- no row
 no_row : (levels : List ℕ) (start at value : ℕ) → start ≤ at → at ≤ start → take at levels ≡ take start levels ++ replicate (at - start) value
@@ -16,29 +19,31 @@ no_row levels start at value order past =
     let none : at - start ≡ 0 = omega arith in
     ap (λ n. take n levels) same ∙ sym (ap (λ n. take start levels ++ replicate n value) none ∙ append-nil (take start levels))
 
+pub loop-at-preserved-then-is_neutral : goal.loop-at-preserved-then-is_neutral
+loop-at-preserved-then-is_neutral c = record {
+  within = omega (arith, c.loop-at-test.true);
+  so_far = levels-row c.args.level c.args.sos c.args.eos c.loop-at.invariant.so_far L c.loop-at-test.true (sym c.is_neutral.ensures ∙ c.if-is_neutral.true);
+}
+
 pub loop-at-preserved : goal.loop-at-preserved
 loop-at-preserved c =
-    elim c.if-not-is_neutral.branch [
-      | then-not-is_neutral w ↦
-          let start = c.loop-at.start in
-          let at = c.loop-at.at in
-          let levels = c.loop-at.levels in
-          let value = row_level c.args.level c.loop-at.before (get_or c.args.types.now at L) in
-          let front : take at w.if-start-at.levels ≡ take start levels ++ replicate (at - start) value =
-          elim w.if-start-at.branch [
-            | then-start-at w' ↦ ap (take at) w'.levels-is ∙ w'.fill.ensures.front
-                ∙ ap (λ n. take start levels ++ replicate (at - start) n) w'.row_level.ensures
-            | else-start-at w' ↦ ap (take at) w'.levels-is ∙ no_row levels start at value c.loop-at.invariant.order w'.if-start-at.false
-          ] in
-          rw (w.levels-is, w.before-is, w.start-is) (
-          levels-other c.args.level c.args.sos c.args.eos c.loop-at.invariant L w.if-start-at.levels w.implicit_level.result c.loop-at-test.true
-          (sym c.is_neutral.ensures ∙ w.if-not-is_neutral.true) w.if-start-at.auto.levels front w.implicit_level.ensures)
-      | else-not-is_neutral w ↦
-          rw (w.levels-is, w.before-is, w.start-is) (
-          levels-row c.args.level c.args.sos c.args.eos c.loop-at.invariant L c.loop-at-test.true (sym c.is_neutral.ensures ∙ w.if-not-is_neutral.false))
-    ]
+    let start = c.loop-at.start in
+    let at = c.loop-at.at in
+    let levels = c.loop-at.levels in
+    let now = c.loop-at.invariant.so_far in
+    let value = row_level c.args.level c.loop-at.before (get_or c.args.types.now at L) in
+    let front : take at c.if-start-at.levels ≡ take start levels ++ replicate (at - start) value =
+    elim c.if-start-at.branch [
+      | then-start-at w ↦ ap (take at) w.levels-is ∙ w.fill.ensures.front
+          ∙ ap (λ n. take start levels ++ replicate (at - start) n) w.row_level.ensures
+      | else-start-at w ↦ ap (take at) w.levels-is ∙ no_row levels start at value now.order w.if-start-at.false
+    ] in
+    record {
+      within = c.put_row-at.ensures.within;
+      so_far = c.put_row-at.ensures.put c.args.sos c.args.eos c.loop-at.before levels start now c.if-start-at.auto.levels front;
+    }
 
 pub returns : goal.returns
 returns c =
-    levels-end c.args.level c.args.sos c.args.eos c.loop-at.invariant L c.fill-2.new.items c.loop-at-test.false (omega arith) c.fill-2.auto.items
+    levels-end c.args.level c.args.sos c.args.eos c.loop-at.invariant.so_far L c.fill-2.new.items c.loop-at-test.false (omega arith) c.fill-2.auto.items
     (c.fill-2.ensures.front ∙ ap (λ n. take c.loop-at.start c.loop-at.levels ++ replicate (length c.args.types.now - c.loop-at.start) n) c.row_level-2.ensures)
