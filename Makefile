@@ -14,6 +14,9 @@
 # make c      proves and builds the C library, as bin/libhordguli.a and bin/libhordguli.so.0 (CC, CXX, CFLAGS, LDFLAGS)
 # make install  lays down the command, the C library, the table files and the manual pages, which make, make c and
 #             make ucd have made: PREFIX=/usr/local DESTDIR= LIBDIR= COMMAND=fribidi. make uninstall takes them away
+# make fribidi  proves and builds FriBidi's calls, as bin/libhordguli_fribidi.so, for LD_PRELOAD; make fribidi-compare compares
+#             them with FriBidi's own on a million lists
+# make callers  other people's programs over them: pyfribidi, Pango, a terminal of VTE, libass (installs Debian's packages)
 # make conformance  Unicode's three conformance tests, of that version and package, over what the proved library finds
 # make bench  the time of the command beside that of Debian's fribidi and of ICU, edits a second of a session and lines a
 #             second of a script, and the time of levels, of break marks and of filling by what a text is made of, of stores,
@@ -24,7 +27,8 @@ JOBS := $(shell nproc)
 TABLES = DerivedBidiClass BidiBrackets BidiMirroring LineBreak DerivedGeneralCategory EastAsianWidth emoji-data
 OPTIONS = --width 44 --basedir
 
-.PHONY: all program ucd demo check tmux parallel test attack bench-program conformance-program conformance bench c install uninstall
+.PHONY: all program ucd demo check tmux parallel test attack bench-program conformance-program conformance bench c fribidi fribidi-compare \
+	callers install uninstall
 
 all: programs = fribidi conformance refused
 program: programs = fribidi
@@ -45,6 +49,8 @@ lib-session: lib-lines lib-store
 lib-command_line lib-text_run: lib-lines
 lib-tool: lib-session lib-command_line lib-text_run
 lib-trials lib-hordguli_c: lib-session
+lib-hordguli_fribidi: lib-lines
+run-points: lib-ucd lib-tables
 run-fribidi run-refused: lib-tool
 run-refused: lib-trials
 lib-tables: lib-ucd
@@ -53,6 +59,7 @@ run-conformance: lib-lines lib-tables
 
 run-fribidi: words = -- --help
 run-bench: words = -- edits tree 1 1
+run-points: words = -- .
 
 lib-%:
 	.ci/prove $* lib
@@ -89,11 +96,21 @@ parallel:
 test:
 	@log=$$(mktemp) && bash -o pipefail -c "RT_JOBS=$$(.ci/lanes) rt ci | tee $$log && .ci/names $$log | tee -a $$log \
 		&& cases/run $$log | tee -a $$log && faults/run $$log | tee -a $$log && .ci/c $$log | tee -a $$log \
-		&& docs/run $$log"; status=$$?; rm -f $$log; exit $$status
+		&& docs/run $$log | tee -a $$log && .ci/fribidi $$log"; status=$$?; rm -f $$log; exit $$status
 
 c:
 	$(MAKE) --no-print-directory --jobs=$(JOBS) lib-hordguli_c
 	c/build
+
+fribidi: ucd
+	$(MAKE) --no-print-directory --jobs=$(JOBS) lib-hordguli_fribidi run-points
+	c/fribidi/build
+
+fribidi-compare: fribidi
+	c/fribidi/test compare 1000000
+
+callers: fribidi
+	c/fribidi/callers
 
 # (by the environment, so that a path may have spaces)
 install uninstall: export PREFIX := $(PREFIX)
@@ -109,7 +126,7 @@ attack:
 conformance: conformance-program ucd
 	conformance/run
 
-bench: bench-program c ucd parallel
+bench: bench-program c fribidi ucd parallel
 	bench/compare
 	bench/edits
 	bench/levels
@@ -120,4 +137,5 @@ bench: bench-program c ucd parallel
 	bench/script
 	bench/c
 	bench/many
+	bench/callers
 	bench/hostile

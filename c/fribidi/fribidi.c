@@ -1,0 +1,93 @@
+/* FriBidi's calls on types, levels and lines, over those of the proved crate hordguli_fribidi, and over the static numbers of
+ * single characters that c/fribidi/tables makes. What is decided here is what that cannot test: that no pointer is null, and
+ * that a length is not below 0. Written from FriBidi's header and manual; what it does otherwise stands in docs/FRIBIDI.md. */
+#include "core.h"
+#include "tables.h"
+
+#define PUBLIC __attribute__((visibility("default")))
+
+/* The types of FriBidi's header, by the numbers that its ABI has for them: its enumerations have 32 bits. */
+typedef uint32_t type_number;
+typedef uint32_t direction_number;
+typedef uint32_t bracket_number;
+typedef uint32_t character_number;
+typedef signed char level_number;
+
+#define LENGTH(array) (sizeof(array) / sizeof *(array))
+#define TYPES type_index, LENGTH(type_index), type_pages, LENGTH(type_pages)
+#define SIGNS sign_index, LENGTH(sign_index), sign_pages, LENGTH(sign_pages)
+#define BRACKETS SIGNS, brackets, LENGTH(brackets)
+#define MIRRORS SIGNS, mirrors, LENGTH(mirrors)
+
+/* An array that may be missing: one of no elements stands for it. */
+static const uint32_t none[1];
+static uint32_t nothing[1];
+#define GIVEN(pointer, length) ((pointer) == NULL ? none : (pointer)), ((pointer) == NULL ? 0 : (length))
+#define ROOM(pointer, length) ((pointer) == NULL ? nothing : (uint32_t *)(pointer)), ((pointer) == NULL ? 0 : (length))
+
+/* ---- Single characters ---- */
+
+PUBLIC type_number fribidi_get_bidi_type(character_number character) {
+    return hordguli_fribidi_core_type(TYPES, character);
+}
+
+PUBLIC void fribidi_get_bidi_types(const character_number *string, int length, type_number *types) {
+    if (string == NULL || types == NULL || length <= 0) return;
+    hordguli_fribidi_core_types(TYPES, string, (size_t)length, types, (size_t)length);
+}
+
+PUBLIC const char *fribidi_get_bidi_type_name(type_number type) {
+    static const char *const names[] = {"LTR", "RTL", "AL",  "EN",  "ES",  "ET",  "AN",  "CS",   "NSM",
+                                        "BN",  "BS",  "SS",  "WS",  "ON",  "LRE", "LRO", "RLE",  "RLO",
+                                        "PDF", "LRI", "RLI", "FSI", "PDI", "WLTR", "WRTL", "SENTINEL", "?"};
+    uint32_t at = hordguli_fribidi_core_name(type);
+    return names[at < LENGTH(names) ? at : LENGTH(names) - 1];
+}
+
+PUBLIC bracket_number fribidi_get_bracket(character_number character) {
+    return hordguli_fribidi_core_number(BRACKETS, character);
+}
+
+PUBLIC void fribidi_get_bracket_types(const character_number *string, int length, const type_number *types,
+                                      bracket_number *found) {
+    if (string == NULL || types == NULL || found == NULL || length <= 0) return;
+    hordguli_fribidi_core_brackets(BRACKETS, string, (size_t)length, types, (size_t)length, found, (size_t)length);
+}
+
+PUBLIC int fribidi_get_mirror_char(character_number character, character_number *mirrored) {
+    uint32_t mirror = hordguli_fribidi_core_number(MIRRORS, character);
+    if (mirrored != NULL) *mirrored = mirror == 0 ? character : mirror;
+    return mirror != 0;
+}
+
+/* ---- Paragraphs ---- */
+
+PUBLIC direction_number fribidi_get_par_direction(const type_number *types, int length) {
+    return hordguli_fribidi_core_direction(GIVEN(types, length < 0 ? 0 : (size_t)length));
+}
+
+PUBLIC level_number fribidi_get_par_embedding_levels_ex(const type_number *types, const bracket_number *bracket_types,
+                                                        int length, direction_number *direction, level_number *levels) {
+    size_t count = length < 0 ? 0 : (size_t)length;
+    if (direction == NULL || (count != 0 && (types == NULL || levels == NULL))) return 0;
+    return (level_number)hordguli_fribidi_core_levels(GIVEN(types, count), GIVEN(bracket_types, count), direction,
+                                                      levels == NULL ? (uint8_t *)nothing : (uint8_t *)levels, count);
+}
+
+PUBLIC level_number fribidi_get_par_embedding_levels(const type_number *types, int length, direction_number *direction,
+                                                     level_number *levels) {
+    return fribidi_get_par_embedding_levels_ex(types, NULL, length, direction, levels);
+}
+
+/* ---- Lines ---- */
+
+PUBLIC level_number fribidi_reorder_line(uint32_t flags, const type_number *types, int length, int off,
+                                         direction_number direction, level_number *levels, character_number *string,
+                                         int *map) {
+    size_t end;
+    if (length <= 0) return 1;
+    if (types == NULL || levels == NULL || off < 0) return 0;
+    end = (size_t)off + (size_t)length;
+    return (level_number)hordguli_fribidi_core_reorder(flags, types, end, (size_t)off, direction, (uint8_t *)levels, end,
+                                                       ROOM(string, end), ROOM(map, end));
+}

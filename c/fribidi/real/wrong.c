@@ -1,0 +1,8 @@
+/* Levels that are wrong on purpose, all 0, so that it is seen that other people's programs ask for them. */
+int fribidi_get_par_embedding_levels_ex(const unsigned *, const unsigned *, int, unsigned *, signed char *);
+int fribidi_get_par_embedding_levels_ex(const unsigned *types, const unsigned *brackets, int length, unsigned *base, signed char *levels) {
+    (void)types, (void)brackets;
+    for (int k = 0; k < length; k++) levels[k] = 0;
+    *base = 0x110;
+    return 1;
+}

@@ -1,0 +1,167 @@
+/* Each call as FriBidi's header has it, with what a caller may hand in otherwise: calls, linked with the library. Each allocation
+ * is refused in turn where the program is linked with --wrap of malloc, realloc and free and -DREFUSES. */
+#include <fribidi.h>
+#include <stdint.h>
+#include <stdio.h>
+#include <stdlib.h>
+#include <string.h>
+
+static long passed, failed;
+
+static void so(int is, const char *what) {
+    if (is) {
+        passed++;
+    } else {
+        failed++;
+        printf("not so: %s\n", what);
+    }
+}
+#define SO(condition) so(condition, #condition)
+
+static long left = -1, alive; /* how many allocations succeed, if not all; how many are not given back */
+#ifdef REFUSES
+void *__real_malloc(size_t);
+void *__real_realloc(void *, size_t);
+void __real_free(void *);
+void *__wrap_malloc(size_t);
+void *__wrap_realloc(void *, size_t);
+void __wrap_free(void *);
+
+static int refused(void) { return left == 0 || (left > 0 && left-- == 0); }
+
+void *__wrap_malloc(size_t size) {
+    void *at = refused() ? NULL : __real_malloc(size);
+    alive += at != NULL;
+    return at;
+}
+void *__wrap_realloc(void *old, size_t size) {
+    void *at = refused() ? NULL : __real_realloc(old, size);
+    alive += old == NULL && at != NULL;
+    return at;
+}
+void __wrap_free(void *at) {
+    alive -= at != NULL;
+    __real_free(at);
+}
+#endif
+
+#define L FRIBIDI_TYPE_LTR
+#define R FRIBIDI_TYPE_RTL
+#define WS FRIBIDI_TYPE_WS
+#define ON FRIBIDI_TYPE_ON
+#define COUNT(array) ((FriBidiStrIndex)(sizeof(array) / sizeof *(array)))
+
+static void characters(void) {
+    FriBidiChar mirror = 7;
+    SO(fribidi_get_bidi_type(0x61) == L && fribidi_get_bidi_type(0x5D0) == R && fribidi_get_bidi_type(0x627) == FRIBIDI_TYPE_AL);
+    SO(fribidi_get_bidi_type(0x110000) == L && fribidi_get_bidi_type(UINT32_MAX) == L && fribidi_get_bidi_type(0xD800) == L);
+    SO(fribidi_get_bracket('(') == (FRIBIDI_BRACKET_OPEN_MASK | '(') && fribidi_get_bracket(')') == '(');
+    SO(fribidi_get_bracket(0x2329) == (FRIBIDI_BRACKET_OPEN_MASK | 0x3008) && fribidi_get_bracket(0x232A) == 0x3008);
+    SO(fribidi_get_bracket('a') == FRIBIDI_NO_BRACKET && fribidi_get_bracket(0x110028) == FRIBIDI_NO_BRACKET);
+    SO(fribidi_get_mirror_char('<', &mirror) && mirror == '>');
+    SO(!fribidi_get_mirror_char('a', &mirror) && mirror == 'a');
+    SO(!fribidi_get_mirror_char(UINT32_MAX, &mirror) && mirror == UINT32_MAX);
+    SO(fribidi_get_mirror_char('(', NULL) && !fribidi_get_mirror_char('a', NULL));
+    fribidi_get_bidi_types(NULL, 0, NULL);
+    fribidi_get_bracket_types(NULL, 0, NULL, NULL);
+}
+
+static void names(void) {
+    SO(strcmp(fribidi_get_bidi_type_name(L), "LTR") == 0 && strcmp(fribidi_get_bidi_type_name(FRIBIDI_TYPE_BS), "BS") == 0);
+    SO(strcmp(fribidi_get_bidi_type_name((FriBidiCharType)FRIBIDI_PAR_WRTL), "WRTL") == 0);
+    SO(strcmp(fribidi_get_bidi_type_name((FriBidiCharType)0), "?") == 0 && strcmp(fribidi_get_bidi_type_name((FriBidiCharType)INT32_MAX), "?") == 0);
+}
+
+static void paragraphs(void) {
+    const FriBidiCharType types[] = {R, ON, L, ON, WS};
+    const FriBidiBracketType brackets[] = {0, FRIBIDI_BRACKET_OPEN_MASK | '(', 0, '(', 0};
+    const FriBidiCharType odd[] = {(FriBidiCharType)0x7FFFFFFF, R, (FriBidiCharType)23};
+    FriBidiLevel levels[5] = {9, 9, 9, 9, 9};
+    FriBidiParType base = FRIBIDI_PAR_ON;
+    SO(fribidi_get_par_embedding_levels_ex(types, brackets, 5, &base, levels) == 3);
+    SO(base == FRIBIDI_PAR_RTL && memcmp(levels, (FriBidiLevel[]){1, 1, 2, 1, 1}, 5) == 0);
+    base = FRIBIDI_PAR_LTR;
+    SO(fribidi_get_par_embedding_levels_ex(types, NULL, 5, &base, levels) == 2);
+    SO(base == FRIBIDI_PAR_LTR && memcmp(levels, (FriBidiLevel[]){1, 0, 0, 0, 0}, 5) == 0);
+    SO(fribidi_get_par_embedding_levels(types, 5, &base, levels) == 2 && memcmp(levels, (FriBidiLevel[]){1, 0, 0, 0, 0}, 5) == 0);
+    base = FRIBIDI_PAR_WRTL;
+    SO(fribidi_get_par_embedding_levels_ex(types + 4, NULL, 1, &base, levels) == 2 && base == FRIBIDI_PAR_RTL && levels[0] == 1);
+    base = FRIBIDI_PAR_ON;
+    SO(fribidi_get_par_embedding_levels_ex(types + 4, NULL, 1, &base, levels) == 1 && base == FRIBIDI_PAR_LTR && levels[0] == 0);
+    base = FRIBIDI_PAR_RTL;
+    SO(fribidi_get_par_embedding_levels_ex(NULL, NULL, 0, &base, NULL) != 0 && base == FRIBIDI_PAR_RTL);
+    SO(fribidi_get_par_embedding_levels_ex(types, NULL, -3, &base, levels) != 0);
+    SO(fribidi_get_par_embedding_levels_ex(NULL, NULL, 5, &base, levels) == 0 && fribidi_get_par_embedding_levels_ex(types, NULL, 5, NULL, levels) == 0);
+    SO(fribidi_get_par_embedding_levels_ex(types, NULL, 5, &base, NULL) == 0);
+    SO(fribidi_get_par_embedding_levels_ex(odd, NULL, 3, &base, levels) == 2 && memcmp(levels, (FriBidiLevel[]){1, 1, 1}, 3) == 0);
+    SO(fribidi_get_par_direction(types, 5) == FRIBIDI_PAR_RTL && fribidi_get_par_direction(types + 2, 3) == FRIBIDI_PAR_LTR);
+    SO(fribidi_get_par_direction(types + 4, 1) == FRIBIDI_PAR_ON && fribidi_get_par_direction(NULL, 0) == FRIBIDI_PAR_ON);
+}
+
+static void lines(void) {
+    const FriBidiCharType types[] = {L, R, R, WS, R, R, FRIBIDI_TYPE_NSM, WS};
+    FriBidiLevel levels[] = {0, 1, 1, 1, 1, 1, 1, 0};
+    FriBidiChar string[] = {'a', 'b', 'c', 'd', 'e', 'f', 'g', 'h'};
+    FriBidiStrIndex map[] = {0, 10, 20, 30, 40, 50, 60, 70};
+    SO(fribidi_reorder_line(0, types, 3, 1, FRIBIDI_PAR_LTR, levels, string, map) == 2);
+    SO(memcmp(levels, (FriBidiLevel[]){0, 1, 1, 0, 1, 1, 1, 0}, 8) == 0);
+    SO(memcmp(string, (FriBidiChar[]){'a', 'c', 'b', 'd', 'e', 'f', 'g', 'h'}, sizeof string) == 0);
+    SO(memcmp(map, (FriBidiStrIndex[]){0, 20, 10, 30, 40, 50, 60, 70}, sizeof map) == 0);
+    SO(fribidi_reorder_line(0, types, 4, 4, FRIBIDI_PAR_LTR, levels, NULL, map) == 2);
+    SO(memcmp(map, (FriBidiStrIndex[]){0, 20, 10, 30, 60, 50, 40, 70}, sizeof map) == 0);
+    SO(fribidi_reorder_line(FRIBIDI_FLAG_REORDER_NSM, types, 4, 4, FRIBIDI_PAR_LTR, levels, string, NULL) == 2);
+    SO(memcmp(string + 4, (FriBidiChar[]){'f', 'g', 'e', 'h'}, 4 * sizeof *string) == 0);
+    SO(fribidi_reorder_line(0, types, 0, 0, FRIBIDI_PAR_LTR, levels, string, map) == 1);
+    SO(fribidi_reorder_line(0, types, -1, 0, FRIBIDI_PAR_LTR, levels, string, map) == 1);
+    SO(fribidi_reorder_line(0, NULL, 4, 0, FRIBIDI_PAR_LTR, levels, string, map) == 0 && fribidi_reorder_line(0, types, 4, 0, FRIBIDI_PAR_LTR, NULL, string, map) == 0);
+    SO(fribidi_reorder_line(0, types, 4, -1, FRIBIDI_PAR_LTR, levels, string, map) == 0);
+}
+
+#ifdef REFUSES
+/* After want of memory the answer is 0, and nothing has changed. */
+static void refusals(void) {
+    const FriBidiCharType types[] = {R, FRIBIDI_TYPE_RLI, L, ON, R, ON, FRIBIDI_TYPE_LRE, FRIBIDI_TYPE_AN, FRIBIDI_TYPE_PDF, FRIBIDI_TYPE_PDI, FRIBIDI_TYPE_EN, WS};
+    const FriBidiBracketType brackets[12] = {0, 0, 0, FRIBIDI_BRACKET_OPEN_MASK | '(', 0, '('};
+    long refused_at;
+    for (refused_at = 0;; refused_at++) {
+        FriBidiLevel levels[12], before[12];
+        FriBidiParType base = FRIBIDI_PAR_ON;
+        memset(levels, 77, sizeof levels);
+        memcpy(before, levels, sizeof levels);
+        left = refused_at;
+        FriBidiLevel top = fribidi_get_par_embedding_levels_ex(types, brackets, COUNT(types), &base, levels);
+        left = -1;
+        SO(alive == 0);
+        if (top != 0) break;
+        SO(memcmp(levels, before, sizeof levels) == 0 && base == FRIBIDI_PAR_ON);
+    }
+    SO(refused_at > 2);
+    for (refused_at = 0;; refused_at++) {
+        FriBidiLevel levels[12] = {1, 1, 2, 1, 1, 1, 1, 2, 1, 1, 2, 3}, before[12];
+        FriBidiStrIndex map[12] = {0, 1, 2, 3, 4, 5, 6, 7, 8, 9, 10, 11}, old[12];
+        memcpy(before, levels, sizeof levels);
+        memcpy(old, map, sizeof map);
+        left = refused_at;
+        FriBidiLevel top = fribidi_reorder_line(FRIBIDI_FLAG_REORDER_NSM, types, COUNT(types), 0, FRIBIDI_PAR_RTL, levels, NULL, map);
+        left = -1;
+        SO(alive == 0);
+        if (top != 0) break;
+        SO(memcmp(levels, before, sizeof levels) == 0 && memcmp(map, old, sizeof map) == 0);
+    }
+    SO(refused_at > 0);
+}
+#endif
+
+int main(void) {
+    characters();
+    names();
+    paragraphs();
+    lines();
+#ifdef REFUSES
+    refusals();
+#else
+    (void)left, (void)alive;
+#endif
+    printf("%ld passed, %ld failed\n", passed, failed);
+    return failed != 0;
+}

@@ -1,0 +1,98 @@
+/* The lines of the table of docs/FRIBIDI.md, each a predicate on the input alone: the types, the brackets and the base direction that
+ * is asked for, and of a line the levels and the direction that are handed in. */
+typedef struct predicate {
+    const char *name;
+    int call;
+    int (*holds)(const input *);
+} predicate;
+
+static int is_strong(FriBidiCharType type) { return type == FRIBIDI_TYPE_LTR || type == FRIBIDI_TYPE_RTL || type == FRIBIDI_TYPE_AL; }
+static int is_initiator(FriBidiCharType type) { return type == FRIBIDI_TYPE_LRI || type == FRIBIDI_TYPE_RLI || type == FRIBIDI_TYPE_FSI; }
+static int is_isolate(FriBidiCharType type) { return is_initiator(type) || type == FRIBIDI_TYPE_PDI; }
+static int is_removed(FriBidiCharType type) {
+    return type == FRIBIDI_TYPE_BN || type == FRIBIDI_TYPE_LRE || type == FRIBIDI_TYPE_RLE || type == FRIBIDI_TYPE_LRO || type == FRIBIDI_TYPE_RLO
+        || type == FRIBIDI_TYPE_PDF;
+}
+
+/* The direction of the first strong type, of all or of those that stand outside of all isolates; 0 where there is none. */
+static unsigned first_direction(const input *one, int outside) {
+    int depth = 0;
+    for (int k = 0; k < one->length; k++) {
+        FriBidiCharType type = one->types[k];
+        if (is_strong(type) && !(outside && depth > 0)) return type == FRIBIDI_TYPE_LTR ? FRIBIDI_PAR_LTR : FRIBIDI_PAR_RTL;
+        if (is_initiator(type)) depth++;
+        else if (type == FRIBIDI_TYPE_PDI && depth > 0) depth--;
+    }
+    return 0;
+}
+
+/* P2 passes over isolates; FriBidi's fribidi_get_par_direction does not, and an isolate gives another direction. */
+static int first_strong_in_isolate(const input *one) { return first_direction(one, 0) != first_direction(one, 1); }
+
+/* P3 gives a paragraph without strong characters a level; FriBidi leaves the weak direction as it was asked for. */
+static int no_strong(const input *one) { return one->base != FRIBIDI_PAR_LTR && one->base != FRIBIDI_PAR_RTL && first_direction(one, 1) == 0; }
+
+/* P1: a separator ends a paragraph; ours takes all as one, FriBidi goes on at level 0 after it, with nothing open. */
+static int separator_inside(const input *one) {
+    for (int k = 0; k + 1 < one->length; k++)
+        if (one->types[k] == FRIBIDI_TYPE_BS) return 1;
+    return 0;
+}
+
+/* BD13: an isolate is a sequence of its own; FriBidi takes one that stands directly after another as its continuation. */
+static int isolate_after_isolate(const input *one) {
+    int depth = 0, closed = 0;
+    for (int k = 0; k < one->length; k++) {
+        FriBidiCharType type = one->types[k];
+        if (is_removed(type)) continue;
+        if (is_initiator(type) && closed) return 1;
+        closed = type == FRIBIDI_TYPE_PDI && depth > 0;
+        if (is_initiator(type)) depth++;
+        else if (type == FRIBIDI_TYPE_PDI && depth > 0) depth--;
+    }
+    return 0;
+}
+
+/* L1: isolate initiators and PDI at a line's end have the paragraph level too; FriBidi's fribidi_reorder_line leaves these, and what
+ * stands before them. */
+static int isolate_at_end(const input *one) {
+    int level = (int)one->resolved & 1, seen = 0;
+    for (int k = one->off + one->part - 1; k >= one->off; k--) {
+        FriBidiCharType type = one->types[k];
+        if (!is_isolate(type) && !is_removed(type) && type != FRIBIDI_TYPE_WS) return 0;
+        seen |= is_isolate(type);
+        if (seen && one->levels[k] != level) return 1;
+    }
+    return 0;
+}
+
+/* L3 speaks of marks and their base: FriBidi puts marks that have none in reading order too. */
+static int has_base(const input *one, const FriBidiLevel *levels, int k) {
+    for (; k > one->off && levels[k] == levels[k - 1] && (levels[k] & 1); k--)
+        if (one->types[k - 1] != FRIBIDI_TYPE_NSM) return 1;
+    return 0;
+}
+
+static int marks_without_base(const input *one) {
+    if (!(one->flags & FRIBIDI_FLAG_REORDER_NSM)) return 0;
+    for (int k = one->off; k + 1 < one->off + one->part; k++)
+        if (one->types[k] == FRIBIDI_TYPE_NSM && one->types[k + 1] == FRIBIDI_TYPE_NSM && (one->levels[k] & 1) && one->levels[k] == one->levels[k + 1]
+            && !has_base(one, one->levels, k)) return 1;
+    return 0;
+}
+
+/* L3: a mark's base stands before it; FriBidi passes over characters that X9 takes out. */
+static int mark_after_removed(const input *one) {
+    if (!(one->flags & FRIBIDI_FLAG_REORDER_NSM)) return 0;
+    for (int k = one->off; k + 1 < one->off + one->part; k++)
+        if (is_removed(one->types[k]) && one->types[k + 1] == FRIBIDI_TYPE_NSM && (one->levels[k] & 1) && one->levels[k] == one->levels[k + 1]) return 1;
+    return 0;
+}
+
+static const predicate predicates[] = {
+    {"first_strong_in_isolate", DIRECTION, first_strong_in_isolate}, {"no_strong", RESOLVED, no_strong},
+    {"separator_inside", LEVELS, separator_inside}, {"separator_inside", TOP, separator_inside},
+    {"isolate_after_isolate", LEVELS, isolate_after_isolate}, {"isolate_after_isolate", TOP, isolate_after_isolate},
+    {"isolate_at_end", LINE, isolate_at_end}, {"marks_without_base", LINE, marks_without_base}, {"mark_after_removed", LINE, mark_after_removed},
+};
+#define PREDICATES ((int)(sizeof predicates / sizeof *predicates))

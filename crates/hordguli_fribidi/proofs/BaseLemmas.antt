@@ -1,0 +1,29 @@
+-- A walk up to the first strong character outside all isolates, one character at a time.
+use Rattle.std.proofs.Common.{◌≡◌, ℕ, ◌+◌, ◌-◌, ◌<◌, true, List, length, Option, Some, None, is_some, if◌then◌else◌, sym, ap, ◌∙◌, inl, inr}
+use Rattle.std.proofs.lemmas.Bool.{cond-true, cond-false, cases_Bool}
+use Rattle.ucd.specs.declared.bidi_class.BidiClass.{BidiClass}
+use Rattle.bidi.specs.Classes.{class_at, is_initiator, is_pdi, is_strong}
+use Rattle.bidi.specs.Base.{strong_level, first_strong_level}
+use Rattle.hordguli_fribidi.proofs.IsolateLemmas.{Reached, Reached-next, Reached-strong}
+
+-- a class with a level is strong, and one without is not
+pub is_some-level : (class : BidiClass) (level : Option ℕ) → level ≡ (if is_strong class then Some (strong_level class) else None) → is_some level ≡ is_strong class
+is_some-level class level e =
+    elim (cases_Bool (is_strong class)) [
+      | inl strong ↦ ap is_some (e ∙ cond-true (is_strong class) (Some (strong_level class)) None strong) ∙ sym strong
+      | inr weak ↦ ap is_some (e ∙ cond-false (is_strong class) (Some (strong_level class)) None weak) ∙ sym weak
+    ]
+
+-- the level of a strong character at depth 0 is the answer
+pub settled : (classes : List BidiClass) (k d : ℕ) (class : BidiClass) (level : Option ℕ) → k < length classes → Reached classes k d → d ≡ 0
+    → class ≡ class_at classes k → level ≡ (if is_strong class then Some (strong_level class) else None) → is_some level ≡ true → level ≡ first_strong_level classes
+settled classes k d class level within reached flat there e some =
+    let strong : is_strong class ≡ true = sym (is_some-level class level e) ∙ some in
+    e ∙ cond-true (is_strong class) (Some (strong_level class)) None strong ∙ ap (λ x. Some (strong_level x)) there
+    ∙ sym (Reached-strong classes k within (rw flat at reached) (rw there at strong))
+
+-- another character leaves it open
+pub stepped : (classes : List BidiClass) (k d : ℕ) (class : BidiClass) (depth : ℕ) → k < length classes → Reached classes k d → (is_strong class ≡ true → 0 < d)
+    → class ≡ class_at classes k → depth ≡ (if is_initiator class then d + 1 else (if is_pdi class then d - 1 else d)) → Reached classes (k + 1) depth
+stepped classes k d class depth within reached deep there e =
+    rw (e, there) (Reached-next classes k d within reached (rw there at deep))

@@ -1,0 +1,9 @@
+mod BaseLemmas
+mod GroupLemmas
+mod InverseLemmas
+mod IsolateLemmas
+mod LeastLemmas
+mod LevelLemmas
+mod NeighbourLemmas
+mod OrderLemmas
+mod SpaceLemmas

@@ -1,0 +1,34 @@
+-- The levels of a paragraph by the numbers of its types and brackets.
+use Rattle.std.specs.Prelude.{◌≡◌, ℕ, suc, ◌==◌, List, length, map, replicate, Option, Some, None, if◌then◌else◌}
+use Rattle.bidi.specs.Base.{base_level_of, first_strong_level}
+use Rattle.bidi.specs.Levels.{paragraph_levels}
+use Rattle.lines.specs.Order.{highest}
+use Rattle.lines.specs.Spaces.{line_levels}
+use Rattle.hordguli_fribidi.specs.Types.{base_of, bracket_by, class_of, direction_of}
+
+-- the numbers of brackets, of which there is one for each type, or none at all
+abbrev pub brackets_of : ℕ → List ℕ → List ℕ
+brackets_of len brackets = if length brackets == len then brackets else replicate len 0
+
+-- the base level of a paragraph
+abbrev pub base_in : List ℕ → ℕ → ℕ
+base_in types asked = base_level_of (map class_of types) (base_of asked)
+
+-- its levels before L1 (X1 to I2)
+unfoldable pub levels_before : List ℕ → List ℕ → ℕ → List ℕ
+levels_before types brackets asked =
+    paragraph_levels bracket_by (brackets_of (length types) brackets) (map class_of types) (base_in types asked)
+
+-- the answer is the greatest level and one; the direction is that of the base level, whatever was asked for; L1 is that of one line
+pub record AreLevels (types brackets : List ℕ) (asked answer direction : ℕ) (levels : List ℕ) : Type 0 where
+  pub answer_is : answer ≡ suc (highest (levels_before types brackets asked))
+  pub direction_is : direction ≡ direction_of (base_in types asked)
+  pub levels_are : levels ≡ line_levels (base_in types asked) (map class_of types) (levels_before types brackets asked)
+
+-- the direction that the first strong character gives, or ON
+abbrev pub first_direction : Option ℕ → ℕ
+first_direction (Some level) = direction_of level
+first_direction None = 64
+
+abbrev pub direction_in : List ℕ → ℕ
+direction_in types = first_direction (first_strong_level (map class_of types))

@@ -1,0 +1,4 @@
+pub mod Types
+pub mod Points
+pub mod Levels
+pub mod Lines

@@ -1,0 +1,32 @@
+-- The tables of single characters: numbers of pages, each of which has an entry for 256 code points, and what the entries stand for.
+use Rattle.std.specs.Prelude.{ℕ, ◌+◌, ◌*◌, ◌/◌, ◌%◌, ◌==◌, ◌&&◌, Bool, List, length, map, slice_index, slice_index_or, if◌then◌else◌}
+use Rattle.std.specs.List.{range_with_len}
+use Rattle.hordguli_fribidi.specs.Types.{classes, type_of}
+
+-- The entry of a code point. Page 0 is that of all code points past the last number.
+abbrev pub entry_at : List ℕ → List ℕ → ℕ → ℕ
+entry_at index pages c = slice_index_or pages (slice_index_or index (c / 256) 0 * 256 + c % 256) 0
+
+-- the number of the class of a code point, whose entry is its place among the classes
+abbrev pub type_at : List ℕ → List ℕ → ℕ → ℕ
+type_at index pages c = slice_index_or (map type_of classes) (entry_at index pages c) 272
+
+-- what a list of numbers has for the entry of a code point, as its mirror or its bracket: 0 for most
+abbrev pub number_at : List ℕ → List ℕ → List ℕ → ℕ → ℕ
+number_at index pages numbers c = slice_index_or numbers (entry_at index pages c) 0
+
+-- the bracket of a character, which is none unless its type is ON
+abbrev pub bracket_at : List ℕ → List ℕ → List ℕ → ℕ → ℕ → ℕ
+bracket_at index pages numbers c type = if type == 64 then number_at index pages numbers c else 0
+
+-- of the code points of a string, where arrays have its length
+abbrev pub types_at : List ℕ → List ℕ → List ℕ → List ℕ → List ℕ
+types_at index pages characters old = if length old == length characters then map (type_at index pages) characters else old
+
+abbrev pub brackets_by : List ℕ → List ℕ → List ℕ → List ℕ → List ℕ → List ℕ
+brackets_by index pages numbers characters types =
+    map (λ k. bracket_at index pages numbers (slice_index characters k) (slice_index types k)) (range_with_len 0 (length characters))
+
+abbrev pub brackets_at : List ℕ → List ℕ → List ℕ → List ℕ → List ℕ → List ℕ → List ℕ
+brackets_at index pages numbers characters types old =
+    if length types == length characters && length old == length characters then brackets_by index pages numbers characters types else old

@@ -1,0 +1,65 @@
+-- The numbers by which FriBidi names classes, directions and brackets (its header fribidi-bidi-types.h and fribidi-types.h).
+use Rattle.std.specs.Prelude.{ℕ, ◌-◌, ◌==◌, nat_le, Bool, true, false, List, [], ◌∷◌, ◌++◌, map, slice_index_or, Option, Some, None, if◌then◌else◌}
+use Rattle.std.specs.List.{position_or_len}
+use Rattle.ucd.specs.declared.bidi_class.BidiClass.{BidiClass}
+use Rattle.ucd.specs.declared.bidi_class.BidiClass.TheVariants.{L, R, AL, EN, ES, ET, AN, CS, NSM, BN, B, S, WS, ON, LRE, LRO, RLE, RLO, PDF, LRI, RLI, FSI, PDI}
+use Rattle.ucd.specs.declared.bracket.Bracket.{Bracket}
+use Rattle.bidi.specs.declared.base.Base.{Base}
+use Rattle.bidi.specs.declared.base.Base.TheVariants.{Rtl, Ltr, WeakRtl, WeakLtr}
+
+-- the number of each class
+abbrev pub type_of : BidiClass → ℕ
+type_of L = 272
+type_of R = 273
+type_of AL = 275
+type_of EN = 544
+type_of ES = 66592
+type_of ET = 132128
+type_of AN = 546
+type_of CS = 263200
+type_of NSM = 524320
+type_of BN = 1050656
+type_of B = 2107456
+type_of S = 4204608
+type_of WS = 8390720
+type_of ON = 64
+type_of LRE = 4112
+type_of LRO = 20496
+type_of RLE = 4113
+type_of RLO = 20497
+type_of PDF = 4128
+type_of LRI = 32832
+type_of RLI = 32833
+type_of FSI = 33587264
+type_of PDI = 32864
+
+-- the classes, by the numbers that the tables of single characters have for them
+abbrev pub classes : List BidiClass
+classes = L ∷ R ∷ AL ∷ EN ∷ ES ∷ ET ∷ AN ∷ CS ∷ NSM ∷ BN ∷ B ∷ S ∷ WS ∷ ON ∷ LRE ∷ LRO ∷ RLE ∷ RLO ∷ PDF ∷ LRI ∷ RLI ∷ FSI ∷ PDI ∷ []
+
+-- the numbers that have names: those of the classes, of the two weak directions, and that of FriBidi's sentinel
+abbrev pub named : List ℕ
+named = map type_of classes ++ 32 ∷ 33 ∷ 128 ∷ []
+
+-- where a number stands among them, or 26
+unfoldable pub name_index : ℕ → ℕ
+name_index number = position_or_len (λ other. other == number) named
+
+-- the class that a number names; one that names none counts as ON
+unfoldable pub class_of : ℕ → BidiClass
+class_of number = slice_index_or classes (position_or_len (λ other. other == number) (map type_of classes)) ON
+
+-- the base direction that a number asks for: LTR, RTL, WRTL, and all others as ON, which is weak and else left to right
+abbrev pub base_of : ℕ → Base
+base_of number =
+    if number == 272 then Ltr else (if number == 273 then Rtl else (if number == 33 then WeakRtl else WeakLtr))
+
+-- the direction of a level, and the level of a direction, by its lowest bit
+abbrev pub direction_of : ℕ → ℕ
+direction_of level = if level == 0 then 272 else 273
+
+-- a bracket by its number: that of its pair, and 2 ^ 31 more where it opens it; 0 is none
+abbrev pub bracket_by : ℕ → Option Bracket
+bracket_by number =
+    if number == 0 then None
+    else (if nat_le 2147483648 number then Some (record { pair = number - 2147483648; opens = true }) else Some (record { pair = number; opens = false }))

@@ -1,0 +1,171 @@
+//! The levels of a paragraph and its direction, by the numbers of its types and brackets.
+ghost use Rattle.std.specs.Prelude.{◌≡◌, ◌≢◌, ◌+◌, ◌-◌, ◌<◌, suc, if◌then◌else◌, length, map, replicate};
+ghost use Rattle.std.specs.Prelude.{IfOk, OnOk};
+ghost use Rattle.bidi.specs.Base.{first_strong_level, strong_level};
+ghost use Rattle.bidi.specs.BracketTypes.{bracket_types};
+ghost use Rattle.bidi.specs.Classes.{is_initiator, is_pdi, is_strong};
+ghost use Rattle.lines.specs.Order.{highest};
+ghost use Rattle.lines.specs.Spaces.{line_levels};
+ghost use Rattle.hordguli_fribidi.specs.Levels.{base_in, brackets_of, direction_in, levels_before, AreLevels};
+ghost use Rattle.hordguli_fribidi.specs.Types.{bracket_by, class_of};
+
+use crate::order::highest_and_lowest_odd;
+use crate::spaces::reset_levels;
+use crate::types::{base_of, bracket_of, class_of, direction_of};
+use bidi::{BracketType, Resolver};
+use std::alloc::{AllocError, Global};
+use ucd::BidiClass;
+
+fn classes_of(alloc: Global, types: &[u32]) -> Result<Vec<BidiClass>, AllocError>
+    ensures { IfOk result (λ classes. classes.items ≡ map class_of types.now) }
+{
+    types.iter().map(|number| class_of(*number)).collect(alloc)
+}
+
+fn brackets_by(alloc: Global, numbers: &[u32]) -> Result<Vec<BracketType>, AllocError>
+    ensures { IfOk result (λ brackets. brackets.items ≡ bracket_types bracket_by numbers.now) }
+{
+    numbers
+        .iter()
+        .map(|number| bracket_of(*number))
+        .collect(alloc)
+}
+
+// Numbers that stand for no brackets.
+fn no_brackets(alloc: Global, len: usize) -> Result<Vec<u32>, AllocError>
+    ensures { IfOk result (λ numbers. numbers.items ≡ replicate len 0) }
+{
+    let mut numbers = Vec::new(alloc);
+    numbers.resize(len, 0)?;
+    Ok(numbers)
+}
+
+// The brackets of a paragraph, of which there are none where the lengths differ.
+fn brackets_of(alloc: Global, len: usize, numbers: &[u32]) -> Result<Vec<BracketType>, AllocError>
+    ensures brackets { IfOk result (λ brackets. brackets.items
+        ≡ bracket_types bracket_by (brackets_of len numbers.now)) }
+    ensures len { IfOk result (λ brackets. length brackets.items ≡ len) }
+{
+    if numbers.len() == len {
+        brackets_by(alloc, numbers)
+    } else {
+        let none = no_brackets(alloc, len)?;
+        brackets_by(alloc, &none)
+    }
+}
+
+// The base level of a paragraph, and its levels before L1 in place of what a list has.
+fn find_levels(
+    alloc: Global,
+    types: &[u32],
+    brackets: &[u32],
+    asked: u32,
+    levels: &mut Vec<u8>,
+) -> Result<u8, AllocError>
+    ensures base { IfOk result (λ base. base ≡ base_in types.now asked) }
+    ensures levels { OnOk result (levels.new.items ≡ levels_before types.now brackets.now asked) }
+    ensures len { OnOk result (length levels.new.items ≡ length types.now) }
+{
+    let classes = classes_of(alloc, types)?;
+    let brackets = brackets_of(alloc, types.len(), brackets)?;
+    let base = base_of(asked);
+    let level = Resolver::new(alloc).resolve_by(&classes, &brackets, base, levels)?;
+    Ok(level)
+}
+
+// The greatest level and one.
+fn answer(levels: &[u8]) -> u32
+    ensures { result ≡ suc (highest levels.now) }
+{
+    let (highest, _lowest_odd) = highest_and_lowest_odd(levels);
+    u32::from(highest) + 1
+}
+
+// Puts the levels of one line after L1 into an array.
+fn put_levels(types: &[u32], base: u8, found: &[u8], levels: &mut [u8])
+    requires types { length types.now ≡ length levels.old }
+    requires found { length found.now ≡ length levels.old }
+    ensures { levels.new ≡ line_levels base (map class_of types.now) found.now }
+{
+    levels.copy_from_slice(found);
+    reset_levels(types, base, levels);
+}
+
+/// The levels of a paragraph, its direction where one was asked for, and its greatest level and one. After
+/// want of memory, and where an array has another length, the answer is 0 and nothing has changed.
+#[unsafe(no_mangle)]
+pub extern "C" fn hordguli_fribidi_core_levels(
+    alloc: Global,
+    types: &[u32],
+    brackets: &[u32],
+    direction: &mut u32,
+    levels: &mut [u8],
+) -> u32
+    ensures none { result ≡ 0 → (direction.new ≡ direction.old) × (levels.new ≡ levels.old) }
+    ensures some { result ≢ 0
+        → AreLevels types.now brackets.now direction.old result direction.new levels.new }
+{
+    if levels.len() != types.len() {
+        return 0;
+    }
+    let mut found = Vec::new(alloc);
+    match find_levels(alloc, types, brackets, *direction, &mut found) {
+        Ok(base) => {
+            put_levels(types, base, &found, levels);
+            *direction = direction_of(base);
+            answer(&found)
+        }
+        Err(_) => 0,
+    }
+}
+
+/// The direction that the first strong character outside all isolates gives; ON where there is none.
+#[unsafe(no_mangle)]
+pub extern "C" fn hordguli_fribidi_core_direction(types: &[u32]) -> u32
+    ensures { result ≡ direction_in types.now }
+{
+    match first_strong_level(types) {
+        Some(level) => direction_of(level),
+        None => 64,
+    }
+}
+
+// The level that it gives.
+fn first_strong_level(types: &[u32]) -> Option<u8>
+    ensures { result ≡ first_strong_level (map class_of types.now) }
+{
+    // How many isolates are open: a character stands outside all of them where none is.
+    let mut depth = 0;
+    for number in types {
+        let class = class_of(*number);
+        let level = strong_level(class);
+        if depth == 0 && level.is_some() {
+            return level;
+        }
+        depth = depth_after(class, depth);
+    }
+    None
+}
+
+fn strong_level(class: BidiClass) -> Option<u8>
+    ensures { result ≡ (if is_strong class then Some (strong_level class) else None) }
+{
+    match class {
+        BidiClass::L => Some(0),
+        BidiClass::R | BidiClass::AL => Some(1),
+        _ => None,
+    }
+}
+
+// How many isolates are open after a character. A PDI with none open closes none.
+fn depth_after(class: BidiClass, depth: usize) -> usize
+    requires { depth < usize.MAX }
+    ensures { result ≡ (if is_initiator class then depth + 1 else
+        (if is_pdi class then depth - 1 else depth)) }
+{
+    match class {
+        BidiClass::LRI | BidiClass::RLI | BidiClass::FSI => depth + 1,
+        BidiClass::PDI => depth.saturating_sub(1),
+        _ => depth,
+    }
+}

@@ -1,0 +1,41 @@
+//! The levels of one line after separators and the blanks before them, or at the line's end, take the
+//! paragraph level (UAX #9, L1).
+ghost use Rattle.std.specs.Prelude.{◌≡◌, ◌&&◌, ◌||◌, map, length};
+ghost use Rattle.hordguli_fribidi.specs.Types.{class_of};
+ghost use Rattle.lines.specs.Spaces.{ends_segment, is_blank, line_levels};
+
+use crate::types::class_of;
+use ucd::BidiClass;
+
+/// Gives the characters of a line that L1 names the paragraph level, `base`. The classes are those of the
+/// tables, not what earlier rules made of them.
+pub fn reset_levels(types: &[u32], base: u8, levels: &mut [u8])
+    requires { length types.now ≡ length levels.old }
+    ensures { levels.new ≡ line_levels base (map class_of types.now) levels.old }
+{
+    // Whether a blank before this place takes the paragraph level.
+    let mut resets = true;
+    let mut at = types.len();
+    while at > 0 {
+        at -= 1;
+        resets = is_reset(class_of(types[at]), resets);
+        if resets {
+            levels[at] = base;
+        }
+    }
+}
+
+// Whether a character takes the paragraph level: a separator does, and a blank does if what stands after it
+// does, or if nothing stands there.
+fn is_reset(class: BidiClass, after: bool) -> bool
+    ensures { result ≡ (ends_segment class || (is_blank class && after)) }
+{
+    match class {
+        BidiClass::S | BidiClass::B => true,
+        BidiClass::WS => after,
+        BidiClass::LRI | BidiClass::RLI | BidiClass::FSI | BidiClass::PDI => after,
+        BidiClass::LRE | BidiClass::RLE | BidiClass::LRO | BidiClass::RLO => after,
+        BidiClass::PDF | BidiClass::BN => after,
+        _ => false,
+    }
+}

@@ -1,0 +1,111 @@
+//! The numbers by which FriBidi names classes, directions and brackets.
+ghost use Rattle.std.specs.Prelude.{◌≡◌};
+ghost use Rattle.bidi.specs.BracketTypes.{type_by};
+ghost use Rattle.hordguli_fribidi.specs.Types.{base_of, bracket_by, class_of, direction_of, name_index};
+
+use bidi::{Base, BracketType};
+use ucd::BidiClass;
+
+/// The class that a number names; one that names none counts as ON.
+#[tactic(auto, unfolding(crate::specs::Types::class_of))]
+pub fn class_of(number: u32) -> BidiClass
+    ensures { result ≡ class_of number }
+{
+    match number {
+        272 => BidiClass::L,
+        273 => BidiClass::R,
+        275 => BidiClass::AL,
+        544 => BidiClass::EN,
+        66_592 => BidiClass::ES,
+        132_128 => BidiClass::ET,
+        546 => BidiClass::AN,
+        263_200 => BidiClass::CS,
+        524_320 => BidiClass::NSM,
+        1_050_656 => BidiClass::BN,
+        2_107_456 => BidiClass::B,
+        4_204_608 => BidiClass::S,
+        8_390_720 => BidiClass::WS,
+        4_112 => BidiClass::LRE,
+        20_496 => BidiClass::LRO,
+        4_113 => BidiClass::RLE,
+        20_497 => BidiClass::RLO,
+        4_128 => BidiClass::PDF,
+        32_832 => BidiClass::LRI,
+        32_833 => BidiClass::RLI,
+        33_587_264 => BidiClass::FSI,
+        32_864 => BidiClass::PDI,
+        _ => BidiClass::ON,
+    }
+}
+
+/// Where a number stands among those that have names, or 26.
+#[unsafe(no_mangle)]
+#[tactic(auto, unfolding(crate::specs::Types::name_index))]
+pub extern "C" fn hordguli_fribidi_core_name(number: u32) -> u32
+    ensures { result ≡ name_index number }
+{
+    match number {
+        272 => 0,
+        273 => 1,
+        275 => 2,
+        544 => 3,
+        66_592 => 4,
+        132_128 => 5,
+        546 => 6,
+        263_200 => 7,
+        524_320 => 8,
+        1_050_656 => 9,
+        2_107_456 => 10,
+        4_204_608 => 11,
+        8_390_720 => 12,
+        64 => 13,
+        4_112 => 14,
+        20_496 => 15,
+        4_113 => 16,
+        20_497 => 17,
+        4_128 => 18,
+        32_832 => 19,
+        32_833 => 20,
+        33_587_264 => 21,
+        32_864 => 22,
+        32 => 23,
+        33 => 24,
+        128 => 25,
+        _ => 26,
+    }
+}
+
+/// The base direction that a number asks for.
+pub fn base_of(number: u32) -> Base
+    ensures { result ≡ base_of number }
+{
+    if number == 272 {
+        Base::Ltr
+    } else if number == 273 {
+        Base::Rtl
+    } else if number == 33 {
+        Base::WeakRtl
+    } else {
+        Base::WeakLtr
+    }
+}
+
+/// The direction of a level.
+pub fn direction_of(level: u8) -> u32
+    ensures { result ≡ direction_of level }
+{
+    if level == 0 { 272 } else { 273 }
+}
+
+/// A bracket by its number.
+pub fn bracket_of(number: u32) -> BracketType
+    ensures { result ≡ type_by (bracket_by number) number }
+{
+    if number == 0 {
+        BracketType::Other
+    } else if number >= 2_147_483_648 {
+        BracketType::Opening(number - 2_147_483_648)
+    } else {
+        BracketType::Closing(number)
+    }
+}

@@ -1,0 +1,81 @@
+//! Prints what the table files of a folder say of each character that has another class than L, a bracket or a mirror: the
+//! character, its class, its bracket with whether it opens a pair, and its mirror, with which the static numbers of FriBidi's calls
+//! are compared. `points FOLDER`.
+#![tactic(auto)]
+
+use anyhow::{Result, bail};
+use std::alloc::Global;
+use std::io::{BufWriter, Write};
+use std::{env, io};
+use tables::in_folder;
+use ucd::{BidiClass, Tables};
+
+fn main(rt: HostRuntime) -> Result<()> {
+    let words: Vec<String> = env::args(&rt)?.collect(rt.alloc())?;
+    let Some(folder) = words.get(1) else {
+        bail!("points FOLDER");
+    };
+    let tables = in_folder(&rt, folder.as_str())?;
+    write_points(&rt, &tables)
+}
+
+fn write_points(rt: &HostRuntime, tables: &Tables) -> Result<()> {
+    let mut output = BufWriter::new(rt.alloc(), io::writer(rt))?;
+    write_all_points(tables, &mut output)
+}
+
+fn write_all_points<W: Write>(tables: &Tables, output: &mut W) -> Result<()> {
+    for number in 0..1_114_112_u32 {
+        if let Some(c) = char::from_u32(number) {
+            write_point(tables, c, output)?;
+        }
+    }
+    Ok(output.flush()?)
+}
+
+fn write_point<W: Write>(tables: &Tables, c: char, output: &mut W) -> Result<()> {
+    let class = tables.bidi_class(c);
+    if class != BidiClass::L {
+        writeln!(output, "{:x} class {}", c as u32, name_of(class))?;
+    }
+    if let Some(bracket) = tables.bracket(c) {
+        writeln!(
+            output,
+            "{:x} bracket {:x} {}",
+            c as u32, bracket.pair as u32, bracket.opens
+        )?;
+    }
+    if let Some(mirror) = tables.mirror(c) {
+        writeln!(output, "{:x} mirror {:x}", c as u32, mirror as u32)?;
+    }
+    Ok(())
+}
+
+// The name that FriBidi has for a class.
+fn name_of(class: BidiClass) -> &'static str {
+    match class {
+        BidiClass::L => "LTR",
+        BidiClass::R => "RTL",
+        BidiClass::AL => "AL",
+        BidiClass::EN => "EN",
+        BidiClass::ES => "ES",
+        BidiClass::ET => "ET",
+        BidiClass::AN => "AN",
+        BidiClass::CS => "CS",
+        BidiClass::NSM => "NSM",
+        BidiClass::BN => "BN",
+        BidiClass::B => "BS",
+        BidiClass::S => "SS",
+        BidiClass::WS => "WS",
+        BidiClass::ON => "ON",
+        BidiClass::LRE => "LRE",
+        BidiClass::LRO => "LRO",
+        BidiClass::RLE => "RLE",
+        BidiClass::RLO => "RLO",
+        BidiClass::PDF => "PDF",
+        BidiClass::LRI => "LRI",
+        BidiClass::RLI => "RLI",
+        BidiClass::FSI => "FSI",
+        BidiClass::PDI => "PDI",
+    }
+}
