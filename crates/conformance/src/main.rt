@@ -1,8 +1,10 @@
-//! Tells what is found of the paragraphs that standard input names, one a line, each by the hexadecimal numbers of its
+//! Tells what is found of the paragraphs that standard input names, one a line, each by the hexadecimal
+//! numbers of its
 //! characters, for Unicode's conformance tests (`conformance/run`), with the table files of the folder UCD:
 //!
 //! - `conformance marks-of UCD` prints the break marks of each.
-//! - `conformance lines-of UCD DIRECTION` prints the base level, the levels and the order of each, in one line.
+//! - `conformance lines-of UCD DIRECTION` prints the base level, the levels and the order of each, in one
+//! line.
 //!
 //! Without words it says this.
 #![tactic(auto)]
@@ -201,6 +203,7 @@ fn lay_out(alloc: Global, engine: &mut Engine, text: Vec<char>) -> Result<Laid> 
     }
 }
 
-// Lets go of an engine. Only this function does, since the proof of each that does walks through all the lists
+// Lets go of an engine. Only this function does, since the proof of each that does walks through all the
+// lists
 // that an engine has.
 fn let_go(_engine: Engine) {}

@@ -1,4 +1,5 @@
-//! The tables of a folder's seven files, for programs that are no command: how a file couldn't be read or is at
+//! The tables of a folder's seven files, for programs that are no command: how a file couldn't be read or is
+//! at
 //! fault is told as an `anyhow::Error`.
 #![tactic(auto)]
 

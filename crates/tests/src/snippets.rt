@@ -1,4 +1,5 @@
-//! What the first lines of `ucd`, `bidi`, `breaks` and `store` show: `docs/run` looks whether their lines stand here.
+//! What the first lines of `ucd`, `bidi`, `breaks` and `store` show: `docs/run` looks whether their lines
+//! stand here.
 use crate::files::{FILES, read};
 use bidi::{Base, resolve};
 use breaks::{Mark, Tailoring, marks};
