@@ -1,7 +1,8 @@
 //! The run of a text: its bytes are read piece by piece, its paragraphs are laid out as soon as it is known
 //! where they end, and their lines are written before more is read. What is written and how the run ends is
 //! one function of what the source gives.
-ghost use Rattle.std.specs.Prelude.{◌≡◌, ◌+◌, ◌-◌, ◌++◌, ◌<◌, ◌≤◌, ◌^◌, ◌⊎◌, [], true, None, Some, Ok};
+ghost use Rattle.std.specs.Prelude.{◌≡◌, ◌+◌, ◌-◌, ◌++◌, ◌<◌, ◌≤◌, ◌^◌, ◌⊎◌, ℕ, [], false, true};
+ghost use Rattle.std.specs.Prelude.{None, Some, Ok};
 ghost use Rattle.std.specs.Prelude.{take, drop, length, vec_len};
 ghost use Rattle.std.specs.Prelude.{IfOk, IfErr, IsErrOf, OnOk, OnErr, if◌then◌else◌};
 ghost use Rattle.std.specs.Str.Lossy.{utf8_valid_len};
@@ -137,6 +138,9 @@ impl Held {
             (self.old.text.items ++ front_of (take (self.old.waiting + len) self.old.piece.items)))) }
         ensures decoded { OnErr result
             (0 < utf8_valid_len (take (self.old.waiting + len) self.old.piece.items)) }
+        // Nor for what is printed, where nothing is.
+        ensures some { OnErr result (prints_some print.now ≡ false → engine.new ≡ engine.old) }
+        ensures piece { OnErr result ((self.new.piece ≡ self.old.piece) × (self.new.waiting ≡ self.old.waiting)) }
         ensures at_most { PrintsAtMost
             (length (self.old.text.items ++ front_of (take (self.old.waiting + len) self.old.piece.items)))
             print.now engine.old engine.new }
@@ -297,6 +301,11 @@ fn step<R: Source, W: Sink>(
     // and the text doesn't end inside a character.
     ensures last { IsErrOf result RunFault.Memory → (R.state reader.new).passed ≡ (R.state reader.old).passed
         → (held.old.waiting ≡ 0) × (0 < length held.old.text.items) × (prints_some print.now ≡ true) }
+
+    // And where some was, a character of it is decoded.
+    ensures decoded { IsErrOf result RunFault.Memory → (n : ℕ)
+        → (R.state reader.new).passed ≡ (R.state reader.old).passed + n → 0 < n
+        → 0 < utf8_valid_len (take (held.new.waiting + n) held.new.piece.items) }
     ensures rises { result ≡ Ok true → (R.state reader.old).passed < (R.state reader.new).passed }
     ensures counted { result ≡ Ok true → (R.state reader.new).passed ≤ 2 ^ 64 - 1 }
     ensures rules { SameRules engine.old engine.new }

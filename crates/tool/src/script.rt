@@ -3,7 +3,7 @@
 ghost use Rattle.std.specs.Prelude.{◌≡◌, ◌+◌, ◌-◌, ◌<◌, ◌≤◌, ◌++◌, ◌^◌, ◌∷◌, ◌⊎◌, [], true, false};
 ghost use Rattle.std.specs.Prelude.{None, Ok};
 ghost use Rattle.std.specs.Prelude.{length, nat_lt, take, drop, vec_len, option_map};
-ghost use Rattle.std.specs.Prelude.{IfOk, IfErr, OnOk, OnErr, MatchOption, MatchResult};
+ghost use Rattle.std.specs.Prelude.{IfOk, IfErr, IsErrOf, OnOk, OnErr, MatchOption, MatchResult};
 ghost use Rattle.std.specs.Str.{chars};
 ghost use Rattle.std.specs.Str.Lossy.{utf8_valid_len};
 ghost use Rattle.device.specs.Device.{Device};
@@ -399,6 +399,12 @@ fn finish<W: Sink, S: ParagraphStore<Kept>>(
         → IsAtEnd reader_now.bytes
         → IsScriptRun (rules_of session.old.engine) options.now start session.new reader_start reader_now
         writer_start (W.state writer.new) result }
+
+    // Memory is wanted for the last line alone, where there is one.
+    ensures memory { IsErrOf result RunFault.Memory → (0 < length reading.old.line.items)
+        × FailsAt (rules_of session.old.engine) options.now reading.old.line.items
+        reading.new.text.items reading.old.lines reading.old.written (held_at session.old)
+        (held_at session.new) (W.state writer.old) (W.state writer.new) RunFault.Memory }
     ensures rules { SameRules session.old.engine session.new.engine }
 {
     if reading.line.is_empty() {
@@ -427,6 +433,10 @@ fn step<R: Source, W: Sink, S: ParagraphStore<Kept>>(
         → Steps (rules_of session.old.engine) options.now start reader_start writer_start
         (R.state reader.new) (W.state writer.new) session.new reading.new result }
     ensures reads { TellsReads result (R.state reader.old) (R.state reader.new) }
+
+    // Where no more was read, memory is wanted for the line that stands at the end, if one does.
+    ensures last { IsErrOf result RunFault.Memory
+        → (R.state reader.new).passed ≡ (R.state reader.old).passed → 0 < length reading.old.line.items }
     ensures rises { result ≡ Ok true → (R.state reader.old).passed < (R.state reader.new).passed }
     ensures counted { result ≡ Ok true → (R.state reader.new).passed ≤ 2 ^ 64 - 1 }
     ensures room { length piece.new ≡ length piece.old }
