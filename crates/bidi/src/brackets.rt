@@ -124,8 +124,11 @@ impl Pairs {
             → kinds.now ≡ bracket_types look text
             → types.new ≡ brackets look embedding sos text explicit.now types.old) }
     {
-        copy_types(types, &mut self.before)?;
         find_pairs(kinds, types, &mut self.closers)?;
+        if next_pair(&self.closers, 0) >= types.len() {
+            return Ok(());
+        }
+        copy_types(types, &mut self.before)?;
         resolve_brackets(types, &self.before, explicit, &self.closers, embedding, sos);
         Ok(())
     }
