@@ -167,8 +167,8 @@ fn put_brackets(
     }
 }
 
-// What the tables say of two characters, of which the first was asked for last: most texts have brackets of one
-// kind.
+// What the tables say of two characters, of which the first was asked for last: most texts have brackets of
+// one kind.
 #[derive(Clone, Copy)]
 struct Known {
     first: char,
@@ -225,7 +225,7 @@ fn next_bracket(properties: &[Properties], from: usize) -> usize
     at
 }
 
-// The same where there are some.
+// What the characters of a text are as brackets, where some are.
 fn take_any_brackets(
     tables: &Tables,
     text: &[char],
