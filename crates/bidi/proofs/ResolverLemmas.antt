@@ -45,6 +45,15 @@ no_brackets tables text none k d within =
       | inr free ↦ free
     ])
 
+-- a place at which the tables know no bracket
+pub no_bracket_at : (tables : Tables) (text : List ℕ) (properties : List Properties) (k : ℕ) (e : Properties) → properties ≡ map (properties_of tables) text
+    → k < length text → has_bracket_in (get_or properties k e) ≡ false → get_or (bracket_types (bracket_of tables) text) k Other ≡ Other
+no_bracket_at tables text properties k e are within none =
+    let c = get_or text k 0 in
+    let there : is_some (bracket_of tables c) ≡ false =
+    sym (ap has_bracket_in (ap (λ xs. get_or xs k e) are ∙ get_or-map (properties_of tables) text k 0 e within)) ∙ none in
+    get_or-map (λ b. type_by (bracket_of tables b) b) text k 0 Other within ∙ ap (λ o. type_by o c) (is_none-from (bracket_of tables c) there)
+
 -- a list in which nothing is a bracket is that of a text without brackets
 is_none-by : (bracket : Option Bracket) (c : ℕ) → is_bracket (type_by bracket c) ≡ false → bracket ≡ None
 is_none-by None c e = refl

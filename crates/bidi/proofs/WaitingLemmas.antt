@@ -1,5 +1,5 @@
 -- One step of the walk over the weak rules.
-use Rattle.std.proofs.Common.{◌≡◌, ℕ, ◌+◌, ◌-◌, ◌<◌, ◌≤◌, ◌⊎◌, Bool, true, false, not, if◌then◌else◌, List, [], ◌∷◌, ◌++◌, length, get_or, set, take, drop, replicate, refl, sym, ap, subst, ◌∙◌, inl, inr, arith, append_assoc}
+use Rattle.std.proofs.Common.{◌≡◌, ℕ, ◌+◌, ◌-◌, ◌<◌, ◌≤◌, Bool, true, false, not, if◌then◌else◌, List, [], ◌∷◌, ◌++◌, length, get_or, set, take, drop, replicate, refl, sym, ap, subst, ◌∙◌, inl, inr, arith, append_assoc}
 use Rattle.std.proofs.lemmas.Bool.{cond-true, cond-false, cases_Bool, not_from_false}
 use Rattle.std.proofs.lemmas.List.{append-nil, length-set, length-take-le, drop-drop, drop-set-lt, drop_more, drop_all, take-take, take-append-le, take-set, take-set-le, take_all, take_more_set, replicate_more}
 use Rattle.ucd.specs.declared.bidi_class.BidiClass.{BidiClass}
@@ -7,8 +7,8 @@ use Rattle.ucd.specs.declared.bidi_class.BidiClass.TheVariants.{L, R, AL, EN, ES
 use Rattle.bidi.specs.declared.weak.Row.{Row}
 use Rattle.bidi.specs.declared.weak.Row.TheVariants.{Nothing, European, Arabic, EuropeanTerminators, EuropeanSeparator, ArabicSeparator, Terminators}
 use Rattle.bidi.specs.Classes.{class_at, is_strong}
-use Rattle.bidi.specs.Weak.{is_mark, mark_after, is_left, w3_type, weak}
-use Rattle.bidi.specs.Waiting.{is_digit, is_settled, is_weak, mark_type, digit_type, read_types, waits, lengthens, completes, written, row_after, start_after, types_after, AreTypesSoFar, RepeatsDigit, SettlesRow}
+use Rattle.bidi.specs.Weak.{is_mark, is_left, w3_type, weak}
+use Rattle.bidi.specs.Waiting.{is_settled, is_weak, mark_type, digit_type, read_types, waits, lengthens, completes, written, row_after, start_after, types_after, AreTypesSoFar, SettlesRow}
 use Rattle.bidi.proofs.WeakLemmas.{left-w3, weak-is}
 
 -- the strong type after a type, before W3 and after it
@@ -316,109 +316,6 @@ types-row-next first start class type current at within here e is settled sos ol
     let there : is_settled (get_or current at L) ≡ true = ap is_settled here ∙ e in
     let next = subst (λ t. P class t) (sym is) (subst (λ c. P c (w3_type c)) here (types-settled sos old current class s Nothing at at now L within there)) in
     subst (λ x. AreTypesSoFar sos old (set current at type) class x Nothing (at + 1) (at + 1)) (twice (is_strong class) class strong) next
-
--- past a digit after another of its class
-digit_kind : (strong class : BidiClass) → is_digit class ≡ true → (w3_type (digit_type strong class) ≡ EN) ⊎ (w3_type (digit_type strong class) ≡ AN)
-digit_kind AL EN e = inr refl
-digit_kind _ EN e = inl refl
-digit_kind strong AN e = inr refl
-digit_kind strong _ e = absurd (cc)
-
-pub digit_mark : (class : BidiClass) → is_digit class ≡ true → is_mark class ≡ false
-digit_mark EN e = refl
-digit_mark AN e = refl
-digit_mark _ e = absurd (cc)
-
-pub digit_strong : (class : BidiClass) → is_digit class ≡ true → is_strong class ≡ false
-digit_strong EN e = refl
-digit_strong AN e = refl
-digit_strong _ e = absurd (cc)
-
-lengthens-EN : (row : Row) → lengthens row EN ≡ false
-lengthens-EN Terminators = refl
-lengthens-EN _ = refl
-
-lengthens-AN : (row : Row) → lengthens row AN ≡ false
-lengthens-AN Terminators = refl
-lengthens-AN _ = refl
-
-record Repeats (row : Row) (type : BidiClass) : Type 0 where
-  completes_none : completes (row_after row type) type ≡ false
-  stays : row_after (row_after row type) type ≡ row_after row type
-  same : (left : Bool) → written (row_after row type) left type ≡ written row left type
-  begins : (start at : ℕ) → start_after (row_after row type) type start at ≡ at + 1
-
-repeats-EN : (row : Row) → Repeats row EN
-repeats-EN row = record { completes_none = refl; stays = refl; same = λ left. refl; begins = λ start at. refl }
-
-repeats-AN : (row : Row) → Repeats row AN
-repeats-AN row = record { completes_none = refl; stays = refl; same = λ left. refl; begins = λ start at. refl }
-
-repeats : (row : Row) (strong class : BidiClass) → is_digit class ≡ true → Repeats row (w3_type (digit_type strong class))
-repeats row strong class e =
-    elim (digit_kind strong class e) [
-      | inl european ↦ subst (λ t. Repeats row t) (sym european) (repeats-EN row)
-      | inr arabic ↦ subst (λ t. Repeats row t) (sym arabic) (repeats-AN row)
-    ]
-
--- past a type, and the digits that repeat it where it is one
-lengthens-digit : (row : Row) (type : BidiClass) → (type ≡ EN) ⊎ (type ≡ AN) → lengthens row type ≡ false
-lengthens-digit row type (inl e) = ap (lengthens row) e ∙ lengthens-EN row
-lengthens-digit row type (inr e) = ap (lengthens row) e ∙ lengthens-AN row
-
-waits-digit : (row : Row) (type : BidiClass) → (type ≡ EN) ⊎ (type ≡ AN) → waits (row_after row type) ≡ false
-waits-digit row type (inl e) = ap (λ t. waits (row_after row t)) e
-waits-digit row type (inr e) = ap (λ t. waits (row_after row t)) e
-
-begins-digit : (row : Row) (type : BidiClass) (start at : ℕ) → (type ≡ EN) ⊎ (type ≡ AN) → start_after row type start at ≡ at + 1
-begins-digit row type start at kind =
-    cond-false (lengthens row type) start (if waits (row_after row type) then at else at + 1) (lengthens-digit row type kind)
-    ∙ cond-false (waits (row_after row type)) at (at + 1) (waits-digit row type kind)
-
-pub types-repeated : (sos : BidiClass) (old current repeated : List BidiClass) (before strong : BidiClass) (row : Row) (start at next : ℕ) (class marked number value : BidiClass)
-    → marked ≡ mark_type before class → number ≡ w3_type (digit_type strong marked) → value ≡ written row (is_left strong) number
-    → AreTypesSoFar sos old current (if not (is_mark class) then class else before) (if is_strong marked then marked else strong) (row_after row number) (start_after row number start at) (at + 1)
-    → at + 1 ≤ next → (is_digit class ≡ false → (next ≡ at + 1) × (repeated ≡ current)) → (is_digit class ≡ true → RepeatsDigit current (at + 1) class value repeated next)
-    → AreTypesSoFar sos old repeated (if not (is_mark class) then class else before) (if is_strong marked then marked else strong) (row_after row number) (start_after row number start (next - 1)) next
-types-repeated sos old current repeated before strong row start at next class marked number value is_marked is_number is_value now reached other digits =
-    elim (cases_Bool (is_digit class)) [
-      | inl digit ↦
-          let mark : marked ≡ class = is_marked ∙ cond-false (is_mark class) (mark_after before) class (digit_mark class digit) in
-          let type : number ≡ w3_type (digit_type strong class) = is_number ∙ ap (λ m. w3_type (digit_type strong m)) mark in
-          let kind = digit_kind strong class digit in
-          let unmarked : (if not (is_mark class) then class else before) ≡ class = cond-true (not (is_mark class)) class before (not_from_false (is_mark class) (digit_mark class digit)) in
-          let nearest : (if is_strong marked then marked else strong) ≡ strong = cond-false (is_strong marked) marked strong (ap is_strong mark ∙ digit_strong class digit) in
-          let begun : start_after row number start at ≡ at + 1 = ap (λ t. start_after row t start at) type ∙ begins-digit row (w3_type (digit_type strong class)) start at kind in
-          let last : next - 1 + 1 ≡ next = omega arith in
-          let ended : start_after row number start (next - 1) ≡ next = ap (λ t. start_after row t start (next - 1)) type ∙ begins-digit row (w3_type (digit_type strong class)) start (next - 1) kind ∙ last in
-          let from : AreTypesSoFar sos old current class strong (row_after row (w3_type (digit_type strong class))) (at + 1) (at + 1) = rw (unmarked, nearest, begun, type) at now in
-          let value_is : value ≡ written row (is_left strong) (w3_type (digit_type strong class)) = is_value ∙ ap (written row (is_left strong)) type in
-          rw (unmarked, nearest, ended, type) (digits digit sos old strong row value_is from)
-      | inr none ↦
-          let same = other none in
-          let place : next - 1 ≡ at = omega (arith, same.0) in
-          rw (same.1, place, same.0) now
-    ]
-
-pub types-digit : (first : List BidiClass) (start : ℕ) (class value : BidiClass) (current : List BidiClass) (at : ℕ)
-    → at < length current → get_or current at L ≡ class → is_digit class ≡ true → RepeatsDigit first start class value current at
-    → RepeatsDigit first start class value (set current at value) (at + 1)
-types-digit first start class value current at within here e repeated sos old strong row is so_far =
-    let type = w3_type (digit_type strong class) in
-    let now : AreTypesSoFar sos old current class strong (row_after row type) at at = repeated sos old strong row is so_far in
-    let again : Repeats row type = repeats row strong class e in
-    let this = get_or current at L in
-    let mark : is_mark this ≡ false = ap is_mark here ∙ digit_mark class e in
-    let marked : this ≡ mark_type class this = sym (cond-false (is_mark this) (mark_after class) this mark) in
-    let typed : type ≡ w3_type (digit_type strong this) = ap (λ t. w3_type (digit_type strong t)) (sym here) in
-    let valued : value ≡ written (row_after row type) (is_left strong) type = is ∙ sym (again.same (is_left strong)) in
-    let none : at - at ≡ 0 = omega arith in
-    let front : take at current ≡ take at current ++ replicate (at - at) (if completes (row_after row type) type then value else ON) =
-    sym (ap (λ n. take at current ++ replicate n (if completes (row_after row type) type then value else ON)) none ∙ append-nil (take at current)) in
-    let next = types-next sos old current class strong (row_after row type) at at now L within this type value current marked typed valued refl refl front (at + 1) (sym (again.begins at at)) in
-    let before : (if not (is_mark this) then this else class) ≡ class = cond-true (not (is_mark this)) this class (not_from_false (is_mark this) mark) ∙ here in
-    let still : (if is_strong this then this else strong) ≡ strong = cond-false (is_strong this) this strong (ap is_strong here ∙ digit_strong class e) in
-    rw (before, still, again.stays) at next
 
 -- at the end, what waits stays ON
 pub types-end : (sos : BidiClass) (old current : List BidiClass) (before strong : BidiClass) (row : Row) (start at : ℕ) → AreTypesSoFar sos old current before strong row start at

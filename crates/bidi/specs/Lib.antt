@@ -6,6 +6,7 @@ pub mod Closers
 pub mod Cuts
 pub mod Explicit
 pub mod Isolates
+pub mod KnownBrackets
 pub mod Least
 pub mod Levels
 pub mod Neighbours

@@ -42,12 +42,6 @@ abbrev pub is_settled : BidiClass → Bool
 is_settled NSM = false
 is_settled type = not (is_weak type)
 
--- whether a type is one of digits
-abbrev pub is_digit : BidiClass → Bool
-is_digit EN = true
-is_digit AN = true
-is_digit type = false
-
 -- whether a row of ET that begins here stands after a European number
 abbrev pub is_after_number : Row → Bool
 is_after_number European = true
@@ -126,10 +120,3 @@ abbrev pub SettlesRow : List BidiClass → ℕ → BidiClass → List BidiClass 
 SettlesRow current at class settled next =
     (sos : BidiClass) (old : List BidiClass) (before strong : BidiClass) (row : Row) (start : ℕ) → AreTypesSoFar sos old current before strong row start at
     → AreTypesSoFar sos old settled class (if is_strong class then class else strong) Nothing next next
-
--- what it knew after a digit, it then knows after the digits of that class that follow
-abbrev pub RepeatsDigit : List BidiClass → ℕ → BidiClass → BidiClass → List BidiClass → ℕ → Type 0
-RepeatsDigit current at class value repeated next =
-    (sos : BidiClass) (old : List BidiClass) (strong : BidiClass) (row : Row) → value ≡ written row (is_left strong) (w3_type (digit_type strong class))
-    → AreTypesSoFar sos old current class strong (row_after row (w3_type (digit_type strong class))) at at
-    → AreTypesSoFar sos old repeated class strong (row_after row (w3_type (digit_type strong class))) next next

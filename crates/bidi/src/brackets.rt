@@ -6,7 +6,8 @@ ghost use Rattle.std.specs.Prelude.{if◌then◌else◌, true, false, not};
 ghost use Rattle.ucd.specs.declared.bracket.Bracket.{Bracket};
 ghost use Rattle.bidi.specs.BracketTypes.{bracket_at, bracket_types, is_bracket};
 ghost use Rattle.bidi.specs.declared.bracket_type.BracketType.TheVariants.{Other};
-ghost use Rattle.bidi.specs.Brackets.{brackets, canonical, is_other, pairs_of, resolve_pairs, context, is_direction};
+ghost use Rattle.bidi.specs.Brackets.{brackets, canonical, is_other, pairs_of, resolve_pairs};
+ghost use Rattle.bidi.specs.Brackets.{context, is_direction};
 ghost use Rattle.bidi.specs.Brackets.{is_toward, stands, set_with, set_pair};
 ghost use Rattle.bidi.specs.Closers.{closers_of, closer_in, AreNested, newest, place_of, left_by};
 ghost use Rattle.bidi.specs.Closers.{closed_by};
@@ -124,8 +125,11 @@ impl Pairs {
             → kinds.now ≡ bracket_types look text
             → types.new ≡ brackets look embedding sos text explicit.now types.old) }
     {
-        copy_types(types, &mut self.before)?;
         find_pairs(kinds, types, &mut self.closers)?;
+        if next_pair(&self.closers, 0) >= types.len() {
+            return Ok(());
+        }
+        copy_types(types, &mut self.before)?;
         resolve_brackets(types, &self.before, explicit, &self.closers, embedding, sos);
         Ok(())
     }
@@ -184,8 +188,8 @@ fn next_bracket(kinds: &[BracketType], from: usize) -> usize
     at
 }
 
-// The least place from `from` on, and before a limit, with a strong type of direction L, or of direction R; or
-// else the limit, or `from` where that is after it.
+// The least place from `from` on, and before a limit, with a strong type of direction L, or of direction R;
+// or else the limit, or `from` where that is after it.
 fn next_toward(types: &[BidiClass], left: bool, from: usize, limit: usize) -> usize
     requires from { from ≤ length types.now }
     requires limit { limit ≤ length types.now }
@@ -312,8 +316,8 @@ fn pair_direction(
     }
 }
 
-// The nearest strong type before a place, or `sos`. It is asked for only of a pair that then is strong itself, so
-// that of a later one is sought no farther back.
+// The nearest strong type before a place, or `sos`. It is asked for only of a pair that then is strong
+// itself, so that of a later one is sought no farther back.
 fn strong_before(types: &[BidiClass], place: usize, sos: BidiClass) -> BidiClass
     requires { place ≤ length types.now }
     ensures { result ≡ context sos types.now place }

@@ -1,11 +1,15 @@
 //! The levels of paragraphs before L1 (UAX #9, X1 to I2), found in lists that are used again for each.
-ghost use Rattle.std.specs.Prelude.{◌≡◌, ℕ, ◌≤◌, map, length, replicate, IfOk, List, OnOk, Option, true};
+ghost use Rattle.std.specs.Prelude.{◌≡◌, ℕ, ◌<◌, ◌≤◌, map, length, replicate, IfOk, List, OnOk};
+ghost use Rattle.std.specs.Prelude.{Option, true, false, slice_index_or};
 ghost use Rattle.std.specs.List.{list_all, list_any};
 ghost use Rattle.ucd.specs.Properties.{properties_of};
 ghost use Rattle.ucd.specs.Tables.{class_of, bracket_of};
 ghost use Rattle.ucd.specs.declared.bracket.Bracket.{Bracket};
+ghost use Rattle.ucd.specs.declared.properties.Properties.{Properties};
+ghost use Rattle.bidi.specs.declared.bracket_type.BracketType.TheVariants.{Other};
 ghost use Rattle.bidi.specs.Base.{base_level_of};
 ghost use Rattle.bidi.specs.BracketTypes.{bracket_types, is_bracket, type_by};
+ghost use Rattle.bidi.specs.KnownBrackets.{AreKnown};
 ghost use Rattle.bidi.specs.Classes.{class_in};
 ghost use Rattle.bidi.specs.Levels.{levels_of, paragraph_levels};
 ghost use Rattle.bidi.specs.Paragraphs.{AreFor, OfAllTexts};
@@ -128,18 +132,6 @@ fn put_classes(properties: &[Properties], classes: &mut [BidiClass]) -> Summary
     }
 }
 
-// What a character is as a bracket, where the tables are asked only of one that is a bracket.
-fn type_of(tables: &Tables, character: char, properties: Properties) -> BracketType
-    requires { properties ≡ properties_of tables.now character }
-    ensures { result ≡ type_by (bracket_of tables.now character) character }
-{
-    if properties.has_bracket() {
-        bracket_type(tables, character)
-    } else {
-        BracketType::Other
-    }
-}
-
 // What the characters of a text are as brackets, in place of what the list has.
 fn take_brackets(
     tables: &Tables,
@@ -156,6 +148,7 @@ fn take_brackets(
     Ok(())
 }
 
+// Puts those that are brackets. The tables are asked of these alone.
 fn put_brackets(
     tables: &Tables,
     text: &[char],
@@ -163,15 +156,76 @@ fn put_brackets(
     brackets: &mut [BracketType],
 )
     requires properties { properties.now ≡ map (properties_of tables.now) text.now }
-    requires brackets { length brackets.old ≡ length text.now }
+    requires others { brackets.old ≡ replicate (length text.now) Other }
     ensures { brackets.new ≡ bracket_types (bracket_of tables.now) text.now }
 {
-    for at in 0..text.len() {
-        brackets[at] = type_of(tables, text[at], properties[at]);
+    let mut known = Known::new(tables);
+    let mut at = next_bracket(properties, 0);
+    while at < text.len() {
+        brackets[at] = known.look_up(tables, text[at]);
+        at = next_bracket(properties, at + 1);
     }
 }
 
-// The same where there are some.
+// What the tables say of two characters, of which the first was asked for last: most texts have brackets of
+// one kind.
+#[derive(Clone, Copy)]
+struct Known {
+    first: char,
+    first_type: BracketType,
+    second: char,
+    second_type: BracketType,
+}
+
+impl Known {
+    fn new(tables: &Tables) -> Known
+        ensures { AreKnown tables.now result }
+    {
+        let other = bracket_type(tables, '\0');
+        Known {
+            first: '\0',
+            first_type: other,
+            second: '\0',
+            second_type: other,
+        }
+    }
+
+    fn look_up(&mut self, tables: &Tables, character: char) -> BracketType
+        requires { AreKnown tables.now self.old }
+        ensures found { result ≡ type_by (bracket_of tables.now character) character }
+        ensures known { AreKnown tables.now self.new }
+    {
+        if character == self.first {
+            return self.first_type;
+        }
+        if character == self.second {
+            return self.second_type;
+        }
+        let found = bracket_type(tables, character);
+        self.second = self.first;
+        self.second_type = self.first_type;
+        self.first = character;
+        self.first_type = found;
+        found
+    }
+}
+
+// The least place from `from` on at which a bracket stands, or else the length.
+fn next_bracket(properties: &[Properties], from: usize) -> usize
+    requires { from ≤ length properties.now }
+    ensures reached { from ≤ result }
+    ensures within { result ≤ length properties.now }
+    ensures passed { (m : ℕ) (e : Properties) → from ≤ m → m < result
+        → has_bracket_in (slice_index_or properties.now m e) ≡ false }
+{
+    let mut at = from;
+    while at < properties.len() && !properties[at].has_bracket() {
+        at += 1;
+    }
+    at
+}
+
+// What the characters of a text are as brackets, where some are.
 fn take_any_brackets(
     tables: &Tables,
     text: &[char],

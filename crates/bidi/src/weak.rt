@@ -1,9 +1,8 @@
 //! The weak rules (UAX #9, W1 to W7), in one walk over the types of one isolating run sequence.
-ghost use Rattle.std.specs.Prelude.{◌≡◌, ◌<◌, ◌≤◌, true, false, length, not, if◌then◌else◌};
+ghost use Rattle.std.specs.Prelude.{◌≡◌, ◌<◌, ◌≤◌, true, length, not, if◌then◌else◌};
 ghost use Rattle.bidi.specs.Classes.{class_at, is_strong};
 ghost use Rattle.bidi.specs.Waiting.{mark_type, digit_type, number_type, written, completes, row_after};
-ghost use Rattle.bidi.specs.Waiting.{is_digit, is_settled, is_weak, start_after};
-ghost use Rattle.bidi.specs.Waiting.{RepeatsDigit, SettlesRow};
+ghost use Rattle.bidi.specs.Waiting.{is_settled, is_weak, start_after, SettlesRow};
 ghost use Rattle.bidi.specs.Weak.{is_mark, is_left, mark_after, w3_type, weak};
 
 use crate::fill::fill;
@@ -51,15 +50,13 @@ pub(crate) fn resolve_weak(types: &mut [BidiClass], sos: BidiClass)
         } else {
             let marked = mark_type(before, class);
             let number = w3_type(digit_type(strong, marked));
-            let mut next = at + 1;
             if is_weak(number) {
                 let value = written(row, is_left(strong), number);
                 if completes(row, number) {
                     fill(types, start, at, value);
                 }
                 types[at] = value;
-                next = repeat_digit(types, next, class, value);
-                start = start_after(row, number, start, next - 1);
+                start = start_after(row, number, start, at);
                 row = row_after(row, number);
             } else {
                 types[at] = number;
@@ -68,34 +65,9 @@ pub(crate) fn resolve_weak(types: &mut [BidiClass], sos: BidiClass)
             }
             before = unmarked_after(class, before);
             strong = strong_after(marked, strong);
-            at = next;
-        }
-    }
-}
-
-// Digits of one class become what the first of their row does. Answers where the row ends, or where it would
-// begin if the class isn't one of digits.
-fn repeat_digit(types: &mut [BidiClass], start: usize, class: BidiClass, value: BidiClass) -> usize
-    requires { start ≤ length types.old }
-    ensures reached { start ≤ result }
-    ensures within { result ≤ length types.new }
-    ensures other { is_digit class ≡ false → (result ≡ start) × (types.new ≡ types.old) }
-    ensures digits { is_digit class ≡ true → RepeatsDigit types.old start class value types.new result }
-{
-    let mut at = start;
-    if is_digit(class) {
-        while at < types.len() && types[at] == class {
-            types[at] = value;
             at += 1;
         }
     }
-    at
-}
-
-fn is_digit(class: BidiClass) -> bool
-    ensures { result ≡ is_digit class }
-{
-    matches!(class, BidiClass::EN | BidiClass::AN)
 }
 
 // W3 of a row of equal types of which the other rules make nothing. Answers where the row ends.

@@ -1,10 +1,10 @@
-use Rattle.std.proofs.Common.{◌≡◌, ◌<◌, ◌-◌, length, ◌++◌, get_or, set, take, drop, replicate, if◌then◌else◌, refl, sym, ap, ◌∙◌, arith}
+use Rattle.std.proofs.Common.{◌≡◌, ◌<◌, ◌-◌, length, ◌++◌, take, drop, replicate, if◌then◌else◌, refl, sym, ap, ◌∙◌, arith}
 use Rattle.std.proofs.lemmas.Bool.{cond-true, cond-false}
 use Rattle.std.proofs.lemmas.List.{length-set}
 use Rattle.ucd.specs.declared.bidi_class.BidiClass.TheVariants.{L, ON}
 use Rattle.bidi.specs.Weak.{w3_type}
-use Rattle.bidi.specs.Waiting.{completes, start_after, written}
-use Rattle.bidi.proofs.WaitingLemmas.{types-next, types-other, types-repeated, types-end}
+use Rattle.bidi.specs.Waiting.{completes, written}
+use Rattle.bidi.proofs.WaitingLemmas.{types-next, types-other, types-end}
 use Rattle.bidi.proofs.weak.resolve_weak.Goals as goal
 use Rattle.bidi.proofs.weak.resolve_weak.Goals.{then-is_weak, else-is_weak, then-completes, else-completes}
 
@@ -48,18 +48,15 @@ loop-at-preserved c =
             | else-completes w' ↦ ap (drop at) w'.types-is
           ] in
           let size : length filled ≡ length current = w.if-completes.auto.types in
-          let is_value = w.written-value.ensures ∙ ap (λ left. written row left number) w.is_left.ensures in
-          rw (w.types-is, w.start-is, w.row-is, w.next-is, c.unmarked_after-before.ensures, c.strong_after-strong-else-is_settled.ensures, w.row_after-row.ensures, w.start_after-start.ensures) (record {
-            within = w.repeat_digit-next.ensures.within;
-            so_far = types-repeated c.args.sos c.args.types.now (set filled at value) w.repeat_digit-next.new.types c.loop-at.before c.loop-at.strong row start at w.repeat_digit-next.result
-                (get_or current at L) c.mark_type-marked.result number value c.mark_type-marked.ensures is_number is_value
-                (types-next c.args.sos c.args.types.now current c.loop-at.before c.loop-at.strong row start at now L inside
-                c.mark_type-marked.result number value filled c.mark_type-marked.ensures is_number is_value
-                size after front (start_after row number start at) refl)
-                w.repeat_digit-next.ensures.reached w.repeat_digit-next.ensures.other w.repeat_digit-next.ensures.digits;
+          rw (w.types-is, w.start-is, w.row-is, c.unmarked_after-before.ensures, c.strong_after-strong-else-is_settled.ensures, w.row_after-row.ensures) (record {
+            within = omega (arith, inside, size, length-set filled at value);
+            so_far = types-next c.args.sos c.args.types.now current c.loop-at.before c.loop-at.strong row start at now L inside
+                c.mark_type-marked.result number value filled c.mark_type-marked.ensures is_number
+                (w.written-value.ensures ∙ ap (λ left. written row left number) w.is_left.ensures)
+                size after front w.start_after-start.result w.start_after-start.ensures;
           })
       | else-is_weak w ↦
-          rw (w.types-is, w.start-is, w.row-is, w.next-is, c.unmarked_after-before.ensures, c.strong_after-strong-else-is_settled.ensures) (record {
+          rw (w.types-is, w.start-is, w.row-is, c.unmarked_after-before.ensures, c.strong_after-strong-else-is_settled.ensures) (record {
             within = omega (arith, inside, length-set current at number);
             so_far = types-other c.args.sos c.args.types.now current c.loop-at.before c.loop-at.strong row start at now L inside
                 c.mark_type-marked.result number c.mark_type-marked.ensures is_number (sym c.is_weak.ensures ∙ w.if-is_weak.false);
