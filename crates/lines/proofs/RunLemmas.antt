@@ -305,6 +305,15 @@ module _ (levels : List ℕ) where
   unfolding turned order_of
   runs_in_order starts is = by_lowest starts (lowest_odd levels) refl is
 
+  by_places : (lowest : Option ℕ) → turned_by levels (places levels) lowest ≡ order_by levels lowest
+  by_places None = refl
+  by_places (Some low) = refl
+
+  -- characters are put in order as runs are
+  pub places_in_order : turned levels (places levels) ≡ order_of levels
+  unfolding turned order_of
+  places_in_order = by_places (lowest_odd levels)
+
   turned_by_permutes : (items : List ℕ) (lowest : Option ℕ) → IsPermutation items (turned_by levels items lowest)
   turned_by_permutes items None = IsPermutation-refl items
   turned_by_permutes items (Some low) = reversed_permute levels low (suc (highest levels) - low) items

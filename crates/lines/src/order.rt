@@ -1,7 +1,7 @@
 //! The visual order of one line (UAX #9, L2), and marks in reading order where they are asked for (L3).
 ghost use Rattle.std.specs.Prelude.{◌≡◌, ◌<◌, ◌≤◌, ◌==◌, ◌++◌, min, if◌then◌else◌};
 ghost use Rattle.std.specs.Prelude.{ℕ, Bool, true, false, List, [], length, map, take, drop, slice_index};
-ghost use Rattle.std.specs.Prelude.{unwrap_or, IfSome};
+ghost use Rattle.std.specs.Prelude.{unwrap_or, IfSome, None};
 ghost use Rattle.std.specs.Prelude.{◌+◌, reverse};
 ghost use Rattle.std.specs.List.{flat_map, position_or_len, prefix_len, range_with_len};
 ghost use Rattle.std.specs.List.Sorted.{IsPermutation};
@@ -86,25 +86,43 @@ pub fn arrange(line: &[Properties], levels: &[u8], reordernsm: bool, vtol: &mut 
     ensures vtol { vtol.new ≡ vtol_of reordernsm (map class_in line.now) levels.now }
     ensures within { AreWithin (length levels.now) vtol.new }
 {
-    let count = order_runs(levels, vtol);
-    lay_runs(levels, count, vtol);
+    order_places(levels, vtol);
     if reordernsm {
         reverse_groups(line, levels, vtol);
     }
 }
 
+// Writes the places of a line in the order of L2.
+fn order_places(levels: &[u8], vtol: &mut [u32])
+    requires vtol { length vtol.old ≡ length levels.now }
+    requires limit { length levels.now ≤ PARAGRAPH_LIMIT }
+    ensures { vtol.new ≡ order_of levels.now }
+{
+    if let Some(count) = order_runs(levels, vtol) {
+        lay_runs(levels, count, vtol);
+    }
+}
+
 /// Writes where each level run of a line begins, in visual order, to the front of a list, and says how many
-/// runs there are: so the rule moves runs, and not characters.
-pub fn order_runs(levels: &[u8], items: &mut [u32]) -> usize
+/// runs there are: so the rule moves runs, and not characters. Where most runs are of one character it writes
+/// all places in that order, and says nothing.
+pub fn order_runs(levels: &[u8], items: &mut [u32]) -> Option<usize>
     requires len { length items.old ≡ length levels.now }
     requires limit { length levels.now ≤ PARAGRAPH_LIMIT }
-    ensures runs { flat_map (run_shown levels.now) (take result items.new) ≡ order_of levels.now }
-    ensures within { AreWithin (length levels.now) (take result items.new) }
-    ensures few { result ≤ length items.new }
+    ensures runs { IfSome result (λ count.
+        flat_map (run_shown levels.now) (take count items.new) ≡ order_of levels.now) }
+    ensures within { IfSome result (λ count. AreWithin (length levels.now) (take count items.new)) }
+    ensures few { IfSome result (λ count. count ≤ length items.new) }
+    ensures places { result ≡ None → items.new ≡ order_of levels.now }
 {
     let (count, highest, lowest) = find_runs(levels, items);
+    if count > levels.len() / 2 {
+        identity(items);
+        reverse_levels(levels, highest, lowest, items);
+        return None;
+    }
     reverse_levels(levels, highest, lowest, &mut items[..count]);
-    count
+    Some(count)
 }
 
 // Writes where each level run of a line begins to the front of a list. Says how many there are, the highest

@@ -342,9 +342,13 @@ pub(crate) fn show_chars(line: &Text<'_>, levels: &[u8], places: &mut [u32], cha
         visual_chars(line.rules.tables, part, properties, levels, places, chars);
         return;
     }
-    let count = order_runs(levels, places);
-    let runs = &places[..count];
-    visual_runs(line.rules.tables, part, properties, levels, runs, chars);
+    match order_runs(levels, places) {
+        Some(count) => {
+            let runs = &places[..count];
+            visual_runs(line.rules.tables, part, properties, levels, runs, chars);
+        }
+        None => visual_chars(line.rules.tables, part, properties, levels, places, chars),
+    }
 }
 
 // How much of a line is shown: all but its tail.

@@ -4,16 +4,12 @@ use Rattle.lines.specs.Order.{has_base, reverse_with_next, vtol_of}
 use Rattle.lines.proofs.OrderLemmas.{length-order, vtol_within}
 use Rattle.lines.proofs.order.arrange.Goals as goal
 
-pub lay_runs-requires-clause-whole : goal.lay_runs-requires-clause-whole
-lay_runs-requires-clause-whole c =
-    ap length c.order_runs-count.ensures.runs ∙ length-order c.args.levels.now ∙ sym c.requires.vtol ∙ sym c.order_runs-count.auto.items
-
 pub returns-then-reordernsm : goal.returns-then-reordernsm
 unfolding vtol_of
 returns-then-reordernsm c =
     let classes = map class_in c.args.line.now in
     let levels = c.args.levels.now in
-    let is = c.reverse_groups.ensures ∙ ap (reverse_with_next (has_base classes levels) []) (c.lay_runs.ensures ∙ c.order_runs-count.ensures.runs)
+    let is = c.reverse_groups.ensures ∙ ap (reverse_with_next (has_base classes levels) []) c.order_places.ensures
     ∙ ap (λ asked. vtol_of asked classes levels) (sym c.if-reordernsm.true) in
     record { vtol = is; within = vtol_within c.args.reordernsm classes levels c.reverse_groups.new.vtol is }
 
@@ -22,5 +18,5 @@ unfolding vtol_of
 returns-else-reordernsm c =
     let classes = map class_in c.args.line.now in
     let levels = c.args.levels.now in
-    let is = c.lay_runs.ensures ∙ c.order_runs-count.ensures.runs ∙ ap (λ asked. vtol_of asked classes levels) (sym c.if-reordernsm.false) in
-    record { vtol = is; within = vtol_within c.args.reordernsm classes levels c.lay_runs.new.items is }
+    let is = c.order_places.ensures ∙ ap (λ asked. vtol_of asked classes levels) (sym c.if-reordernsm.false) in
+    record { vtol = is; within = vtol_within c.args.reordernsm classes levels c.order_places.new.vtol is }

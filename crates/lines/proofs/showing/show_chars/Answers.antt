@@ -1,10 +1,11 @@
-use Rattle.std.proofs.Common.{◌∙◌, length, map, take, ap, sym}
-use Rattle.std.proofs.lemmas.List.{take-map}
+use Rattle.std.proofs.Common.{◌≡◌, ◌∙◌, ℕ, length, map, take, ap, subst, sym}
+use Rattle.std.proofs.lemmas.List.{length-take-le, take-map}
 use Rattle.ucd.specs.Properties.{properties_of}
 use Rattle.bidi.specs.Classes.{class_in}
+use Rattle.bidi.specs.Runs.{AreWithin}
 use Rattle.lines.specs.Mirroring.{visual_chars}
 use Rattle.lines.specs.Order.{vtol_of}
-use Rattle.lines.proofs.OrderLemmas.{length-order}
+use Rattle.lines.proofs.OrderLemmas.{length-order, vtol_within}
 use Rattle.lines.proofs.showing.show_chars.Goals as goal
 
 pub visual_chars-requires-clause-properties : goal.visual_chars-requires-clause-properties
@@ -20,13 +21,38 @@ visual_runs-requires-clause-properties c =
     ap (take n) c.requires.line ∙ take-map (properties_of line.rules.tables.now) n line.characters.now
 
 pub visual_runs-requires-clause-chars : goal.visual_runs-requires-clause-chars
-visual_runs-requires-clause-chars c = c.requires.chars ∙ sym (ap length c.order_runs-count.ensures.runs ∙ length-order c.args.levels.now)
+visual_runs-requires-clause-chars c = c.requires.chars ∙ sym (ap length c.in-Some.ensures.runs ∙ length-order c.args.levels.now)
 
-pub returns : goal.returns
+pub visual_chars-requires-in-None-clause-properties : goal.visual_chars-requires-in-None-clause-properties
+visual_chars-requires-in-None-clause-properties c =
+    let line = c.args.line.now in
+    let n = length c.args.levels.now in
+    ap (take n) c.requires.line ∙ take-map (properties_of line.rules.tables.now) n line.characters.now
+
+pub visual_chars-requires-in-None-clause-within : goal.visual_chars-requires-in-None-clause-within
 unfolding vtol_of
-returns c =
+visual_chars-requires-in-None-clause-within c =
+    let line = c.args.line.now in
+    let levels = c.args.levels.now in
+    let classes = map class_in line.properties.now in
+    let is = c.order_runs.ensures.places c.in-None.is ∙ ap (λ asked. vtol_of asked classes levels) (sym c.if-line.false) in
+    let size : length (take (length levels) line.characters.now) ≡ length levels = length-take-le (length levels) line.characters.now c.requires.levels in
+    subst (λ (n : ℕ). AreWithin n c.order_runs.new.items) (sym size) (vtol_within line.rules.options.reordernsm classes levels c.order_runs.new.items is)
+
+pub returns-in-Some : goal.returns-in-Some
+unfolding vtol_of
+returns-in-Some c =
     let line = c.args.line.now in
     let levels = c.args.levels.now in
     c.visual_runs.ensures
     ∙ ap (visual_chars line.rules.tables.now levels (take (length levels) line.characters.now))
-    (c.order_runs-count.ensures.runs ∙ ap (λ asked. vtol_of asked (map class_in line.properties.now) levels) (sym c.if-line.false))
+    (c.in-Some.ensures.runs ∙ ap (λ asked. vtol_of asked (map class_in line.properties.now) levels) (sym c.if-line.false))
+
+pub returns-in-None : goal.returns-in-None
+unfolding vtol_of
+returns-in-None c =
+    let line = c.args.line.now in
+    let levels = c.args.levels.now in
+    c.visual_chars-in-None.ensures
+    ∙ ap (visual_chars line.rules.tables.now levels (take (length levels) line.characters.now))
+    (c.order_runs.ensures.places c.in-None.is ∙ ap (λ asked. vtol_of asked (map class_in line.properties.now) levels) (sym c.if-line.false))
