@@ -165,6 +165,13 @@ int main(int argc, char **argv) {
         input one;
         memset(&one, 0, sizeof one);
         draw(&one);
+        if (!separator_inside(&one)) { /* the predicates' own levels are the annex's */
+            int annex[MOST], same = 1;
+            plain_levels(&one, 0, annex);
+            for (int k = 0; k < one.length; k++) same = same && annex[k] == one.levels[k];
+            agree += same, wrong += !same;
+            if (!same && shown[0]++ < 3) printf("the plain levels differ: "), show(LEVELS, &one);
+        }
         for (int call = 0; call < CALLS; call++) {
             unsigned bits = met(call, &one);
             int differ = differs(call, &one);

@@ -39,19 +39,35 @@ static int separator_inside(const input *one) {
     return 0;
 }
 
-/* BD13: an isolate is a sequence of its own; FriBidi takes one that stands directly after another as its continuation. */
-static int isolate_after_isolate(const input *one) {
-    int depth = 0, closed = 0;
-    for (int k = 0; k < one->length; k++) {
-        FriBidiCharType type = one->types[k];
-        if (is_removed(type)) continue;
-        if (is_initiator(type) && closed) return 1;
-        closed = type == FRIBIDI_TYPE_PDI && depth > 0;
-        if (is_initiator(type)) depth++;
-        else if (type == FRIBIDI_TYPE_PDI && depth > 0) depth--;
+#include "plain.h"
+
+/* Whether one of the ways of plain.h changes a level, alone or beside the others, or the greatest level. */
+static int changes(const input *one, int way, int greatest) {
+    static const int beside_others[] = {0, 1};
+    for (int k = 0; k < 2; k++) {
+        int with[MOST], without[MOST], others = beside_others[k] ? ALL & ~way : 0;
+        int a = plain_levels(one, others | way, with), b = plain_levels(one, others, without);
+        if (greatest ? a != b : memcmp(with, without, sizeof *with * (size_t)one->length) != 0) return 1;
     }
     return 0;
 }
+
+/* BD13: each isolate is a sequence of its own, and P2 looks for the direction of an FSI in its own isolate; FriBidi takes all isolates of
+ * a depth as one sequence. */
+static int isolates_as_one(const input *one) { return changes(one, AS_ONE, 0); }
+static int isolates_as_one_top(const input *one) { return changes(one, AS_ONE, 1); }
+
+/* X5a to X5c: an isolate that is one too many opens nothing, and so does one after an embedding that is. */
+static int isolate_too_deep(const input *one) { return changes(one, DEEP, 0); }
+static int isolate_too_deep_top(const input *one) { return changes(one, DEEP, 1); }
+
+/* N0: what stands before a pair is sought in its sequence, and is sos where there is nothing; FriBidi looks on before it. */
+static int context_before_run(const input *one) { return changes(one, CONTEXT, 0); }
+static int context_before_run_top(const input *one) { return changes(one, CONTEXT, 1); }
+
+/* BD14: FriBidi takes no bracket that stands right after a mark of a neutral character as one. */
+static int bracket_after_mark(const input *one) { return changes(one, MERGED, 0); }
+static int bracket_after_mark_top(const input *one) { return changes(one, MERGED, 1); }
 
 /* L1: isolate initiators and PDI at a line's end have the paragraph level too; FriBidi's fribidi_reorder_line leaves these, and what
  * stands before them. */
@@ -92,7 +108,10 @@ static int mark_after_removed(const input *one) {
 static const predicate predicates[] = {
     {"first_strong_in_isolate", DIRECTION, first_strong_in_isolate}, {"no_strong", RESOLVED, no_strong},
     {"separator_inside", LEVELS, separator_inside}, {"separator_inside", TOP, separator_inside},
-    {"isolate_after_isolate", LEVELS, isolate_after_isolate}, {"isolate_after_isolate", TOP, isolate_after_isolate},
+    {"isolates_as_one", LEVELS, isolates_as_one}, {"isolates_as_one", TOP, isolates_as_one_top},
+    {"isolate_too_deep", LEVELS, isolate_too_deep}, {"isolate_too_deep", TOP, isolate_too_deep_top},
+    {"context_before_run", LEVELS, context_before_run}, {"context_before_run", TOP, context_before_run_top},
+    {"bracket_after_mark", LEVELS, bracket_after_mark}, {"bracket_after_mark", TOP, bracket_after_mark_top},
     {"isolate_at_end", LINE, isolate_at_end}, {"marks_without_base", LINE, marks_without_base}, {"mark_after_removed", LINE, mark_after_removed},
 };
 #define PREDICATES ((int)(sizeof predicates / sizeof *predicates))
