@@ -102,6 +102,9 @@ static void weak(sequence *s, int ways) {
     FriBidiCharType *t = s->type, strong = s->sos;
     for (int k = 0; k < s->count; k++) /* W1 */
         if (t[k] == FRIBIDI_TYPE_NSM) t[k] = k > 0 && ways & AS_ONE && s->opener[k] ? s->opener[k] : k == 0 ? s->sos : is_isolate(t[k - 1]) ? FRIBIDI_TYPE_ON : t[k - 1];
+    for (int k = 1; k + 1 < s->count; k++) /* (a number that goes on after it with what ended the isolate before) */
+        if (ways & AS_ONE && s->was[k] == FRIBIDI_TYPE_NSM && s->opener[k] == FRIBIDI_TYPE_ON && t[k - 1] == t[k + 1]
+            && is_any(t[k + 1], FRIBIDI_TYPE_EN, FRIBIDI_TYPE_AN, FRIBIDI_TYPE_EN)) t[k + 1] = FRIBIDI_TYPE_ON;
     for (int k = 0; k < s->count; k++) { /* W2 */
         if (is_strong(t[k])) strong = t[k];
         if (t[k] == FRIBIDI_TYPE_EN && strong == FRIBIDI_TYPE_AL) t[k] = FRIBIDI_TYPE_AN;

@@ -43,19 +43,52 @@ static int separator_inside(const input *one) {
 
 /* Whether one of the ways of plain.h changes a level, alone or beside the others, or the greatest level. */
 static int changes(const input *one, int way, int greatest) {
-    static const int beside_others[] = {0, 1};
-    for (int k = 0; k < 2; k++) {
-        int with[MOST], without[MOST], others = beside_others[k] ? ALL & ~way : 0;
-        int a = plain_levels(one, others | way, with), b = plain_levels(one, others, without);
+    input plain = *one; /* the call that takes no brackets */
+    memset(plain.brackets, 0, sizeof plain.brackets);
+    for (int k = 0; k < 4; k++) {
+        int with[MOST], without[MOST], others = k & 1 ? ALL & ~way : 0;
+        const input *asked = k & 2 ? &plain : one;
+        int a = plain_levels(asked, others | way, with), b = plain_levels(asked, others, without);
         if (greatest ? a != b : memcmp(with, without, sizeof *with * (size_t)one->length) != 0) return 1;
     }
     return 0;
 }
 
+/* A bracket that is opened in one isolate, and one of its number that closes it in a later isolate of the depth. */
+static int pair_over_isolates(const input *one) {
+    static plain p;
+    int isolate[MOST];
+    find_matches(one, &p);
+    find_explicit(one, (int)one->resolved & 1, 0, &p);
+    find_isolates(one, &p, 0, isolate);
+    for (int k = 0; k < one->length; k++)
+        for (int i = 0; FRIBIDI_IS_BRACKET_OPEN(one->brackets[k]) && i < one->length; i++)
+            if (i > k && isolate[i] != isolate[k] && p.depth[i] == p.depth[k] && p.level[i] != p.level[k] && one->brackets[i] == FRIBIDI_BRACKET_ID(one->brackets[k])) return 1;
+    return 0;
+}
+
 /* BD13: each isolate is a sequence of its own, and P2 looks for the direction of an FSI in its own isolate; FriBidi takes all isolates of
  * a depth as one sequence. */
-static int isolates_as_one(const input *one) { return changes(one, AS_ONE, 0); }
-static int isolates_as_one_top(const input *one) { return changes(one, AS_ONE, 1); }
+/* A mark that stands first in an isolate before which another of its depth stands; at a level at least. */
+static int mark_after_initiator(const input *one, int least) {
+    static plain p;
+    int seen[MOST] = {0};
+    find_matches(one, &p);
+    find_explicit(one, (int)one->resolved & 1, 0, &p);
+    for (int k = 0; k < one->length; k++) {
+        int side = beside(one, k, -1);
+        if (is_removed(one->types[k])) continue;
+        if (p.type[k] == FRIBIDI_TYPE_NSM && side >= 0 && p.opened[side] && seen[p.depth[k]] && one->levels[k] >= least) return 1;
+        seen[p.depth[k]] = 1;
+    }
+    return 0;
+}
+
+static int isolates_as_one(const input *one) { return changes(one, AS_ONE, 0) || pair_over_isolates(one) || mark_after_initiator(one, 0); }
+static int isolates_as_one_top(const input *one) {
+    int annex[MOST], greatest = plain_levels(one, 0, annex);
+    return changes(one, AS_ONE, 1) || mark_after_initiator(one, greatest);
+}
 
 /* X5a to X5c: an isolate that is one too many opens nothing, and so does one after an embedding that is. */
 static int isolate_too_deep(const input *one) { return changes(one, DEEP, 0); }
