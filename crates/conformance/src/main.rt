@@ -14,9 +14,8 @@ use bidi::Base;
 use breaks::{Mark, Tailoring, marks};
 use lines::{Engine, Laid, Options, PARAGRAPH_LIMIT};
 use std::alloc::Global;
-use std::env;
-use std::io;
 use std::io::{BufRead, BufReader, BufWriter, Write};
+use std::{env, io};
 use tables::in_folder;
 use ucd::Tables;
 

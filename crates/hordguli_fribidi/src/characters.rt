@@ -1,4 +1,5 @@
-//! What tables of single characters say, which C hands in: numbers of pages, pages of entries, and what entries stand for.
+//! What tables of single characters say, which C hands in: numbers of pages, pages of entries, and what
+//! entries stand for.
 ghost use Rattle.std.specs.Prelude.{◌≡◌, length, map};
 ghost use Rattle.hordguli_fribidi.specs.Points.{bracket_at, brackets_at, brackets_by, entry_at, number_at, type_at, types_at};
 

@@ -140,7 +140,8 @@ impl Held {
             (0 < utf8_valid_len (take (self.old.waiting + len) self.old.piece.items)) }
         // Nor for what is printed, where nothing is.
         ensures some { OnErr result (prints_some print.now ≡ false → engine.new ≡ engine.old) }
-        ensures piece { OnErr result ((self.new.piece ≡ self.old.piece) × (self.new.waiting ≡ self.old.waiting)) }
+        ensures piece { OnErr result ((self.new.piece ≡ self.old.piece)
+            × (self.new.waiting ≡ self.old.waiting)) }
         ensures at_most { PrintsAtMost
             (length (self.old.text.items ++ front_of (take (self.old.waiting + len) self.old.piece.items)))
             print.now engine.old engine.new }
