@@ -98,6 +98,12 @@ static void draw(input *one) {
         if (one->types[k] == FRIBIDI_TYPE_BS && below(4) != 0) one->types[k] = FRIBIDI_TYPE_ON;
         if (one->types[k] == FRIBIDI_TYPE_ON && below(2)) one->brackets[k] = ours.get_bracket(pairs[below(4)][below(2)]);
     }
+    /* (FriBidi writes into memory that it has given back where an isolate is open at a separator, and may end the program) */
+    for (int k = 0, open = 0; k < one->length; k++) {
+        if (one->types[k] == FRIBIDI_TYPE_BS && open > 0) one->types[k] = FRIBIDI_TYPE_SS;
+        if (is_initiator(one->types[k])) open++;
+        else if (one->types[k] == FRIBIDI_TYPE_PDI && open > 0) open--;
+    }
     one->off = (int)below((uint32_t)one->length);
     one->part = 1 + (int)below((uint32_t)(one->length - one->off));
     if (below(2)) one->off = 0, one->part = one->length;
@@ -121,7 +127,7 @@ static void shorten(int call, input *one) {
             input other = *one;
             drop(&other, at);
             prepare(&other);
-            if (other.part > 0 && differs(call, &other) && met(call, &other) == 0) {
+            if (!separator_inside(&other) && other.part > 0 && differs(call, &other) && met(call, &other) == 0) {
                 *one = other;
                 again = 1;
                 at--;
