@@ -76,6 +76,17 @@ static unsigned met(int call, const input *one) {
 
 /* ---- Lists at random ---- */
 
+/* The first separator at which an isolate is open, or -1. FriBidi writes into memory there that it has given back, and may end the
+ * program, as where embeddings and isolates are nested too deep, so it is asked for no such list. */
+static int open_at_separator(const input *one) {
+    for (int k = 0, open = 0; k < one->length; k++) {
+        if (one->types[k] == FRIBIDI_TYPE_BS && open > 0) return k;
+        if (is_initiator(one->types[k])) open++;
+        else if (one->types[k] == FRIBIDI_TYPE_PDI && open > 0) open--;
+    }
+    return -1;
+}
+
 /* The levels of a line's paragraph are those of ours, so that both order the same. */
 static void prepare(input *one) {
     one->resolved = one->base;
@@ -98,12 +109,8 @@ static void draw(input *one) {
         if (one->types[k] == FRIBIDI_TYPE_BS && below(4) != 0) one->types[k] = FRIBIDI_TYPE_ON;
         if (one->types[k] == FRIBIDI_TYPE_ON && below(2)) one->brackets[k] = ours.get_bracket(pairs[below(4)][below(2)]);
     }
-    /* (FriBidi writes into memory that it has given back where an isolate is open at a separator, and may end the program) */
-    for (int k = 0, open = 0; k < one->length; k++) {
-        if (one->types[k] == FRIBIDI_TYPE_BS && open > 0) one->types[k] = FRIBIDI_TYPE_SS;
-        if (is_initiator(one->types[k])) open++;
-        else if (one->types[k] == FRIBIDI_TYPE_PDI && open > 0) open--;
-    }
+    for (int at; (at = open_at_separator(one)) >= 0;) one->types[at] = FRIBIDI_TYPE_SS;
+    while (too_deep(one)) one->length--;
     one->off = (int)below((uint32_t)one->length);
     one->part = 1 + (int)below((uint32_t)(one->length - one->off));
     if (below(2)) one->off = 0, one->part = one->length;
@@ -127,7 +134,7 @@ static void shorten(int call, input *one) {
             input other = *one;
             drop(&other, at);
             prepare(&other);
-            if (!separator_inside(&other) && other.part > 0 && differs(call, &other) && met(call, &other) == 0) {
+            if (open_at_separator(&other) < 0 && !too_deep(&other) && other.part > 0 && differs(call, &other) && met(call, &other) == 0) {
                 *one = other;
                 again = 1;
                 at--;
