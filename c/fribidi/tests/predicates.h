@@ -90,9 +90,16 @@ static int isolates_as_one_top(const input *one) {
     return changes(one, AS_ONE, 1) || mark_after_initiator(one, greatest);
 }
 
-/* X5a to X5c: an isolate that is one too many opens nothing, and so does one after an embedding that is. */
-static int isolate_too_deep(const input *one) { return changes(one, DEEP, 0); }
-static int isolate_too_deep_top(const input *one) { return changes(one, DEEP, 1); }
+/* X1 to X8: whether an embedding, override or isolate is one too many, at base level 1 or 0. */
+static int too_deep(const input *one) {
+    static plain p;
+    for (int base = 0; base < 2; base++) {
+        find_matches(one, &p);
+        find_explicit(one, base, 0, &p);
+        if (p.too_deep) return 1;
+    }
+    return 0;
+}
 
 /* N0: what stands before a pair is sought in its sequence, and is sos where there is nothing; FriBidi looks on before it. */
 static int context_before_run(const input *one) { return changes(one, CONTEXT, 0); }
@@ -142,7 +149,6 @@ static const predicate predicates[] = {
     {"first_strong_in_isolate", DIRECTION, first_strong_in_isolate}, {"no_strong", RESOLVED, no_strong},
     {"separator_inside", LEVELS, separator_inside}, {"separator_inside", TOP, separator_inside},
     {"isolates_as_one", LEVELS, isolates_as_one}, {"isolates_as_one", TOP, isolates_as_one_top},
-    {"isolate_too_deep", LEVELS, isolate_too_deep}, {"isolate_too_deep", TOP, isolate_too_deep_top},
     {"context_before_run", LEVELS, context_before_run}, {"context_before_run", TOP, context_before_run_top},
     {"bracket_after_mark", LEVELS, bracket_after_mark}, {"bracket_after_mark", TOP, bracket_after_mark_top},
     {"isolate_at_end", LINE, isolate_at_end}, {"marks_without_base", LINE, marks_without_base}, {"mark_after_removed", LINE, mark_after_removed},

@@ -1,7 +1,8 @@
-//! What tables of single characters say, which C hands in: numbers of pages, pages of entries, and what
+//! What tables of single characters say, which C hands in: numbers of pages, pages of entries, and what the
 //! entries stand for.
 ghost use Rattle.std.specs.Prelude.{◌≡◌, length, map};
-ghost use Rattle.hordguli_fribidi.specs.Points.{bracket_at, brackets_at, brackets_by, entry_at, number_at, type_at, types_at};
+ghost use Rattle.hordguli_fribidi.specs.Points.{bracket_at, brackets_at, brackets_by, entry_at};
+ghost use Rattle.hordguli_fribidi.specs.Points.{number_at, type_at, types_at};
 
 // The numbers of the classes, in the order of their entries.
 static TYPES: [u32; 23] = [

@@ -82,9 +82,9 @@ fn order_line(marks: bool, types: &[u32], base: u8, levels: &mut [u8], places: &
     u32::from(highest) + 1
 }
 
-/// Reorders a line: its levels after L1, and the items of a string and of a map at its places, each of
-/// which may be missing. The arrays are those of the paragraph up to the line's end. The answer is the
-/// line's greatest level and one; after want of memory, and where an array has another length, it is 0, and
+/// Reorders a line: its levels after L1, and the items of a string and of a map at its places, each of which
+/// may be missing. The arrays are those of the paragraph up to the line's end. The answer is the line's
+/// greatest level and one; after want of memory, and where an array has another length, it is 0, and
 /// nothing has changed.
 #[unsafe(no_mangle)]
 pub extern "C" fn hordguli_fribidi_core_reorder(

@@ -1,8 +1,6 @@
 //! Prints what the table files of a folder say of each character that has another class than L, a bracket or
-//! a mirror: the
-//! character, its class, its bracket with whether it opens a pair, and its mirror, with which the static
-//! numbers of FriBidi's calls
-//! are compared. `points FOLDER`.
+//! a mirror: the character, its class, its bracket with whether it opens a pair, and its mirror. The static
+//! numbers of FriBidi's calls are compared with it. `points FOLDER`.
 #![tactic(auto)]
 
 use anyhow::{Result, bail};
