@@ -94,9 +94,7 @@ parallel:
 	@command -v parallel > /dev/null || { apt-get update -q && apt-get install -qy parallel; }
 
 test:
-	@log=$$(mktemp) && bash -o pipefail -c "RT_JOBS=$$(.ci/lanes) rt ci | tee $$log && .ci/names $$log | tee -a $$log \
-		&& cases/run $$log | tee -a $$log && faults/run $$log | tee -a $$log && .ci/c $$log | tee -a $$log \
-		&& docs/run $$log | tee -a $$log && .ci/fribidi $$log"; status=$$?; rm -f $$log; exit $$status
+	@.ci/gate
 
 c:
 	$(MAKE) --no-print-directory --jobs=$(JOBS) lib-hordguli_c

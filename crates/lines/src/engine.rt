@@ -158,6 +158,9 @@ impl Engine {
         ensures counts { IfOk result (λ laid. LaysOut (length text.items) self.old self.new) }
         ensures err { IfErr result (λ back. back.0.items ≡ text.items) }
         ensures at_most { LaysOutAtMost (length text.items) self.old self.new }
+
+        // Also where there is no memory, the characters count as analysed.
+        ensures analysed { analysed_of self.new ≡ counted (analysed_of self.old) (length text.items) }
         ensures rules { SameRules self.old self.new }
     {
         match self.parts(alloc, &text, width) {
@@ -207,7 +210,9 @@ impl Engine {
         ensures counts { OnOk result (Prints (length text.now) print.now self.old self.new) }
         ensures at_most { LaysOutAtMost (length text.now) self.old self.new }
 
-        // Also after a fault: what is not laid out into lines is not counted as filled or written.
+        // Also after a fault: the characters count as analysed, and what is not laid out into lines is not
+        // counted as filled or written.
+        ensures analysed { analysed_of self.new ≡ counted (analysed_of self.old) (length text.now) }
         ensures skipped { skips_lines print.now ≡ true → (filled_of self.new ≡ filled_of self.old)
             × (written_of self.new ≡ written_of self.old) }
         ensures rules { SameRules self.old self.new }
@@ -289,6 +294,7 @@ impl Engine {
             (W.state writer.old) (W.state writer.new)) }
         ensures counts { OnOk result (LaysOut (length text.now) self.old self.new) }
         ensures at_most { LaysOutAtMost (length text.now) self.old self.new }
+        ensures analysed { analysed_of self.new ≡ counted (analysed_of self.old) (length text.now) }
         ensures rules { SameRules self.old self.new }
     {
         let work = self.work.get_or_insert_with(|| Workspace::new(alloc));
@@ -355,6 +361,7 @@ impl Engine {
         ensures within { IfOk result (λ parts. AreWithin (length text.now) parts.lines.lines) }
         ensures counts { OnOk result (LaysOut (length text.now) self.old self.new) }
         ensures at_most { LaysOutAtMost (length text.now) self.old self.new }
+        ensures analysed { analysed_of self.new ≡ counted (analysed_of self.old) (length text.now) }
         ensures rules { SameRules self.old self.new }
     {
         let work = self.work.get_or_insert_with(|| Workspace::new(alloc));

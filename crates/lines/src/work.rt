@@ -138,6 +138,7 @@ impl Workspace {
         ensures lines_len { OnOk result (length kept.new.lines.levels.items ≡ length text.now) }
         ensures counts { OnOk result (LaysOutAll (length text.now) counts.old counts.new) }
         ensures at_most { LaysOutSome (length text.now) counts.old counts.new }
+        ensures analysed { counts.new.analysed ≡ counted counts.old.analysed (length text.now) }
     {
         let base = self.resolve(rules, text, &mut kept.levels, &mut counts.analysed)?;
         take_marks(rules, text, &self.properties, &mut kept.marks)?;
@@ -177,6 +178,7 @@ impl Workspace {
             (W.state writer.old) (W.state writer.new)) }
         ensures counts { OnOk result (LaysOutAll (length text.now) counts.old counts.new) }
         ensures at_most { LaysOutSome (length text.now) counts.old counts.new }
+        ensures analysed { counts.new.analysed ≡ counted counts.old.analysed (length text.now) }
     {
         let levels = &mut kept.levels;
         let Ok(base) = self.resolve(rules, text, levels, &mut counts.analysed) else {

@@ -64,6 +64,8 @@ fn find_each(
 // The most characters that one of some paragraphs has.
 fn longest(list: &[&Kept]) -> usize
     ensures all { All (λ kept. length kept.text ≤ result) (map (λ kept. kept.now) list.now) }
+    ensures least { (n : ℕ) → All (λ kept. length kept.text ≤ n) (map (λ kept. kept.now) list.now)
+        → result ≤ n }
     ensures none { length list.now ≡ 0 → result ≡ 0 }
 {
     if list.is_empty() {
@@ -90,6 +92,8 @@ fn find_all<S: ParagraphStore<Kept>>(
         AllZip (BringsTo (rules_of engine.old) width) (S.items store.now) found.0.items) }
     ensures room { IfOk result (λ found.
         All (λ kept. length kept.text ≤ found.1.len) (S.items store.now)) }
+    ensures least { (n : ℕ) → All (λ kept. length kept.text ≤ n) (S.items store.now)
+        → IfOk result (λ found. found.1.len ≤ n) }
     ensures unwritten { IfOk result (λ found. found.1.written ≡ 0) }
     ensures memory { OnErr result (0 < length (S.items store.now)) }
     ensures rules { SameRules engine.old engine.new }

@@ -1,11 +1,12 @@
 -- The characters that a text writes, one after another.
-use Rattle.std.proofs.Common.{◌≡◌, ℕ, zero, suc, ◌+◌, ◌-◌, ◌<◌, ◌≤◌, Bool, true, false, List, [], ◌∷◌, ◌++◌, length, get_or, drop, Option, Some, None, option_map, encode_utf8, refl, add-one, sym, ap, ◌∙◌, arith}
+use Rattle.std.proofs.Common.{◌≡◌, ℕ, zero, suc, ◌+◌, ◌-◌, ◌<◌, ◌≤◌, true, false, List, [], ◌∷◌, ◌++◌, length, get_or, drop, Option, Some, None, option_map, encode_utf8, refl, add-one, sym, ap, ◌∙◌, arith}
 use Rattle.std.specs.Prelude.{is_some}
 use Rattle.std.specs.Char.{IsScalar}
 use Rattle.std.specs.Str.{chars, IsUtf8}
-use Rattle.std.proofs.lemmas.List.{append_assoc, append-nil, drop-drop}
+use Rattle.std.proofs.lemmas.List.{append_assoc, append-nil, drop-drop, length-append}
 use Rattle.std.proofs.lemmas.Str.{chars-append, chars-encodes}
-use Rattle.tool.specs.Scripts.{onto, unescaped, unescaped_after, written}
+use Rattle.std.proofs.lemmas.Bool.{true≢false}
+use Rattle.tool.specs.Scripts.{LacksText, onto, unescaped, unescaped_after, written}
 
 -- an escape is passed over
 skipped : (n : ℕ) (text : List ℕ) → unescaped_after n text ≡ unescaped (drop n text)
@@ -78,3 +79,13 @@ module _ (text : List ℕ) (n d : ℕ) (within : n < length text) where
 
 pub all_right : (text : List ℕ) (n : ℕ) → length text ≤ n → is_some (unescaped (drop n text)) ≡ true
 all_right text n past = sym (is_some_map (λ cs. [] ++ cs) (unescaped (drop n text))) ∙ ap is_some (all_written text [] n past)
+
+-- what is kept of it lacks a character that is written
+pub lacks_next : (text front : List ℕ) (c : ℕ) (rest : Option (List ℕ)) → unescaped text ≡ option_map (λ cs. (front ++ c ∷ []) ++ cs) rest → is_some (unescaped text) ≡ true
+    → LacksText text front
+lacks_next text front c None is right = absurd (true≢false (sym right ∙ ap is_some is))
+lacks_next text front c (Some cs) is right = record {
+  whole = (front ++ c ∷ []) ++ cs;
+  right = is;
+  short = omega (arith, length-append (front ++ c ∷ []) cs, length-append front (c ∷ []));
+}

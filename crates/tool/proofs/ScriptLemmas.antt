@@ -12,6 +12,7 @@ use Rattle.tool.specs.declared.script.ScriptOptions.{ScriptOptions}
 use Rattle.session.specs.Edits.{Held}
 use Rattle.session.specs.Sessions.{SessionState, held_at}
 use Rattle.tool.specs.Reading.{FailsAt, NoEnd}
+use Rattle.tool.specs.declared.script.Reading.{Reading}
 use Rattle.tool.specs.Scripts.{is_line_end, lines_among, request_of_line, script_lines}
 use Rattle.tool.specs.ScriptRun.{after_line, after_lines, answer_line, answers, good_lines, input_fault, is_good, line_read_ahead, script_fault, with_ends}
 use Rattle.tool.specs.ScriptEnds.{Answered, EndsAfter, IsScriptRun, WantsMore, obeyed_lines}
@@ -274,16 +275,16 @@ module _ (rules : Rules) (options : ScriptOptions) (start now : SessionState) (r
 
   -- a line fails
   pub ends_line : (ending : Ending) (bytes : List ℕ) (done : List (List ℕ)) (line : List ℕ) (others : List (List ℕ))
-      (mid : SessionState) (kept : List ℕ) (lines written : ℕ) (writer_mid : Device) (fault : RunFault)
+      (mid : SessionState) (reading : Reading) (lines written : ℕ) (writer_mid : Device) (fault : RunFault)
       → Gave reader_old reader_new ending bytes
       → script_lines ending bytes ≡ done ++ line ∷ others → list_all (is_good options.queries) done ≡ true
       → held_at mid ≡ after_lines rules options.queries before done → lines ≡ length done → written
       ≡ length (answers rules options before done)
       → Wrote (answers rules options before done) writer_old writer_mid → LinesWork rules options.queries before done start.engine mid.engine
-      → FailsAt rules options line kept lines written (held_at mid) (held_at now) writer_mid writer_new fault → LineWorks rules options.queries (held_at mid) line mid.engine now.engine → IsDone done
+      → FailsAt rules options line reading lines written (held_at mid) (held_at now) writer_mid writer_new fault → LineWorks rules options.queries (held_at mid) line mid.engine now.engine → IsDone done
       → reader_old.passed + length (with_ends done) < reader_new.passed
       → IsScriptRun rules options start now reader_old reader_new writer_old writer_new (Err fault)
-  ends_line ending bytes done line others mid kept lines written writer_mid (f.BadLine n) gave parts good held_is count written_is wrote before_works (bad, number, stays, same) works ahead more =
+  ends_line ending bytes done line others mid reading lines written writer_mid (f.BadLine n) gave parts good held_is count written_is wrote before_works (bad, number, stays, same) works ahead more =
       ends_bad ending bytes done line others n gave parts good bad (number ∙ ap (λ k. k + 1) count) (record {
         done_is = ahead;
         wrote = subst (λ w. Wrote (answers rules options before done) writer_old w) (sym same) wrote;
@@ -292,10 +293,10 @@ module _ (rules : Rules) (options : ScriptOptions) (start now : SessionState) (r
             subst (λ (ls : List (List ℕ)). LinesWork rules options.queries before ls start.engine now.engine) (append-nil done)
             (lines_work_bad rules options.queries before (held_at mid) done line start.engine mid.engine now.engine bad before_works works);
       })
-  ends_line ending bytes done line others mid kept lines written writer_mid (f.Write n) gave parts good held_is count written_is wrote before_works (here, now_is, stopped) works ahead more =
+  ends_line ending bytes done line others mid reading lines written writer_mid (f.Write n) gave parts good held_is count written_is wrote before_works (here, now_is, stopped) works ahead more =
       ends_write ending bytes done line others (held_at mid) written n writer_mid gave parts good here held_is written_is wrote stopped ahead now_is
       (lines_work_more rules options.queries before (held_at mid) done line start.engine mid.engine now.engine held_is before_works works)
-  ends_line ending bytes done line others mid kept lines written writer_mid f.Memory gave parts good held_is count written_is wrote before_works (text, wants, stays, same) works ahead more =
+  ends_line ending bytes done line others mid reading lines written writer_mid f.Memory gave parts good held_is count written_is wrote before_works (text, wants, stays, same) works ahead more =
       ends_short ending bytes done (line ∷ others) gave parts good ahead
       (subst (λ w. Wrote (answers rules options before done) writer_old w) (sym same) wrote) (stays
       ∙ held_is) (all_works (is_good options.queries line) refl) (inr more)
@@ -307,7 +308,7 @@ module _ (rules : Rules) (options : ScriptOptions) (start now : SessionState) (r
       all_works false is =
           subst (λ (ls : List (List ℕ)). LinesWork rules options.queries before (done ++ take 1 ls) start.engine now.engine) (sym (good_none options.queries line others is))
           (lines_work_bad rules options.queries before (held_at mid) done line start.engine mid.engine now.engine is before_works works)
-  ends_line ending bytes done line others mid kept lines written writer_mid f.Read gave parts good held_is count written_is wrote before_works fails works ahead more = absurd fails
-  ends_line ending bytes done line others mid kept lines written writer_mid (f.NotUtf8 n) gave parts good held_is count written_is wrote before_works fails works ahead more = absurd fails
-  ends_line ending bytes done line others mid kept lines written writer_mid f.ParagraphTooLong gave parts good held_is count written_is wrote before_works fails works ahead more = absurd fails
-  ends_line ending bytes done line others mid kept lines written writer_mid f.TextTooLong gave parts good held_is count written_is wrote before_works fails works ahead more = absurd fails
+  ends_line ending bytes done line others mid reading lines written writer_mid f.Read gave parts good held_is count written_is wrote before_works fails works ahead more = absurd fails
+  ends_line ending bytes done line others mid reading lines written writer_mid (f.NotUtf8 n) gave parts good held_is count written_is wrote before_works fails works ahead more = absurd fails
+  ends_line ending bytes done line others mid reading lines written writer_mid f.ParagraphTooLong gave parts good held_is count written_is wrote before_works fails works ahead more = absurd fails
+  ends_line ending bytes done line others mid reading lines written writer_mid f.TextTooLong gave parts good held_is count written_is wrote before_works fails works ahead more = absurd fails

@@ -1,5 +1,5 @@
 -- What each step of the run of a script makes of where it stands.
-use Rattle.std.proofs.Common.{◌≡◌, inl, inr, ℕ, ◌+◌, ◌<◌, ◌≤◌, ◌&&◌, Bool, true, false, List, [], ◌∷◌, ◌++◌, length, take, drop, min, Option, Some, None, unwrap_or, Result, Ok, Err, OnOk, IfErr, nat_lt, nat_le, refl, sym, subst, ap, ◌∙◌, arith, if◌then◌else◌}
+use Rattle.std.proofs.Common.{◌≡◌, inl, inr, ℕ, ◌+◌, ◌<◌, ◌≤◌, ◌&&◌, Bool, true, false, List, [], ◌∷◌, ◌++◌, length, take, drop, min, Option, Some, None, unwrap_or, Result, Ok, Err, OnOk, IfErr, IsErrOf, nat_lt, nat_le, refl, sym, subst, ap, ◌∙◌, arith, if◌then◌else◌}
 use Rattle.std.specs.List.{list_all, slice_split}
 use Rattle.std.specs.Io.KnownBytes.{Consumes, IsAtEnd}
 use Rattle.std.proofs.lemmas.Bool.Decides.{nat_tests}
@@ -13,7 +13,7 @@ use Rattle.lines.specs.Layouts.{Rules}
 use Rattle.tool.specs.declared.script.ScriptOptions.{ScriptOptions}
 use Rattle.session.specs.Edits.{Held}
 use Rattle.session.specs.Sessions.{SessionState, held_at}
-use Rattle.tool.specs.Reading.{EndsIn, EndsLine, FailsAt, FailsIn, FailsLine, GoesOn, GrowsNot, IsAt, NoEnd, ObeysLine, Steps, Takes}
+use Rattle.tool.specs.Reading.{EndsIn, EndsLine, FailsAt, FailsIn, FailsLine, GoesOn, GrowsNot, IsAt, NoEnd, ObeysLine, Steps, Takes, WantsIn}
 use Rattle.tool.specs.Scripts.{is_last_line, is_line_end, lines_among, request_of_line, script_lines}
 use Rattle.tool.specs.ScriptEnds.{IsScriptRun}
 use Rattle.tool.specs.ScriptRun.{after_line, after_lines, answer_line, answers, good_lines, is_good, with_ends}
@@ -210,16 +210,16 @@ module _ (rules : Rules) (options : ScriptOptions) (start : SessionState) (reade
           (inr (omega (arith, some_wait, at.passed, at.size)))
 
       -- at a line that is ended
-      ends_ended : (kept : List ℕ) (state : SessionState) (writer_new : Device) (fault : RunFault) → FailsLine rules options waiting kept now state reading writer writer_new fault
+      ends_ended : (state : SessionState) (new : Reading) (writer_new : Device) (fault : RunFault) → FailsLine rules options waiting now state reading new writer writer_new fault
           → IsScriptRun rules options start state reader_old reader writer_old writer_new (Err fault)
-      ends_ended kept state writer_new fault failed =
+      ends_ended state new writer_new fault failed =
           let line = reading.line.items ++ failed.front in
           let some = parts_some (failed.after ++ rest) in
           let parts : slice_split is_line_end (reading.line.items ++ (waiting ++ rest))
           ≡ line ∷ (some.0 ∷ some.1) = ended_first reading.line.items waiting failed.front failed.after rest
           at.none failed.ends ∙ ap (λ t. line ∷ t) some.2 in
           ends_line rules options start state reader_old writer_old reader writer_new AtEnd (at.bytes
-          ++ rest) at.done line (lines_among AtEnd (some.0 ∷ some.1)) now kept reading.lines reading.written writer fault
+          ++ rest) at.done line (lines_among AtEnd (some.0 ∷ some.1)) now new reading.lines reading.written writer fault
           gave (lines_are line (some.0 ∷ some.1) parts) at.good at.held_is at.lines at.written at.wrote at.works failed.fails failed.works (ahead_now state writer_new)
           (omega (arith, at.passed, at.size, ap length failed.ends.whole, length-append failed.front (10 ∷ failed.after)))
 
@@ -237,29 +237,29 @@ module _ (rules : Rules) (options : ScriptOptions) (start : SessionState) (reade
           let more : LINE_LIMIT < length first = omega (arith, long, length-append line some.0) in
           let is_line = long_line first some.1 more in
           let bad : is_good options.queries first ≡ false = long_is_bad options.queries first more in
-          ends_line rules options start now reader_old writer_old reader writer AtEnd (at.bytes ++ rest) at.done first is_line.0 now [] reading.lines reading.written writer (f.BadLine n)
+          ends_line rules options start now reader_old writer_old reader writer AtEnd (at.bytes ++ rest) at.done first is_line.0 now reading reading.lines reading.written writer (f.BadLine n)
           gave (lines_are first some.1 parts ∙ ap (λ t. at.done ++ t) is_line.1) at.good at.held_is at.lines at.written
           at.wrote at.works (bad, number, refl, refl) (works_none rules _ now.engine now.engine refl)
           (ahead_now now writer)
           (omega (arith, long, length-append reading.line.items front, at.passed, at.size, ap length whole, length-append front after))
 
-      ends_unkept : (front after : List ℕ) → waiting ≡ front ++ after → NoEnd front → (fault : RunFault) → GrowsNot front reading fault
+      ends_unkept : (front after : List ℕ) → waiting ≡ front ++ after → NoEnd front → (new : Reading) (fault : RunFault) → GrowsNot front reading new fault
           → IsScriptRun rules options start now reader_old reader writer_old writer (Err fault)
-      ends_unkept front after whole none (f.BadLine n) (long, number) = ends_long n front after whole none long number
-      ends_unkept front after whole none f.Memory fails = ends_memory (omega (arith, fails.1, ap length whole, length-append front after))
-      ends_unkept front after whole none f.Read fails = absurd fails
-      ends_unkept front after whole none (f.Write n) fails = absurd fails
-      ends_unkept front after whole none (f.NotUtf8 n) fails = absurd fails
-      ends_unkept front after whole none f.ParagraphTooLong fails = absurd fails
-      ends_unkept front after whole none f.TextTooLong fails = absurd fails
+      ends_unkept front after whole none new (f.BadLine n) (long, number) = ends_long n front after whole none long number
+      ends_unkept front after whole none new f.Memory fails = ends_memory (omega (arith, fails.1, ap length whole, length-append front after))
+      ends_unkept front after whole none new f.Read fails = absurd fails
+      ends_unkept front after whole none new (f.Write n) fails = absurd fails
+      ends_unkept front after whole none new (f.NotUtf8 n) fails = absurd fails
+      ends_unkept front after whole none new f.ParagraphTooLong fails = absurd fails
+      ends_unkept front after whole none new f.TextTooLong fails = absurd fails
 
-      pub ends_in : (kept : List ℕ) (state : SessionState) (writer_new : Device) (fault : RunFault)
-          → FailsIn rules options waiting kept now state reading writer writer_new fault
+      pub ends_in : (state : SessionState) (new : Reading) (writer_new : Device) (fault : RunFault)
+          → FailsIn rules options waiting now state reading new writer writer_new fault
           → IsScriptRun rules options start state reader_old reader writer_old writer_new (Err fault)
-      ends_in kept state writer_new fault (inl failed) = ends_ended kept state writer_new fault failed
-      ends_in kept state writer_new fault (inr not) =
+      ends_in state new writer_new fault (inl failed) = ends_ended state new writer_new fault failed
+      ends_in state new writer_new fault (inr not) =
           subst (λ (s : SessionState). IsScriptRun rules options start s reader_old reader writer_old writer_new (Err fault)) (sym not.state)
-          (subst (λ w. IsScriptRun rules options start now reader_old reader writer_old w (Err fault)) (sym not.writer) (ends_unkept not.front not.after not.whole not.none fault not.grows))
+          (subst (λ w. IsScriptRun rules options start now reader_old reader writer_old w (Err fault)) (sym not.writer) (ends_unkept not.front not.after not.whole not.none new fault not.grows))
 
     -- ---- nothing waits
     module _ (at : IsAt rules options start reader_old reader writer_old writer now reading []) where
@@ -315,13 +315,13 @@ module _ (rules : Rules) (options : ScriptOptions) (start : SessionState) (reade
                 works = obeyed_works [] at line state new writer_new obeys works;
               })
 
-          pub ends_last_not : (kept : List ℕ) (state : SessionState) (writer_new : Device) (fault : RunFault)
-              → FailsAt rules options reading.line.items kept reading.lines reading.written (held_at now) (held_at state)
+          pub ends_last_not : (new : Reading) (state : SessionState) (writer_new : Device) (fault : RunFault)
+              → FailsAt rules options reading.line.items new reading.lines reading.written (held_at now) (held_at state)
               writer writer_new fault
               → LineWorks rules options.queries (held_at now) reading.line.items now.engine state.engine → IsScriptRun rules options start state reader_old reader writer_old writer_new (Err fault)
-          ends_last_not kept state writer_new fault fails works =
+          ends_last_not new state writer_new fault fails works =
               ends_line rules options start state reader_old writer_old reader writer_new AtEnd at.bytes at.done
-              reading.line.items [] now kept reading.lines reading.written writer fault gave_all last_line at.good
+              reading.line.items [] now new reading.lines reading.written writer fault gave_all last_line at.good
               at.held_is at.lines at.written at.wrote at.works fails works
               (ahead_now [] at state writer_new) (omega (arith, some, at.passed, at.size))
 
@@ -373,12 +373,12 @@ pub ends_finish : (rules : Rules) (options : ScriptOptions) (start : SessionStat
     → IsAtEnd reader.bytes → 0 < length reading.line.items → (r : Result (Unit {0}) RunFault)
     → OnOk r (ObeysLine rules options reading.line.items (held_at now) (held_at state) reading new writer
     writer_new)
-    → IfErr r (FailsAt rules options reading.line.items new.text.items reading.lines reading.written (held_at now) (held_at state) writer writer_new)
+    → IfErr r (FailsAt rules options reading.line.items new reading.lines reading.written (held_at now) (held_at state) writer writer_new)
     → LineWorks rules options.queries (held_at now) reading.line.items now.engine state.engine → IsScriptRun rules options start state reader_old reader writer_old writer_new r
 ends_finish rules options start reader_old reader writer_old writer now state reading new writer_new at finished some (Ok tt) obeys fails works =
     ends_last rules options start reader_old reader writer_old writer now reading at finished some state new writer_new obeys works
 ends_finish rules options start reader_old reader writer_old writer now state reading new writer_new at finished some (Err fault) obeys fails works =
-    ends_last_not rules options start reader_old reader writer_old writer now reading at finished some new.text.items state writer_new fault fails works
+    ends_last_not rules options start reader_old reader writer_old writer now reading at finished some new state writer_new fault fails works
 
 -- ---- a part of a piece, under the rules that the run began with
 module _ (rules held_rules : Rules) (options : ScriptOptions) (start : SessionState)
@@ -393,13 +393,44 @@ module _ (rules held_rules : Rules) (options : ScriptOptions) (start : SessionSt
       subst (IsAt rules options start reader_old reader writer_old writer_new state new) (drop-drop n at piece)
       (at_taken rules options start reader_old reader writer_old writer now reading (drop at piece) stands n state new writer_new taken)
 
-  pub failed_part : (fault : RunFault) → FailsIn held_rules options part new.text.items now state reading writer writer_new fault
+  failed_here : (fault : RunFault) → FailsIn held_rules options part now state reading new writer writer_new fault → FailsIn rules options (drop at piece) now state reading new writer writer_new fault
+  failed_here fault fails =
+      subst (λ (p : List ℕ). FailsIn rules options p now state reading new writer writer_new fault) part_is
+      (subst (λ (r : Rules). FailsIn r options part now state reading new writer writer_new fault) same fails)
+
+  pub failed_part : (fault : RunFault) → FailsIn held_rules options part now state reading new writer writer_new fault
       → IsScriptRun rules options start state reader_old reader writer_old writer_new (Err fault)
   failed_part fault fails =
-      let failed : FailsIn rules options (drop at piece) new.text.items now state reading writer writer_new fault =
-      subst (λ (p : List ℕ). FailsIn rules options p new.text.items now state reading writer writer_new fault) part_is
-      (subst (λ (r : Rules). FailsIn r options part new.text.items now state reading writer writer_new fault) same fails) in
-      ends_in rules options start reader_old reader writer_old writer now reading (drop at piece) stands new.text.items state writer_new fault failed
+      ends_in rules options start reader_old reader writer_old writer now reading (drop at piece) stands state new writer_new fault (failed_here fault fails)
+
+  fails_lines : FailsIn rules options (drop at piece) now state reading new writer writer_new f.Memory → new.lines ≡ reading.lines
+  fails_lines (inl failed) = failed.lines
+  fails_lines (inr not) = not.grows.3
+
+  -- memory is wanted for it
+  pub wants_part : FailsIn held_rules options part now state reading new writer writer_new f.Memory → WantsIn rules options start reader_old reader writer_old writer_new state new
+  wants_part fails =
+      let failed = failed_here f.Memory fails in
+      record {
+        state_before = now;
+        before = reading;
+        writer_before = writer;
+        waiting = drop at piece;
+        at = stands;
+        lines = fails_lines failed;
+        fails = failed;
+      }
+
+-- the fault that a run ends with
+abbrev fault_in : {T : Type 0} → Result T RunFault → RunFault
+fault_in (Ok done) = f.Read
+fault_in (Err fault) = fault
+
+pub same_fault : {T U : Type 0} (one other : RunFault) → IsErrOf {T = T} {E = RunFault} (Err one) other → IsErrOf {T = U} {E = RunFault} (Err one) other
+same_fault one other is = ap (λ (x : RunFault). Err x) (ap fault_in is)
+
+pub wants_memory : {T : Type 0} (P : RunFault → Type 0) (fault : RunFault) → IsErrOf {T = T} {E = RunFault} (Err fault) f.Memory → P fault → P f.Memory
+wants_memory P fault is p = subst P (ap fault_in is) p
 
 -- of the first n of a list that is longer, some are taken
 pub takes_some : (rules : Rules) (options : ScriptOptions) (piece : List ℕ) (n : ℕ) (now state : SessionState)

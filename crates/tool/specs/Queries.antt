@@ -16,7 +16,6 @@ use Rattle.session.specs.Hits.{hit_at}
 use Rattle.session.specs.Kept.{lines_in, text_of}
 use Rattle.session.specs.Reading.{utf8_part}
 use Rattle.session.specs.declared.carets.Caret.{Caret}
-use Rattle.session.specs.declared.clusters.Cluster.{Cluster}
 use Rattle.session.specs.declared.hits.Hit.{Hit}
 use Rattle.text_run.specs.declared.faults.RunFault.{RunFault}
 use Rattle.text_run.specs.declared.faults.RunFault.TheVariants as f

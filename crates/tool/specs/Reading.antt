@@ -1,5 +1,5 @@
 -- Where the run of a script stands between two lines. Only the code speaks of these.
-use Rattle.std.specs.Prelude.{◌≡◌, ◌⊎◌, ℕ, ◌+◌, ◌<◌, ◌≤◌, false, true, All, Bool, List, [], ◌∷◌, ◌++◌, length, None, Some, Result, Ok, Err}
+use Rattle.std.specs.Prelude.{◌≡◌, ◌⊎◌, ℕ, ◌+◌, ◌<◌, ◌≤◌, false, true, All, Bool, List, [], ◌∷◌, ◌++◌, length, None, Some, Result, Ok, Err, string_bytes}
 use Rattle.std.specs.List.{list_all, slice_split}
 use Rattle.std.specs.Io.KnownBytes.{Consumes}
 use Rattle.std.specs.Str.{chars}
@@ -14,7 +14,7 @@ use Rattle.session.specs.declared.edits.Damage.{Damage}
 use Rattle.session.specs.declared.edits.EditFault.{EditFault}
 use Rattle.session.specs.declared.edits.EditFault.TheVariants.{NoMemory}
 use Rattle.tool.specs.Queries.{AsksMemory}
-use Rattle.tool.specs.Scripts.{HasPiece, Request, Insert, Delete, SetWidth, Show, Ask, is_line_end, request_of_line}
+use Rattle.tool.specs.Scripts.{LacksPiece, Request, Insert, Delete, SetWidth, Show, Ask, is_line_end, request_of_line}
 use Rattle.tool.specs.ScriptEnds.{IsScriptRun}
 use Rattle.tool.specs.ScriptRun.{after_line, after_lines, answer_line, answer_to, after_request, answers, damage_text, is_good, obeyed, obeyed_text, request_refusal, refusal_text, with_ends}
 use Rattle.tool.specs.Work.{LineWorks, LinesWork}
@@ -77,24 +77,24 @@ pub record ObeysLine (rules : Rules) (options : ScriptOptions) (line : List ℕ)
   pub lines : new.lines ≡ old.lines + 1
   pub empty : new.line.items ≡ []
 
--- What memory is wanted for, of a line that is UTF-8: for its characters, of which less were kept than it has; or for its text, where it
--- is an insert; or for what it asks for, which nothing refuses.
-abbrev pub WantsMemory : Rules → Bool → List ℕ → List ℕ → Held → Type 0
-WantsMemory rules queries line kept held =
-    (length kept < length (chars line))
-    ⊎ (HasPiece (chars line)
+-- What memory is wanted for, of a line that is UTF-8: for its characters, of which less were kept than it has; or for the text of an
+-- insert, of which less was kept than it writes; or for what it asks for, which nothing refuses.
+abbrev pub WantsMemory : Rules → Bool → List ℕ → Reading → Held → Type 0
+WantsMemory rules queries line reading held =
+    (length reading.text.items < length (chars line))
+    ⊎ (LacksPiece (chars line) (chars (string_bytes reading.piece))
     ⊎ ((request : Request) × (request_of_line queries line ≡ Some request) × (request_refusal rules held request ≡ None) × TakesMemory held request))
 
 -- or it was not
-abbrev pub FailsAt : Rules → ScriptOptions → List ℕ → List ℕ → ℕ → ℕ → Held → Held → Device → Device → RunFault → Type 0
-FailsAt rules options line kept lines written held_old held_new old new (f.BadLine n) =
+abbrev pub FailsAt : Rules → ScriptOptions → List ℕ → Reading → ℕ → ℕ → Held → Held → Device → Device → RunFault → Type 0
+FailsAt rules options line reading lines written held_old held_new old new (f.BadLine n) =
     (is_good options.queries line ≡ false) × (n ≡ lines + 1) × (held_new ≡ held_old) × (new ≡ old)
-FailsAt rules options line kept lines written held_old held_new old new (f.Write n) =
+FailsAt rules options line reading lines written held_old held_new old new (f.Write n) =
     (is_good options.queries line ≡ true) × (held_new ≡ after_line rules held_old (request_of_line options.queries line))
     × StoppedIn (answer_line rules options.print held_old (request_of_line options.queries line)) written old new n
-FailsAt rules options line kept lines written held_old held_new old new f.Memory =
-    (utf8_valid_len line ≡ length line) × WantsMemory rules options.queries line kept held_old × (held_new ≡ held_old) × (new ≡ old)
-FailsAt rules options line kept lines written held_old held_new old new fault = ⊥
+FailsAt rules options line reading lines written held_old held_new old new f.Memory =
+    (utf8_valid_len line ≡ length line) × WantsMemory rules options.queries line reading held_old × (held_new ≡ held_old) × (new ≡ old)
+FailsAt rules options line reading lines written held_old held_new old new fault = ⊥
 
 -- no line ends within some bytes
 abbrev pub NoEnd : List ℕ → Type 0
@@ -112,11 +112,12 @@ pub record Grows (bytes : List ℕ) (old new : Reading) : Type 0 where
   pub lines : new.lines ≡ old.lines
   pub written : new.written ≡ old.written
 
--- or they were not, since the line would be too long, or else for want of memory
-abbrev pub GrowsNot : List ℕ → Reading → RunFault → Type 0
-GrowsNot bytes reading (f.BadLine n) = (LINE_LIMIT < length (reading.line.items ++ bytes)) × (n ≡ reading.lines + 1)
-GrowsNot bytes reading f.Memory = (length (reading.line.items ++ bytes) ≤ LINE_LIMIT) × (0 < length bytes)
-GrowsNot bytes reading fault = ⊥
+-- or they were not, since the line would be too long, or else for want of memory, and then none was added
+abbrev pub GrowsNot : List ℕ → Reading → Reading → RunFault → Type 0
+GrowsNot bytes old new (f.BadLine n) = (LINE_LIMIT < length (old.line.items ++ bytes)) × (n ≡ old.lines + 1)
+GrowsNot bytes old new f.Memory =
+    (length (old.line.items ++ bytes) ≤ LINE_LIMIT) × (0 < length bytes) × (new.line.items ≡ old.line.items) × (new.lines ≡ old.lines)
+GrowsNot bytes old new fault = ⊥
 
 -- Of a piece, the first n bytes were taken: all of it goes on with the line, or a line ended and was obeyed.
 pub record GoesOn (piece : List ℕ) (n : ℕ) (state_old state_new : SessionState) (old new : Reading) (writer_old writer_new : Device) : Type 0 where
@@ -139,26 +140,29 @@ Takes rules options piece n state_old state_new old new writer_old writer_new =
     GoesOn piece n state_old state_new old new writer_old writer_new ⊎ EndsLine rules options piece n state_old state_new old new writer_old writer_new
 
 -- a line that ends in a piece fails
-pub record FailsLine (rules : Rules) (options : ScriptOptions) (piece kept : List ℕ) (state_old state_new : SessionState) (reading : Reading) (old new : Device) (fault : RunFault) : Type 0 where
+pub record FailsLine (rules : Rules) (options : ScriptOptions) (piece : List ℕ) (state_old state_new : SessionState) (old new : Reading) (writer_old writer_new : Device) (fault : RunFault) : Type 0 where
   pub front : List ℕ
   pub after : List ℕ
   pub ends : EndsIn piece front after
-  pub fails : FailsAt rules options (reading.line.items ++ front) kept reading.lines reading.written (held_at state_old) (held_at state_new) old new fault
-  pub works : LineWorks rules options.queries (held_at state_old) (reading.line.items ++ front) state_old.engine state_new.engine
+  pub fails : FailsAt rules options (old.line.items ++ front) new old.lines old.written (held_at state_old) (held_at state_new) writer_old writer_new fault
+  pub works : LineWorks rules options.queries (held_at state_old) (old.line.items ++ front) state_old.engine state_new.engine
+  pub lines : new.lines ≡ old.lines
 
--- or its beginning, up to the end of the piece or to its own, can't be kept
-pub record IsNotKept (piece : List ℕ) (state_old state_new : SessionState) (reading : Reading) (old new : Device) (fault : RunFault) : Type 0 where
+-- or its beginning, up to its end or to that of the piece, can't be kept
+pub record IsNotKept (piece : List ℕ) (state_old state_new : SessionState) (old new : Reading) (writer_old writer_new : Device) (fault : RunFault) : Type 0 where
   pub front : List ℕ
   pub after : List ℕ
   pub whole : piece ≡ front ++ after
   pub none : NoEnd front
-  pub grows : GrowsNot front reading fault
+  pub ends : (after ≡ []) ⊎ ((rest : List ℕ) × (after ≡ 10 ∷ rest))
+  pub grows : GrowsNot front old new fault
   pub state : state_new ≡ state_old
-  pub writer : new ≡ old
+  pub writer : writer_new ≡ writer_old
 
-abbrev pub FailsIn : Rules → ScriptOptions → List ℕ → List ℕ → SessionState → SessionState → Reading → Device → Device → RunFault → Type 0
-FailsIn rules options piece kept state_old state_new reading old new fault =
-    FailsLine rules options piece kept state_old state_new reading old new fault ⊎ IsNotKept piece state_old state_new reading old new fault
+abbrev pub FailsIn : Rules → ScriptOptions → List ℕ → SessionState → SessionState → Reading → Reading → Device → Device → RunFault → Type 0
+FailsIn rules options piece state_old state_new old new writer_old writer_new fault =
+    FailsLine rules options piece state_old state_new old new writer_old writer_new fault
+    ⊎ IsNotKept piece state_old state_new old new writer_old writer_new fault
 
 -- Between two states of its devices and of its session a run has read some bytes and obeyed some lines. After these it holds the
 -- beginning of a line, and bytes that wait.
@@ -181,6 +185,17 @@ pub record IsAt (rules : Rules) (options : ScriptOptions) (start : SessionState)
   pub written : reading.written ≡ length (answers rules options (held_at start) done)
   pub ahead : length reading.line.items + length waiting ≤ LINE_LIMIT + PIECE
   pub short : length reading.line.items ≤ LINE_LIMIT
+
+-- Memory runs out for one line: after those that were obeyed, for the first one that ends in what waits, or that goes on in it.
+pub record WantsIn (rules : Rules) (options : ScriptOptions) (start : SessionState)
+    (reader_old reader writer_old writer : Device) (state : SessionState) (reading : Reading) : Type 0 where
+  pub state_before : SessionState
+  pub before : Reading
+  pub writer_before : Device
+  pub waiting : List ℕ
+  pub at : IsAt rules options start reader_old reader writer_old writer_before state_before before waiting
+  pub lines : reading.lines ≡ before.lines
+  pub fails : FailsIn rules options waiting state_before state before reading writer_before writer f.Memory
 
 -- a run stands somewhere, and its counts fit
 abbrev pub CanFeed : Rules → ScriptOptions → SessionState → Reading → Device → List ℕ → Type 0

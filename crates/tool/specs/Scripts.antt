@@ -110,19 +110,25 @@ abbrev pub insertion_in : Option (List ℕ × List ℕ) → Option Request
 insertion_in None = None
 insertion_in (Some (pos, text)) = insertion_of (number_in pos) (unescaped text)
 
--- an insert at a place that is a number, of a text that is not empty and whose escapes are right: what alone is kept as it is read
-pub record IsPieceIn (text : List ℕ) : Type 0 where
+-- A text whose escapes are right writes more than is kept of what it writes.
+pub record LacksText (text kept : List ℕ) : Type 0 where
+  pub whole : List ℕ
+  pub right : unescaped text ≡ Some whole
+  pub short : length kept < length whole
+
+-- So does that of an insert at a place that is a number: what alone is kept as a line is read.
+pub record LacksPieceIn (text kept : List ℕ) : Type 0 where
   pub pos : List ℕ
   pub piece : List ℕ
   pub parts : parted text ≡ Some (pos, piece)
   pub place : is_some (number_in pos) ≡ true
   pub some : 0 < length piece
-  pub right : is_some (unescaped piece) ≡ true
+  pub lacks : LacksText piece kept
 
-pub record HasPiece (line : List ℕ) : Type 0 where
+pub record LacksPiece (line kept : List ℕ) : Type 0 where
   pub rest : List ℕ
   pub word : stripped (codes "insert ") line ≡ Some rest
-  pub piece : IsPieceIn rest
+  pub piece : LacksPieceIn rest kept
 
 abbrev pub deletion_of : Option ℕ → Option ℕ → Option Request
 deletion_of (Some pos) (Some count) = Some (Delete pos count)

@@ -1,23 +1,24 @@
 //! The lines of an edit script: what each asks for.
 ghost use Rattle.std.specs.Prelude.{◌≡◌, ◌+◌, ◌<◌, ◌≤◌, ◌^◌, List, ℕ, take, drop, length, true};
-ghost use Rattle.std.specs.Prelude.{IfOk, IfSome, OnErr, is_some, option_map, string_bytes};
+ghost use Rattle.std.specs.Prelude.{IfOk, IfSome, None, OnErr, Some, is_some, option_map};
+ghost use Rattle.std.specs.Prelude.{if◌then◌else◌, string_bytes};
 ghost use Rattle.std.specs.List.{prefix_len};
 ghost use Rattle.std.specs.Char.{is_digit};
 ghost use Rattle.std.specs.Str.{chars};
 ghost use Rattle.tool.specs.Requests.{request_of};
-ghost use Rattle.tool.specs.Scripts.{HasPiece, IsPieceIn};
+ghost use Rattle.tool.specs.Scripts.{LacksPiece, LacksPieceIn, LacksText};
 ghost use Rattle.tool.specs.Scripts.{Ask, SetWidth, are_digits, both_in, braced, deletion_in};
 ghost use Rattle.tool.specs.Scripts.{edit_request_in, escaped, insertion_in, number_by, number_in};
 ghost use Rattle.tool.specs.Scripts.{parted, question_in, request_in, stripped, unescaped, written};
 
 use crate::queries::Question;
-use std::alloc::{AllocError, Global};
+use std::alloc::AllocError;
 
 /// What a line of a script asks for.
-#[derive(Debug, Drop)]
+#[derive(Clone, Copy, Debug, PartialEq, Eq)]
 pub enum Request {
-    /// To put a text before the character at a place.
-    Insert(usize, String),
+    /// To put a text, which stands beside the request, before the character at a place.
+    Insert(usize),
     /// To take so many characters out, from a place on.
     Delete(usize, usize),
     /// To set the width, in columns.
@@ -49,16 +50,17 @@ const SIZE: [char; 4] = ['s', 'i', 'z', 'e'];
 const TEXT: [char; 5] = ['t', 'e', 'x', 't', ' '];
 
 /// What the characters of a line ask for, if it is a line of a script, in which there may be questions or
-/// not.
+/// not. The text of an insert is put into `piece`.
 pub fn read_request(
-    alloc: Global,
     queries: bool,
     line: &[char],
+    piece: &mut String,
 ) -> Result<Option<Request>, AllocError>
-    ensures ok { IfOk result (λ request. option_map request_of request ≡ request_in queries line.now) }
-    ensures memory { OnErr result (HasPiece line.now) }
+    ensures ok { IfOk result (λ request. option_map (request_of (string_bytes piece.new)) request
+        ≡ request_in queries line.now) }
+    ensures memory { OnErr result (LacksPiece line.now (chars (string_bytes piece.new))) }
 {
-    match read_edit_request(alloc, line) {
+    match read_edit_request(line, piece) {
         Ok(None) if queries => Ok(read_question(line)),
         request => request,
     }
@@ -66,7 +68,8 @@ pub fn read_request(
 
 // A line that asks for none of the others may be a question.
 fn read_question(line: &[char]) -> Option<Request>
-    ensures { option_map request_of result ≡ option_map Ask (question_in line.now) }
+    ensures { (piece : List ℕ)
+        → option_map (request_of piece) result ≡ option_map Ask (question_in line.now) }
 {
     Some(Request::Ask(question(line)?))
 }
@@ -108,9 +111,10 @@ fn both(text: &[char]) -> Option<(usize, usize)>
 }
 
 // What a line asks for that is no question.
-fn read_edit_request(alloc: Global, line: &[char]) -> Result<Option<Request>, AllocError>
-    ensures ok { IfOk result (λ request. option_map request_of request ≡ edit_request_in line.now) }
-    ensures memory { OnErr result (HasPiece line.now) }
+fn read_edit_request(line: &[char], piece: &mut String) -> Result<Option<Request>, AllocError>
+    ensures ok { IfOk result (λ request. option_map (request_of (string_bytes piece.new)) request
+        ≡ edit_request_in line.now) }
+    ensures memory { OnErr result (LacksPiece line.now (chars (string_bytes piece.new))) }
 {
     if let Some(rest) = after(&SHOW, line) {
         return Ok(if rest.is_empty() {
@@ -120,7 +124,7 @@ fn read_edit_request(alloc: Global, line: &[char]) -> Result<Option<Request>, Al
         });
     }
     if let Some(rest) = after(&INSERT, line) {
-        return insertion(alloc, rest);
+        return insertion(rest, piece);
     }
     if let Some(rest) = after(&DELETE, line) {
         return Ok(deletion(rest));
@@ -131,10 +135,10 @@ fn read_edit_request(alloc: Global, line: &[char]) -> Result<Option<Request>, Al
     }
 }
 
-fn insertion(alloc: Global, text: &[char]) -> Result<Option<Request>, AllocError>
-    ensures ok { IfOk result (λ request. option_map request_of request
+fn insertion(text: &[char], piece: &mut String) -> Result<Option<Request>, AllocError>
+    ensures ok { IfOk result (λ request. option_map (request_of (string_bytes piece.new)) request
         ≡ insertion_in (parted text.now)) }
-    ensures memory { OnErr result (IsPieceIn text.now) }
+    ensures memory { OnErr result (LacksPieceIn text.now (chars (string_bytes piece.new))) }
 {
     let Some((pos, text)) = words(text) else {
         return Ok(None);
@@ -142,22 +146,23 @@ fn insertion(alloc: Global, text: &[char]) -> Result<Option<Request>, AllocError
     let Some(pos) = number(pos) else {
         return Ok(None);
     };
-    match unescape(alloc, text) {
-        Ok(Some(piece)) => Ok(Some(Request::Insert(pos, piece))),
-        Ok(None) => Ok(None),
+    match unescape(text, piece) {
+        Ok(true) => Ok(Some(Request::Insert(pos))),
+        Ok(false) => Ok(None),
         Err(error) => Err(error),
     }
 }
 
 fn deletion(text: &[char]) -> Option<Request>
-    ensures { option_map request_of result ≡ deletion_in (parted text.now) }
+    ensures { (piece : List ℕ) → option_map (request_of piece) result ≡ deletion_in (parted text.now) }
 {
     let (pos, count) = words(text)?;
     Some(Request::Delete(number(pos)?, number(count)?))
 }
 
 fn width(text: &[char]) -> Option<Request>
-    ensures { option_map request_of result ≡ option_map SetWidth (number_in text.now) }
+    ensures { (piece : List ℕ)
+        → option_map (request_of piece) result ≡ option_map SetWidth (number_in text.now) }
 {
     Some(Request::SetWidth(number(text)?))
 }
@@ -233,18 +238,18 @@ fn has_right_escapes(text: &[char]) -> bool
     true
 }
 
-// The text that these characters write, if their escapes are right, which is told before there is need of
-// memory.
-fn unescape(alloc: Global, text: &[char]) -> Result<Option<String>, AllocError>
-    ensures ok { IfOk result (λ piece. option_map (λ p. chars (string_bytes p)) piece
-        ≡ unescaped text.now) }
+// Puts the text that these characters write into a piece, if their escapes are right, which is told before
+// there is need of memory.
+fn unescape(text: &[char], piece: &mut String) -> Result<bool, AllocError>
+    ensures ok { IfOk result (λ right.
+        (if right then Some (chars (string_bytes piece.new)) else None) ≡ unescaped text.now) }
     ensures memory { OnErr result (0 < length text.now) }
-    ensures right { OnErr result (is_some (unescaped text.now) ≡ true) }
+    ensures lacks { OnErr result (LacksText text.now (chars (string_bytes piece.new))) }
 {
     if !has_right_escapes(text) {
-        return Ok(None);
+        return Ok(false);
     }
-    let mut piece = String::new(alloc);
+    piece.clear();
     let mut at = 0;
     while at < text.len() {
         match written(text[at], &text[at + 1..]) {
@@ -252,10 +257,10 @@ fn unescape(alloc: Global, text: &[char]) -> Result<Option<String>, AllocError>
                 piece.push(c)?;
                 at += len;
             }
-            None => return Ok(None),
+            None => return Ok(false),
         }
     }
-    Ok(Some(piece))
+    Ok(true)
 }
 
 // The character that a text begins to write, and how many characters write it.

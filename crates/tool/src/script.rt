@@ -2,7 +2,7 @@
 //! read, and its answer is written before more is read.
 ghost use Rattle.std.specs.Prelude.{◌≡◌, ◌+◌, ◌-◌, ◌<◌, ◌≤◌, ◌++◌, ◌^◌, ◌∷◌, ◌⊎◌, [], true, false};
 ghost use Rattle.std.specs.Prelude.{None, Ok};
-ghost use Rattle.std.specs.Prelude.{length, nat_lt, take, drop, vec_len, option_map};
+ghost use Rattle.std.specs.Prelude.{length, nat_lt, take, drop, vec_len, option_map, string_bytes};
 ghost use Rattle.std.specs.Prelude.{IfOk, IfErr, IsErrOf, OnOk, OnErr, MatchOption, MatchResult};
 ghost use Rattle.std.specs.Str.{chars};
 ghost use Rattle.std.specs.Str.Lossy.{utf8_valid_len};
@@ -16,9 +16,9 @@ ghost use Rattle.text_run.specs.declared.text.TheConstants.{PIECE};
 ghost use Rattle.tool.specs.Requests.{request_of};
 ghost use Rattle.tool.specs.Reading.{CanFeed, Edited, EndsIn, FailsAt, FailsIn, Feeds, Grows};
 ghost use Rattle.tool.specs.Reading.{GrowsNot, IsAt, NoEnd, Obeys, ObeysLine, ObeysNot, Steps, Stops};
-ghost use Rattle.tool.specs.Reading.{Takes, answer_text, lacks_memory};
+ghost use Rattle.tool.specs.Reading.{Takes, WantsIn, answer_text, lacks_memory};
 ghost use Rattle.tool.specs.ScriptEnds.{IsScriptRun};
-ghost use Rattle.tool.specs.Scripts.{Ask, Delete, HasPiece, SetWidth, Insert, request_of_line};
+ghost use Rattle.tool.specs.Scripts.{Ask, Delete, LacksPiece, SetWidth, Insert, request_of_line};
 ghost use Rattle.tool.specs.Work.{LineWorks, RequestWorks};
 
 use crate::answers::{answer_of, write_bytes};
@@ -51,8 +51,9 @@ struct Reading {
     // How many lines were obeyed, and how many bytes are written.
     lines: u64,
     written: u64,
-    // The characters of a line.
+    // The characters of a line, and the text of an insert.
     text: Vec<char>,
+    piece: String,
 }
 
 impl Drop for Reading {
@@ -62,6 +63,7 @@ impl Drop for Reading {
             lines: _,
             written: _,
             text: _,
+            piece: _,
         } = self;
     }
 }
@@ -189,19 +191,20 @@ fn obey<W: Sink, S: ParagraphStore<Kept>>(
     written: u64,
     print: &Print,
     request: &Request,
+    piece: &str,
 ) -> Result<u64, RunFault>
     requires { written ≤ (W.state writer.old).passed }
-    ensures ok { IfOk result (Obeys (rules_of session.old.engine) print.now (request_of request.now)
-        written (held_at session.old) (held_at session.new) (W.state writer.old) (W.state writer.new)) }
-    ensures err { IfErr result (ObeysNot (rules_of session.old.engine) print.now (request_of request.now)
-        written (held_at session.old) (held_at session.new) (W.state writer.old) (W.state writer.new)) }
-    ensures works { RequestWorks (rules_of session.old.engine) (held_at session.old) (request_of request.now)
-        session.old.engine session.new.engine }
+    ensures ok { IfOk result (Obeys (rules_of session.old.engine) print.now
+        (request_of piece.now request.now) written (held_at session.old) (held_at session.new) (W.state writer.old) (W.state writer.new)) }
+    ensures err { IfErr result (ObeysNot (rules_of session.old.engine) print.now
+        (request_of piece.now request.now) written (held_at session.old) (held_at session.new) (W.state writer.old) (W.state writer.new)) }
+    ensures works { RequestWorks (rules_of session.old.engine) (held_at session.old)
+        (request_of piece.now request.now) session.old.engine session.new.engine }
     ensures counted { IfOk result (λ n. n ≤ (W.state writer.new).passed) }
     ensures rules { SameRules session.old.engine session.new.engine }
 {
     let edit = match request {
-        Request::Insert(pos, piece) => insert(session, *pos, piece),
+        Request::Insert(pos) => insert(session, *pos, piece),
         Request::Delete(pos, count) => delete(session, *pos, *count),
         Request::SetWidth(width) => set_width(session, *width),
         Request::Show => return show(session, writer, written, print),
@@ -214,20 +217,21 @@ fn obey<W: Sink, S: ParagraphStore<Kept>>(
 }
 
 // What the bytes of a line ask for, if they are a line of a script. Whether they are UTF-8 is told
-// before there is need of memory, which is taken for their characters and for the text of an insert.
+// before there is need of memory, which is taken for their characters and for the text of an insert, as
+// these are put into `text` and `piece`.
 fn read_line(
-    alloc: Global,
     queries: bool,
     line: &[u8],
     text: &mut Vec<char>,
+    piece: &mut String,
 ) -> Result<Option<Request>, AllocError>
     requires { length line.now ≤ LINE_LIMIT }
-    ensures ok { IfOk result (λ request. option_map request_of request
+    ensures ok { IfOk result (λ request. option_map (request_of (string_bytes piece.new)) request
         ≡ request_of_line queries line.now) }
     ensures err { OnErr result (utf8_valid_len line.now ≡ length line.now) }
     ensures memory { OnErr result (0 < length line.now) }
     ensures part { OnErr result ((length text.new.items < length (chars line.now))
-        ⊎ HasPiece (chars line.now)) }
+        ⊎ LacksPiece (chars line.now) (chars (string_bytes piece.new))) }
 {
     let (characters, _) = front(line);
     if characters.len() < line.len() {
@@ -235,7 +239,7 @@ fn read_line(
     }
     text.clear();
     push_characters(characters, text)?;
-    read_request(alloc, queries, text)
+    read_request(queries, text, piece)
 }
 
 fn push_characters(text: &str, characters: &mut Vec<char>) -> Result<(), AllocError>
@@ -252,7 +256,6 @@ fn push_characters(text: &str, characters: &mut Vec<char>) -> Result<(), AllocEr
 
 // Obeys the line that was read.
 fn obey_line<W: Sink, S: ParagraphStore<Kept>>(
-    alloc: Global,
     session: &mut Session<S>,
     writer: &mut W,
     options: &ScriptOptions,
@@ -265,19 +268,28 @@ fn obey_line<W: Sink, S: ParagraphStore<Kept>>(
         (held_at session.old) (held_at session.new) reading.old reading.new
         (W.state writer.old) (W.state writer.new)) }
     ensures err { IfErr result (FailsAt (rules_of session.old.engine) options.now
-        reading.old.line.items reading.new.text.items reading.old.lines reading.old.written
+        reading.old.line.items reading.new reading.old.lines reading.old.written
         (held_at session.old) (held_at session.new) (W.state writer.old) (W.state writer.new)) }
     ensures works { LineWorks (rules_of session.old.engine) options.now.queries (held_at session.old)
         reading.old.line.items session.old.engine session.new.engine }
+    ensures lines { OnErr result (reading.new.lines ≡ reading.old.lines) }
     ensures rules { SameRules session.old.engine session.new.engine }
 {
-    let request = match read_line(alloc, options.queries, &reading.line, &mut reading.text) {
+    let (text, piece) = (&mut reading.text, &mut reading.piece);
+    let request = match read_line(options.queries, &reading.line, text, piece) {
         Ok(Some(request)) => request,
         Ok(None) => return Err(RunFault::BadLine(reading.lines + 1)),
         Err(_) => return Err(RunFault::Memory),
     };
     let written = reading.written;
-    match obey(session, writer, written, &options.print, &request) {
+    match obey(
+        session,
+        writer,
+        written,
+        &options.print,
+        &request,
+        &reading.piece,
+    ) {
         Ok(written) => {
             reading.written = written;
             reading.lines += 1;
@@ -293,7 +305,7 @@ fn obey_line<W: Sink, S: ParagraphStore<Kept>>(
 fn grow(reading: &mut Reading, bytes: &[u8]) -> Result<(), RunFault>
     requires { reading.old.lines < 2 ^ 64 - 1 }
     ensures ok { OnOk result (Grows bytes.now reading.old reading.new) }
-    ensures err { IfErr result (GrowsNot bytes.now reading.old) }
+    ensures err { IfErr result (GrowsNot bytes.now reading.old reading.new) }
 {
     if is_too_long(&reading.line, bytes) {
         return Err(RunFault::BadLine(reading.lines + 1));
@@ -321,7 +333,6 @@ fn line_end(piece: &[u8]) -> Option<usize>
 // Takes the bytes of a piece up to the first end of a line, and obeys the line; or, where none ends there,
 // takes all of them. Says how many it took.
 fn take_part<W: Sink, S: ParagraphStore<Kept>>(
-    alloc: Global,
     session: &mut Session<S>,
     writer: &mut W,
     options: &ScriptOptions,
@@ -333,8 +344,7 @@ fn take_part<W: Sink, S: ParagraphStore<Kept>>(
     ensures ok { IfOk result (λ n. Takes (rules_of session.old.engine) options.now piece.now n
         session.old session.new reading.old reading.new (W.state writer.old) (W.state writer.new)) }
     ensures err { IfErr result (FailsIn (rules_of session.old.engine) options.now piece.now
-        reading.new.text.items session.old session.new reading.old
-        (W.state writer.old) (W.state writer.new)) }
+        session.old session.new reading.old reading.new (W.state writer.old) (W.state writer.new)) }
     ensures rules { SameRules session.old.engine session.new.engine }
 {
     match line_end(piece) {
@@ -343,7 +353,7 @@ fn take_part<W: Sink, S: ParagraphStore<Kept>>(
                 Ok(()) => (),
                 Err(fault) => return Err(fault),
             }
-            match obey_line(alloc, session, writer, options, reading) {
+            match obey_line(session, writer, options, reading) {
                 Ok(()) => Ok(end + 1),
                 Err(fault) => Err(fault),
             }
@@ -357,7 +367,6 @@ fn take_part<W: Sink, S: ParagraphStore<Kept>>(
 
 // Obeys the lines that end in a piece, and keeps what stands after them.
 fn feed<W: Sink, S: ParagraphStore<Kept>>(
-    alloc: Global,
     session: &mut Session<S>,
     writer: &mut W,
     options: &ScriptOptions,
@@ -371,11 +380,19 @@ fn feed<W: Sink, S: ParagraphStore<Kept>>(
         writer_start (W.state writer.old) session.old reading.old piece.now
         → Feeds (rules_of session.old.engine) options.now start reader_start writer_start reader_now
         (W.state writer.new) session.new reading.new result }
+
+    // Memory is wanted for one line, after those that were obeyed.
+    ensures wants { (start : SessionState) (reader_start writer_start reader_now : Device)
+        → IsAt (rules_of session.old.engine) options.now start reader_start reader_now
+        writer_start (W.state writer.old) session.old reading.old piece.now
+        → IsErrOf result RunFault.Memory
+        → WantsIn (rules_of session.old.engine) options.now start reader_start reader_now writer_start
+        (W.state writer.new) session.new reading.new }
     ensures rules { SameRules session.old.engine session.new.engine }
 {
     let mut at = 0;
     while at < piece.len() {
-        match take_part(alloc, session, writer, options, reading, &piece[at..]) {
+        match take_part(session, writer, options, reading, &piece[at..]) {
             Ok(taken) => at += taken,
             Err(fault) => return Err(fault),
         }
@@ -385,7 +402,6 @@ fn feed<W: Sink, S: ParagraphStore<Kept>>(
 
 // Ends a script of which no more comes: what stands after the last end is a line too, unless it is empty.
 fn finish<W: Sink, S: ParagraphStore<Kept>>(
-    alloc: Global,
     session: &mut Session<S>,
     writer: &mut W,
     options: &ScriptOptions,
@@ -403,19 +419,18 @@ fn finish<W: Sink, S: ParagraphStore<Kept>>(
     // Memory is wanted for the last line alone, where there is one.
     ensures memory { IsErrOf result RunFault.Memory → (0 < length reading.old.line.items)
         × FailsAt (rules_of session.old.engine) options.now reading.old.line.items
-        reading.new.text.items reading.old.lines reading.old.written (held_at session.old)
+        reading.new reading.old.lines reading.old.written (held_at session.old)
         (held_at session.new) (W.state writer.old) (W.state writer.new) RunFault.Memory }
     ensures rules { SameRules session.old.engine session.new.engine }
 {
     if reading.line.is_empty() {
         return Ok(());
     }
-    obey_line(alloc, session, writer, options, reading)
+    obey_line(session, writer, options, reading)
 }
 
 // Reads a piece, and obeys the lines that end in it. Says whether the script goes on.
 fn step<R: Source, W: Sink, S: ParagraphStore<Kept>>(
-    alloc: Global,
     reader: &mut R,
     writer: &mut W,
     session: &mut Session<S>,
@@ -434,9 +449,20 @@ fn step<R: Source, W: Sink, S: ParagraphStore<Kept>>(
         (R.state reader.new) (W.state writer.new) session.new reading.new result }
     ensures reads { TellsReads result (R.state reader.old) (R.state reader.new) }
 
-    // Where no more was read, memory is wanted for the line that stands at the end, if one does.
+    // Memory is wanted for one line, after those that were obeyed; where no more was read, for the line that
+    // stands at the end, if one does.
+    ensures wants { (start : SessionState) (reader_start writer_start : Device)
+        → IsAt (rules_of session.old.engine) options.now start reader_start (R.state reader.old)
+        writer_start (W.state writer.old) session.old reading.old []
+        → IsErrOf result RunFault.Memory
+        → (R.state reader.old).passed < (R.state reader.new).passed
+        → WantsIn (rules_of session.old.engine) options.now start reader_start (R.state reader.new)
+        writer_start (W.state writer.new) session.new reading.new }
     ensures last { IsErrOf result RunFault.Memory
-        → (R.state reader.new).passed ≡ (R.state reader.old).passed → 0 < length reading.old.line.items }
+        → (R.state reader.new).passed ≡ (R.state reader.old).passed → (0 < length reading.old.line.items)
+        × FailsAt (rules_of session.old.engine) options.now reading.old.line.items
+        reading.new reading.old.lines reading.old.written (held_at session.old)
+        (held_at session.new) (W.state writer.old) (W.state writer.new) RunFault.Memory }
     ensures rises { result ≡ Ok true → (R.state reader.old).passed < (R.state reader.new).passed }
     ensures counted { result ≡ Ok true → (R.state reader.new).passed ≤ 2 ^ 64 - 1 }
     ensures room { length piece.new ≡ length piece.old }
@@ -447,12 +473,12 @@ fn step<R: Source, W: Sink, S: ParagraphStore<Kept>>(
         Err(_) => return Err(RunFault::Read),
     };
     if len == 0 {
-        return match finish(alloc, session, writer, options, reading) {
+        return match finish(session, writer, options, reading) {
             Ok(()) => Ok(false),
             Err(fault) => Err(fault),
         };
     }
-    match feed(alloc, session, writer, options, reading, &piece[..len]) {
+    match feed(session, writer, options, reading, &piece[..len]) {
         Ok(()) => Ok(true),
         Err(fault) => Err(fault),
     }
@@ -502,17 +528,10 @@ fn run_over<R: Source, W: Sink, S: ParagraphStore<Kept>>(
         lines: 0,
         written: 0,
         text: Vec::new(alloc),
+        piece: String::new(alloc),
     };
     loop {
-        match step(
-            alloc,
-            reader,
-            writer,
-            session,
-            options,
-            &mut piece,
-            &mut reading,
-        ) {
+        match step(reader, writer, session, options, &mut piece, &mut reading) {
             Ok(true) => (),
             Ok(false) => return Ok(()),
             Err(fault) => return Err(fault),

@@ -14,3 +14,8 @@ find_each-requires-clause-laid g c =
 pub returns-clause-room : goal.returns-clause-room
 returns-clause-room g c =
     rw c.in_ok-room.ensures.ok (subst (All (HasRoom c.longest.result)) (ap values c.deref-2.ensures.value ∙ c.in_ok-list.ensures.ok) c.longest.ensures.all)
+
+pub returns-clause-least : goal.returns-clause-least
+returns-clause-least g c = λ n all.
+    let listed = subst (All (HasRoom n)) (sym (ap values c.deref-2.ensures.value ∙ c.in_ok-list.ensures.ok)) all in
+    rw c.in_ok-room.ensures.ok (c.longest.ensures.least n listed)

@@ -1,7 +1,10 @@
-use Rattle.std.proofs.Common.{◌≤◌, length, refl, arith}
+use Rattle.std.proofs.Common.{◌≤◌, length, refl, arith, subst}
 use Rattle.std.proofs.lemmas.Bool.Decides.{nat_tests}
-use Rattle.session.proofs.WidthLemmas.{all_listed, all_roomy, read_here, read_item, roomy_more, values}
+use Rattle.session.proofs.WidthLemmas.{all_listed, all_roomy, read_here, read_item, roomy_more, values, HasRoom}
 use Rattle.session.proofs.width.longest.Goals as goal
+
+pub loop-kept-init : goal.loop-kept-init
+loop-kept-init c = record { so_far = tt; least = λ n all. omega arith }
 
 pub loop-kept-preserved : goal.loop-kept-preserved
 loop-kept-preserved c =
@@ -10,7 +13,13 @@ loop-kept-preserved c =
     let item = read_item c.args.list.now c.loop-kept.kept-index kept kept.now c.loop-kept-test.true c.kept-item.is refl in
     let order : c.loop-kept.most ≤ c.max-most.result = grind (arith, nat_tests) in
     let this : length kept.now.text ≤ c.max-most.result = grind (arith, nat_tests) in
-    roomy_more (values c.args.list.now) c.loop-kept.kept-index c.loop-kept.most c.max-most.result kept.now here item order this c.loop-kept.invariant
+    record {
+      so_far = roomy_more (values c.args.list.now) c.loop-kept.kept-index c.loop-kept.most c.max-most.result kept.now here item order this c.loop-kept.invariant.so_far;
+      least = λ n all.
+          let before : c.loop-kept.most ≤ n = c.loop-kept.invariant.least n all in
+          let now : length kept.now.text ≤ n = subst (HasRoom n) item (all c.loop-kept.kept-index kept.now here) in
+          grind (arith, nat_tests, before, now);
+    }
 
 pub returns-clause-all : goal.returns-clause-all
-returns-clause-all c = all_roomy (values c.args.list.now) c.loop-kept.kept-index c.loop-kept.most (all_listed c.args.list.now c.loop-kept.kept-index c.loop-kept-test.false) c.loop-kept.invariant
+returns-clause-all c = all_roomy (values c.args.list.now) c.loop-kept.kept-index c.loop-kept.most (all_listed c.args.list.now c.loop-kept.kept-index c.loop-kept-test.false) c.loop-kept.invariant.so_far

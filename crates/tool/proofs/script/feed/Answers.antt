@@ -1,7 +1,8 @@
 use Rattle.std.proofs.Common.{◌-◌, length, take, drop, arith, ap, ◌∙◌}
 use Rattle.std.proofs.lemmas.List.{length-drop, take_rest}
 use Rattle.lines.specs.Engine.{rules_of}
-use Rattle.tool.proofs.ScriptStepLemmas.{failed_part, lines_fit, takes_some, took_part, written_fits}
+use Rattle.tool.specs.Reading.{FailsIn}
+use Rattle.tool.proofs.ScriptStepLemmas.{failed_part, lines_fit, takes_some, took_part, wants_memory, wants_part, written_fits}
 use Rattle.tool.proofs.script.feed.Goals as goal
 
 pub take_part-requires-clause-written : goal.take_part-requires-clause-written
@@ -45,3 +46,14 @@ returns-in-Err-clause-feeds g c = λ start reader_start writer_start reader_now 
     c.loop-at.session c.take_part.new.session c.loop-at.reading c.take_part.new.reading c.args.piece.now
     (take (length c.args.piece.now - c.loop-at.at) (drop c.loop-at.at c.args.piece.now)) 0 c.loop-at.at
     c.loop-at.invariant.rules (take_rest c.args.piece.now c.loop-at.at) (c.loop-at.invariant.stands start reader_start writer_start reader_now stands) c.in-Err.fault c.in-Err.ensures.err
+
+pub returns-in-Err-clause-wants : goal.returns-in-Err-clause-wants
+returns-in-Err-clause-wants g c = λ start reader_start writer_start reader_now stands wants.
+    wants_part (rules_of c.args.session.now.engine) (rules_of c.loop-at.session.engine) c.args.options.now start
+    reader_start reader_now writer_start (g.W.Sink.state c.loop-at.writer) (g.W.Sink.state c.take_part.new.writer)
+    c.loop-at.session c.take_part.new.session c.loop-at.reading c.take_part.new.reading c.args.piece.now
+    (take (length c.args.piece.now - c.loop-at.at) (drop c.loop-at.at c.args.piece.now)) 0 c.loop-at.at
+    c.loop-at.invariant.rules (take_rest c.args.piece.now c.loop-at.at) (c.loop-at.invariant.stands start reader_start writer_start reader_now stands)
+    (wants_memory (FailsIn (rules_of c.loop-at.session.engine) c.args.options.now
+    (take (length c.args.piece.now - c.loop-at.at) (drop c.loop-at.at c.args.piece.now)) c.loop-at.session c.take_part.new.session
+    c.loop-at.reading c.take_part.new.reading (g.W.Sink.state c.loop-at.writer) (g.W.Sink.state c.take_part.new.writer)) c.in-Err.fault wants c.in-Err.ensures.err)

@@ -1,11 +1,11 @@
-use Rattle.std.proofs.Common.{◌≡◌, ℕ, ◌<◌, ◌≤◌, ◌==◌, ◌&&◌, ◌++◌, List, [], ◌∷◌, Bool, true, Option, None, IfOk, length, nat_le, option_map, OnErr, Result, Ok, Err, sym, subst, ap, ◌∙◌, arith, if◌then◌else◌}
+use Rattle.std.proofs.Common.{◌≡◌, ℕ, ◌<◌, ◌≤◌, ◌==◌, ◌&&◌, ◌++◌, List, [], ◌∷◌, Bool, true, Option, None, IfOk, length, string_bytes, nat_le, option_map, OnErr, Result, Ok, Err, sym, subst, ap, ◌∙◌, arith, if◌then◌else◌}
 use Rattle.std.specs.Str.{chars}
 use Rattle.std.specs.Str.Lossy.{utf8_valid_len}
 use Rattle.std.proofs.lemmas.Bool.Decides.{nat_tests}
 use Rattle.std.proofs.lemmas.List.{length-take-le, take_all}
 use Rattle.std.proofs.lemmas.Str.{chars-nil, utf8_valid_len_le}
 use Rattle.tool.specs.Requests.{request_of}
-use Rattle.tool.specs.Scripts.{HasPiece, Request, request_in, request_of_line}
+use Rattle.tool.specs.Scripts.{LacksPiece, Request, request_in, request_of_line}
 use Rattle.tool.proofs.script.read_line.Goals as goal
 use Rattle.tool.specs.declared.script.TheConstants.{LINE_LIMIT}
 
@@ -41,12 +41,12 @@ returns-clause-ok c =
     ap (request_in queries) text ∙ sym
     (ap (λ (b : Bool). if b && (utf8_valid_len line == length line) then request_in queries (chars line) else None)
     short ∙ ap (λ (b : Bool). if b then request_in queries (chars line) else None) valid) in
-    subst (λ (o : Option Request). IfOk c.read_request.result (λ command. option_map request_of command ≡ o)) is c.read_request.ensures.ok
+    subst (λ (o : Option Request). IfOk c.read_request.result (λ command. option_map (request_of (string_bytes c.read_request.new.piece)) command ≡ o)) is c.read_request.ensures.ok
 
 -- no piece stands in a line without characters
-piece_some : (text : List ℕ) → HasPiece text → 0 < length text
-piece_some [] has = let none = has.word in cc none
-piece_some (c ∷ text) has = omega arith
+piece_some : (text kept : List ℕ) → LacksPiece text kept → 0 < length text
+piece_some [] kept has = let none = has.word in cc none
+piece_some (c ∷ text) kept has = omega arith
 
 line_some : (line : List ℕ) → 0 < length (chars line) → 0 < length line
 line_some [] some = omega (arith, some, ap length chars-nil)
@@ -64,4 +64,5 @@ returns-clause-memory c =
     let text : c.deref.result.now ≡ chars line =
     c.deref.ensures.value ∙ c.in_ok-push_characters.ensures.ok ∙ ap (λ t. t ++ chars c.front.result.0.now) c.clear.ensures.items
     ∙ ap chars (c.front.ensures.text ∙ take_all (utf8_valid_len line) line (omega (arith, is_text))) in
-    err_weaker _ _ (λ has. line_some line (piece_some (chars line) (subst HasPiece text has))) c.read_request.result c.read_request.ensures.memory
+    let kept = chars (string_bytes c.read_request.new.piece) in
+    err_weaker _ _ (λ has. line_some line (piece_some (chars line) kept (subst (λ (t : List ℕ). LacksPiece t kept) text has))) c.read_request.result c.read_request.ensures.memory

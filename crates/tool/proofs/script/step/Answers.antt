@@ -1,6 +1,7 @@
 use Rattle.std.proofs.Common.{◌≤◌, length, rules}
 use Rattle.lines.specs.Engine.{rules_of}
-use Rattle.tool.proofs.ScriptStepLemmas.{at_none, at_read, ends_read}
+use Rattle.tool.proofs.ScriptStepLemmas.{at_none, at_read, ends_read, same_fault}
+use Rattle.text_run.specs.declared.faults.RunFault.TheVariants as f
 use Rattle.tool.proofs.script.step.Goals as goal
 use Rattle.text_run.specs.declared.text.TheConstants.{PIECE}
 
@@ -67,3 +68,14 @@ returns-in-Err-feed-clause-steps g c = λ start reader_start writer_start at.
     (g.R.Source.state c.args.reader.now) writer_start (g.W.Sink.state c.args.writer.now) c.args.session.now
     c.args.reading.now
     (g.R.Source.state c.read.new.self) c.in-Ok.len c.read.new.buffer at gives within small)
+
+pub returns-in-Err-feed-clause-wants : goal.returns-in-Err-feed-clause-wants
+returns-in-Err-feed-clause-wants g c = λ start reader_start writer_start at wants more.
+    let gives = c.in-Ok.ensures.reads in
+    let within : c.in-Ok.len ≤ length c.read.new.buffer = search rules in
+    let small : c.in-Ok.len ≤ PIECE = search rules in
+    c.in-Err-feed.ensures.wants start reader_start writer_start (g.R.Source.state c.read.new.self)
+    (at_read (rules_of c.args.session.now.engine) c.args.options.now start reader_start
+    (g.R.Source.state c.args.reader.now) writer_start (g.W.Sink.state c.args.writer.now) c.args.session.now
+    c.args.reading.now
+    (g.R.Source.state c.read.new.self) c.in-Ok.len c.read.new.buffer at gives within small) (same_fault c.in-Err-feed.fault f.Memory wants)

@@ -1,4 +1,4 @@
-use Rattle.std.proofs.Common.{◌+◌, [], refl, sym, take, drop, inl, inr}
+use Rattle.std.proofs.Common.{◌+◌, [], refl, sym, take, drop, inl, inr, ◌∙◌}
 use Rattle.std.proofs.lemmas.List.{append-nil}
 use Rattle.tool.proofs.script.take_part.Goals as goal
 
@@ -8,6 +8,7 @@ returns-in-Err-grow-clause-err g c = inr (record {
   after = [];
   whole = sym (append-nil c.args.piece.now);
   none = c.in-None.ensures;
+  ends = inl refl;
   grows = c.in-Err-grow.ensures.err;
   state = refl;
   writer = refl;
@@ -22,4 +23,5 @@ returns-in-Err-obey_line-clause-err g c =
       ends = c.in-Some.ensures.1;
       fails = rw (grows.line, grows.lines, grows.written) at c.in-Err-obey_line.ensures.err;
       works = rw grows.line at c.in-Err-obey_line.ensures.works;
+      lines = c.in-Err-obey_line.ensures.lines ∙ grows.lines;
     })
