@@ -17,7 +17,7 @@ use std::alloc::AllocError;
 /// What a line of a script asks for.
 #[derive(Clone, Copy, Debug, PartialEq, Eq)]
 pub enum Request {
-    /// To put a text, which stands beside the request, before the character at a place.
+    /// To put a text, which is handed out beside this, before the character at a place.
     Insert(usize),
     /// To take so many characters out, from a place on.
     Delete(usize, usize),

@@ -195,9 +195,11 @@ fn obey<W: Sink, S: ParagraphStore<Kept>>(
 ) -> Result<u64, RunFault>
     requires { written ≤ (W.state writer.old).passed }
     ensures ok { IfOk result (Obeys (rules_of session.old.engine) print.now
-        (request_of piece.now request.now) written (held_at session.old) (held_at session.new) (W.state writer.old) (W.state writer.new)) }
+        (request_of piece.now request.now) written (held_at session.old) (held_at session.new)
+        (W.state writer.old) (W.state writer.new)) }
     ensures err { IfErr result (ObeysNot (rules_of session.old.engine) print.now
-        (request_of piece.now request.now) written (held_at session.old) (held_at session.new) (W.state writer.old) (W.state writer.new)) }
+        (request_of piece.now request.now) written (held_at session.old) (held_at session.new)
+        (W.state writer.old) (W.state writer.new)) }
     ensures works { RequestWorks (rules_of session.old.engine) (held_at session.old)
         (request_of piece.now request.now) session.old.engine session.new.engine }
     ensures counted { IfOk result (λ n. n ≤ (W.state writer.new).passed) }
