@@ -7,23 +7,22 @@
 #include <stddef.h>
 #include <stdint.h>
 
-/* Of single characters, by tables of pages. */
-uint32_t hordguli_fribidi_core_type(const uint8_t *index, size_t index_length, const uint8_t *pages, size_t pages_length,
-                                    uint32_t character);
-void hordguli_fribidi_core_types(const uint8_t *index, size_t index_length, const uint8_t *pages, size_t pages_length,
+/* Of single characters, by tables of pages, which have the lengths that c/fribidi/tables gives them. */
+uint32_t hordguli_fribidi_core_type(uint32_t character, const uint8_t index[static 4352], const uint8_t pages[static 65536]);
+void hordguli_fribidi_core_types(const uint8_t index[static 4352], const uint8_t pages[static 65536],
                                  const uint32_t *characters, size_t length, uint32_t *types, size_t room);
-uint32_t hordguli_fribidi_core_number(const uint8_t *index, size_t index_length, const uint16_t *pages,
-                                      size_t pages_length, const uint32_t *numbers, size_t numbers_length,
-                                      uint32_t character);
-void hordguli_fribidi_core_brackets(const uint8_t *index, size_t index_length, const uint16_t *pages, size_t pages_length,
-                                    const uint32_t *numbers, size_t numbers_length, const uint32_t *characters,
-                                    size_t length, const uint32_t *types, size_t types_length, uint32_t *brackets,
-                                    size_t room);
+uint32_t hordguli_fribidi_core_number(uint32_t character, const uint8_t index[static 4352],
+                                      const uint16_t pages[static 4096], const uint32_t numbers[static 512]);
+uint32_t hordguli_fribidi_core_mirror(uint32_t character, uint32_t *mirrored, const uint8_t index[static 4352],
+                                      const uint16_t pages[static 4096], const uint32_t numbers[static 512]);
+void hordguli_fribidi_core_brackets(const uint8_t index[static 4352], const uint16_t pages[static 4096],
+                                    const uint32_t numbers[static 512], const uint32_t *characters, size_t length,
+                                    const uint32_t *types, size_t types_length, uint32_t *brackets, size_t room);
 
 /* Where the number of a type stands among those that have names; 26 for all others. */
 uint32_t hordguli_fribidi_core_name(uint32_t type);
 
-/* Of paragraphs and lines. 0 is want of memory: then no array has changed. */
+/* Of paragraphs and lines. 0 is want of memory, of which a line takes none, or arrays of other lengths: then no array has changed. */
 uint32_t hordguli_fribidi_core_direction(const uint32_t *types, size_t length);
 uint32_t hordguli_fribidi_core_levels(const uint32_t *types, size_t length, const uint32_t *brackets,
                                       size_t brackets_length, uint32_t *direction, uint8_t *levels, size_t room);

@@ -14,10 +14,9 @@ typedef uint32_t character_number;
 typedef signed char level_number;
 
 #define LENGTH(array) (sizeof(array) / sizeof *(array))
-#define TYPES type_index, LENGTH(type_index), type_pages, LENGTH(type_pages)
-#define SIGNS sign_index, LENGTH(sign_index), sign_pages, LENGTH(sign_pages)
-#define BRACKETS SIGNS, brackets, LENGTH(brackets)
-#define MIRRORS SIGNS, mirrors, LENGTH(mirrors)
+#define TYPES type_index, type_pages
+#define BRACKETS sign_index, sign_pages, brackets
+#define MIRRORS sign_index, sign_pages, mirrors
 
 /* An array that may be missing: one of no elements stands for it. */
 static const uint32_t none[1];
@@ -28,7 +27,7 @@ static uint32_t nothing[1];
 /* ---- Single characters ---- */
 
 PUBLIC type_number fribidi_get_bidi_type(character_number character) {
-    return hordguli_fribidi_core_type(TYPES, character);
+    return hordguli_fribidi_core_type(character, TYPES);
 }
 
 PUBLIC void fribidi_get_bidi_types(const character_number *string, int length, type_number *types) {
@@ -45,7 +44,7 @@ PUBLIC const char *fribidi_get_bidi_type_name(type_number type) {
 }
 
 PUBLIC bracket_number fribidi_get_bracket(character_number character) {
-    return hordguli_fribidi_core_number(BRACKETS, character);
+    return hordguli_fribidi_core_number(character, BRACKETS);
 }
 
 PUBLIC void fribidi_get_bracket_types(const character_number *string, int length, const type_number *types,
@@ -55,15 +54,15 @@ PUBLIC void fribidi_get_bracket_types(const character_number *string, int length
 }
 
 PUBLIC int fribidi_get_mirror_char(character_number character, character_number *mirrored) {
-    uint32_t mirror = hordguli_fribidi_core_number(MIRRORS, character);
-    if (mirrored != NULL) *mirrored = mirror == 0 ? character : mirror;
-    return mirror != 0;
+    if (mirrored == NULL) return hordguli_fribidi_core_number(character, MIRRORS) != 0;
+    return (int)hordguli_fribidi_core_mirror(character, mirrored, MIRRORS);
 }
 
 /* ---- Paragraphs ---- */
 
 PUBLIC direction_number fribidi_get_par_direction(const type_number *types, int length) {
-    return hordguli_fribidi_core_direction(GIVEN(types, length < 0 ? 0 : (size_t)length));
+    if (types == NULL || length < 0) return hordguli_fribidi_core_direction(none, 0);
+    return hordguli_fribidi_core_direction(types, (size_t)length);
 }
 
 PUBLIC level_number fribidi_get_par_embedding_levels_ex(const type_number *types, const bracket_number *bracket_types,

@@ -118,7 +118,7 @@ static void lines(void) {
 }
 
 #ifdef REFUSES
-/* After want of memory the answer is 0, and nothing has changed. */
+/* After want of memory the answer is 0, and nothing has changed. A line is reordered without any. */
 static void refusals(void) {
     const FriBidiCharType types[] = {R, FRIBIDI_TYPE_RLI, L, ON, R, ON, FRIBIDI_TYPE_LRE, FRIBIDI_TYPE_AN, FRIBIDI_TYPE_PDF, FRIBIDI_TYPE_PDI, FRIBIDI_TYPE_EN, WS};
     const FriBidiBracketType brackets[12] = {0, 0, 0, FRIBIDI_BRACKET_OPEN_MASK | '(', 0, '('};
@@ -136,19 +136,15 @@ static void refusals(void) {
         SO(memcmp(levels, before, sizeof levels) == 0 && base == FRIBIDI_PAR_ON);
     }
     SO(refused_at > 2);
-    for (refused_at = 0;; refused_at++) {
-        FriBidiLevel levels[12] = {1, 1, 2, 1, 1, 1, 1, 2, 1, 1, 2, 3}, before[12];
-        FriBidiStrIndex map[12] = {0, 1, 2, 3, 4, 5, 6, 7, 8, 9, 10, 11}, old[12];
-        memcpy(before, levels, sizeof levels);
-        memcpy(old, map, sizeof map);
-        left = refused_at;
+    {
+        FriBidiLevel levels[12] = {1, 1, 2, 1, 1, 1, 1, 2, 1, 1, 2, 3};
+        FriBidiStrIndex map[12] = {0, 1, 2, 3, 4, 5, 6, 7, 8, 9, 10, 11};
+        left = 0;
         FriBidiLevel top = fribidi_reorder_line(FRIBIDI_FLAG_REORDER_NSM, types, COUNT(types), 0, FRIBIDI_PAR_RTL, levels, NULL, map);
         left = -1;
         SO(alive == 0);
-        if (top != 0) break;
-        SO(memcmp(levels, before, sizeof levels) == 0 && memcmp(map, old, sizeof map) == 0);
+        SO(top != 0 && map[0] == 11);
     }
-    SO(refused_at > 0);
 }
 #endif
 

@@ -1,9 +1,8 @@
 mod BaseLemmas
-mod GroupLemmas
-mod InverseLemmas
+mod ChunkLemmas
+mod InPlaceLemmas
 mod IsolateLemmas
 mod LeastLemmas
 mod LevelLemmas
-mod NeighbourLemmas
 mod OrderLemmas
 mod SpaceLemmas

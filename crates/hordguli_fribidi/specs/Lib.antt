@@ -2,3 +2,4 @@ pub mod Types
 pub mod Points
 pub mod Levels
 pub mod Lines
+pub mod InPlace

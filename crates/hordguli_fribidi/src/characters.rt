@@ -1,57 +1,82 @@
 //! What tables of single characters say, which C hands in: numbers of pages, pages of entries, and what the
-//! entries stand for.
-ghost use Rattle.std.specs.Prelude.{◌≡◌, length, map};
-ghost use Rattle.hordguli_fribidi.specs.Points.{bracket_at, brackets_at, brackets_by, entry_at};
+//! entries stand for. Each table has room for all that a number can name, or more, so that few tests are left.
+ghost use Rattle.std.specs.Prelude.{◌≡◌, ◌<◌, ◌==◌, ◌+◌, ◌*◌, ◌%◌, if◌then◌else◌, length, map, slice_index_or};
+ghost use Rattle.hordguli_fribidi.specs.Points.{bracket_at, brackets_at, brackets_by};
 ghost use Rattle.hordguli_fribidi.specs.Points.{number_at, type_at, types_at};
+ghost use Rattle.hordguli_fribidi.specs.Types.{classes, type_of};
 
-// The numbers of the classes, in the order of their entries.
-static TYPES: [u32; 23] = [
+// The numbers of the classes, in the order of their entries, and that of L for all other entries.
+static TYPES: [u32; 256] = [
     272, 273, 275, 544, 66_592, 132_128, 546, 263_200, 524_320, 1_050_656, 2_107_456, 4_204_608,
-    8_390_720, 64, 4_112, 20_496, 4_113, 20_497, 4_128, 32_832, 32_833, 33_587_264, 32_864,
+    8_390_720, 64, 4_112, 20_496, 4_113, 20_497, 4_128, 32_832, 32_833, 33_587_264, 32_864, 272,
+    272, 272, 272, 272, 272, 272, 272, 272, 272, 272, 272, 272, 272, 272, 272, 272, 272, 272, 272,
+    272, 272, 272, 272, 272, 272, 272, 272, 272, 272, 272, 272, 272, 272, 272, 272, 272, 272, 272,
+    272, 272, 272, 272, 272, 272, 272, 272, 272, 272, 272, 272, 272, 272, 272, 272, 272, 272, 272,
+    272, 272, 272, 272, 272, 272, 272, 272, 272, 272, 272, 272, 272, 272, 272, 272, 272, 272, 272,
+    272, 272, 272, 272, 272, 272, 272, 272, 272, 272, 272, 272, 272, 272, 272, 272, 272, 272, 272,
+    272, 272, 272, 272, 272, 272, 272, 272, 272, 272, 272, 272, 272, 272, 272, 272, 272, 272, 272,
+    272, 272, 272, 272, 272, 272, 272, 272, 272, 272, 272, 272, 272, 272, 272, 272, 272, 272, 272,
+    272, 272, 272, 272, 272, 272, 272, 272, 272, 272, 272, 272, 272, 272, 272, 272, 272, 272, 272,
+    272, 272, 272, 272, 272, 272, 272, 272, 272, 272, 272, 272, 272, 272, 272, 272, 272, 272, 272,
+    272, 272, 272, 272, 272, 272, 272, 272, 272, 272, 272, 272, 272, 272, 272, 272, 272, 272, 272,
+    272, 272, 272, 272, 272, 272, 272, 272, 272, 272, 272, 272, 272, 272, 272, 272, 272, 272, 272,
+    272, 272, 272, 272, 272, 272, 272, 272, 272, 272, 272, 272, 272, 272, 272, 272, 272, 272, 272,
+    272, 272, 272, 272,
 ];
-
-// The entry of a code point.
-fn entry_at(index: &[u8], pages: &[u8], c: u32) -> u8
-    ensures { result ≡ entry_at index.now pages.now c }
-{
-    let number = c as usize / 256;
-    let page = if number < index.len() {
-        index[number]
-    } else {
-        0
-    };
-    let at = page as usize * 256 + c as usize % 256;
-    if at < pages.len() { pages[at] } else { 0 }
-}
-
-// The same of pages with wider entries.
-fn wide_entry_at(index: &[u8], pages: &[u16], c: u32) -> u16
-    ensures { result ≡ entry_at index.now pages.now c }
-{
-    let number = c as usize / 256;
-    let page = if number < index.len() {
-        index[number]
-    } else {
-        0
-    };
-    let at = page as usize * 256 + c as usize % 256;
-    if at < pages.len() { pages[at] } else { 0 }
-}
 
 /// The type of a code point.
 #[unsafe(no_mangle)]
-pub extern "C" fn hordguli_fribidi_core_type(index: &[u8], pages: &[u8], c: u32) -> u32
+pub extern "C" fn hordguli_fribidi_core_type(
+    c: u32,
+    index: &[u8; 4352],
+    pages: &[u8; 65_536],
+) -> u32
     ensures { result ≡ type_at index.now pages.now c }
 {
-    let entry = entry_at(index, pages, c) as usize;
-    if entry < 23 { TYPES[entry] } else { 272 }
+    if c < 1_114_112 {
+        type_on_page(c, index, pages)
+    } else {
+        type_past(c, pages)
+    }
+}
+
+// Of a number that has a page.
+fn type_on_page(c: u32, index: &[u8; 4352], pages: &[u8; 65_536]) -> u32
+    requires { c < 1_114_112 }
+    ensures { result ≡ type_at index.now pages.now c }
+{
+    type_in(pages, index[c as usize / 256], c)
+}
+
+// The same by the number of the page.
+fn type_in(pages: &[u8; 65_536], page: u8, c: u32) -> u32
+    ensures { result ≡ slice_index_or (map type_of classes)
+        (slice_index_or pages.now (page * 256 + c % 256) 0) 272 }
+{
+    type_of(pages[page as usize * 256 + c as usize % 256])
+}
+
+// The number of the class of an entry.
+fn type_of(entry: u8) -> u32
+    ensures { result ≡ slice_index_or (map type_of classes) entry 272 }
+{
+    TYPES[entry as usize]
+}
+
+// Of a number that has no page.
+#[cold]
+#[inline(never)]
+fn type_past(c: u32, pages: &[u8; 65_536]) -> u32
+    ensures { result ≡ slice_index_or (map type_of classes) (slice_index_or pages.now (c % 256) 0) 272 }
+{
+    type_in(pages, 0, c)
 }
 
 /// The types of the code points of a string, if the array has that length.
 #[unsafe(no_mangle)]
 pub extern "C" fn hordguli_fribidi_core_types(
-    index: &[u8],
-    pages: &[u8],
+    index: &[u8; 4352],
+    pages: &[u8; 65_536],
     characters: &[u32],
     types: &mut [u32],
 )
@@ -62,39 +87,131 @@ pub extern "C" fn hordguli_fribidi_core_types(
     }
 }
 
-fn put_types(index: &[u8], pages: &[u8], characters: &[u32], types: &mut [u32])
+// Four at a time, as long as each of them has a page.
+fn put_types(index: &[u8; 4352], pages: &[u8; 65_536], characters: &[u32], types: &mut [u32])
+    requires { length types.old ≡ length characters.now }
+    ensures { types.new ≡ map (type_at index.now pages.now) characters.now }
+{
+    let mut at = 0;
+    while characters.len() - at >= 4 {
+        let (first, second) = (characters[at], characters[at + 1]);
+        let (third, fourth) = (characters[at + 2], characters[at + 3]);
+        if first >= 1_114_112 || second >= 1_114_112 || third >= 1_114_112 || fourth >= 1_114_112 {
+            break;
+        }
+        types[at] = type_on_page(first, index, pages);
+        types[at + 1] = type_on_page(second, index, pages);
+        types[at + 2] = type_on_page(third, index, pages);
+        types[at + 3] = type_on_page(fourth, index, pages);
+        at += 4;
+    }
+    put_each_type(index, pages, &characters[at..], &mut types[at..]);
+}
+
+// The same one by one.
+fn put_each_type(index: &[u8; 4352], pages: &[u8; 65_536], characters: &[u32], types: &mut [u32])
     requires { length types.old ≡ length characters.now }
     ensures { types.new ≡ map (type_at index.now pages.now) characters.now }
 {
     for at in 0..characters.len() {
-        types[at] = hordguli_fribidi_core_type(index, pages, characters[at]);
+        types[at] = hordguli_fribidi_core_type(characters[at], index, pages);
     }
 }
 
 /// What a list of numbers has for a code point: its bracket, or its mirror; 0 for most.
 #[unsafe(no_mangle)]
 pub extern "C" fn hordguli_fribidi_core_number(
-    index: &[u8],
-    pages: &[u16],
-    numbers: &[u32],
     c: u32,
+    index: &[u8; 4352],
+    pages: &[u16; 4096],
+    numbers: &[u32; 512],
 ) -> u32
     ensures { result ≡ number_at index.now pages.now numbers.now c }
 {
-    let entry = wide_entry_at(index, pages, c) as usize;
-    if entry < numbers.len() {
-        numbers[entry]
+    if c < 1_114_112 {
+        let page = index[c as usize / 256];
+        if page < 16 {
+            let entry = pages[page as usize * 256 + c as usize % 256];
+            if entry < 512 {
+                return numbers[entry as usize];
+            }
+        }
+    }
+    number_by_parts(c, index, pages, numbers)
+}
+
+// The same of any number, any page and any entry.
+#[cold]
+#[inline(never)]
+fn number_by_parts(c: u32, index: &[u8; 4352], pages: &[u16; 4096], numbers: &[u32; 512]) -> u32
+    ensures { result ≡ number_at index.now pages.now numbers.now c }
+{
+    let page = if c < 1_114_112 {
+        index[c as usize / 256]
     } else {
         0
+    };
+    let at = page as usize * 256 + c as usize % 256;
+    let entry = if at < 4096 { pages[at] as usize } else { 0 };
+    if entry < 512 { numbers[entry] } else { 0 }
+}
+
+/// The mirror of a code point in place of what stood there, or the code point itself where it has none. Whether
+/// it has one.
+#[unsafe(no_mangle)]
+pub extern "C" fn hordguli_fribidi_core_mirror(
+    c: u32,
+    mirrored: &mut u32,
+    index: &[u8; 4352],
+    pages: &[u16; 4096],
+    numbers: &[u32; 512],
+) -> u32
+    ensures answer { result ≡ (if number_at index.now pages.now numbers.now c == 0 then 0 else 1) }
+    ensures mirrored { mirrored.new ≡ (if number_at index.now pages.now numbers.now c == 0 then c
+        else number_at index.now pages.now numbers.now c) }
+{
+    if c < 1_114_112 {
+        let page = index[c as usize / 256];
+        if page < 16 {
+            let entry = pages[page as usize * 256 + c as usize % 256];
+            if entry < 512 {
+                return put_mirror(c, numbers[entry as usize], mirrored);
+            }
+        }
     }
+    mirror_by_parts(c, mirrored, index, pages, numbers)
+}
+
+#[cold]
+#[inline(never)]
+fn mirror_by_parts(
+    c: u32,
+    mirrored: &mut u32,
+    index: &[u8; 4352],
+    pages: &[u16; 4096],
+    numbers: &[u32; 512],
+) -> u32
+    ensures answer { result ≡ (if number_at index.now pages.now numbers.now c == 0 then 0 else 1) }
+    ensures mirrored { mirrored.new ≡ (if number_at index.now pages.now numbers.now c == 0 then c
+        else number_at index.now pages.now numbers.now c) }
+{
+    put_mirror(c, number_by_parts(c, index, pages, numbers), mirrored)
+}
+
+fn put_mirror(c: u32, mirror: u32, mirrored: &mut u32) -> u32
+    ensures answer { result ≡ (if mirror == 0 then 0 else 1) }
+    ensures mirrored { mirrored.new ≡ (if mirror == 0 then c else mirror) }
+{
+    *mirrored = if mirror == 0 { c } else { mirror };
+    u32::from(mirror != 0)
 }
 
 /// The brackets of the code points of a string, none where the type is not ON, if the arrays have its length.
 #[unsafe(no_mangle)]
 pub extern "C" fn hordguli_fribidi_core_brackets(
-    index: &[u8],
-    pages: &[u16],
-    numbers: &[u32],
+    index: &[u8; 4352],
+    pages: &[u16; 4096],
+    numbers: &[u32; 512],
     characters: &[u32],
     types: &[u32],
     brackets: &mut [u32],
@@ -108,20 +225,26 @@ pub extern "C" fn hordguli_fribidi_core_brackets(
 }
 
 // The bracket of a code point of some type.
-fn bracket_at(index: &[u8], pages: &[u16], numbers: &[u32], c: u32, number: u32) -> u32
+fn bracket_at(
+    index: &[u8; 4352],
+    pages: &[u16; 4096],
+    numbers: &[u32; 512],
+    c: u32,
+    number: u32,
+) -> u32
     ensures { result ≡ bracket_at index.now pages.now numbers.now c number }
 {
     if number == 64 {
-        hordguli_fribidi_core_number(index, pages, numbers, c)
+        hordguli_fribidi_core_number(c, index, pages, numbers)
     } else {
         0
     }
 }
 
 fn put_brackets(
-    index: &[u8],
-    pages: &[u16],
-    numbers: &[u32],
+    index: &[u8; 4352],
+    pages: &[u16; 4096],
+    numbers: &[u32; 512],
     characters: &[u32],
     types: &[u32],
     brackets: &mut [u32],

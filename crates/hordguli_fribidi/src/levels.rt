@@ -137,35 +137,77 @@ fn first_strong_level(types: &[u32]) -> Option<u8>
     // How many isolates are open: a character stands outside all of them where none is.
     let mut depth = 0;
     for number in types {
-        let class = class_of(*number);
-        let level = strong_level(class);
+        let level = strong_level(*number);
         if depth == 0 && level.is_some() {
             return level;
         }
-        depth = depth_after(class, depth);
+        depth = depth_after(*number, depth);
     }
     None
 }
 
-fn strong_level(class: BidiClass) -> Option<u8>
-    ensures { result ≡ (if is_strong class then Some (strong_level class) else None) }
+#[tactic(auto, unfolding(crate::specs::Types::class_of))]
+fn strong_level(number: u32) -> Option<u8>
+    ensures { result
+        ≡ (if is_strong (class_of number) then Some (strong_level (class_of number)) else None) }
 {
-    match class {
-        BidiClass::L => Some(0),
-        BidiClass::R | BidiClass::AL => Some(1),
+    match number {
+        272 => Some(0),
+        273 => Some(1),
+        275 => Some(1),
+        544 => None,
+        66_592 => None,
+        132_128 => None,
+        546 => None,
+        263_200 => None,
+        524_320 => None,
+        1_050_656 => None,
+        2_107_456 => None,
+        4_204_608 => None,
+        8_390_720 => None,
+        4_112 => None,
+        20_496 => None,
+        4_113 => None,
+        20_497 => None,
+        4_128 => None,
+        32_832 => None,
+        32_833 => None,
+        33_587_264 => None,
+        32_864 => None,
         _ => None,
     }
 }
 
 // How many isolates are open after a character. A PDI with none open closes none.
-fn depth_after(class: BidiClass, depth: usize) -> usize
+#[tactic(auto, unfolding(crate::specs::Types::class_of))]
+fn depth_after(number: u32, depth: usize) -> usize
     requires { depth < usize.MAX }
-    ensures { result ≡ (if is_initiator class then depth + 1 else
-        (if is_pdi class then depth - 1 else depth)) }
+    ensures { result ≡ (if is_initiator (class_of number) then depth + 1 else
+        (if is_pdi (class_of number) then depth - 1 else depth)) }
 {
-    match class {
-        BidiClass::LRI | BidiClass::RLI | BidiClass::FSI => depth + 1,
-        BidiClass::PDI => depth.saturating_sub(1),
+    match number {
+        272 => depth,
+        273 => depth,
+        275 => depth,
+        544 => depth,
+        66_592 => depth,
+        132_128 => depth,
+        546 => depth,
+        263_200 => depth,
+        524_320 => depth,
+        1_050_656 => depth,
+        2_107_456 => depth,
+        4_204_608 => depth,
+        8_390_720 => depth,
+        4_112 => depth,
+        20_496 => depth,
+        4_113 => depth,
+        20_497 => depth,
+        4_128 => depth,
+        32_832 => depth + 1,
+        32_833 => depth + 1,
+        33_587_264 => depth + 1,
+        32_864 => depth.saturating_sub(1),
         _ => depth,
     }
 }

@@ -3,7 +3,6 @@
 
 mod characters;
 mod levels;
-mod limit;
 mod order;
 mod reorder;
 mod spaces;

@@ -1,123 +1,159 @@
-//! The visual order of one line (UAX #9, L2), and marks in reading order where they are asked for (L3).
-ghost use Rattle.std.specs.Prelude.{◌≡◌, ◌<◌, ◌≤◌, ◌++◌, min, if◌then◌else◌};
-ghost use Rattle.std.specs.Prelude.{ℕ, [], length, map, take, drop, true};
-ghost use Rattle.std.specs.Prelude.{unwrap_or, IfSome};
-ghost use Rattle.std.specs.List.{prefix_len, range_with_len};
-ghost use Rattle.bidi.specs.Runs.{AreWithin};
+//! The visual order of one line (UAX #9, L2), with marks in reading order where they are asked for (L3). The items
+//! of an array are moved where they stand, so nothing is allocated.
+ghost use Rattle.std.specs.Prelude.{◌≡◌, ◌<◌, ◌≤◌, ◌+◌, ◌==◌, ◌&&◌, if◌then◌else◌};
+ghost use Rattle.std.specs.Prelude.{ℕ, [], length, map, true, false, nat_le, nat_lt, slice_index};
+ghost use Rattle.std.specs.Prelude.{IfSome, Some, None};
+ghost use Rattle.std.specs.List.{list_any, prefix_len};
+ghost use Rattle.bidi.specs.Weak.{is_mark};
+ghost use Rattle.hordguli_fribidi.specs.InPlace.{flags_at, reverse_flagged, IsChunk};
 ghost use Rattle.hordguli_fribidi.specs.Types.{class_of};
-ghost use Rattle.lines.specs.Groups.{is_bound, AreBound};
-ghost use Rattle.lines.specs.Order.{has_base, highest, is_at_least, is_mark_at, is_odd, lowest_odd};
-ghost use Rattle.lines.specs.Order.{order_of, reverse_runs, reverse_with_next, vtol_of};
-ghost use Rattle.hordguli_fribidi.specs.declared.limit.TheConstants.{LENGTH_LIMIT};
+ghost use Rattle.lines.specs.Order.{has_base, highest, is_mark_at, is_odd, lowest_odd, order_of, vtol_of};
 
 use crate::types::class_of;
+use lines::{groups_stand_together, maps_are_inverse, others_stay};
 use ucd::BidiClass;
 
-/// Writes 0, 1, and so on.
-pub fn identity(items: &mut [u32])
-    requires { length items.old ≤ LENGTH_LIMIT }
-    ensures { items.new ≡ range_with_len 0 (length items.old) }
+/// Puts the items of an array, one for each character of a line, into visual order. Where all levels are even
+/// they stay as they are.
+pub fn arrange(
+    types: &[u32],
+    levels: &[u8],
+    top: u8,
+    lowest: Option<u8>,
+    reordernsm: bool,
+    items: &mut [u32],
+)
+    requires types { length types.now ≡ length levels.now }
+    requires items { length items.old ≡ length levels.now }
+    requires top { top ≡ highest levels.now }
+    requires lowest { lowest ≡ lowest_odd levels.now }
+    requires ordered { IfSome lowest (λ low. (0 < low) × (low ≤ top)) }
+    requires even { lowest ≡ None
+        → (k : ℕ) → k < length levels.now → is_odd (slice_index levels.now k) ≡ false }
+    ensures { items.new
+        ≡ map (slice_index items.old) (vtol_of reordernsm (map class_of types.now) levels.now) }
 {
-    for (k, item) in items.iter_mut().enumerate() {
-        *item = k as u32;
+    if let Some(low) = lowest {
+        if reordernsm && has_mark(types) {
+            reverse_groups(types, levels, items);
+        }
+        reverse_levels(levels, top, low, items);
     }
 }
 
-/// Puts places into visual order.
-pub fn arrange(types: &[u32], levels: &[u8], reordernsm: bool, vtol: &mut [u32])
-    requires types { length levels.now ≤ length types.now }
-    requires vtol { vtol.old ≡ range_with_len 0 (length levels.now) }
-    ensures { vtol.new ≡ vtol_of reordernsm (map class_of types.now) levels.now }
+// Reverses each base at an odd level with its marks, so that L2 puts them into reading order.
+fn reverse_groups(types: &[u32], levels: &[u8], items: &mut [u32])
+    requires types { length types.now ≡ length levels.now }
+    requires items { length items.old ≡ length levels.now }
+    ensures { map (slice_index items.new) (order_of levels.now)
+        ≡ map (slice_index items.old) (vtol_of true (map class_of types.now) levels.now) }
 {
-    reverse_levels(levels, vtol);
-    if reordernsm {
-        reverse_groups(types, levels, vtol);
-    }
-}
-
-// Reverses each base at an odd level with the marks that L2 put left of it.
-fn reverse_groups(types: &[u32], levels: &[u8], vtol: &mut [u32])
-    requires types { length levels.now ≤ length types.now }
-    requires vtol { vtol.old ≡ order_of levels.now }
-    ensures { vtol.new ≡ reverse_with_next (has_base (map class_of types.now) levels.now) [] vtol.old }
-{
+    groups_stand_together();
+    others_stay();
+    maps_are_inverse();
     let mut start = 0;
-    while start < vtol.len() {
-        start += reverse_group(types, levels, &mut vtol[start..]);
+    while start < items.len() {
+        let len = group_len(types, levels, start);
+        items[start..start + len].reverse();
+        start += len;
     }
 }
 
-// Reverses the group that begins there, if one does, and says how many places are done: up to a base, or up
-// to a mark that has none.
-fn reverse_group(types: &[u32], levels: &[u8], items: &mut [u32]) -> usize
-    requires types { length levels.now ≤ length types.now }
-    requires items { (start : ℕ) × (items.old ≡ drop start (order_of levels.now)) }
-    requires some { 0 < length items.old }
-    ensures len { (0 < result) × (result ≤ length items.old) }
-    ensures rest { drop result items.new ≡ drop result items.old }
-    ensures done { reverse_with_next (has_base (map class_of types.now) levels.now) [] items.old
-        ≡ take result items.new
-        ++ reverse_with_next (has_base (map class_of types.now) levels.now) [] (drop result items.old) }
+// How many characters the group has that begins there: a base at an odd level and the marks after it that are
+// at this level; else there is one character.
+fn group_len(types: &[u32], levels: &[u8], start: usize) -> usize
+    requires types { length types.now ≡ length levels.now }
+    requires start { start < length levels.now }
+    requires base { has_base (map class_of types.now) levels.now start ≡ false }
+    ensures within { (0 < result) × (start + result ≤ length levels.now) }
+    ensures chunk { IsChunk (map class_of types.now) levels.now start result }
+    ensures next { has_base (map class_of types.now) levels.now (start + result) ≡ false }
 {
-    let len = bound_len(types, levels, items);
-    if !is_mark_at(types, items[len]) {
-        items[..len + 1].reverse();
+    let level = levels[start];
+    if level % 2 == 0 || is_mark(types[start]) {
+        return 1;
     }
-    len + 1
-}
-
-// How many places of marks stand there left of the character that they follow.
-fn bound_len(types: &[u32], levels: &[u8], items: &[u32]) -> usize
-    requires types { length levels.now ≤ length types.now }
-    requires items { AreWithin (length levels.now) items.now }
-    requires some { 0 < length items.now }
-    ensures { AreBound (map class_of types.now) levels.now items.now result }
-{
-    let mut len = 0;
-    while len + 1 < items.len() && is_bound(types, levels, items[len], items[len + 1]) {
+    let mut len = 1;
+    while is_mark_of(types, levels, start + len, level) {
         len += 1;
     }
     len
 }
 
-// Whether a mark follows a character, and both are at the same, odd level.
-fn is_bound(types: &[u32], levels: &[u8], place: u32, next: u32) -> bool
-    requires types { length levels.now ≤ length types.now }
-    requires places { (place < length levels.now) × (next < length levels.now) }
-    ensures { result ≡ is_bound (map class_of types.now) levels.now place next }
+// Whether a mark at a level stands there.
+fn is_mark_of(types: &[u32], levels: &[u8], place: usize, level: u8) -> bool
+    requires { length types.now ≡ length levels.now }
+    ensures { result ≡ (nat_lt place (length levels.now)
+        && (is_mark_at (map class_of types.now) place && (slice_index levels.now place == level))) }
 {
-    let (at, before) = (place as usize, next as usize);
-    before + 1 == at
-        && is_mark_at(types, place)
-        && levels[before] % 2 == 1
-        && levels[at] == levels[before]
+    place < levels.len() && is_mark(types[place]) && levels[place] == level
 }
 
-// Whether the character at a place is a mark by the tables.
-fn is_mark_at(types: &[u32], place: u32) -> bool
-    requires { place < length types.now }
-    ensures { result ≡ is_mark_at (map class_of types.now) place }
+fn is_mark(number: u32) -> bool
+    ensures { result ≡ is_mark (class_of number) }
 {
-    match class_of(types[place as usize]) {
+    match class_of(number) {
         BidiClass::NSM => true,
         _ => false,
     }
 }
 
-// Reverses the intervals of each level from the highest down to the lowest odd one, if there is one.
-fn reverse_levels(levels: &[u8], vtol: &mut [u32])
-    requires { vtol.old ≡ range_with_len 0 (length levels.now) }
-    ensures { vtol.new ≡ order_of levels.now }
+/// Whether there is a mark.
+pub fn has_mark(types: &[u32]) -> bool
+    ensures { result ≡ list_any (λ number. is_mark (class_of number)) types.now }
 {
-    let (highest, lowest) = highest_and_lowest_odd(levels);
-    if let Some(lowest) = lowest {
-        // Ends, since an odd level is not 0.
-        let mut level = highest;
-        while level >= lowest {
-            reverse_runs(levels, level, vtol);
-            level -= 1;
+    let mut found = false;
+    for number in types {
+        found |= is_mark(*number);
+    }
+    found
+}
+
+// Reverses the intervals of each level from the highest down to the lowest odd one.
+fn reverse_levels(levels: &[u8], top: u8, low: u8, items: &mut [u32])
+    requires items { length items.old ≡ length levels.now }
+    requires top { top ≡ highest levels.now }
+    requires low { Some low ≡ lowest_odd levels.now }
+    requires ordered { (0 < low) × (low ≤ top) }
+    ensures { items.new ≡ map (slice_index items.old) (order_of levels.now) }
+{
+    // Ends, since an odd level is not 0.
+    let mut level = top;
+    while level >= low {
+        reverse_runs(levels, level, items);
+        level -= 1;
+    }
+}
+
+// Reverses each maximal interval of places at a level or a higher one.
+fn reverse_runs(levels: &[u8], level: u8, items: &mut [u32])
+    requires { length items.old ≡ length levels.now }
+    ensures { items.new ≡ reverse_flagged (flags_at level levels.now) [] items.old }
+{
+    let mut start = 0;
+    while start < levels.len() {
+        if levels[start] < level {
+            start += 1;
+        } else {
+            let len = run_len(&levels[start..], level);
+            items[start..start + len].reverse();
+            start += len;
         }
     }
+}
+
+// How many places are at a level or a higher one before the first that is not.
+fn run_len(levels: &[u8], level: u8) -> usize
+    requires { (0 < length levels.now) × (level ≤ slice_index levels.now 0) }
+    ensures len { result ≡ prefix_len (nat_le level) levels.now }
+    ensures within { (0 < result) × (result ≤ length levels.now) }
+{
+    for (k, other) in levels.iter().enumerate() {
+        if *other < level {
+            return k;
+        }
+    }
+    levels.len()
 }
 
 /// The highest level, 0 where there is none, and the lowest odd one, if there is one.
@@ -125,50 +161,23 @@ pub fn highest_and_lowest_odd(levels: &[u8]) -> (u8, Option<u8>)
     ensures highest { result.0 ≡ highest levels.now }
     ensures lowest { result.1 ≡ lowest_odd levels.now }
     ensures ordered { IfSome result.1 (λ lowest. (0 < lowest) × (lowest ≤ result.0)) }
+    ensures even { result.1 ≡ None
+        → (k : ℕ) → k < length levels.now → is_odd (slice_index levels.now k) ≡ false }
 {
     let mut highest = 0;
-    let mut lowest = None;
+    let mut any = false;
+    let mut lowest = 255;
     for level in levels {
         highest = highest.max(*level);
-        lowest = lower_odd(lowest, *level);
+        any |= *level % 2 == 1;
+        lowest = lowest.min(odd_or_most(*level));
     }
-    (highest, lowest)
+    (highest, if any { Some(lowest) } else { None })
 }
 
-// The lowest odd level, with one more level.
-fn lower_odd(lowest: Option<u8>, level: u8) -> Option<u8>
-    ensures { result ≡ (if is_odd level then Some (min (unwrap_or lowest level) level) else lowest) }
+// A level, or the greatest number where it is even.
+fn odd_or_most(level: u8) -> u8
+    ensures { result ≡ (if is_odd level then level else 255) }
 {
-    if level % 2 == 1 {
-        Some(lowest.unwrap_or(level).min(level))
-    } else {
-        lowest
-    }
-}
-
-// Reverses each maximal interval of places at a level or a higher one.
-fn reverse_runs(levels: &[u8], level: u8, items: &mut [u32])
-    requires { AreWithin (length levels.now) items.old }
-    ensures { items.new ≡ reverse_runs (is_at_least levels.now level) [] items.old }
-{
-    let mut start = 0;
-    while start < items.len() {
-        let len = run_len(levels, level, &items[start..]);
-        items[start..start + len].reverse();
-        start += len + 1;
-    }
-}
-
-// How many places are at a level or a higher one before the first that is not.
-fn run_len(levels: &[u8], level: u8, items: &[u32]) -> usize
-    requires { AreWithin (length levels.now) items.now }
-    ensures len { result ≡ prefix_len (is_at_least levels.now level) items.now }
-    ensures within { result ≤ length items.now }
-{
-    for (k, place) in items.iter().enumerate() {
-        if levels[*place as usize] < level {
-            return k;
-        }
-    }
-    items.len()
+    if level % 2 == 1 { level } else { 255 }
 }

@@ -8,6 +8,7 @@ use ucd::BidiClass;
 
 /// The class that a number names; one that names none counts as ON.
 #[tactic(auto, unfolding(crate::specs::Types::class_of))]
+#[inline(always)]
 pub fn class_of(number: u32) -> BidiClass
     ensures { result ≡ class_of number }
 {

@@ -2,7 +2,7 @@ use Rattle.std.proofs.Common.{length, map, ap, ◌∙◌}
 use Rattle.bidi.specs.Base.{base_level_of}
 use Rattle.bidi.specs.Levels.{paragraph_levels}
 use Rattle.hordguli_fribidi.specs.Levels.{brackets_of, levels_before}
-use Rattle.hordguli_fribidi.specs.Types.{base_of, bracket_by, class_of}
+use Rattle.hordguli_fribidi.specs.Types.{bracket_by, class_of}
 use Rattle.hordguli_fribidi.proofs.levels.find_levels.Goals as goal
 
 pub returns-clause-levels : goal.returns-clause-levels

@@ -1,4 +1,4 @@
-use Rattle.std.proofs.Common.{◌≡◌, map, ℕ, ◌<◌, List, length, get_or, sym, ap, ◌∙◌, arith}
+use Rattle.std.proofs.Common.{◌≡◌, map, ℕ, ◌<◌, List, length, get_or, refl, sym, ◌∙◌, arith}
 use Rattle.std.proofs.lemmas.Bool.{both_ways}
 use Rattle.std.proofs.lemmas.List.{get_or-map, length-map}
 use Rattle.ucd.specs.declared.bidi_class.BidiClass.{BidiClass}
@@ -19,7 +19,7 @@ pub returns-then-is_some : goal.returns-then-is_some
 returns-then-is_some c =
     settled _ _ _ _ _
     (rw length-map c.loop-number-test.true) c.loop-number.invariant c.if-depth-eq0.true
-    (class_there _ _ 0 _ c.loop-number-test.true c.class_of-class.ensures)
+    (class_there _ _ 0 _ c.loop-number-test.true refl)
     c.strong_level-level.ensures (sym c.is_some.ensures ∙ c.if-is_some.true)
 
 pub loop-number-preserved : goal.loop-number-preserved
@@ -27,11 +27,11 @@ loop-number-preserved c =
     stepped _ _ _ _ _
     (rw length-map c.loop-number-test.true) c.loop-number.invariant
     (λ strong. elim c.else-depth-eq0.branch [
-      | else-depth-eq0-via-then-depth-eq0+else-is_some w ↦ absurd (both_ways (is_strong c.class_of-class.result)
+      | else-depth-eq0-via-then-depth-eq0+else-is_some w ↦ absurd (both_ways (is_strong (class_of (get_or c.args.types.now c.loop-number.number-index 0)))
           (sym (is_some-level _ _ c.strong_level-level.ensures) ∙ sym w.is_some.ensures ∙ w.if-is_some.false) strong)
       | else-depth-eq0-via-else-depth-eq0 w ↦ omega arith
     ])
-    (class_there _ _ 0 _ c.loop-number-test.true c.class_of-class.ensures)
+    (class_there _ _ 0 _ c.loop-number-test.true refl)
     c.depth_after-depth.ensures
 
 pub returns : goal.returns

@@ -1,16 +1,16 @@
-use Rattle.std.proofs.Common.{◌≡◌, max, get_or, rules}
-use Rattle.hordguli_fribidi.proofs.LevelLemmas.{Extremes-start, Extremes-next, Extremes-end}
+use Rattle.std.proofs.Common.{ap, sym, ◌∙◌}
+use Rattle.hordguli_fribidi.proofs.LevelLemmas.{Extremes-end, Reduced-start, lowest_by}
 use Rattle.hordguli_fribidi.proofs.order.highest_and_lowest_odd.Goals as goal
 
 pub loop-level-init : goal.loop-level-init
-loop-level-init c = Extremes-start c.args.levels.now
+loop-level-init c = Reduced-start c.args.levels.now
 
-pub loop-level-preserved : goal.loop-level-preserved
-loop-level-preserved c =
-    let most : c.max-highest.result ≡ max c.loop-level.highest (get_or c.args.levels.now c.loop-level.level-index 0) = search rules in
-    Extremes-next _ _ _ _ _ _ c.loop-level.invariant c.loop-level-test.true most c.lower_odd-lowest.ensures
+pub returns-then-any-clause-lowest : goal.returns-then-any-clause-lowest
+returns-then-any-clause-lowest c =
+    ap (λ b. lowest_by b c.loop-level.lowest) (sym c.if-any.true)
+    ∙ (Extremes-end _ _ _ _ c.loop-level.invariant.extremes c.loop-level-test.false).lowest_is
 
-pub returns : goal.returns
-returns c =
-    let found = Extremes-end _ _ _ _ c.loop-level.invariant c.loop-level-test.false in
-    record { highest = found.top_is; lowest = found.lowest_is; ordered = found.ordered }
+pub returns-else-any-clause-lowest : goal.returns-else-any-clause-lowest
+returns-else-any-clause-lowest c =
+    ap (λ b. lowest_by b c.loop-level.lowest) (sym c.if-any.false)
+    ∙ (Extremes-end _ _ _ _ c.loop-level.invariant.extremes c.loop-level-test.false).lowest_is

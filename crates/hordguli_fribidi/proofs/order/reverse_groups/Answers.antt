@@ -1,16 +1,19 @@
-use Rattle.std.proofs.Common.{map, arith}
-use Rattle.std.proofs.lemmas.List.{take_rest}
+use Rattle.std.proofs.Common.{false, map, refl, arith}
 use Rattle.hordguli_fribidi.specs.Types.{class_of}
-use Rattle.lines.specs.Order.{has_base}
-use Rattle.hordguli_fribidi.proofs.GroupLemmas.{Grouped-part, Grouped-end}
+use Rattle.hordguli_fribidi.proofs.ChunkLemmas.{Chunked-start, Chunked-next, groups_read}
 use Rattle.hordguli_fribidi.proofs.order.reverse_groups.Goals as goal
+
+pub loop-start-init : goal.loop-start-init
+loop-start-init c = Chunked-start _ _ _
 
 pub loop-start-preserved : goal.loop-start-preserved
 loop-start-preserved c =
-    let done = c.reverse_group-start.ensures in
-    Grouped-part (has_base (map class_of c.args.types.now) c.args.levels.now) c.args.vtol.now c.loop-start.vtol _ c.reverse_group-start.new.items
-    c.loop-start.start c.reverse_group-start.result c.loop-start.invariant (omega arith) (take_rest c.loop-start.vtol c.loop-start.start)
-    c.reverse_group-start.auto.items done.rest done.done
+    Chunked-next _ _ _ _ _ _ c.group_len-len.result _ _ c.loop-start.invariant (omega arith) (omega (arith, c.requires.items)) c.group_len-len.ensures.chunk
+    (omega arith) c.reverse.ensures.after refl c.group_len-len.ensures.next
 
 pub returns : goal.returns
-returns c = Grouped-end _ _ _ _ c.loop-start.invariant c.loop-start-test.false
+returns c =
+    let classes = map class_of c.args.types.now in
+    let levels = c.args.levels.now in
+    groups_read classes levels (c.groups_stand_together.ensures classes levels) (c.others_stay.ensures classes levels)
+    (c.maps_are_inverse.ensures false classes levels) _ _ _ c.loop-start.invariant (omega (arith, c.requires.items, c.loop-start-test.false))

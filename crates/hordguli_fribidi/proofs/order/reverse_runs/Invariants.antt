@@ -1,10 +1,10 @@
 use Rattle.std.proofs.Common.{◌-◌, length}
-use Rattle.lines.specs.Order.{is_at_least}
-use Rattle.hordguli_fribidi.proofs.OrderLemmas.{Reversed}
+use Rattle.std.specs.Prelude.{nat_le}
+use Rattle.hordguli_fribidi.proofs.InPlaceLemmas.{Flagged}
 use Rattle.hordguli_fribidi.proofs.order.reverse_runs.Given as goal
 
 abbrev pub invariant-loop-start : goal.invariant-loop-start
-invariant-loop-start l = Reversed (is_at_least l.levels l.level) l.fn.items l.items l.start
+invariant-loop-start l = Flagged (nat_le l.level) l.levels l.fn.items l.items l.start
 
 abbrev pub decreases-loop-start : goal.decreases-loop-start
-decreases-loop-start l = length l.initial.items - l.start
+decreases-loop-start l = length l.levels - l.start

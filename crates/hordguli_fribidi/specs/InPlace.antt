@@ -1,0 +1,18 @@
+-- What is moved and set where it stands. Only the code speaks of these.
+use Rattle.std.specs.Prelude.{◌≡◌, ℕ, ◌-◌, Bool, List, [], ◌∷◌, ◌++◌, ◌⊎◌, map, nat_le, if◌then◌else◌}
+use Rattle.ucd.specs.declared.bidi_class.BidiClass.{BidiClass}
+use Rattle.lines.specs.Groups.{IsAlone, IsGroup}
+
+-- an array with each maximal interval of places whose flag is set reversed; `run` is the interval under way, reversed
+abbrev pub reverse_flagged : List Bool → List ℕ → List ℕ → List ℕ
+reverse_flagged [] run items = run
+reverse_flagged (flag ∷ flags) run [] = run
+reverse_flagged (flag ∷ flags) run (x ∷ items) = if flag then reverse_flagged flags (x ∷ run) items else run ++ x ∷ reverse_flagged flags [] items
+
+-- the flags of the places at a level or a higher one
+abbrev pub flags_at : ℕ → List ℕ → List Bool
+flags_at level levels = map (nat_le level) levels
+
+-- a base and all its marks, or a character that is in no such group
+abbrev pub IsChunk : List BidiClass → List ℕ → ℕ → ℕ → Type 0
+IsChunk classes levels start len = IsGroup classes levels start (len - 1) ⊎ ((len ≡ 1) × IsAlone classes levels start)
