@@ -1,5 +1,6 @@
 pub mod CountLemmas
 pub mod Devices
+pub mod EndLemmas
 pub mod Fronts
 pub mod LeftLemmas
 pub mod LongLemmas

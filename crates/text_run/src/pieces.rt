@@ -1,5 +1,6 @@
 //! The characters of a text whose bytes come in pieces, each of which may end inside a character.
 ghost use Rattle.std.specs.Prelude.{◌≡◌, ◌+◌, ◌++◌, ◌<◌, ◌≤◌, false, true, None, length, take, OnErr, OnOk};
+ghost use Rattle.std.specs.Prelude.{vec_len, vec_capacity};
 ghost use Rattle.std.specs.Str.{chars};
 ghost use Rattle.std.specs.Str.Lossy.{utf8_valid_len, utf8_error_len};
 ghost use Rattle.text_run.specs.TextRun.{is_bad};
@@ -11,11 +12,23 @@ use std::alloc::AllocError;
 pub fn push_characters(text: &str, characters: &mut Vec<char>) -> Result<(), AllocError>
     ensures ok { OnOk result (characters.new.items ≡ characters.old.items ++ chars text.now) }
     ensures memory { OnErr result (0 < length text.now) }
+    ensures full { OnErr result (vec_capacity characters.old < vec_len characters.old + length text.now) }
+    ensures capacity { vec_capacity characters.old ≤ vec_capacity characters.new }
+{
+    characters.reserve(text.len())?;
+    push_all(text, characters);
+    Ok(())
+}
+
+// Adds the characters of a text, for whose bytes there is room.
+fn push_all(text: &str, characters: &mut Vec<char>)
+    requires { vec_len characters.old + length text.now ≤ vec_capacity characters.old }
+    ensures items { characters.new.items ≡ characters.old.items ++ chars text.now }
+    ensures capacity { vec_capacity characters.new ≡ vec_capacity characters.old }
 {
     for c in text.chars() {
-        characters.push(c)?;
+        characters.push_reserved(c);
     }
-    Ok(())
 }
 
 /// The longest front of some bytes that is UTF-8, and whether what stands after it can begin no character.
