@@ -4,6 +4,7 @@ pub mod EndLemmas
 pub mod Fronts
 pub mod LeftLemmas
 pub mod LongLemmas
+pub mod MoveLemmas
 pub mod PieceLemmas
 pub mod PrintLemmas
 pub mod PushLemmas

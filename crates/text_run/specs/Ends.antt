@@ -43,3 +43,7 @@ pub record EndsAfter (is_cut : ℕ → ℕ → Bool) (held text : List ℕ) (n :
 abbrev pub FindsEndAfter : (ℕ → ℕ → Bool) → List ℕ → List ℕ → Option ℕ → Type 0
 FindsEndAfter is_cut held text (Some n) = EndsAfter is_cut held text n
 FindsEndAfter is_cut held text None = SplitsAt is_cut (held ++ chars text) None
+
+-- characters were taken from the front of a text and put after others
+abbrev pub Moved : List ℕ → List ℕ → List ℕ → List ℕ → Type 0
+Moved before text after rest = after ++ chars rest ≡ before ++ chars text

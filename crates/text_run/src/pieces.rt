@@ -3,6 +3,7 @@ ghost use Rattle.std.specs.Prelude.{◌≡◌, ◌+◌, ◌++◌, ◌<◌, ◌�
 ghost use Rattle.std.specs.Prelude.{vec_len, vec_capacity};
 ghost use Rattle.std.specs.Str.{chars};
 ghost use Rattle.std.specs.Str.Lossy.{utf8_valid_len, utf8_error_len};
+ghost use Rattle.text_run.specs.Ends.{Moved};
 ghost use Rattle.text_run.specs.TextRun.{is_bad};
 
 use simdutf8::compat::from_utf8;
@@ -26,8 +27,62 @@ fn push_all(text: &str, characters: &mut Vec<char>)
     ensures items { characters.new.items ≡ characters.old.items ++ chars text.now }
     ensures capacity { vec_capacity characters.new ≡ vec_capacity characters.old }
 {
-    for c in text.chars() {
+    let mut rest = text;
+    while !rest.is_empty() {
+        rest = push_some(rest, characters);
+    }
+}
+
+// Adds the first characters of a text that have as many bytes, and says what is left of it.
+fn push_some<'a>(text: &'a str, characters: &mut Vec<char>) -> &'a str
+    requires some { 0 < length text.now }
+    requires room { vec_len characters.old + length text.now ≤ vec_capacity characters.old }
+    ensures pushed { Moved characters.old.items text.now characters.new.items result.now }
+    ensures room { vec_len characters.new + length result.now ≤ vec_capacity characters.new }
+    ensures capacity { vec_capacity characters.new ≡ vec_capacity characters.old }
+    ensures less { length result.now < length text.now }
+{
+    let first = text.as_bytes()[0];
+    if first < 0x80 {
+        push_row(text, 0, 0x80, characters)
+    } else if first < 0xe0 {
+        push_row(text, 0x80, 0xe0, characters)
+    } else {
+        push_row(text, 0xe0, 0xff, characters)
+    }
+}
+
+// Adds the first character of a text, and those after it up to one whose first byte isn't between two others. A
+// loop for each number of bytes takes fewer steps, and guesses better where it ends.
+#[inline(always)]
+fn push_row<'a>(text: &'a str, low: u8, high: u8, characters: &mut Vec<char>) -> &'a str
+    requires some { 0 < length text.now }
+    requires room { vec_len characters.old + length text.now ≤ vec_capacity characters.old }
+    ensures pushed { Moved characters.old.items text.now characters.new.items result.now }
+    ensures room { vec_len characters.new + length result.now ≤ vec_capacity characters.new }
+    ensures capacity { vec_capacity characters.new ≡ vec_capacity characters.old }
+    ensures less { length result.now < length text.now }
+{
+    let mut rest = text;
+    loop {
+        let mut left = rest.chars();
+        let Some(c) = left.next() else {
+            return rest;
+        };
         characters.push_reserved(c);
+        rest = left.as_str();
+        if !begins_between(rest, low, high) {
+            return rest;
+        }
+    }
+}
+
+fn begins_between(text: &str, low: u8, high: u8) -> bool
+    ensures { result ≡ true → 0 < length text.now }
+{
+    match text.as_bytes().first() {
+        Some(first) => low <= *first && *first < high,
+        None => false,
     }
 }
 

@@ -1,9 +1,16 @@
-use Rattle.std.proofs.Common.{◌≡◌, ◌+◌, ◌++◌, length, vec_len, vec_capacity}
+use Rattle.std.proofs.Common.{◌≡◌, ◌+◌, ◌≤◌, length, vec_len, vec_capacity}
+use denote.Text.{Utf8}
+use denote.Shadow.{shadow}
+use Rattle.text_run.specs.Ends.{Moved}
 use Rattle.text_run.proofs.pieces.push_all.Given as goal
 
-abbrev pub invariant-loop-c : goal.invariant-loop-c
-invariant-loop-c l = record {
-  items : l.characters.items ≡ l.fn.characters.items ++ l.yielded;
-  len : vec_len l.characters ≡ vec_len l.fn.characters + length l.yielded;
+abbrev pub invariant-loop-rest : goal.invariant-loop-rest
+invariant-loop-rest l = record {
+  utf8 : shadow (Utf8 l.rest);
+  moved : Moved l.fn.characters.items l.text l.characters.items l.rest;
+  room : vec_len l.characters + length l.rest ≤ vec_capacity l.characters;
   capacity : vec_capacity l.characters ≡ vec_capacity l.fn.characters;
 }
+
+abbrev pub decreases-loop-rest : goal.decreases-loop-rest
+decreases-loop-rest l = length l.rest
