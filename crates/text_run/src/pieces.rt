@@ -8,6 +8,7 @@ ghost use Rattle.text_run.specs.TextRun.{is_bad};
 
 use simdutf8::compat::from_utf8;
 use std::alloc::AllocError;
+use std::mem;
 
 /// Adds the characters of a text.
 pub fn push_characters(text: &str, characters: &mut Vec<char>) -> Result<(), AllocError>
@@ -17,23 +18,29 @@ pub fn push_characters(text: &str, characters: &mut Vec<char>) -> Result<(), All
     ensures capacity { vec_capacity characters.old ≤ vec_capacity characters.new }
 {
     characters.reserve(text.len())?;
-    push_all(text, characters);
+    // The list is taken out meanwhile, so that its length isn't written to memory for each character.
+    let alloc = *characters.allocator();
+    let list = mem::replace(characters, Vec::new(alloc));
+    *characters = with_all(text, list);
     Ok(())
 }
 
-// Adds the characters of a text, for whose bytes there is room.
-fn push_all(text: &str, characters: &mut Vec<char>)
-    requires { vec_len characters.old + length text.now ≤ vec_capacity characters.old }
-    ensures items { characters.new.items ≡ characters.old.items ++ chars text.now }
-    ensures capacity { vec_capacity characters.new ≡ vec_capacity characters.old }
+// A list, which has room for the bytes of a text, with the characters of it.
+fn with_all(text: &str, characters: Vec<char>) -> Vec<char>
+    requires { vec_len characters + length text.now ≤ vec_capacity characters }
+    ensures items { result.items ≡ characters.items ++ chars text.now }
+    ensures capacity { vec_capacity result ≡ vec_capacity characters }
 {
+    let mut list = characters;
     let mut rest = text;
     while !rest.is_empty() {
-        rest = push_some(rest, characters);
+        rest = push_some(rest, &mut list);
     }
+    list
 }
 
 // Adds the first characters of a text that have as many bytes, and says what is left of it.
+#[inline(always)]
 fn push_some<'a>(text: &'a str, characters: &mut Vec<char>) -> &'a str
     requires some { 0 < length text.now }
     requires room { vec_len characters.old + length text.now ≤ vec_capacity characters.old }

@@ -1,12 +1,13 @@
 //! What the tables say of each code point, in pages of 256 code points, which an index names: equal pages
 //! that follow one another are one.
-ghost use Rattle.std.specs.Prelude.{◌≡◌, ℕ, ◌+◌, ◌*◌, ◌%◌, ◌<◌, ◌≤◌, length, slice_index, slice_index_or};
-ghost use Rattle.std.specs.Prelude.{nat_le, nat_lt, ◌&&◌, true, if◌then◌else◌, IfOk, IsTrue};
+ghost use Rattle.std.specs.Prelude.{◌≡◌, ◌≢◌, ℕ, ◌+◌, ◌*◌, ◌%◌, ◌<◌, ◌≤◌, length, slice_index, slice_index_or};
+ghost use Rattle.std.specs.Prelude.{nat_le, nat_lt, ◌&&◌, false, true, if◌then◌else◌, IfOk, IsTrue};
 ghost use Rattle.ucd.specs.Answers.{unnamed};
 ghost use Rattle.ucd.specs.Entries.{AreApart, value_at};
 ghost use Rattle.ucd.specs.Pages.{answers_at, HasPage};
 ghost use Rattle.ucd.specs.Puts.{put_by};
-ghost use Rattle.ucd.specs.Separators.{IsUsual};
+ghost use Rattle.ucd.specs.Separators.{may_separate, IsUsual};
+ghost use Rattle.ucd.specs.declared.bidi_class.BidiClass.TheVariants.{B};
 
 use crate::bidi_class::BidiClass;
 use crate::grammar::{Entry, Property};
@@ -119,19 +120,24 @@ fn are_usual(points: &[Properties]) -> bool
     ensures { result ≡ true → (c : ℕ) → c < length points.now
         → IsUsual c (slice_index_or points.now c unnamed) }
 {
-    let mut usual = true;
     for c in 0..points.len() {
-        usual &= is_usual(c, points[c]);
+        if is_separator(points[c]) && !may_separate(c) {
+            return false;
+        }
     }
-    usual
+    true
 }
 
-// Whether what is said of a code point makes it no separator, or it is one of these.
-fn is_usual(c: usize, properties: Properties) -> bool
-    ensures { result ≡ true → IsUsual c properties }
+fn is_separator(properties: Properties) -> bool
+    ensures { result ≡ false → properties.bidi_class ≢ B }
 {
-    let may_separate = c < 0x20 || (0x80 <= c && c < 0xc0) || (0x2000 <= c && c < 0x3000);
-    may_separate || !matches!(properties.bidi_class(), BidiClass::B)
+    matches!(properties.bidi_class(), BidiClass::B)
+}
+
+fn may_separate(c: usize) -> bool
+    ensures { result ≡ may_separate c }
+{
+    c < 0x20 || (0x80 <= c && c < 0xc0) || (0x2000 <= c && c < 0x3000)
 }
 
 // The number of a page: that of the last one, if both are equal, or of the next one, which it becomes.
