@@ -3,6 +3,7 @@ mod BareLemmas
 mod BeginningLemmas
 pub mod ClusterLemmas
 mod ColumnLemmas
+mod CutLemmas
 mod ExtentLemmas
 mod FewLines
 mod GroupLemmas

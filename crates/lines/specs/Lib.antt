@@ -15,6 +15,7 @@ pub mod Layouts
 pub mod LevelRuns
 pub mod Lists
 pub mod Mirroring
+pub mod NoEnds
 pub mod Order
 pub mod Pages
 pub mod Paragraphs

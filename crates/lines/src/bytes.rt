@@ -22,7 +22,7 @@ pub struct WriteFault {
 }
 
 // Spaces before a line.
-const SPACES: [u8; 64] = [b' '; 64];
+static SPACES: [u8; 64] = [b' '; 64];
 
 fn write_part<W: Sink>(writer: &mut W, done: u64, part: &[u8]) -> Result<u64, WriteFault>
     requires { done ≤ (W.state writer.old).passed }
@@ -53,6 +53,9 @@ pub fn write_chars<W: Sink>(writer: &mut W, done: u64, chars: &[char]) -> Result
         (W.state writer.old) (W.state writer.new) fault.written) }
     ensures counted { IfOk result (λ n. n ≤ (W.state writer.new).passed) }
 {
+    if chars.is_empty() {
+        return Ok(done);
+    }
     let mut buffer = [0; 4 * CHARACTERS_AT_ONCE];
     let mut written = done;
     let mut at = 0;
@@ -171,6 +174,8 @@ const ROW_BYTES_AT_ONCE: usize = 512;
 // How many bytes a number has at most, with the space before it.
 const NUMBER_LEN: usize = 41;
 
+// (It stands apart, so that a line of which no numbers are printed has no room for them.)
+#[inline(never)]
 fn write_row<W: Sink, I: Integer>(
     writer: &mut W,
     done: u64,

@@ -3,6 +3,7 @@ ghost use Rattle.std.specs.Prelude.{◌≡◌, ◌<◌, ◌≤◌, ℕ, [], true
 ghost use Rattle.std.specs.Prelude.{IfOk, IfErr, IsErrOf, OnErr, OnOk};
 ghost use Rattle.std.specs.Prelude.{if◌then◌else◌};
 ghost use Rattle.device.specs.Device.{Wrote};
+ghost use Rattle.ucd.specs.Separators.{may_separate};
 ghost use Rattle.bidi.specs.Levels.{levels_of};
 ghost use Rattle.breaks.specs.Marks.{marks_of};
 ghost use Rattle.lines.specs.Bytes.{direction_line};
@@ -105,6 +106,15 @@ impl Engine {
         ensures { result ≡ cut_by (rules_of self.now) before after }
     {
         is_cut(&self.tables, before, after)
+    }
+
+    /// True only where all characters after which a paragraph may end begin in UTF-8 with a byte below
+    /// U+0020, with C2 or with E2, as in the files of Unicode.
+    pub fn has_usual_separators(&self) -> bool
+        ensures { result ≡ true → (a b : ℕ) → a < 1114112 → may_separate a ≡ false
+            → cut_by (rules_of self.now) a b ≡ false }
+    {
+        self.tables.has_usual_separators()
     }
 
     /// Where the first paragraph of a text ends, if another follows it.

@@ -1,8 +1,10 @@
 pub mod CountLemmas
 pub mod Devices
+pub mod EndLemmas
 pub mod Fronts
 pub mod LeftLemmas
 pub mod LongLemmas
+pub mod MoveLemmas
 pub mod PieceLemmas
 pub mod PrintLemmas
 pub mod PushLemmas

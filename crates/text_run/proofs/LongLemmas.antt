@@ -90,7 +90,7 @@ module _ (is_cut : ℕ → ℕ → Bool) where
     pub len_is : len ≡ length text
     pub short : len ≤ 1048576
 
-  uncut_more : (text : List ℕ) (last : Option ℕ) (c : ℕ) → slice_get text (length text - 1) ≡ last
+  pub uncut_more : (text : List ℕ) (last : Option ℕ) (c : ℕ) → slice_get text (length text - 1) ≡ last
       → SplitsAt is_cut text None → MatchOption last ⊤ (λ a. is_cut a c ≡ false) → SplitsAt is_cut (text ++ c ∷ []) None
   uncut_more text None c last_is uncut no_cut some = ap (λ t. paragraphs is_cut (t ++ c ∷ [])) none ∙ ap (λ t. (t ++ c ∷ []) ∷ []) (sym none)
     where
@@ -122,19 +122,24 @@ module _ (is_cut : ℕ → ℕ → Bool) where
       (long_more is_cut (text ++ c ∷ []) more
       (long_uncut is_cut (text ++ c ∷ []) (uncut_more text last c (sym taken.last_is) taken.uncut no_cut) (omega (arith, full, taken.len_is, length-append text (c ∷ [])))))
 
+  -- a cut ends the text before a character
+  pub split_before : (text more : List ℕ) (last : Option ℕ) (c a : ℕ) → last ≡ slice_get text (length text - 1) → SplitsAt is_cut text None
+      → last ≡ Some a → is_cut a c ≡ true → (0 < length text) × (paragraphs is_cut (text ++ c ∷ more) ≡ text ∷ paragraphs is_cut (c ∷ more))
+  split_before text more last c a at_end uncut last_is cut =
+      let parts = last_some text a (sym at_end ∙ last_is) in
+      let xs = parts.0 in
+      let some : 0 < length text = omega (arith, ap length parts.1, length-append xs (a ∷ [])) in
+      let whole : paragraphs is_cut (xs ++ a ∷ []) ≡ (xs ++ a ∷ []) ∷ [] = subst (λ (t : List ℕ). paragraphs is_cut t ≡ t ∷ []) parts.1 (uncut some) in
+      let text_is : text ++ c ∷ more ≡ xs ++ a ∷ c ∷ more = ap (λ t. t ++ c ∷ more) parts.1 ∙ append_assoc xs (a ∷ []) (c ∷ more) in
+      let here : paragraphs is_cut (a ∷ c ∷ more) ≡ (a ∷ []) ∷ paragraphs is_cut (c ∷ more) =
+      ap (λ (t : Bool). if t then (a ∷ []) ∷ paragraphs is_cut (c ∷ more) else onto_first a (paragraphs is_cut (c ∷ more))) cut in
+      (some, ap (paragraphs is_cut) text_is ∙ join is_cut xs a (c ∷ more) (a ∷ []) (paragraphs is_cut (c ∷ more)) whole here ∙ ap (λ t. t ∷ paragraphs is_cut (c ∷ more)) (sym parts.1))
+
   -- which begins a paragraph
   pub cut_before : ParagraphsArePieces → (text more : List ℕ) (last : Option ℕ) (len c a : ℕ) → HasTaken text last len
       → last ≡ Some a → is_cut a c ≡ true → length (c ∷ more) ≤ 1048576 → IsEnded is_cut (text ++ c ∷ more)
   cut_before law text more last len c a taken last_is cut few =
-      let parts = last_some text a (sym taken.last_is ∙ last_is) in
-      let xs = parts.0 in
-      let some : 0 < length text = omega (arith, ap length parts.1, length-append xs (a ∷ [])) in
-      let whole : paragraphs is_cut (xs ++ a ∷ []) ≡ (xs ++ a ∷ []) ∷ [] = subst (λ (t : List ℕ). paragraphs is_cut t ≡ t ∷ []) parts.1 (taken.uncut some) in
-      let text_is : text ++ c ∷ more ≡ xs ++ a ∷ c ∷ more = ap (λ t. t ++ c ∷ more) parts.1 ∙ append_assoc xs (a ∷ []) (c ∷ more) in
-      let here : paragraphs is_cut (a ∷ c ∷ more) ≡ (a ∷ []) ∷ paragraphs is_cut (c ∷ more) =
-      ap (λ (t : Bool). if t then (a ∷ []) ∷ paragraphs is_cut (c ∷ more) else onto_first a (paragraphs is_cut (c ∷ more))) cut in
-      let split : paragraphs is_cut (text ++ c ∷ more) ≡ text ∷ paragraphs is_cut (c ∷ more) =
-      ap (paragraphs is_cut) text_is ∙ join is_cut xs a (c ∷ more) (a ∷ []) (paragraphs is_cut (c ∷ more)) whole here ∙ ap (λ t. t ∷ paragraphs is_cut (c ∷ more)) (sym parts.1) in
+      let split : paragraphs is_cut (text ++ c ∷ more) ≡ text ∷ paragraphs is_cut (c ∷ more) = (split_before text more last c a taken.last_is taken.uncut last_is cut).1 in
       let whole_more : c ∷ more ≡ concat (paragraphs is_cut (c ∷ more)) = sym (law.whole is_cut (c ∷ more)) in
       record {
         within =

@@ -1,4 +1,5 @@
 pub mod Counts
+pub mod Ends
 pub mod Pages
 pub mod Streaming
 pub mod TextRun

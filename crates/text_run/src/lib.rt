@@ -18,6 +18,7 @@
 //! ```
 #![tactic(auto)]
 
+mod cuts;
 mod faults;
 mod page;
 mod paragraphs;

@@ -89,6 +89,13 @@ pub fn push_paragraph(
     }
 }
 
+/// Whether anything is printed of a paragraph.
+pub fn prints_some(print: &Print) -> bool
+    ensures { result ≡ prints_some print.now }
+{
+    print.basedir || print.visual || print.ltov || print.vtol || print.levels
+}
+
 /// What an engine counts are numbers of 64 bits: so its counts are as they were where nothing is printed.
 pub fn counts_fit(engine: &Engine)
     ensures { (print : Print) → Prints 0 print engine.now engine.now }

@@ -1,6 +1,6 @@
 //! The paragraphs of a text whose end isn't known: those that a cut ends are laid out, and the rest waits.
-ghost use Rattle.std.specs.Prelude.{◌≡◌, ◌++◌, ◌<◌, ◌≤◌, ℕ, ⊤, false, true, length, take};
-ghost use Rattle.std.specs.Prelude.{None, Some, IfOk, IfSome, OnErr, MatchOption, if◌then◌else◌};
+ghost use Rattle.std.specs.Prelude.{◌≡◌, ◌+◌, ◌++◌, ◌<◌, ◌≤◌, ℕ, ⊤, false, true, length, vec_len, vec_capacity};
+ghost use Rattle.std.specs.Prelude.{None, Some, IfSome, OnErr, OnOk, MatchOption, if◌then◌else◌};
 ghost use Rattle.std.specs.Str.{chars};
 ghost use Rattle.bidi.specs.Cuts.{paragraphs, SplitsAt};
 ghost use Rattle.lines.specs.Engine.{rules_of, SameRules};
@@ -10,8 +10,10 @@ ghost use Rattle.text_run.specs.Pages.{prints_some};
 ghost use Rattle.text_run.specs.Streaming.{IsEnded, IsFaultAhead, IsOpen, Pushed, StartsLong};
 ghost use Rattle.text_run.specs.TextRun.{are_within};
 
+use crate::cuts::next_end;
 use crate::faults::RunFault;
-use crate::page::{Page, counts_fit, push_paragraph};
+use crate::page::{Page, counts_fit, prints_some, push_paragraph};
+use crate::pieces::push_characters;
 use bidi::paragraphs_are_pieces;
 use lines::{Engine, PARAGRAPH_LIMIT, Print};
 use std::alloc::{AllocError, Global};
@@ -100,8 +102,8 @@ fn look_ahead(engine: &Engine, text: &[char], more: &str) -> Ahead
     Ahead::Open
 }
 
-// Whether there is a cut before a character, after the one that was last, if one was.
-fn is_cut_after(engine: &Engine, last: Option<char>, c: char) -> bool
+/// Whether there is a cut before a character, after the one that was last, if one was.
+pub fn is_cut_after(engine: &Engine, last: Option<char>, c: char) -> bool
     ensures cut { result ≡ true
         → (a : ℕ) × (last ≡ Some a) × (cut_by (rules_of engine.now) a c ≡ true) }
     ensures none { result ≡ false
@@ -113,51 +115,74 @@ fn is_cut_after(engine: &Engine, last: Option<char>, c: char) -> bool
     }
 }
 
-/// Adds to a page the lines of the paragraphs of a text that a cut ends. None of them is too long, and
-/// there is no cut among the first `seen` characters. Gives what is left of the text. It takes memory only
-/// where a cut ends one and something is printed.
-pub fn push_paragraphs<'a>(
+/// Adds to a page the lines of the paragraphs of a text that a cut ends, where the text begins with the
+/// characters that are held, which have no cut, and goes on with others. None of its paragraphs is too long.
+/// Holds what is left of the text. It takes memory only where a character follows, and, where nothing is
+/// printed, before any is counted.
+pub fn push_text(
     alloc: Global,
     page: &mut Page,
     engine: &mut Engine,
     width: u16,
     print: &Print,
-    text: &'a [char],
-    seen: usize,
-) -> Result<&'a [char], AllocError>
+    held: &mut Vec<char>,
+    text: &str,
+) -> Result<(), AllocError>
     requires width { 0 < width }
-    requires within { are_within (paragraphs (cut_by (rules_of engine.old)) text.now) ≡ true }
-    requires seen { SplitsAt (cut_by (rules_of engine.old)) (take seen text.now) None }
-    ensures pushed { IfOk result (λ rest. Pushed (rules_of engine.old) width print.now text.now rest.now
+    requires within { are_within (paragraphs (cut_by (rules_of engine.old))
+        (held.old.items ++ chars text.now)) ≡ true }
+    requires uncut { SplitsAt (cut_by (rules_of engine.old)) held.old.items None }
+    ensures pushed { OnOk result (Pushed (rules_of engine.old) width print.now
+        (held.old.items ++ chars text.now) held.new.items
         page.old.bytes.items page.new.bytes.items engine.old engine.new) }
-    ensures memory { OnErr result (SplitsAt (cut_by (rules_of engine.old)) text.now None → ⊥) }
+    ensures memory { OnErr result (0 < length text.now) }
+    ensures some { OnErr result (prints_some print.now ≡ false → engine.new ≡ engine.old) }
+    ensures at_most { PrintsAtMost (length (held.old.items ++ chars text.now)) print.now
+        engine.old engine.new }
+    ensures rules { SameRules engine.old engine.new }
+{
+    if prints_some(print) {
+        return push_ended(alloc, page, engine, width, print, held, text);
+    }
+    held.reserve(text.len())?;
+    push_ended(alloc, page, engine, width, print, held, text)
+}
+
+// The same, where there is room for all characters if nothing is printed.
+fn push_ended(
+    alloc: Global,
+    page: &mut Page,
+    engine: &mut Engine,
+    width: u16,
+    print: &Print,
+    held: &mut Vec<char>,
+    text: &str,
+) -> Result<(), AllocError>
+    requires width { 0 < width }
+    requires within { are_within (paragraphs (cut_by (rules_of engine.old))
+        (held.old.items ++ chars text.now)) ≡ true }
+    requires uncut { SplitsAt (cut_by (rules_of engine.old)) held.old.items None }
+    requires room { prints_some print.now ≡ false
+        → vec_len held.old + length text.now ≤ vec_capacity held.old }
+    ensures pushed { OnOk result (Pushed (rules_of engine.old) width print.now
+        (held.old.items ++ chars text.now) held.new.items
+        page.old.bytes.items page.new.bytes.items engine.old engine.new) }
+    ensures memory { OnErr result (0 < length text.now) }
     ensures some { OnErr result (prints_some print.now ≡ true) }
-    ensures at_most { PrintsAtMost (length text.now) print.now engine.old engine.new }
+    ensures at_most { PrintsAtMost (length (held.old.items ++ chars text.now)) print.now
+        engine.old engine.new }
     ensures rules { SameRules engine.old engine.new }
 {
     paragraphs_are_pieces();
     counts_fit(engine);
+    let is_usual = engine.has_usual_separators();
     let mut rest = text;
-    let mut seen = seen;
-    while let Some(end) = next_cut(engine, rest, seen) {
-        let (paragraph, after) = rest.split_at(end);
-        push_paragraph(alloc, page, engine, width, print, paragraph)?;
+    while let Some(end) = next_end(engine, held, rest, is_usual) {
+        let (front, after) = rest.split_at(end);
+        push_characters(front, held)?;
+        push_paragraph(alloc, page, engine, width, print, held)?;
+        held.clear();
         rest = after;
-        seen = 0;
     }
-    Ok(rest)
-}
-
-// Where the first paragraph of a text ends, if another follows it, where there is no cut among the
-// first `seen` characters: these are not looked at again.
-fn next_cut(engine: &Engine, text: &[char], seen: usize) -> Option<usize>
-    requires { SplitsAt (cut_by (rules_of engine.now)) (take seen text.now) None }
-    ensures { SplitsAt (cut_by (rules_of engine.now)) text.now result }
-{
-    let from = text.len().min(seen).saturating_sub(1);
-    let (_, after) = text.split_at(from);
-    match engine.first_cut(after) {
-        Some(end) => Some(from + end),
-        None => None,
-    }
+    push_characters(rest, held)
 }

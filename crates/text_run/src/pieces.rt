@@ -1,21 +1,96 @@
 //! The characters of a text whose bytes come in pieces, each of which may end inside a character.
 ghost use Rattle.std.specs.Prelude.{◌≡◌, ◌+◌, ◌++◌, ◌<◌, ◌≤◌, false, true, None, length, take, OnErr, OnOk};
+ghost use Rattle.std.specs.Prelude.{vec_len, vec_capacity};
 ghost use Rattle.std.specs.Str.{chars};
 ghost use Rattle.std.specs.Str.Lossy.{utf8_valid_len, utf8_error_len};
+ghost use Rattle.text_run.specs.Ends.{Moved};
 ghost use Rattle.text_run.specs.TextRun.{is_bad};
 
 use simdutf8::compat::from_utf8;
 use std::alloc::AllocError;
+use std::mem;
 
 /// Adds the characters of a text.
 pub fn push_characters(text: &str, characters: &mut Vec<char>) -> Result<(), AllocError>
     ensures ok { OnOk result (characters.new.items ≡ characters.old.items ++ chars text.now) }
     ensures memory { OnErr result (0 < length text.now) }
+    ensures full { OnErr result (vec_capacity characters.old < vec_len characters.old + length text.now) }
+    ensures capacity { vec_capacity characters.old ≤ vec_capacity characters.new }
 {
-    for c in text.chars() {
-        characters.push(c)?;
-    }
+    characters.reserve(text.len())?;
+    // The list is taken out meanwhile, so that its length isn't written to memory for each character.
+    let alloc = *characters.allocator();
+    let list = mem::replace(characters, Vec::new(alloc));
+    *characters = with_all(text, list);
     Ok(())
+}
+
+// A list, which has room for the bytes of a text, with the characters of it.
+fn with_all(text: &str, characters: Vec<char>) -> Vec<char>
+    requires { vec_len characters + length text.now ≤ vec_capacity characters }
+    ensures items { result.items ≡ characters.items ++ chars text.now }
+    ensures capacity { vec_capacity result ≡ vec_capacity characters }
+{
+    let mut list = characters;
+    let mut rest = text;
+    while !rest.is_empty() {
+        rest = push_some(rest, &mut list);
+    }
+    list
+}
+
+// Adds the first characters of a text that have as many bytes, and says what is left of it.
+#[inline(always)]
+fn push_some<'a>(text: &'a str, characters: &mut Vec<char>) -> &'a str
+    requires some { 0 < length text.now }
+    requires room { vec_len characters.old + length text.now ≤ vec_capacity characters.old }
+    ensures pushed { Moved characters.old.items text.now characters.new.items result.now }
+    ensures room { vec_len characters.new + length result.now ≤ vec_capacity characters.new }
+    ensures capacity { vec_capacity characters.new ≡ vec_capacity characters.old }
+    ensures less { length result.now < length text.now }
+{
+    let first = text.as_bytes()[0];
+    if first < 0x80 {
+        push_row(text, 0, 0x80, characters)
+    } else if first < 0xe0 {
+        push_row(text, 0x80, 0xe0, characters)
+    } else {
+        push_row(text, 0xe0, 0xff, characters)
+    }
+}
+
+// Adds the first character of a text, and those after it up to one whose first byte isn't between two others. A
+// loop for each number of bytes takes fewer steps, and guesses better where it ends.
+#[inline(always)]
+fn push_row<'a>(text: &'a str, low: u8, high: u8, characters: &mut Vec<char>) -> &'a str
+    requires some { 0 < length text.now }
+    requires room { vec_len characters.old + length text.now ≤ vec_capacity characters.old }
+    ensures pushed { Moved characters.old.items text.now characters.new.items result.now }
+    ensures room { vec_len characters.new + length result.now ≤ vec_capacity characters.new }
+    ensures capacity { vec_capacity characters.new ≡ vec_capacity characters.old }
+    ensures less { length result.now < length text.now }
+{
+    let mut rest = text;
+    loop {
+        let mut left = rest.chars();
+        let Some(c) = left.next() else {
+            return rest;
+        };
+        characters.push_reserved(c);
+        rest = left.as_str();
+        if !begins_between(rest, low, high) {
+            return rest;
+        }
+    }
+}
+
+fn begins_between(text: &str, low: u8, high: u8) -> bool
+    ensures { result ≡ true → 0 < length text.now }
+{
+    match text.as_bytes().first() {
+        Some(first) => low <= *first && *first < high,
+        None => false,
+    }
 }
 
 /// The longest front of some bytes that is UTF-8, and whether what stands after it can begin no character.

@@ -21,8 +21,8 @@ ghost use Rattle.text_run.specs.TextRun.{IsTextRun, PrintsNoMore, ReadsAhead, Te
 
 use crate::faults::RunFault;
 use crate::page::{Page, counts_fit, push_paragraph};
-use crate::paragraphs::{bad_at, fault_ahead, push_paragraphs};
-use crate::pieces::{front, push_characters};
+use crate::paragraphs::{bad_at, fault_ahead, push_text};
+use crate::pieces::front;
 use device::{Sink, Source, write_all};
 use lines::{Engine, Print};
 use std::alloc::{AllocError, Global};
@@ -147,7 +147,6 @@ impl Held {
             print.now engine.old engine.new }
         ensures rules { SameRules engine.old engine.new }
     {
-        let seen = self.text.len();
         let filled = self.waiting + len;
         let (more, is_bad) = front(&self.piece[..filled]);
         let front = more.len();
@@ -155,11 +154,8 @@ impl Held {
         if let Some(fault) = fault_ahead(engine, &self.text, more, is_bad, place) {
             return Ok(Some(fault));
         }
-        push_characters(more, &mut self.text)?;
-        let text = self.text.as_slice();
-        let rest = push_paragraphs(alloc, &mut self.page, engine, width, print, text, seen)?;
-        let rest = rest.len();
-        self.keep_text(rest);
+        let held = &mut self.text;
+        push_text(alloc, &mut self.page, engine, width, print, held, more)?;
         self.keep_bytes(front, filled);
         Ok(bad_at(is_bad, place))
     }
@@ -206,20 +202,6 @@ impl Held {
             }
             Err(written) => Err(RunFault::Write(self.written + written as u64)),
         }
-    }
-
-    // Keeps so many characters at the end, which no cut ends.
-    fn keep_text(&mut self, len: usize)
-        requires { len ≤ length self.old.text.items }
-        ensures text { self.new.text.items ≡ drop (length self.old.text.items - len) self.old.text.items }
-        ensures same { self.new ≡ record self.old { text = self.new.text } }
-    {
-        if len == self.text.len() {
-            return;
-        }
-        let start = self.text.len() - len;
-        self.text.copy_within(start.., 0);
-        self.text.truncate(len);
     }
 
     // Keeps the bytes between two places, which are no characters yet.

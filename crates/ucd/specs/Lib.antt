@@ -15,5 +15,6 @@ pub mod Pages
 pub mod Properties
 pub mod Puts
 pub mod Said
+pub mod Separators
 pub mod Tables
 pub mod Widths

@@ -1,12 +1,15 @@
 //! What the tables say of each code point, in pages of 256 code points, which an index names: equal pages
 //! that follow one another are one.
-ghost use Rattle.std.specs.Prelude.{◌≡◌, ℕ, ◌+◌, ◌*◌, ◌%◌, ◌<◌, ◌≤◌, length, slice_index, slice_index_or};
-ghost use Rattle.std.specs.Prelude.{nat_le, nat_lt, ◌&&◌, if◌then◌else◌, IfOk, IsTrue};
+ghost use Rattle.std.specs.Prelude.{◌≡◌, ◌≢◌, ℕ, ◌+◌, ◌*◌, ◌%◌, ◌<◌, ◌≤◌, length, slice_index, slice_index_or};
+ghost use Rattle.std.specs.Prelude.{nat_le, nat_lt, ◌&&◌, false, true, if◌then◌else◌, IfOk, IsTrue};
 ghost use Rattle.ucd.specs.Answers.{unnamed};
 ghost use Rattle.ucd.specs.Entries.{AreApart, value_at};
 ghost use Rattle.ucd.specs.Pages.{answers_at, HasPage};
 ghost use Rattle.ucd.specs.Puts.{put_by};
+ghost use Rattle.ucd.specs.Separators.{may_separate, IsUsual};
+ghost use Rattle.ucd.specs.declared.bidi_class.BidiClass.TheVariants.{B};
 
+use crate::bidi_class::BidiClass;
 use crate::grammar::{Entry, Property};
 use crate::properties::Properties;
 use std::alloc::{AllocError, Global};
@@ -22,8 +25,11 @@ const PLACES: usize = 4_352;
 pub struct Pages {
     pub(crate) index: Vec<u16>,
     pub(crate) entries: Vec<Properties>,
+    pub(crate) has_usual_separators: bool,
     ghost places: { length index.items ≡ 4352 },
     ghost within: { (p : ℕ) → p < 4352 → slice_index index.items p * 256 + 256 ≤ length entries.items },
+    ghost usual: { has_usual_separators ≡ true
+        → (c : ℕ) → c < 1114112 → IsUsual c (answers_at index.items entries.items c) },
 }
 
 impl Pages {
@@ -44,7 +50,11 @@ impl Pages {
         index.extend_from_slice(&self.index)?;
         let mut entries = Vec::with_capacity(alloc, self.entries.len())?;
         entries.extend_from_slice(&self.entries)?;
-        Ok(Pages { index, entries })
+        Ok(Pages {
+            index,
+            entries,
+            has_usual_separators: self.has_usual_separators,
+        })
     }
 }
 
@@ -97,7 +107,37 @@ pub fn pages_of(alloc: Global, points: &[Properties]) -> Result<Pages, AllocErro
         let number = page_number(&mut entries, page)?;
         index.push(number)?;
     }
-    Ok(Pages { index, entries })
+    Ok(Pages {
+        index,
+        entries,
+        has_usual_separators: are_usual(points),
+    })
+}
+
+// Whether the code points of class B are among those that are of this class in the files of Unicode, and
+// those beside them.
+fn are_usual(points: &[Properties]) -> bool
+    ensures { result ≡ true → (c : ℕ) → c < length points.now
+        → IsUsual c (slice_index_or points.now c unnamed) }
+{
+    for c in 0..points.len() {
+        if is_separator(points[c]) && !may_separate(c) {
+            return false;
+        }
+    }
+    true
+}
+
+fn is_separator(properties: Properties) -> bool
+    ensures { result ≡ false → properties.bidi_class ≢ B }
+{
+    matches!(properties.bidi_class(), BidiClass::B)
+}
+
+fn may_separate(c: usize) -> bool
+    ensures { result ≡ may_separate c }
+{
+    c < 0x20 || (0x80 <= c && c < 0xc0) || (0x2000 <= c && c < 0x3000)
 }
 
 // The number of a page: that of the last one, if both are equal, or of the next one, which it becomes.

@@ -1,5 +1,5 @@
 //! The tables that the files make.
-ghost use Rattle.std.specs.Prelude.{◌≡◌, IfOk, IfErr};
+ghost use Rattle.std.specs.Prelude.{◌≡◌, ◌≢◌, ◌<◌, ℕ, true, false, IfOk, IfErr};
 ghost use Rattle.ucd.specs.Grammar.{lines_of};
 ghost use Rattle.ucd.specs.Files.{HoldsFile};
 ghost use Rattle.ucd.specs.Entries.{AreApart};
@@ -9,6 +9,8 @@ ghost use Rattle.ucd.specs.Categories.{category_form};
 ghost use Rattle.ucd.specs.Emoji.{emoji_form};
 ghost use Rattle.ucd.specs.LineClasses.{line_class_form};
 ghost use Rattle.ucd.specs.Widths.{width_form};
+ghost use Rattle.ucd.specs.Separators.{may_separate};
+ghost use Rattle.ucd.specs.declared.bidi_class.BidiClass.TheVariants.{B};
 ghost use Rattle.ucd.specs.Tables.{AreTablesOf, IsBidiFaultOf, IsBreakFaultOf, IsFaultIn, IsFaultOf};
 ghost use Rattle.ucd.specs.Tables.{class_of, bracket_of, mirror_of, line_class_of};
 ghost use Rattle.ucd.specs.Tables.{is_wide_in, is_mark_in, is_future_pictograph_in};
@@ -251,6 +253,14 @@ impl Tables {
         ensures { result ≡ class_of self.now c }
     {
         self.properties(c).bidi_class()
+    }
+
+    /// True only where the characters of class B are among those whose UTF-8 begins with a byte below U+0020,
+    /// with C2 or with E2, as in the files of Unicode.
+    pub fn has_usual_separators(&self) -> bool
+        ensures { result ≡ true → (c : ℕ) → c < 1114112 → may_separate c ≡ false → class_of self.now c ≢ B }
+    {
+        self.pages.has_usual_separators
     }
 
     /// What the character is as a bracket, if it is one.

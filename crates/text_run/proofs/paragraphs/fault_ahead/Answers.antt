@@ -1,9 +1,9 @@
-use Rattle.std.proofs.Common.{◌++◌, length, arith}
+use Rattle.std.proofs.Common.{◌++◌, arith}
 use Rattle.std.proofs.lemmas.List.{length-append}
 use Rattle.std.specs.Str.{chars}
 use Rattle.lines.specs.Engine.{rules_of}
 use Rattle.lines.specs.Layouts.{cut_by}
-use Rattle.text_run.proofs.LongLemmas.{open_within, text_few, text_within}
+use Rattle.text_run.proofs.LongLemmas.{text_few, text_within}
 use Rattle.text_run.proofs.paragraphs.fault_ahead.Goals as goal
 
 pub returns-then-text-more-le-PARAGRAPH_LIMIT-clause-within :

@@ -1,0 +1,12 @@
+use Rattle.std.proofs.Common.{◌≡◌, ◌∙◌, ◌==◌, ℕ, true, length, sym, arith}
+use Rattle.std.proofs.lemmas.Bool.Decides.{nat_tests}
+use Rattle.text_run.proofs.MoveLemmas.{moved_all}
+use Rattle.text_run.proofs.pieces.with_all.Goals as goal
+
+nothing : (n : ℕ) → (n == 0) ≡ true → n ≡ 0
+nothing n is = grind (arith, nat_tests)
+
+pub returns-clause-items : goal.returns-clause-items
+returns-clause-items c =
+    moved_all c.args.characters.items c.args.text.now c.loop-rest.list.items c.loop-rest.rest.now c.loop-rest.invariant.moved
+    (nothing (length c.loop-rest.rest.now) (sym c.is_empty.ensures ∙ c.loop-rest-test.false))

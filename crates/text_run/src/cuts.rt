@@ -1,0 +1,106 @@
+//! Where the first paragraph of a text in UTF-8 ends, by its bytes: with the files of Unicode, few bytes begin a
+//! character after which a paragraph may end, and what stands between these isn't decoded.
+ghost use Rattle.std.specs.Prelude.{◌≡◌, ℕ, ◌<◌, ◌≤◌, true, false, None, length, slice_index, IsTrue};
+ghost use Rattle.std.specs.Str.{IsCharBoundary};
+ghost use Rattle.bidi.specs.Cuts.{SplitsAt};
+ghost use Rattle.lines.specs.Engine.{rules_of};
+ghost use Rattle.lines.specs.Layouts.{cut_by};
+ghost use Rattle.text_run.specs.Ends.{AreUsual, FindsEnd, FindsEndAfter, BeginsAfter, may_lead};
+
+use crate::paragraphs::is_cut_after;
+use lines::Engine;
+
+// How many bytes are looked at together.
+const AT_ONCE: usize = 16;
+
+/// How many bytes of a text end the first paragraph of the characters that are held, which have no cut, and of
+/// the text after them, if another paragraph follows.
+pub fn next_end(engine: &Engine, held: &[char], text: &str, is_usual: bool) -> Option<usize>
+    requires uncut { SplitsAt (cut_by (rules_of engine.now)) held.now None }
+    requires usual { is_usual ≡ true → AreUsual (cut_by (rules_of engine.now)) }
+    ensures { FindsEndAfter (cut_by (rules_of engine.now)) held.now text.now result }
+{
+    if begins_after(engine, held.last().copied(), text) {
+        return Some(0);
+    }
+    first_end(engine, text, is_usual)
+}
+
+// Whether there is a cut between the character that was last, if one was, and a text.
+fn begins_after(engine: &Engine, last: Option<char>, text: &str) -> bool
+    ensures { BeginsAfter (cut_by (rules_of engine.now)) last text.now result }
+{
+    match text.chars().next() {
+        Some(c) => is_cut_after(engine, last, c),
+        None => false,
+    }
+}
+
+// How many bytes the first paragraph of a text has, if another follows it.
+fn first_end(engine: &Engine, text: &str, is_usual: bool) -> Option<usize>
+    requires { is_usual ≡ true → AreUsual (cut_by (rules_of engine.now)) }
+    ensures { FindsEnd (cut_by (rules_of engine.now)) text.now result }
+{
+    let mut rest = text;
+    loop {
+        let (_, after) = rest.split_at(plain_len(rest, is_usual));
+        let mut characters = after.chars();
+        let Some(c) = characters.next() else {
+            return None;
+        };
+        rest = characters.as_str();
+        let Some(next) = rest.chars().next() else {
+            return None;
+        };
+        if engine.is_cut(c, next) {
+            return Some(text.len() - rest.len());
+        }
+    }
+}
+
+// How many bytes at the front of a text begin no character after which a paragraph may end, as far as that is
+// known.
+fn plain_len(text: &str, is_usual: bool) -> usize
+    ensures boundary { IsCharBoundary text.now result }
+    ensures plain { (k : ℕ) → k < result → may_lead (slice_index text.now k) ≡ false }
+    ensures unknown { is_usual ≡ false → result ≡ 0 }
+{
+    if is_usual {
+        next_lead(text.as_bytes())
+    } else {
+        0
+    }
+}
+
+// The place of the first byte that may begin such a character, or the end.
+fn next_lead(bytes: &[u8]) -> usize
+    ensures within { result ≤ length bytes.now }
+    ensures before { (k : ℕ) → k < result → may_lead (slice_index bytes.now k) ≡ false }
+    ensures here { result < length bytes.now → may_lead (slice_index bytes.now result) ≡ true }
+{
+    let mut at = 0;
+    while at + AT_ONCE <= bytes.len() && !has_lead(&bytes[at..at + AT_ONCE]) {
+        at += AT_ONCE;
+    }
+    while at < bytes.len() && !may_lead(bytes[at]) {
+        at += 1;
+    }
+    at
+}
+
+// Whether one of some bytes may: all are looked at, which is faster than to stop.
+fn has_lead(bytes: &[u8]) -> bool
+    ensures { result ≡ false → (k : ℕ) → k < length bytes.now → may_lead (slice_index bytes.now k) ≡ false }
+{
+    let mut any = false;
+    for k in 0..bytes.len() {
+        any |= may_lead(bytes[k]);
+    }
+    any
+}
+
+fn may_lead(byte: u8) -> bool
+    ensures { result ≡ may_lead byte }
+{
+    byte < 0x20 || byte == 0xc2 || byte == 0xe2
+}

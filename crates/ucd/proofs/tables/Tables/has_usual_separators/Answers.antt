@@ -1,0 +1,11 @@
+use Rattle.std.proofs.Common.{◌∙◌, sym, ap}
+use Rattle.ucd.specs.Tables.{class_of}
+use Rattle.ucd.proofs.PagedLemmas.{class_is}
+use Rattle.ucd.proofs.tables.Tables.has_usual_separators.Goals as goal
+
+-- what the pages say of all code points
+pub returns : goal.returns
+returns c = λ is x lt other separates.
+    c.self.inside.pages.usual is x lt other
+    (sym (class_is c.self.inside.pages.index.items c.self.inside.pages.entries.items c.self.inside.brackets c.self.inside.mirrors x lt)
+    ∙ ap (λ t. class_of t x) c.self.view_is ∙ separates)
