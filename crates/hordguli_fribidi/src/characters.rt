@@ -1,6 +1,7 @@
 //! What tables of single characters say, which C hands in: numbers of pages, pages of entries, and what the
-//! entries stand for. Each table has room for all that a number can name, or more, so that few tests are left.
-ghost use Rattle.std.specs.Prelude.{◌≡◌, ◌<◌, ◌==◌, ◌+◌, ◌*◌, ◌%◌, if◌then◌else◌, length, map, slice_index_or};
+//! entries stand for. Each table has room for all that a number can name, or more, so few tests are left.
+ghost use Rattle.std.specs.Prelude.{◌≡◌, ◌<◌, ◌==◌, ◌+◌, ◌*◌, ◌%◌, if◌then◌else◌};
+ghost use Rattle.std.specs.Prelude.{length, map, slice_index_or};
 ghost use Rattle.hordguli_fribidi.specs.Points.{bracket_at, brackets_at, brackets_by};
 ghost use Rattle.hordguli_fribidi.specs.Points.{number_at, type_at, types_at};
 ghost use Rattle.hordguli_fribidi.specs.Types.{classes, type_of};
@@ -156,8 +157,8 @@ fn number_by_parts(c: u32, index: &[u8; 4352], pages: &[u16; 4096], numbers: &[u
     if entry < 512 { numbers[entry] } else { 0 }
 }
 
-/// The mirror of a code point in place of what stood there, or the code point itself where it has none. Whether
-/// it has one.
+/// The mirror of a code point in place of what stood there, or the code point itself where it has none.
+/// Whether it has one.
 #[unsafe(no_mangle)]
 pub extern "C" fn hordguli_fribidi_core_mirror(
     c: u32,

@@ -1,5 +1,5 @@
-//! The visual order of one line (UAX #9, L2), with marks in reading order where they are asked for (L3). The items
-//! of an array are moved where they stand, so nothing is allocated.
+//! The visual order of one line (UAX #9, L2), with marks in reading order where they are asked for (L3). The
+//! items of an array are moved where they stand, so nothing is allocated.
 ghost use Rattle.std.specs.Prelude.{◌≡◌, ◌<◌, ◌≤◌, ◌+◌, ◌==◌, ◌&&◌, if◌then◌else◌};
 ghost use Rattle.std.specs.Prelude.{ℕ, [], length, map, true, false, nat_le, nat_lt, slice_index};
 ghost use Rattle.std.specs.Prelude.{IfSome, Some, None};

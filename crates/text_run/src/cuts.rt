@@ -1,5 +1,5 @@
-//! Where the first paragraph of a text in UTF-8 ends, by its bytes: with the files of Unicode, few bytes begin a
-//! character after which a paragraph may end, and what stands between these isn't decoded.
+//! Where the first paragraph of a text in UTF-8 ends, by its bytes: with the files of Unicode, few bytes begin
+//! a character after which a paragraph may end, and what stands between these isn't decoded.
 ghost use Rattle.std.specs.Prelude.{◌≡◌, ℕ, ◌<◌, ◌≤◌, true, false, None, length, slice_index, IsTrue};
 ghost use Rattle.std.specs.Str.{IsCharBoundary};
 ghost use Rattle.bidi.specs.Cuts.{SplitsAt};
@@ -13,8 +13,8 @@ use lines::Engine;
 // How many bytes are looked at together.
 const AT_ONCE: usize = 16;
 
-/// How many bytes of a text end the first paragraph of the characters that are held, which have no cut, and of
-/// the text after them, if another paragraph follows.
+/// How many bytes of a text end the first paragraph of the characters that are held, which have no cut, and
+/// of the text after them, if another paragraph follows.
 pub fn next_end(engine: &Engine, held: &[char], text: &str, is_usual: bool) -> Option<usize>
     requires uncut { SplitsAt (cut_by (rules_of engine.now)) held.now None }
     requires usual { is_usual ≡ true → AreUsual (cut_by (rules_of engine.now)) }

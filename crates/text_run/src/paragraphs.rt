@@ -1,5 +1,6 @@
 //! The paragraphs of a text whose end isn't known: those that a cut ends are laid out, and the rest waits.
-ghost use Rattle.std.specs.Prelude.{◌≡◌, ◌+◌, ◌++◌, ◌<◌, ◌≤◌, ℕ, ⊤, false, true, length, vec_len, vec_capacity};
+ghost use Rattle.std.specs.Prelude.{◌≡◌, ◌+◌, ◌++◌, ◌<◌, ◌≤◌, ℕ, ⊤, false, true, length};
+ghost use Rattle.std.specs.Prelude.{vec_len, vec_capacity};
 ghost use Rattle.std.specs.Prelude.{None, Some, IfSome, OnErr, OnOk, MatchOption, if◌then◌else◌};
 ghost use Rattle.std.specs.Str.{chars};
 ghost use Rattle.bidi.specs.Cuts.{paragraphs, SplitsAt};

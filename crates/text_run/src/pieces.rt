@@ -59,8 +59,8 @@ fn push_some<'a>(text: &'a str, characters: &mut Vec<char>) -> &'a str
     }
 }
 
-// Adds the first character of a text, and those after it up to one whose first byte isn't between two others. A
-// loop for each number of bytes takes fewer steps, and guesses better where it ends.
+// Adds the first character of a text, and those after it up to one whose first byte isn't between two others.
+// A loop for each number of bytes takes fewer steps, and guesses better where it ends.
 #[inline(always)]
 fn push_row<'a>(text: &'a str, low: u8, high: u8, characters: &mut Vec<char>) -> &'a str
     requires some { 0 < length text.now }

@@ -1,6 +1,7 @@
 //! What the tables say of each code point, in pages of 256 code points, which an index names: equal pages
 //! that follow one another are one.
-ghost use Rattle.std.specs.Prelude.{◌≡◌, ◌≢◌, ℕ, ◌+◌, ◌*◌, ◌%◌, ◌<◌, ◌≤◌, length, slice_index, slice_index_or};
+ghost use Rattle.std.specs.Prelude.{◌≡◌, ◌≢◌, ℕ, ◌+◌, ◌*◌, ◌%◌, ◌<◌, ◌≤◌};
+ghost use Rattle.std.specs.Prelude.{length, slice_index, slice_index_or};
 ghost use Rattle.std.specs.Prelude.{nat_le, nat_lt, ◌&&◌, false, true, if◌then◌else◌, IfOk, IsTrue};
 ghost use Rattle.ucd.specs.Answers.{unnamed};
 ghost use Rattle.ucd.specs.Entries.{AreApart, value_at};
