@@ -1,5 +1,5 @@
-//! Where the first paragraph of a text in UTF-8 ends, by its bytes: with the files of Unicode, few bytes begin
-//! a character after which a paragraph may end, and what stands between these isn't decoded.
+//! Where the first paragraph of a text in UTF-8 ends, by its bytes: with the files of Unicode, few bytes
+//! begin a character after which a paragraph may end, and what stands between these isn't decoded.
 ghost use Rattle.std.specs.Prelude.{◌≡◌, ℕ, ◌<◌, ◌≤◌, true, false, None, length, slice_index, IsTrue};
 ghost use Rattle.std.specs.Str.{IsCharBoundary};
 ghost use Rattle.bidi.specs.Cuts.{SplitsAt};
