@@ -195,14 +195,18 @@ int main(int argc, char **argv) {
             }
             if (bits == 0 && differ) {
                 wrong++;
-                if (shown[call]++ < 5) shorten(call, &one), show(call, &one);
+                if (shown[call]++ < 5) {
+                    input shorter = one;
+                    shorten(call, &shorter);
+                    show(call, &shorter);
+                }
             } else {
                 agree += bits == 0;
             }
         }
     }
     for (int k = 0; k < PREDICATES; k++) {
-        int cloak = alone[k] >= 20 && 2 * alone_differ[k] < alone[k]; /* (fewer say nothing) */
+        int cloak = 2 * alone_differ[k] < alone[k];
         printf("%s: %s: met by %ld of %ld lists (%.2f%%), alone by %ld, of which %ld differ\n", call_names[predicates[k].call], predicates[k].name, all[k], count,
                100.0 * (double)all[k] / (double)count, alone[k], alone_differ[k]);
         if (cloak) printf("%s: too few of them differ\n", predicates[k].name), wrong++;

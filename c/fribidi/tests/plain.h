@@ -1,16 +1,20 @@
 /* The levels of UAX #9 rule by rule, as a predicate needs them, with what FriBidi does otherwise where a bit asks for it:
  *
- * - AS_ONE: all isolates of a depth are one sequence, in the order in which they stand, and an FSI whose isolate has no strong type takes
- *   its direction from a later one;
+ * - AS_ONE: all isolates of a depth are one sequence, in the order in which they stand. Brackets pair over its runs, but for runs that
+ *   stand right beside one another, by the level of the opening one; and a mark that begins an isolate after another one is ON and
+ *   keeps what follows from being of the type that ended the isolate before, is AN after EN that W2 changes, and stays a mark, which
+ *   counts as L, where an override changes the initiator;
+ * - LATER: an FSI whose isolate has no strong type takes its direction from a later isolate of its depth;
  * - DEEP: an isolate that is one too many counts as a depth of its own, and what is one too many before it is no hindrance to an isolate;
  * - CONTEXT: what stands before a pair of brackets is sought beyond the level run too;
- * - MERGED: a neutral right after a mark that follows a neutral is one with it: no bracket, and of the direction of a bracket before it.
+ * - MERGED: a neutral right after a mark that follows a neutral is one with it: no bracket, and of the direction of a bracket before it;
+ * - BARE: a PDI that closes nothing keeps its type under an override.
  *
  * Lists with a separator before their end are not meant. */
 #ifndef TESTS_PLAIN_H
 #define TESTS_PLAIN_H
 
-enum { DEEPEST = 125, AS_ONE = 1, DEEP = 2, CONTEXT = 4, MERGED = 8, ALL = 15 };
+enum { DEEPEST = 125, AS_ONE = 1, DEEP = 2, CONTEXT = 4, MERGED = 8, BARE = 16, LATER = 32, ALL = 63 };
 
 typedef struct plain {
     int too_deep; /* whether an embedding, override or isolate is one too many */
@@ -62,10 +66,11 @@ static void find_explicit(const input *one, int base, int ways, plain *p) {
         p->level[k] = stack[top].level, p->depth[k] = valid + (ways & DEEP ? isolates : 0);
         p->type[k] = type;
         p->opened[k] = 0;
-        if (stack[top].override && !is_removed(type) && type != FRIBIDI_TYPE_BS) p->type[k] = stack[top].override;
+        if (stack[top].override && !is_removed(type) && type != FRIBIDI_TYPE_BS && !(ways & BARE && type == FRIBIDI_TYPE_PDI && p->match[k] < 0))
+            p->type[k] = stack[top].override;
         if (opens || is_initiator(type)) {
             int rtl = type == FRIBIDI_TYPE_RLE || type == FRIBIDI_TYPE_RLO || type == FRIBIDI_TYPE_RLI
-                || (type == FRIBIDI_TYPE_FSI && first_level(one, p, k + 1, ways & AS_ONE) == 1);
+                || (type == FRIBIDI_TYPE_FSI && first_level(one, p, k + 1, ways & LATER) == 1);
             int level = rtl ? (stack[top].level + 1) | 1 : (stack[top].level + 2) & ~1;
             if (level <= DEEPEST && ((isolates == 0 && embeddings == 0) || (!opens && ways & DEEP))) {
                 top++, valid += !opens, p->opened[k] = !opens;
@@ -89,8 +94,9 @@ static void find_explicit(const input *one, int base, int ways, plain *p) {
 
 typedef struct sequence {
     int count, at[MOST], level;
-    FriBidiCharType last; /* what brackets see last in all runs so far, or 0 */
-    FriBidiCharType sos, eos, before, was[MOST], type[MOST], opener[MOST]; /* `opener`: what a mark at the beginning of an isolate takes, `before`: what brackets see in the run before, or 0 */
+    FriBidiCharType sos, eos, before; /* `before`: what brackets see last in the runs before, or 0 */
+    FriBidiCharType was[MOST], marked[MOST], type[MOST]; /* before W1, after it, and now */
+    FriBidiCharType opener[MOST]; /* the type of the initiator right before it, or 0 */
 } sequence;
 
 static int is_neutral(FriBidiCharType type) {
@@ -98,13 +104,28 @@ static int is_neutral(FriBidiCharType type) {
 }
 static int is_any(FriBidiCharType type, FriBidiCharType a, FriBidiCharType b, FriBidiCharType c) { return type == a || type == b || type == c; }
 
+/* W1 of a mark that begins an isolate which is joined with the one before it, and of what follows that is of the type that ended it. */
+static void join_mark(sequence *s, int k, int after_arabic) {
+    FriBidiCharType *t = s->type, before = t[k - 1];
+    FriBidiCharType own = before == FRIBIDI_TYPE_EN && after_arabic ? FRIBIDI_TYPE_AN : s->opener[k] != FRIBIDI_TYPE_ON ? FRIBIDI_TYPE_NSM : FRIBIDI_TYPE_ON;
+    t[k] = own;
+    for (k++; k < s->count && s->was[k] == FRIBIDI_TYPE_NSM && s->opener[k] == 0; k++) t[k] = own;
+    for (; own != FRIBIDI_TYPE_AN && k < s->count && t[k] == before && s->opener[k] == 0; k++) t[k] = own;
+}
+
 static void weak(sequence *s, int ways) {
     FriBidiCharType *t = s->type, strong = s->sos;
-    for (int k = 0; k < s->count; k++) /* W1 */
-        if (t[k] == FRIBIDI_TYPE_NSM) t[k] = k > 0 && ways & AS_ONE && s->opener[k] ? s->opener[k] : k == 0 ? s->sos : is_isolate(t[k - 1]) ? FRIBIDI_TYPE_ON : t[k - 1];
-    for (int k = 1; k + 1 < s->count; k++) /* (a number that goes on after it with what ended the isolate before) */
-        if (ways & AS_ONE && s->was[k] == FRIBIDI_TYPE_NSM && s->opener[k] == FRIBIDI_TYPE_ON && t[k - 1] == t[k + 1]
-            && is_any(t[k + 1], FRIBIDI_TYPE_EN, FRIBIDI_TYPE_AN, FRIBIDI_TYPE_EN)) t[k + 1] = FRIBIDI_TYPE_ON;
+    for (int k = 0, arabic = 0, joined[MOST] = {0}; k < s->count; k++) { /* W1 */
+        if (is_strong(t[k])) arabic = t[k] == FRIBIDI_TYPE_AL;
+        if (t[k] != FRIBIDI_TYPE_NSM || joined[k]) continue;
+        if (k > 0 && ways & AS_ONE && s->opener[k]) {
+            join_mark(s, k, arabic);
+            for (int i = k; i < s->count && t[i] == FRIBIDI_TYPE_NSM; i++) joined[i] = 1;
+        } else {
+            t[k] = k == 0 ? s->sos : is_isolate(t[k - 1]) ? FRIBIDI_TYPE_ON : t[k - 1];
+        }
+    }
+    memcpy(s->marked, t, sizeof *t * (size_t)s->count);
     for (int k = 0; k < s->count; k++) { /* W2 */
         if (is_strong(t[k])) strong = t[k];
         if (t[k] == FRIBIDI_TYPE_EN && strong == FRIBIDI_TYPE_AL) t[k] = FRIBIDI_TYPE_AN;
@@ -141,52 +162,57 @@ static void set_bracket(const input *one, sequence *s, int k, FriBidiCharType ty
     for (int first = 1; ways & MERGED && marks && k < s->count && s->was[k] == FRIBIDI_TYPE_ON && (first || one->brackets[s->at[k]] == 0); k++) s->type[k] = type, first = 0;
 }
 
-static void pair_brackets(const input *one, sequence *s, int ways) {
-    int open[63], count = 0, closer[MOST];
-    for (int k = 0; k < s->count; k++) closer[k] = -1;
-    for (int k = 0; k < s->count; k++) {
+/* N0, over some runs. */
+static void pair_brackets(const input *one, sequence *runs, int many, int ways) {
+    int open[63], opened = 0, count = 0, closer[MOST], place[MOST];
+    sequence *of[MOST];
+    for (int r = 0; r < many; r++)
+        for (int k = 0; k < runs[r].count; k++) of[count] = &runs[r], place[count] = k, closer[count++] = -1;
+    for (int n = 0; n < count; n++) {
+        sequence *s = of[n];
+        int k = place[n];
         FriBidiBracketType bracket = s->type[k] == FRIBIDI_TYPE_ON ? one->brackets[s->at[k]] : 0;
-        if (ways & MERGED && k > 0 && s->was[k - 1] == FRIBIDI_TYPE_NSM && s->type[k - 1] == FRIBIDI_TYPE_ON) bracket = 0;
+        if (ways & MERGED && k > 0 && s->was[k - 1] == FRIBIDI_TYPE_NSM && s->marked[k - 1] == FRIBIDI_TYPE_ON && s->type[k - 1] == FRIBIDI_TYPE_ON) bracket = 0;
         if (bracket == 0) continue;
         if (FRIBIDI_IS_BRACKET_OPEN(bracket)) {
-            if (count == 63) break;
-            open[count++] = k;
+            if (opened == 63) break;
+            open[opened++] = n;
         } else {
-            for (int i = count - 1; i >= 0; i--)
-                if (FRIBIDI_BRACKET_ID(one->brackets[s->at[open[i]]]) == bracket) {
-                    closer[open[i]] = k, count = i;
+            for (int i = opened - 1; i >= 0; i--)
+                if (FRIBIDI_BRACKET_ID(one->brackets[of[open[i]]->at[place[open[i]]]]) == bracket) {
+                    closer[open[i]] = n, opened = i;
                     break;
                 }
         }
     }
-    for (int k = 0; k < s->count; k++) {
+    for (int n = 0; n < count; n++) {
+        sequence *s = of[n];
         FriBidiCharType own = direction(s->level), inside = 0, before = ways & CONTEXT && s->before ? s->before : s->sos;
-        if (closer[k] < 0) continue;
-        for (int i = k + 1; i < closer[k] && inside != own; i++)
-            if (seen(s->type[i])) inside = seen(s->type[i]);
+        if (closer[n] < 0) continue;
+        for (int i = n + 1; i < closer[n] && inside != own; i++)
+            if (seen(of[i]->type[place[i]])) inside = seen(of[i]->type[place[i]]);
         if (inside == 0) continue;
         if (inside != own) {
-            for (int i = 0; i < k; i++)
-                if (seen(s->type[i])) before = seen(s->type[i]);
+            for (int i = 0; i < n; i++)
+                if ((of[i] == s || ways & CONTEXT) && seen(of[i]->type[place[i]])) before = seen(of[i]->type[place[i]]);
             inside = before == inside ? inside : own;
         }
-        set_bracket(one, s, k, inside, ways), set_bracket(one, s, closer[k], inside, ways);
+        set_bracket(one, s, place[n], inside, ways), set_bracket(one, of[closer[n]], place[closer[n]], inside, ways);
     }
 }
 
-static void resolve(const input *one, sequence *s, int ways, int *levels) {
-    weak(s, ways);
-    for (int k = 0; k < s->count; k++)
-        if (seen(s->type[k])) s->last = seen(s->type[k]);
-    pair_brackets(one, s, ways);
+/* What stands beside neutral types: a mark that is left is of no direction. */
+static FriBidiCharType side_of(FriBidiCharType type) { return type == FRIBIDI_TYPE_NSM ? type : seen(type); }
+
+static void resolve(sequence *s, int *levels) {
     for (int k = 0, end; k < s->count; k = end + 1) { /* N1, N2 */
         for (end = k; end < s->count && is_neutral(s->type[end]); end++) {}
-        FriBidiCharType before = k == 0 ? s->sos : seen(s->type[k - 1]), after = end == s->count ? s->eos : seen(s->type[end]);
+        FriBidiCharType before = k == 0 ? s->sos : side_of(s->type[k - 1]), after = end == s->count ? s->eos : side_of(s->type[end]);
         for (int i = k; i < end; i++) s->type[i] = before == after ? before : direction(s->level);
     }
     for (int k = 0; k < s->count; k++) { /* I1, I2 */
         FriBidiCharType type = s->type[k];
-        int up = is_rtl(s->level) ? type != FRIBIDI_TYPE_RTL : type == FRIBIDI_TYPE_RTL ? 1 : type == FRIBIDI_TYPE_LTR ? 0 : 2;
+        int up = is_rtl(s->level) ? type != FRIBIDI_TYPE_RTL : type == FRIBIDI_TYPE_RTL ? 1 : type == FRIBIDI_TYPE_LTR || type == FRIBIDI_TYPE_NSM ? 0 : 2;
         levels[s->at[k]] = s->level + up;
     }
 }
@@ -224,29 +250,46 @@ static void find_isolates(const input *one, const plain *p, int ways, int *isola
     }
 }
 
+/* A run with all that is known of it before N0, and what stands last in it and the runs before it. */
+static FriBidiCharType end_run(sequence *s, FriBidiCharType last, int before, int after, int ways) {
+    s->sos = direction(higher(s->level, before)), s->eos = direction(higher(s->level, after)), s->before = last;
+    weak(s, ways);
+    for (int k = 0; k < s->count; k++)
+        if (seen(s->type[k])) last = seen(s->type[k]);
+    return last;
+}
+
+/* Whether a run stands right behind another one. */
+static int follows(const input *one, const sequence *s, const sequence *next) { return beside(one, s->at[s->count - 1], 1) == next->at[0]; }
+
 static void resolve_runs(const input *one, const plain *p, int base, int ways, int *levels) {
-    static sequence s;
-    int isolate[MOST], done[MOST] = {0};
+    static sequence runs[MOST];
+    int isolate[MOST], done[MOST] = {0}, count = 0;
     find_isolates(one, p, ways, isolate);
     for (int first = 0; first < one->length; first++) {
         if (done[first] || is_removed(one->types[first])) continue;
-        int side = beside(one, first, -1), before = ways & AS_ONE || side < 0 ? base : p->level[side];
-        s.count = 0, s.last = 0, s.before = 0;
+        int side = beside(one, first, -1), before = ways & AS_ONE || side < 0 ? base : p->level[side], from = count;
+        FriBidiCharType last = 0;
+        runs[count].count = 0;
         for (int k = first; k < one->length; k++) {
             if (isolate[k] != isolate[first] || is_removed(one->types[k])) continue;
             done[k] = 1;
-            if (s.count > 0 && p->level[k] != s.level) {
-                int level = s.level;
-                s.sos = direction(higher(level, before)), s.eos = direction(higher(level, p->level[k])), s.before = s.last;
-                resolve(one, &s, ways, levels);
-                s.count = 0, before = level;
+            if (runs[count].count > 0 && p->level[k] != runs[count].level) {
+                last = end_run(&runs[count], last, before, p->level[k], ways);
+                before = runs[count++].level;
+                runs[count].count = 0;
             }
-            put(&s, one, p, k);
+            put(&runs[count], one, p, k);
         }
-        int last = s.at[s.count - 1], after = ways & AS_ONE || is_initiator(one->types[last]) ? -1 : beside(one, last, 1);
-        s.sos = direction(higher(s.level, before)), s.eos = direction(higher(s.level, after < 0 ? base : p->level[after])), s.before = s.last;
-        resolve(one, &s, ways, levels);
+        int end = runs[count].at[runs[count].count - 1], after = ways & AS_ONE || is_initiator(one->types[end]) ? -1 : beside(one, end, 1);
+        end_run(&runs[count], last, before, after < 0 ? base : p->level[after], ways);
+        count++;
+        for (int r = from, many; r < count; r += many) {
+            for (many = 1; ways & AS_ONE && r + many < count && !follows(one, &runs[r + many - 1], &runs[r + many]); many++) {}
+            pair_brackets(one, runs + r, many, ways);
+        }
     }
+    for (int r = 0; r < count; r++) resolve(&runs[r], levels);
 }
 
 /* The levels before L1 of the characters that X9 leaves, and those after it; the greatest of the first. */

@@ -54,40 +54,33 @@ static int changes(const input *one, int way, int greatest) {
     return 0;
 }
 
-/* A bracket that is opened in one isolate, and one of its number that closes it in a later isolate of the depth. */
-static int pair_over_isolates(const input *one) {
+/* A bracket that is opened in one isolate, and one of its number that closes it in a later isolate of the depth, where not all that stands
+ * in this depth from the one to the other is at one level; at a level at least. */
+static int pair_over_isolates(const input *one, int least) {
     static plain p;
     int isolate[MOST];
     find_matches(one, &p);
     find_explicit(one, (int)one->resolved & 1, 0, &p);
     find_isolates(one, &p, 0, isolate);
-    for (int k = 0; k < one->length; k++)
-        for (int i = 0; FRIBIDI_IS_BRACKET_OPEN(one->brackets[k]) && i < one->length; i++)
-            if (i > k && isolate[i] != isolate[k] && p.depth[i] == p.depth[k] && p.level[i] != p.level[k] && one->brackets[i] == FRIBIDI_BRACKET_ID(one->brackets[k])) return 1;
+    for (int i = 0; i < one->length; i++)
+        for (int k = i + 1, other = 0; FRIBIDI_IS_BRACKET_OPEN(one->brackets[i]) && k < one->length; k++) {
+            if (p.depth[k] != p.depth[i] || is_removed(one->types[k])) continue;
+            other |= p.level[k] != p.level[i];
+            if (other && isolate[k] != isolate[i] && one->brackets[k] != 0 && one->brackets[k] == FRIBIDI_BRACKET_ID(one->brackets[i])
+                && (p.level[k] >= least || p.level[i] >= least)) return 1;
+        }
     return 0;
 }
 
 /* BD13: each isolate is a sequence of its own, and P2 looks for the direction of an FSI in its own isolate; FriBidi takes all isolates of
  * a depth as one sequence. */
-/* A mark that stands first in an isolate before which another of its depth stands; at a level at least. */
-static int mark_after_initiator(const input *one, int least) {
-    static plain p;
-    int seen[MOST] = {0};
-    find_matches(one, &p);
-    find_explicit(one, (int)one->resolved & 1, 0, &p);
-    for (int k = 0; k < one->length; k++) {
-        int side = beside(one, k, -1);
-        if (is_removed(one->types[k])) continue;
-        if (p.type[k] == FRIBIDI_TYPE_NSM && side >= 0 && p.opened[side] && seen[p.depth[k]] && one->levels[k] >= least) return 1;
-        seen[p.depth[k]] = 1;
-    }
-    return 0;
+static int joined(const input *one, int greatest) {
+    return changes(one, AS_ONE, greatest) || changes(one, LATER, greatest) || changes(one, AS_ONE | LATER, greatest);
 }
-
-static int isolates_as_one(const input *one) { return changes(one, AS_ONE, 0) || pair_over_isolates(one) || mark_after_initiator(one, 0); }
+static int isolates_as_one(const input *one) { return joined(one, 0) || pair_over_isolates(one, 0); }
 static int isolates_as_one_top(const input *one) {
     int annex[MOST], greatest = plain_levels(one, 0, annex);
-    return changes(one, AS_ONE, 1) || mark_after_initiator(one, greatest);
+    return joined(one, 1) || pair_over_isolates(one, greatest);
 }
 
 /* X1 to X8: whether an embedding, override or isolate is one too many, at base level 1 or 0. */
@@ -108,6 +101,11 @@ static int context_before_run_top(const input *one) { return changes(one, CONTEX
 /* BD14: FriBidi takes no bracket that stands right after a mark of a neutral character as one. */
 static int bracket_after_mark(const input *one) { return changes(one, MERGED, 0); }
 static int bracket_after_mark_top(const input *one) { return changes(one, MERGED, 1); }
+
+/* X6a: an override changes the type of each PDI; FriBidi leaves that of one that closes nothing, which then has the direction of the runs
+ * beside it. */
+static int pdi_between_runs(const input *one) { return changes(one, BARE, 0); }
+static int pdi_between_runs_top(const input *one) { return changes(one, BARE, 1); }
 
 /* L1: isolate initiators and PDI at a line's end have the paragraph level too; FriBidi's fribidi_reorder_line leaves these, and what
  * stands before them. */
@@ -151,6 +149,7 @@ static const predicate predicates[] = {
     {"isolates_as_one", LEVELS, isolates_as_one}, {"isolates_as_one", TOP, isolates_as_one_top},
     {"context_before_run", LEVELS, context_before_run}, {"context_before_run", TOP, context_before_run_top},
     {"bracket_after_mark", LEVELS, bracket_after_mark}, {"bracket_after_mark", TOP, bracket_after_mark_top},
+    {"pdi_between_runs", LEVELS, pdi_between_runs}, {"pdi_between_runs", TOP, pdi_between_runs_top},
     {"isolate_at_end", LINE, isolate_at_end}, {"marks_without_base", LINE, marks_without_base}, {"mark_after_removed", LINE, mark_after_removed},
 };
 #define PREDICATES ((int)(sizeof predicates / sizeof *predicates))
