@@ -59,7 +59,7 @@ run-conformance: lib-lines lib-tables
 
 run-fribidi: words = -- --help
 run-bench: words = -- edits tree 1 1
-run-points: words = -- .
+run-points: words = -- data
 
 lib-%:
 	.ci/prove $* lib
