@@ -1,6 +1,6 @@
 //! A width change: of all lines that change it is known where they start and how much of each is
 //! shown, before the first of them is written over those at the old width.
-ghost use Rattle.std.specs.Prelude.{◌≡◌, ◌^◌, ◌<◌, ◌≤◌, ℕ, false, is_none, length, map, sum_by};
+ghost use Rattle.std.specs.Prelude.{◌≡◌, ◌^◌, ◌<◌, ◌≤◌, ℕ, false, true, is_none, length, map, sum_by};
 ghost use Rattle.std.specs.Prelude.{IfOk, IfErr, IfSome, IsErrOf, OnErr};
 ghost use Rattle.std.specs.List.{All, AllZip};
 ghost use Rattle.lines.specs.Engine.{rules_of, FindsExtentsAtMost, RewritesAtMost, SameRules};
@@ -29,6 +29,7 @@ fn find_one(
     ensures ok { IfOk result (BringsTo (rules_of engine.old) width laid.now) }
     ensures kept { IfOk result (λ part. is_none part ≡ is_line_within width laid.now.lines) }
     ensures memory { OnErr result (is_line_within width laid.now.lines ≡ false) }
+    ensures unfilled { is_line_within width laid.now.lines ≡ true → engine.new ≡ engine.old }
     ensures rules { SameRules engine.old engine.new }
     ensures counts { FindsExtentsAtMost (length laid.now.text) engine.old engine.new }
 {
