@@ -34,14 +34,18 @@ impl Stayed {
         }
     }
 
-    fn clear(&mut self)
-        ensures classes { self.new.classes.items ≡ [] }
-        ensures levels { self.new.levels.items ≡ [] }
-        ensures types { self.new.types.items ≡ [] }
+    // Empties the lists, which have room for so many characters then.
+    fn clear(&mut self, len: usize) -> Result<(), AllocError>
+        ensures classes { OnOk result (self.new.classes.items ≡ []) }
+        ensures levels { OnOk result (self.new.levels.items ≡ []) }
+        ensures types { OnOk result (self.new.types.items ≡ []) }
     {
         self.classes.clear();
         self.levels.clear();
         self.types.clear();
+        self.classes.reserve(len)?;
+        self.levels.reserve(len)?;
+        self.types.reserve(len)
     }
 
     fn push(&mut self, class: BidiClass, level: u8, explicit: BidiClass) -> Result<(), AllocError>
@@ -246,7 +250,7 @@ pub(crate) fn explicit(
     requires { base ≤ 1 }
     ensures { OnOk result (IsStayed classes.now base stayed.new) }
 {
-    stayed.clear();
+    stayed.clear(classes.len())?;
     let mut openers = Openers::new(base);
     for class in classes {
         let class = *class;

@@ -101,6 +101,7 @@ pub(crate) fn direct(
     }
     find_matches(classes, &mut isolates.found, &mut isolates.pending)?;
     acting.clear();
+    acting.reserve(classes.len())?;
     for at in 0..classes.len() {
         acting.push(acting_class(classes, &isolates.found, at))?;
     }

@@ -113,6 +113,7 @@ fn stayed_brackets(
     ensures { OnOk result (brackets.new.items ≡ map (bracket_at all.now) (stayed classes.now)) }
 {
     brackets.clear();
+    brackets.reserve(all.len())?;
     for at in 0..all.len() {
         if !is_removed(classes[at]) {
             brackets.push(all[at])?;
@@ -148,6 +149,7 @@ fn put_back(
     ensures { OnOk result (levels.new.items ≡ put_back base classes.now resolved.now) }
 {
     levels.clear();
+    levels.reserve(classes.len())?;
     let mut level = base;
     let mut rest = resolved;
     for class in classes {

@@ -125,6 +125,7 @@ fn take_types(
     ensures { OnOk result (types.new.items ≡ map (class_at all.now) places.now) }
 {
     types.clear();
+    types.reserve(places.len())?;
     for place in places {
         types.push(all[*place])?;
     }
@@ -141,6 +142,7 @@ fn take_brackets(
     ensures { OnOk result (brackets.new.items ≡ map (bracket_at all.now) places.now) }
 {
     brackets.clear();
+    brackets.reserve(places.len())?;
     for place in places {
         brackets.push(all[*place])?;
     }

@@ -55,6 +55,7 @@ fn push_places(places: &mut Vec<usize>, start: usize, end: usize) -> Result<(), 
     requires { start ≤ end }
     ensures { OnOk result (places.new.items ≡ places.old.items ++ range_with_len start (end - start)) }
 {
+    places.reserve(end - start)?;
     for place in start..end {
         places.push(place)?;
     }

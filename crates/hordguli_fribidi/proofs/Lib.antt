@@ -1,4 +1,5 @@
 mod BaseLemmas
+mod BracketLemmas
 mod ChunkLemmas
 mod InPlaceLemmas
 mod IsolateLemmas

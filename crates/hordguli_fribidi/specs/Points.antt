@@ -1,15 +1,14 @@
 -- The tables of single characters: numbers of pages, each of which has an entry for 256 code points, and what the entries stand for.
 use Rattle.std.specs.Prelude.{ℕ, ◌+◌, ◌*◌, ◌/◌, ◌%◌, ◌==◌, ◌&&◌, List, length, map, slice_index, slice_index_or, if◌then◌else◌}
 use Rattle.std.specs.List.{range_with_len}
-use Rattle.hordguli_fribidi.specs.Types.{classes, type_of}
 
 -- The entry of a code point. Page 0 is that of all code points past the last number.
 abbrev pub entry_at : List ℕ → List ℕ → ℕ → ℕ
 entry_at index pages c = slice_index_or pages (slice_index_or index (c / 256) 0 * 256 + c % 256) 0
 
--- the number of the class of a code point, whose entry is its place among the classes
+-- the type of a code point, which is its entry
 abbrev pub type_at : List ℕ → List ℕ → ℕ → ℕ
-type_at index pages c = slice_index_or (map type_of classes) (entry_at index pages c) 272
+type_at index pages c = entry_at index pages c
 
 -- what a list of numbers has for the entry of a code point, as its mirror or its bracket: 0 for most
 abbrev pub number_at : List ℕ → List ℕ → List ℕ → ℕ → ℕ

@@ -4,33 +4,13 @@ ghost use Rattle.std.specs.Prelude.{◌≡◌, ◌<◌, ◌==◌, ◌+◌, ◌*�
 ghost use Rattle.std.specs.Prelude.{length, map, slice_index_or};
 ghost use Rattle.hordguli_fribidi.specs.Points.{bracket_at, brackets_at, brackets_by};
 ghost use Rattle.hordguli_fribidi.specs.Points.{number_at, type_at, types_at};
-ghost use Rattle.hordguli_fribidi.specs.Types.{classes, type_of};
-
-// The numbers of the classes, in the order of their entries, and that of L for all other entries.
-static TYPES: [u32; 256] = [
-    272, 273, 275, 544, 66_592, 132_128, 546, 263_200, 524_320, 1_050_656, 2_107_456, 4_204_608,
-    8_390_720, 64, 4_112, 20_496, 4_113, 20_497, 4_128, 32_832, 32_833, 33_587_264, 32_864, 272,
-    272, 272, 272, 272, 272, 272, 272, 272, 272, 272, 272, 272, 272, 272, 272, 272, 272, 272, 272,
-    272, 272, 272, 272, 272, 272, 272, 272, 272, 272, 272, 272, 272, 272, 272, 272, 272, 272, 272,
-    272, 272, 272, 272, 272, 272, 272, 272, 272, 272, 272, 272, 272, 272, 272, 272, 272, 272, 272,
-    272, 272, 272, 272, 272, 272, 272, 272, 272, 272, 272, 272, 272, 272, 272, 272, 272, 272, 272,
-    272, 272, 272, 272, 272, 272, 272, 272, 272, 272, 272, 272, 272, 272, 272, 272, 272, 272, 272,
-    272, 272, 272, 272, 272, 272, 272, 272, 272, 272, 272, 272, 272, 272, 272, 272, 272, 272, 272,
-    272, 272, 272, 272, 272, 272, 272, 272, 272, 272, 272, 272, 272, 272, 272, 272, 272, 272, 272,
-    272, 272, 272, 272, 272, 272, 272, 272, 272, 272, 272, 272, 272, 272, 272, 272, 272, 272, 272,
-    272, 272, 272, 272, 272, 272, 272, 272, 272, 272, 272, 272, 272, 272, 272, 272, 272, 272, 272,
-    272, 272, 272, 272, 272, 272, 272, 272, 272, 272, 272, 272, 272, 272, 272, 272, 272, 272, 272,
-    272, 272, 272, 272, 272, 272, 272, 272, 272, 272, 272, 272, 272, 272, 272, 272, 272, 272, 272,
-    272, 272, 272, 272, 272, 272, 272, 272, 272, 272, 272, 272, 272, 272, 272, 272, 272, 272, 272,
-    272, 272, 272, 272,
-];
 
 /// The type of a code point.
 #[unsafe(no_mangle)]
 pub extern "C" fn hordguli_fribidi_core_type(
     c: u32,
     index: &[u8; 4352],
-    pages: &[u8; 65_536],
+    pages: &[u32; 65_536],
 ) -> u32
     ensures { result ≡ type_at index.now pages.now c }
 {
@@ -42,7 +22,7 @@ pub extern "C" fn hordguli_fribidi_core_type(
 }
 
 // Of a number that has a page.
-fn type_on_page(c: u32, index: &[u8; 4352], pages: &[u8; 65_536]) -> u32
+fn type_on_page(c: u32, index: &[u8; 4352], pages: &[u32; 65_536]) -> u32
     requires { c < 1_114_112 }
     ensures { result ≡ type_at index.now pages.now c }
 {
@@ -50,25 +30,17 @@ fn type_on_page(c: u32, index: &[u8; 4352], pages: &[u8; 65_536]) -> u32
 }
 
 // The same by the number of the page.
-fn type_in(pages: &[u8; 65_536], page: u8, c: u32) -> u32
-    ensures { result ≡ slice_index_or (map type_of classes)
-        (slice_index_or pages.now (page * 256 + c % 256) 0) 272 }
+fn type_in(pages: &[u32; 65_536], page: u8, c: u32) -> u32
+    ensures { result ≡ slice_index_or pages.now (page * 256 + c % 256) 0 }
 {
-    type_of(pages[page as usize * 256 + c as usize % 256])
-}
-
-// The number of the class of an entry.
-fn type_of(entry: u8) -> u32
-    ensures { result ≡ slice_index_or (map type_of classes) entry 272 }
-{
-    TYPES[entry as usize]
+    pages[page as usize * 256 + c as usize % 256]
 }
 
 // Of a number that has no page.
 #[cold]
 #[inline(never)]
-fn type_past(c: u32, pages: &[u8; 65_536]) -> u32
-    ensures { result ≡ slice_index_or (map type_of classes) (slice_index_or pages.now (c % 256) 0) 272 }
+fn type_past(c: u32, pages: &[u32; 65_536]) -> u32
+    ensures { result ≡ slice_index_or pages.now (c % 256) 0 }
 {
     type_in(pages, 0, c)
 }
@@ -77,7 +49,7 @@ fn type_past(c: u32, pages: &[u8; 65_536]) -> u32
 #[unsafe(no_mangle)]
 pub extern "C" fn hordguli_fribidi_core_types(
     index: &[u8; 4352],
-    pages: &[u8; 65_536],
+    pages: &[u32; 65_536],
     characters: &[u32],
     types: &mut [u32],
 )
@@ -89,7 +61,7 @@ pub extern "C" fn hordguli_fribidi_core_types(
 }
 
 // Four at a time, as long as each of them has a page.
-fn put_types(index: &[u8; 4352], pages: &[u8; 65_536], characters: &[u32], types: &mut [u32])
+fn put_types(index: &[u8; 4352], pages: &[u32; 65_536], characters: &[u32], types: &mut [u32])
     requires { length types.old ≡ length characters.now }
     ensures { types.new ≡ map (type_at index.now pages.now) characters.now }
 {
@@ -110,7 +82,7 @@ fn put_types(index: &[u8; 4352], pages: &[u8; 65_536], characters: &[u32], types
 }
 
 // The same one by one.
-fn put_each_type(index: &[u8; 4352], pages: &[u8; 65_536], characters: &[u32], types: &mut [u32])
+fn put_each_type(index: &[u8; 4352], pages: &[u32; 65_536], characters: &[u32], types: &mut [u32])
     requires { length types.old ≡ length characters.now }
     ensures { types.new ≡ map (type_at index.now pages.now) characters.now }
 {

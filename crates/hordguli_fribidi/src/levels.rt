@@ -3,6 +3,7 @@ ghost use Rattle.std.specs.Prelude.{◌≡◌, ◌≢◌, ◌+◌, ◌-◌, ◌<
 ghost use Rattle.std.specs.Prelude.{IfOk, OnOk};
 ghost use Rattle.bidi.specs.Base.{first_strong_level, strong_level};
 ghost use Rattle.bidi.specs.BracketTypes.{bracket_types};
+ghost use Rattle.bidi.specs.declared.bracket_type.BracketType.TheVariants.{Other};
 ghost use Rattle.bidi.specs.Classes.{is_initiator, is_pdi, is_strong};
 ghost use Rattle.lines.specs.Order.{highest};
 ghost use Rattle.lines.specs.Spaces.{line_levels};
@@ -31,16 +32,17 @@ fn brackets_by(alloc: Global, numbers: &[u32]) -> Result<Vec<BracketType>, Alloc
         .collect(alloc)
 }
 
-// Numbers that stand for no brackets.
-fn no_brackets(alloc: Global, len: usize) -> Result<Vec<u32>, AllocError>
-    ensures { IfOk result (λ numbers. numbers.items ≡ replicate len 0) }
+// No brackets.
+fn no_brackets(alloc: Global, len: usize) -> Result<Vec<BracketType>, AllocError>
+    ensures { IfOk result (λ brackets. brackets.items ≡ replicate len Other) }
 {
-    let mut numbers = Vec::new(alloc);
-    numbers.resize(len, 0)?;
-    Ok(numbers)
+    let mut brackets = Vec::new(alloc);
+    brackets.resize(len, BracketType::Other)?;
+    Ok(brackets)
 }
 
 // The brackets of a paragraph, of which there are none where the lengths differ.
+#[tactic(auto, using(crate::proofs::BracketLemmas::none_are))]
 fn brackets_of(alloc: Global, len: usize, numbers: &[u32]) -> Result<Vec<BracketType>, AllocError>
     ensures brackets { IfOk result (λ brackets. brackets.items
         ≡ bracket_types bracket_by (brackets_of len numbers.now)) }
@@ -49,8 +51,7 @@ fn brackets_of(alloc: Global, len: usize, numbers: &[u32]) -> Result<Vec<Bracket
     if numbers.len() == len {
         brackets_by(alloc, numbers)
     } else {
-        let none = no_brackets(alloc, len)?;
-        brackets_by(alloc, &none)
+        no_brackets(alloc, len)
     }
 }
 
@@ -147,6 +148,7 @@ fn first_strong_level(types: &[u32]) -> Option<u8>
 }
 
 #[tactic(auto, unfolding(crate::specs::Types::class_of))]
+#[inline(always)]
 fn strong_level(number: u32) -> Option<u8>
     ensures { result
         ≡ (if is_strong (class_of number) then Some (strong_level (class_of number)) else None) }
@@ -180,6 +182,7 @@ fn strong_level(number: u32) -> Option<u8>
 
 // How many isolates are open after a character. A PDI with none open closes none.
 #[tactic(auto, unfolding(crate::specs::Types::class_of))]
+#[inline(always)]
 fn depth_after(number: u32, depth: usize) -> usize
     requires { depth < usize.MAX }
     ensures { result ≡ (if is_initiator (class_of number) then depth + 1 else

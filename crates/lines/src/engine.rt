@@ -13,7 +13,7 @@ ghost use Rattle.lines.specs.Pages.{lines_bytes, paragraph_bytes};
 ghost use Rattle.lines.specs.Printing.{FailedAs, skips_lines};
 
 use crate::bytes::write_base;
-use crate::counts::{Counts, raise};
+use crate::counts::Counts;
 use crate::extents::{Extents, Room};
 use crate::fill::Fill;
 use crate::laid::Laid;
@@ -47,12 +47,13 @@ pub struct Engine {
 impl Drop for Engine {
     fn drop(self) {
         let Engine {
-            tables: _,
+            tables,
             options: _,
-            counts: _,
+            counts,
             work: _,
             kept: _,
         } = self;
+        counts.end(tables);
     }
 }
 
@@ -91,11 +92,7 @@ impl Engine {
         Engine {
             tables,
             options,
-            counts: Counts {
-                analysed: 0,
-                filled: 0,
-                written: 0,
-            },
+            counts: Counts::zero(),
             work: None,
             kept: None,
         }
@@ -136,21 +133,21 @@ impl Engine {
     pub fn analysed(&self) -> u64
         ensures { result ≡ analysed_of self.now }
     {
-        self.counts.analysed
+        self.counts.analysed.get()
     }
 
     /// How many characters were filled into lines, up to the greatest `u64`, at which the count stays.
     pub fn filled(&self) -> u64
         ensures { result ≡ filled_of self.now }
     {
-        self.counts.filled
+        self.counts.filled.get()
     }
 
     /// Of how many characters the lines were written, up to the greatest `u64`, at which the count stays.
     pub fn written(&self) -> u64
         ensures { result ≡ written_of self.now }
     {
-        self.counts.written
+        self.counts.written.get()
     }
 
     /// Lays out one paragraph at a width in columns, which is not 0. Where there is no memory, the
@@ -218,6 +215,10 @@ impl Engine {
             (W.state writer.old) (W.state writer.new)) }
         ensures memory { IsErrOf result PrintFault.Memory → skips_lines print.now ≡ false }
         ensures counts { OnOk result (Prints (length text.now) print.now self.old self.new) }
+
+        // Also where the sink failed: the lines are found by then.
+        ensures failed { ¬ (IsErrOf result PrintFault.Memory)
+            → Prints (length text.now) print.now self.old self.new }
         ensures at_most { LaysOutAtMost (length text.now) self.old self.new }
 
         // Also after a fault: the characters count as analysed, and what is not laid out into lines is not
@@ -274,7 +275,11 @@ impl Engine {
         } }
         ensures least { room.old.written ≤ room.new.written }
     {
-        laid.reflow(&self.tables, self.options, extents, room);
+        let Room {
+            properties,
+            written,
+        } = room;
+        laid.reflow(&self.tables, self.options, extents, properties, written);
     }
 
     /// Takes room back, and counts the characters whose lines were written in it. There is no other way to
@@ -284,7 +289,7 @@ impl Engine {
         ensures at_most { RewritesAtMost room.written self.old self.new }
         ensures rules { SameRules self.old self.new }
     {
-        self.counts.written = self.counts.written.saturating_add(room.end());
+        self.counts.written.add(room.end());
     }
 
     // Writes the lines of a paragraph.
@@ -302,7 +307,8 @@ impl Engine {
         ensures err { IfErr result (λ fault.
             FailedAs fault (paragraph_bytes (rules_of self.old) width print.now text.now)
             (W.state writer.old) (W.state writer.new)) }
-        ensures counts { OnOk result (LaysOut (length text.now) self.old self.new) }
+        ensures counts { ¬ (IsErrOf result PrintFault.Memory)
+            → LaysOut (length text.now) self.old self.new }
         ensures at_most { LaysOutAtMost (length text.now) self.old self.new }
         ensures analysed { analysed_of self.new ≡ counted (analysed_of self.old) (length text.now) }
         ensures rules { SameRules self.old self.new }
@@ -326,7 +332,7 @@ impl Engine {
         } }
         ensures least { analysed_of self.old ≤ analysed_of self.new }
     {
-        raise(&mut self.counts.analysed, text.len());
+        self.counts.analysed.raise(text.len());
         base_level(&self.tables, text, self.options.base)
     }
 

@@ -3,6 +3,7 @@
 ghost use Rattle.std.specs.Prelude.{◌≡◌, ◌<◌, ◌≤◌, length, map, IfOk, OnErr};
 ghost use Rattle.ucd.specs.Properties.{properties_of};
 
+use crate::counts::Count;
 use crate::fill::Shown;
 use std::alloc::{AllocError, Global};
 use std::marker::Model;
@@ -29,7 +30,7 @@ impl Model for Extents {
 #[derive(Debug)]
 pub struct Room {
     pub(crate) properties: Vec<Properties>,
-    pub(crate) written: u64,
+    pub(crate) written: Count,
 }
 
 impl Model for Room {
@@ -51,12 +52,12 @@ impl Room {
         properties.resize(len, tables.properties('\0'))?;
         Ok(Room {
             properties,
-            written: 0,
+            written: Count::zero(),
         })
     }
 
-    /// Lets go of it, and says of how many characters the lines were written.
-    pub(crate) fn end(self) -> u64
+    /// Lets go of it but for the count of the characters whose lines were written.
+    pub(crate) fn end(self) -> Count
         ensures { result ≡ self.written }
     {
         let Room {

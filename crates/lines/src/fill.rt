@@ -14,6 +14,7 @@ ghost use Rattle.lines.specs.declared.places.Place.{Place};
 ghost use Rattle.lines.specs.declared.engine.TheConstants.{PARAGRAPH_LIMIT};
 
 use crate::bytes::WriteFault;
+use crate::counts::Count;
 use crate::extents::Extents;
 use crate::paragraph::{Spans, Text};
 use crate::print::Print;
@@ -103,7 +104,7 @@ impl Fill {
         text: &Text<'_>,
         levels: &[u8],
         extents: &mut Extents,
-        written: &mut u64,
+        written: &mut Count,
     )
         requires text { IsLookedUp text.now }
         requires len { self.old.len ≡ length text.now.characters.now }

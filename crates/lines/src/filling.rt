@@ -12,7 +12,7 @@ ghost use Rattle.lines.specs.declared.places.Place.{Place};
 ghost use Rattle.lines.specs.declared.engine.TheConstants.{PARAGRAPH_LIMIT};
 
 use crate::clusters::mark_clusters;
-use crate::counts::raise;
+use crate::counts::Count;
 use crate::places::Place;
 use breaks::Mark;
 use std::alloc::{AllocError, Global};
@@ -27,7 +27,7 @@ pub fn line_starts(
     width: u16,
     nobreak: bool,
     starts: &mut Vec<u32>,
-    filled: &mut u64,
+    filled: &mut Count,
 ) -> Result<(), AllocError>
     requires len { length places.old ≡ length text.now }
     requires within { length places.old ≤ PARAGRAPH_LIMIT }
@@ -38,7 +38,7 @@ pub fn line_starts(
     ensures counts { filled.new ≡ counted filled.old (length text.now) }
     ensures least { filled.old ≤ filled.new }
 {
-    raise(filled, text.len());
+    filled.raise(text.len());
     starts.clear();
     let mut start = 0;
     let mut is_known = false;

@@ -4,7 +4,8 @@ ghost use Rattle.std.specs.Prelude.{IfErr, IfOk, IsTrue, OnOk};
 ghost use Rattle.device.specs.Device.{StoppedAt, Wrote};
 
 use crate::bytes::WriteFault;
-use crate::extents::{Extents, Room, look_up};
+use crate::counts::Count;
+use crate::extents::{Extents, look_up};
 use crate::fill::Fill;
 use crate::options::Options;
 use crate::paragraph::{LentRules, Text};
@@ -13,7 +14,7 @@ use crate::visual_line::VisualLine;
 use breaks::{Mark, paragraphs_end_at_must};
 use device::Sink;
 use std::marker::Model;
-use ucd::Tables;
+use ucd::{Properties, Tables};
 
 /// A paragraph that is laid out: its text, base level, levels, break marks and lines.
 #[derive(Debug)]
@@ -173,23 +174,22 @@ impl Laid {
         tables: &Tables,
         options: Options,
         extents: &mut Extents,
-        room: &mut Room,
+        properties: &mut Vec<Properties>,
+        written: &mut Count,
     )
         requires laid { IsLaidOut (record { tables = tables.now; options = options }) self.old }
         requires extents { (width : ℕ) × (extents.old
             ≡ extents_of (record { tables = tables.now; options = options }) width self.old.text) }
-        requires room { length self.old.text ≤ room.old.len }
+        requires room { length self.old.text ≤ length properties.old.items }
         ensures laid { self.new
             ≡ reflowed (record { tables = tables.now; options = options }) self.old extents.old }
         ensures extents { extents.new ≡ extents_in self.old.lines }
-        ensures room { room.new ≡ record room.old {
-          written = counted room.old.written (length self.old.text);
-        } }
-        ensures least { room.old.written ≤ room.new.written }
+        ensures room { length properties.new.items ≡ length properties.old.items }
+        ensures counts { written.new ≡ counted written.old (length self.old.text) }
+        ensures least { written.old ≤ written.new }
     {
         let text = self.text.as_slice();
-        let mut written = room.written;
-        let properties = &mut room.properties[..text.len()];
+        let properties = &mut properties[..text.len()];
         look_up(tables, text, properties);
         let text = Text {
             rules: LentRules { tables, options },
@@ -197,9 +197,7 @@ impl Laid {
             properties,
             base: self.base,
         };
-        self.lines
-            .reflow(&text, &self.levels, extents, &mut written);
-        room.written = written;
+        self.lines.reflow(&text, &self.levels, extents, written);
     }
 
     /// Puts the lines of this paragraph at another width in, and hands the old ones out. Both are

@@ -21,7 +21,7 @@ ghost use Rattle.lines.specs.Visual.{end_of, lines_from};
 ghost use Rattle.lines.specs.declared.places.Place.{Place};
 ghost use Rattle.lines.specs.declared.engine.TheConstants.{PARAGRAPH_LIMIT};
 
-use crate::counts::raise;
+use crate::counts::Count;
 use crate::fill::{Lists, Shown};
 use crate::mirror::{visual_chars, visual_runs};
 use crate::order::{arrange, identity, order, order_runs};
@@ -38,7 +38,7 @@ pub(crate) fn show_lines(
     paragraph: &Paragraph<'_>,
     places: &[Place],
     lists: &mut Lists,
-    written: &mut u64,
+    written: &mut Count,
 ) -> Result<(), AllocError>
     requires text { IsLookedUp paragraph.now.text }
     requires places { length paragraph.now.text.characters.now ≡ length places.now }
@@ -135,7 +135,7 @@ pub(crate) fn show_each(
     ltov: &mut [u32],
     vtol: &mut [u32],
     chars: &mut [char],
-    written: &mut u64,
+    written: &mut Count,
 )
     requires text { IsLookedUp text.now }
     requires limit { length text.now.characters.now ≤ PARAGRAPH_LIMIT }
@@ -156,7 +156,7 @@ pub(crate) fn show_each(
     let properties = text.properties;
     let starts = spans.starts;
     let shown = spans.shown;
-    raise(written, characters.len());
+    written.raise(characters.len());
     let mut k = 0;
     while k < starts.len() {
         let start = starts[k] as usize;

@@ -1,5 +1,6 @@
 //! The layout of one paragraph, in lists that are used again for the next.
-ghost use Rattle.std.specs.Prelude.{◌≡◌, ◌<◌, ◌≤◌, true, false, List, length, map, IfErr, IfOk, OnOk};
+ghost use Rattle.std.specs.Prelude.{◌≡◌, ◌<◌, ◌≤◌, true, false, List, length, map};
+ghost use Rattle.std.specs.Prelude.{IfErr, IfOk, IsErrOf, OnOk};
 ghost use Rattle.ucd.specs.Properties.{properties_of};
 ghost use Rattle.bidi.specs.Levels.{levels_of};
 ghost use Rattle.breaks.specs.Marks.{marks_of};
@@ -24,7 +25,7 @@ ghost use Rattle.lines.specs.Places.{places_of};
 ghost use Rattle.lines.specs.declared.engine.TheConstants.{PARAGRAPH_LIMIT};
 
 use crate::bytes::WriteFault;
-use crate::counts::{Counts, raise};
+use crate::counts::{Count, Counts};
 use crate::extents::{Extents, look_up};
 use crate::fill::{Fill, Lists, Shown};
 use crate::filling::line_starts;
@@ -176,7 +177,8 @@ impl Workspace {
         ensures err { IfErr result (λ fault. FailedAs fault
             (paragraph_bytes (rules_in rules.now) form.now.width form.now.print.now text.now)
             (W.state writer.old) (W.state writer.new)) }
-        ensures counts { OnOk result (LaysOutAll (length text.now) counts.old counts.new) }
+        ensures counts { ¬ (IsErrOf result PrintFault.Memory)
+            → LaysOutAll (length text.now) counts.old counts.new }
         ensures at_most { LaysOutSome (length text.now) counts.old counts.new }
         ensures analysed { counts.new.analysed ≡ counted counts.old.analysed (length text.now) }
     {
@@ -213,7 +215,7 @@ impl Workspace {
         rules: &LentRules<'_>,
         text: &[char],
         levels: &mut Vec<u8>,
-        analysed: &mut u64,
+        analysed: &mut Count,
     ) -> Result<u8, AllocError>
         ensures base { IfOk result (λ base. base ≡ base_of (rules_in rules.now) text.now) }
         ensures levels { OnOk result
@@ -224,7 +226,7 @@ impl Workspace {
         ensures counts { analysed.new ≡ counted analysed.old (length text.now) }
         ensures least { analysed.old ≤ analysed.new }
     {
-        raise(analysed, text.len());
+        analysed.raise(text.len());
         take_properties(rules.tables, text, &mut self.properties)?;
         reserve(levels, text.len())?;
         let base = rules.options.base;
@@ -317,7 +319,7 @@ fn extents_of_places(
     places: &mut [Place],
     width: u16,
     nobreak: bool,
-    filled: &mut u64,
+    filled: &mut Count,
 ) -> Result<Extents, AllocError>
     requires len { length places.old ≡ length text.now }
     requires within { length text.now ≤ PARAGRAPH_LIMIT }
@@ -353,7 +355,7 @@ fn put_spans(
     nobreak: bool,
     starts: &mut Vec<u32>,
     shown: &mut Vec<Shown>,
-    filled: &mut u64,
+    filled: &mut Count,
 ) -> Result<(), AllocError>
     requires len { length places.old ≡ length text.now }
     requires within { length text.now ≤ PARAGRAPH_LIMIT }
@@ -425,17 +427,16 @@ fn write_one_line<W: Sink>(
     ensures err { IfErr result (λ fault. FailedAs fault (paragraph_bytes (rules_in text.now.rules)
         form.now.width form.now.print.now text.now.characters.now)
         (W.state writer.old) (W.state writer.new)) }
-    ensures counts { OnOk result (FillsAll (length text.now.characters.now) counts.old counts.new) }
+    ensures counts { ¬ (IsErrOf result PrintFault.Memory)
+        → FillsAll (length text.now.characters.now) counts.old counts.new }
     ensures at_most { FillsSome (length text.now.characters.now) counts.old counts.new }
 {
     let Ok(()) = make_room(lists, text.characters.len()) else {
         return Err(PrintFault::Memory);
     };
-    raise(&mut counts.filled, text.characters.len());
-    raise(&mut counts.written, text.characters.len());
     let row = &mut lists.levels;
     let (ltov, vtol, chars) = (&mut lists.ltov, &mut lists.vtol, &mut lists.chars);
-    match write_whole(writer, form, text, levels, row, ltov, vtol, chars) {
+    match write_whole(writer, form, text, levels, row, ltov, vtol, chars, counts) {
         Ok(_) => Ok(()),
         Err(fault) => Err(PrintFault::Write(fault)),
     }
@@ -466,8 +467,8 @@ fn write_lines<W: Sink>(
     ensures err { IfErr result (λ fault. FailedAs fault (paragraph_bytes
         (rules_in paragraph.now.text.rules) form.now.width form.now.print.now
         paragraph.now.text.characters.now) (W.state writer.old) (W.state writer.new)) }
-    ensures counts { OnOk result
-        (FillsAll (length paragraph.now.text.characters.now) counts.old counts.new) }
+    ensures counts { ¬ (IsErrOf result PrintFault.Memory)
+        → FillsAll (length paragraph.now.text.characters.now) counts.old counts.new }
     ensures at_most { FillsSome (length paragraph.now.text.characters.now) counts.old counts.new }
 {
     let text = &paragraph.text;
@@ -481,8 +482,8 @@ fn write_lines<W: Sink>(
     ) else {
         return Err(PrintFault::Memory);
     };
-    raise(&mut counts.written, text.characters.len());
-    match write_spans(writer, form, text, paragraph.levels, lists) {
+    let count = &mut counts.written;
+    match write_spans(writer, form, text, paragraph.levels, lists, count) {
         Ok(_) => Ok(()),
         Err(fault) => Err(PrintFault::Write(fault)),
     }
@@ -496,7 +497,7 @@ fn take_spans(
     places: &mut Vec<Place>,
     width: u16,
     lists: &mut Lists,
-    filled: &mut u64,
+    filled: &mut Count,
 ) -> Result<(), AllocError>
     requires text { IsLookedUp paragraph.now.text }
     requires marks { paragraph.now.marks.now ≡ marks_of paragraph.now.text.rules.tables.now
@@ -556,6 +557,7 @@ fn write_spans<W: Sink>(
     text: &Text<'_>,
     levels: &[u8],
     lists: &mut Lists,
+    count: &mut Count,
 ) -> Result<u64, WriteFault>
     requires text { IsLookedUp text.now }
     requires limit { length text.now.characters.now ≤ PARAGRAPH_LIMIT }
@@ -576,6 +578,8 @@ fn write_spans<W: Sink>(
         text.now.characters.now (lines_from text.now.rules.tables.now text.now.rules.options text.now.base
         text.now.characters.now levels.now places lists.old.starts.items)) 0
         (W.state writer.old) (W.state writer.new) fault.written) }
+    ensures counts { count.new ≡ counted count.old (length text.now.characters.now) }
+    ensures least { count.old ≤ count.new }
 {
     let spans = Spans {
         starts: &lists.starts,
@@ -591,6 +595,7 @@ fn write_spans<W: Sink>(
         &mut lists.ltov,
         &mut lists.vtol,
         &mut lists.chars,
+        count,
     )
 }
 

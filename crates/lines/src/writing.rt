@@ -4,6 +4,7 @@ ghost use Rattle.std.specs.Prelude.{◌≡◌, ◌≤◌, ℕ, List, true, false
 ghost use Rattle.ucd.specs.Tables.{class_of};
 ghost use Rattle.lines.specs.Asked.{asks_places, visual_part, visual_shown};
 ghost use Rattle.lines.specs.Bytes.{line_bytes};
+ghost use Rattle.lines.specs.Engine.{counted};
 ghost use Rattle.lines.specs.Extents.{shown_from};
 ghost use Rattle.lines.specs.Kept.{AreStarts};
 ghost use Rattle.lines.specs.Pages.{lines_bytes};
@@ -14,6 +15,7 @@ ghost use Rattle.lines.specs.declared.places.Place.{Place};
 ghost use Rattle.lines.specs.declared.engine.TheConstants.{PARAGRAPH_LIMIT};
 
 use crate::bytes::WriteFault;
+use crate::counts::Count;
 use crate::fill::Shown;
 use crate::paragraph::{Spans, Text};
 use crate::print::Print;
@@ -29,7 +31,7 @@ pub(crate) struct Form<'a> {
 }
 
 /// Writes all lines of a paragraph, by the levels before L1, and says how many bytes they are. What belongs
-/// to a line is put to the front of lists that are long enough.
+/// to a line is put to the front of lists that are long enough. Counts the characters.
 pub(crate) fn write_each<W: Sink>(
     writer: &mut W,
     form: &Form<'_>,
@@ -40,6 +42,7 @@ pub(crate) fn write_each<W: Sink>(
     ltov: &mut [u32],
     vtol: &mut [u32],
     chars: &mut [char],
+    count: &mut Count,
 ) -> Result<u64, WriteFault>
     requires text { IsLookedUp text.now }
     requires limit { length text.now.characters.now ≤ PARAGRAPH_LIMIT }
@@ -59,11 +62,14 @@ pub(crate) fn write_each<W: Sink>(
         text.now.base text.now.characters.now (lines_shown text.now.rules.tables.now
         text.now.rules.options text.now.base text.now.characters.now levels.now spans.now.starts.now
         spans.now.shown.now)) 0 (W.state writer.old) (W.state writer.new) fault.written) }
+    ensures counts { count.new ≡ counted count.old (length text.now.characters.now) }
+    ensures least { count.old ≤ count.new }
 {
     let characters = text.characters;
     let properties = text.properties;
     let starts = spans.starts;
     let shown = spans.shown;
+    count.raise(characters.len());
     let mut written = 0;
     let mut k = 0;
     while k < starts.len() {
@@ -126,6 +132,9 @@ pub(crate) fn write_line<W: Sink>(
         (W.state writer.old) (W.state writer.new) fault.written) }
     ensures counted { IfOk result (λ n. n ≤ (W.state writer.new).passed) }
 {
+    if shown.len == 0 && !form.print.asks_places() {
+        return write_ordered(writer, done, form, line, is_first, shown.columns, &[], &[]);
+    }
     let row = &mut row[..levels.len()];
     row.copy_from_slice(levels);
     let is_flat = reset_line(line.properties, line.base, row);

@@ -8,7 +8,9 @@ pub mod MoveLemmas
 pub mod PieceLemmas
 pub mod PrintLemmas
 pub mod PushLemmas
+pub mod StartLemmas
 pub mod StepLemmas
+pub mod StopLemmas
 pub mod StreamLemmas
 pub mod Utf8Lemmas
 mod WorkedRows

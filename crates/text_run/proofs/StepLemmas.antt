@@ -1,6 +1,6 @@
 -- One step of a run, by what its calls do.
 use Rattle.std.proofs.Common.{◌≡◌, ◌⊎◌, inl, inr, ⊎_elim, ℕ, ◌+◌, ◌*◌, ◌<◌, ◌≤◌, ◌==◌, Bool, true, false, List, [], ◌∷◌, ◌++◌, length, take, drop, min, Option, Some, None, unwrap_or, Result, Ok, Err, vec_len, Vec, Global, encode_utf8_all, refl, sym, subst, ap, ap₂, ◌∙◌, arith, true≢false, if◌then◌else◌}
-use Rattle.std.specs.Prelude.{is_none, is_some, OnOk}
+use Rattle.std.specs.Prelude.{is_none, is_some, IsErrOf, OnOk}
 use Rattle.std.specs.List.{concat}
 use Rattle.std.specs.Str.{chars}
 use Rattle.std.specs.Str.Lossy.{utf8_valid_len, utf8_error_len}
@@ -22,38 +22,17 @@ use Rattle.text_run.specs.declared.faults.RunFault.{RunFault}
 use Rattle.text_run.specs.declared.faults.RunFault.TheVariants as f
 use Rattle.text_run.specs.declared.text.Held.{Held}
 use Rattle.text_run.specs.declared.text.TheConstants.{PIECE}
-use Rattle.text_run.specs.TextRun.{AtEnd, AtFailure, are_within, input_fault, front_of, front_paragraphs, is_bad, written_of, Gave, HasPrinted, HasRead, PrintsNoMore, WantsMemory}
+use Rattle.text_run.specs.TextRun.{AtEnd, AtFailure, are_within, input_fault, front_of, front_paragraphs, is_bad, written_of, Gave, HasPrinted, HasRead, HasStopped, PrintsNoMore, WantsMemory}
 use Rattle.text_run.specs.Counts.{PrintsAtMost}
-use Rattle.text_run.specs.Streaming.{Ends, FindsFault, Finishes, Gathers, IsAt, IsBeginning, IsFront, IsFaultAhead, IsOpen, IsRead, Stands, Steps, StopsWriting, Writes, last_lines}
+use Rattle.text_run.specs.Streaming.{Ends, FindsFault, Finishes, Gathers, IsAt, IsBeginning, IsFront, IsFaultAhead, IsOpen, IsRead, Stands, StopsAfter, StopsWriting, Writes, last_lines}
 use Rattle.text_run.proofs.CountLemmas.{at_most_more, at_most_none, at_most_printed, printed_as, prints_more}
 use Rattle.text_run.proofs.Devices.{Took-nothing}
 use Rattle.text_run.proofs.Fronts.{front_join, front_more, front_none}
 use Rattle.text_run.proofs.LeftLemmas.{front_some, last_pars, last_within, left_by, not_none, pars_some}
-use Rattle.text_run.proofs.StreamLemmas.{Consumes-append, Consumes-kept, IsSent, Stops, at_fault, at_long, at_memory, at_write, at_written, ends_write, front_is, gave_all, had_all, pars_sent, sent_ahead, sent_within, within_more, written_whole, Wrote-append}
+use Rattle.text_run.proofs.StopLemmas.{append_end, encoded_len, is_all, last_len, not_all, not_bad, one_par, some_bad, stopped_in}
+use Rattle.text_run.proofs.StreamLemmas.{Consumes-append, Consumes-kept, IsSent, Stops, at_fault, at_long, at_memory, at_write, at_written, ends_write, front_is, gave_all, gone_on, had_all, pars_are, pars_sent, sent_ahead, sent_within, within_more, written_whole, Wrote-append}
 use Rattle.text_run.proofs.Utf8Lemmas.{bad_stays, is_bad-after, nothing_valid, utf8_error_len-nil, utf8_front, utf8_valid_len-after}
 use lib.Utf8.{encode}
-
--- how many bytes characters take at most
-encoded_len : (cs : List ℕ) → length (encode_utf8_all cs) ≤ 4 * length cs
-encoded_len [] = omega arith
-encoded_len (c ∷ cs) = omega (arith, length-append (encode c) (encode_utf8_all cs), length-encode c, (len_utf8_bounds c).1, encoded_len cs)
-
-not_all : (m n : ℕ) → m < n → (m == n) ≡ false
-not_all m n less = grind (arith, nat_tests)
-
-is_all : (m n : ℕ) → m ≡ n → (m == n) ≡ true
-is_all m n is = grind (arith, nat_tests)
-
-not_bad : (bytes : List ℕ) → is_some (utf8_error_len bytes) ≡ false → utf8_error_len bytes ≡ None
-not_bad bytes good = go (utf8_error_len bytes) good
-  where
-    go : (o : Option ℕ) → is_some o ≡ false → o ≡ None
-    go None is = refl
-    go (Some n) is = absurd (true≢false is)
-
-some_bad : (bytes : List ℕ) → is_some (utf8_error_len bytes) ≡ true → 0 < length bytes
-some_bad [] bad = absurd (true≢false (sym bad ∙ ap is_some utf8_error_len-nil))
-some_bad (b ∷ bytes) bad = omega arith
 
 module _ (rules : Rules) (width : ℕ) (print : Print) (reader_old writer_old : Device) (engine_old : Engine) (reader writer : Device) (engine : Engine) (held : Held) where
   abbrev Holds : List ℕ → List ℕ → Type 0
@@ -63,7 +42,7 @@ module _ (rules : Rules) (width : ℕ) (print : Print) (reader_old writer_old : 
       × IsOpen (cut_by rules) text × IsBeginning waiting × Prints (length (concat at.sent)) print engine_old engine
 
   -- where it stands, by what it holds
-  stands_by : (waiting text : List ℕ) → Holds waiting text → Prints 0 print engine_old engine_old
+  pub stands_by : (waiting text : List ℕ) → Holds waiting text → Prints 0 print engine_old engine_old
       → take held.waiting held.piece.items ≡ waiting → held.text.items ≡ text → held.page.bytes.items ≡ []
       → vec_len held.piece ≡ PIECE
       → length (take held.waiting held.piece.items) ≡ held.waiting → Stands rules width print reader_old writer_old engine_old reader writer engine held
@@ -84,6 +63,18 @@ no_memory rules width print bytes old new engine_old engine_new fault wrong (inr
     go true same_fault = cc (same_fault, memory)
     go false same_fault = cc same_fault
 
+-- nor a failed write
+no_write : (rules : Rules) (width : ℕ) (print : Print) (bytes : List ℕ) (old new : Held) (engine_old engine_new : Engine) (fault : Option RunFault) (wrong : RunFault)
+    → FindsFault rules bytes old new engine_old engine_new fault ⊎ Gathers rules width print bytes old new engine_old engine_new fault → fault ≡ Some wrong → (n : ℕ) → wrong ≡ f.Write n → ⊥
+no_write rules width print bytes old new engine_old engine_new fault wrong (inl l) is n write =
+    let wrong_is : l.wrong ≡ f.Write n = cc (is, write, l.fault_is) in
+    subst (IsFaultAhead (cut_by rules) (old.text.items ++ front_of bytes) (is_bad bytes) (old.decoded + utf8_valid_len bytes)) wrong_is l.ahead
+no_write rules width print bytes old new engine_old engine_new fault wrong (inr g) is n write = go (is_bad bytes) (sym is ∙ g.fault_is)
+  where
+    go : (b : Bool) → Some wrong ≡ (if b then Some (f.NotUtf8 new.decoded) else None) → ⊥
+    go true same_fault = cc (same_fault, write)
+    go false same_fault = cc same_fault
+
 -- where memory runs out at the end of a text nothing is written
 pub none_written : (rules : Rules) (width : ℕ) (print : Print) (held : Held) (old new : Device) (fault : RunFault) → Finishes rules width print held old new (Err fault) → fault ≡ f.Memory → new ≡ old
 none_written rules width print held old new fault is memory = (subst (λ (w : RunFault). Finishes rules width print held old new (Err w)) memory is).3
@@ -93,9 +84,10 @@ module _ (rules : Rules) (width : ℕ) (print : Print) (reader_old writer_old : 
   ended : (reader_new writer_new : Device) (engine_new : Engine) (fault : RunFault) (printed : ℕ)
       → Stops rules width print reader_old writer_old reader_new writer_new fault printed
       → HasPrinted (Some fault) printed print engine_old engine_new → PrintsNoMore print reader_old reader_new engine_old engine_new → (fault ≡ f.Memory → WantsMemory rules width print reader_old reader_new writer_old writer_new)
+      → ((n : ℕ) → fault ≡ f.Write n → HasStopped rules width print reader_old reader_new writer_old writer_new engine_old engine_new n)
       → Ends rules width print reader_old writer_old engine_old reader_new writer_new engine_new (Err fault)
-  ended reader_new writer_new engine_new fault printed stops counts no_more wants =
-      record { run = stops.run engine_old engine_new counts; ahead = stops.ahead; at_most = no_more; wants = λ is. wants (cc is) }
+  ended reader_new writer_new engine_new fault printed stops counts no_more wants failed =
+      record { run = stops.run engine_old engine_new counts; ahead = stops.ahead; at_most = no_more; wants = λ is. wants (cc is); stopped = λ n is. failed n (cc is) }
 
   no_more : (reader_new : Device) (engine_new : Engine) (bytes : List ℕ) (n : ℕ) → HasRead reader_old reader_new bytes
       → PrintsAtMost n print engine_old engine_new → n ≤ length (front_of bytes)
@@ -198,7 +190,7 @@ module _ (rules : Rules) (width : ℕ) (print : Print) (reader_old writer_old : 
       (λ written wrong is wrote. (is, wrote)))
       s.counts
       (no_more reader_new engine (at.decoded ++ waiting) (length (concat at.sent)) has_read (counted_now held s) (omega (arith, front_len held s waiting)))
-      (λ is. absurd (cc is))
+      (λ is. absurd (cc is)) (λ n is. absurd (cc is))
 
   -- ---- the end of the text
   module _ (reader_new : Device) (buffer : List ℕ) (held : Held)
@@ -308,6 +300,7 @@ module _ (rules : Rules) (width : ℕ) (print : Print) (reader_old writer_old : 
             ahead = tt;
             at_most = tt;
             wants = λ is. absurd (cc is);
+            stopped = λ n is. absurd (cc is);
           }
 
       finish_stopped : (writer_new : Device) (m n : ℕ)
@@ -318,6 +311,23 @@ module _ (rules : Rules) (width : ℕ) (print : Print) (reader_old writer_old : 
           ends_write rules width print reader_old writer_old reader_new writer writer_new AtEnd bytes s.is_at.sent last [] [] m n gave
           (pars_last ∙ sym (append-nil (s.is_at.sent ++ last))) (written_last ∙ sym (append-nil (s.is_at.sent ++ last))) s.is_at.wrote sent_all
           (subst (λ (t : List ℕ). StoppedAt m t writer writer_new) lines_last stopped) (omega (arith, n_is, s.written)) 0
+
+      -- the sink failed in the last paragraph's lines
+      finish_failed : (writer_new : Device) (engine_new : Engine) (m n : ℕ)
+          → StoppedAt m (last_lines rules width print held) writer writer_new → n ≡ held.written + m
+          → Prints (length held.text.items) print engine engine_new
+          → HasStopped rules width print reader_old reader_new writer_old writer_new engine_old engine_new n
+      unfolding last
+      finish_failed writer_new engine_new m n stopped n_is counts =
+          let bytes = s.is_at.decoded ++ take held.waiting held.piece.items in
+          let sent = s.is_at.sent in
+          let all : length (concat sent) + length held.text.items ≡ length (concat (sent ++ last)) =
+          omega (arith, ap length (concat-append sent last), length-append (concat sent) (concat last), last_len held.text.items) in
+          stopped_in rules width print reader_old writer_old engine_old reader_new writer writer_new engine_new bytes (consumed_all, passed_all) sent last []
+          (pars_last ∙ sym (append-nil (sent ++ last))) (inr (refl, gives.end refl)) s.is_at.wrote m n
+          (subst (λ (t : List ℕ). StoppedAt m t writer writer_new) lines_last stopped) (omega (arith, n_is, s.written))
+          (subst (λ k. Prints k print engine_old engine_new) all
+          (prints_more print engine_old engine engine_new (length (concat sent)) (length held.text.items) s.counts counts))
 
       -- the last paragraph's lines are still to be written
       left_over : 0 < length held.text.items
@@ -350,15 +360,17 @@ module _ (rules : Rules) (width : ℕ) (print : Print) (reader_old writer_old : 
 
       pub ends_finish : (piece : Vec ℕ Global) (writer_new : Device) (result : Result (Unit {0}) RunFault) → Finishes rules width print (record held { piece = piece }) writer writer_new result
           → OnOk result (Prints (length held.text.items) print engine engine_new) → (0 < held.waiting → engine_new ≡ engine)
+          → ((n : ℕ) → IsErrOf result (f.Write n) → Prints (length held.text.items) print engine engine_new)
           → Ends rules width print reader_old writer_old engine_old reader_new writer_new engine_new result
-      ends_finish piece writer_new (Ok done) is counts inside = finish_done is.0 writer_new engine_new is.1 counts
-      ends_finish piece writer_new (Err (f.NotUtf8 n)) is counts inside =
+      ends_finish piece writer_new (Ok done) is counts inside failed = finish_done is.0 writer_new engine_new is.1 counts
+      ends_finish piece writer_new (Err (f.NotUtf8 n)) is counts inside failed =
           subst (λ (w : Device). Ends rules width print reader_old writer_old engine_old reader_new w engine_new (Err (f.NotUtf8 n))) (sym is.2)
           (ended reader_new writer engine_new (f.NotUtf8 n) (length (concat s.is_at.sent)) (finish_inside n (omega (arith, is.0, s.waits)) is.1)
-          (subst (λ (e : Engine). Prints (length (concat s.is_at.sent)) print engine_old e) (sym (inside is.0)) s.counts) no_more_last (λ same. absurd (cc same)))
-      ends_finish piece writer_new (Err (f.Write n)) is counts inside =
+          (subst (λ (e : Engine). Prints (length (concat s.is_at.sent)) print engine_old e) (sym (inside is.0)) s.counts) no_more_last (λ same. absurd (cc same)) (λ n same. absurd (cc same)))
+      ends_finish piece writer_new (Err (f.Write n)) is counts inside failed =
           ended reader_new writer_new engine_new (f.Write n) 0 (finish_stopped is.0 writer_new is.1.0 n is.1.2 is.1.1) tt no_more_last (λ same. absurd (cc same))
-      ends_finish piece writer_new (Err f.Memory) is counts inside =
+          (λ k same. finish_failed is.0 writer_new engine_new is.1.0 k is.1.2 (cc (same, is.1.1)) (failed n refl))
+      ends_finish piece writer_new (Err f.Memory) is counts inside failed =
           let next = at_read reader_new (take held.waiting held.piece.items) held.text.items [] s.is_at s.all_sent
           s.text.short s.beginning.few gives.bytes (omega (arith, gives.passes.passed)) gives.passes.failures
           (omega arith) in
@@ -366,11 +378,12 @@ module _ (rules : Rules) (width : ℕ) (print : Print) (reader_old writer_old : 
           (ended reader_new writer engine_new f.Memory 0
           (at_memory rules width print reader_old reader_new writer_old writer (take held.waiting held.piece.items
           ++ []) held.text.items [] next.0 0) tt no_more_last
-          (λ same. (s.is_at.decoded ++ take held.waiting held.piece.items, has_read, (ap are_within (pars_last is.0) ∙ within_last is.0, left_over is.0 is.1))))
-      ends_finish piece writer_new (Err f.Read) is counts inside = absurd is
-      ends_finish piece writer_new (Err f.ParagraphTooLong) is counts inside = absurd is
-      ends_finish piece writer_new (Err (f.BadLine n)) is counts inside = absurd is
-      ends_finish piece writer_new (Err f.TextTooLong) is counts inside = absurd is
+          (λ same. (s.is_at.decoded ++ take held.waiting held.piece.items, has_read, (ap are_within (pars_last is.0) ∙ within_last is.0, left_over is.0 is.1)))
+          (λ n same. absurd (cc same)))
+      ends_finish piece writer_new (Err f.Read) is counts inside failed = absurd is
+      ends_finish piece writer_new (Err f.ParagraphTooLong) is counts inside failed = absurd is
+      ends_finish piece writer_new (Err (f.BadLine n)) is counts inside failed = absurd is
+      ends_finish piece writer_new (Err f.TextTooLong) is counts inside failed = absurd is
 
   -- ---- bytes that were read
   module _ (reader_new : Device) (n : ℕ) (held held_read : Held)
@@ -385,13 +398,16 @@ module _ (rules : Rules) (width : ℕ) (print : Print) (reader_old writer_old : 
     -- none, since the source has ended
     pub read_nothing : n ≡ 0 → (writer_new : Device) (engine_new : Engine) (result : Result (Unit {0}) RunFault) → Finishes rules width print held_read writer writer_new result
         → OnOk result (Prints (length held_read.text.items) print engine engine_new) → PrintsAtMost (length held_read.text.items) print engine engine_new
-        → (0 < held_read.waiting → engine_new ≡ engine) → Ends rules width print reader_old writer_old engine_old reader_new writer_new engine_new result
-    read_nothing none writer_new engine_new result is counts at_most inside =
+        → (0 < held_read.waiting → engine_new ≡ engine)
+        → ((n : ℕ) → IsErrOf result (f.Write n) → Prints (length held_read.text.items) print engine engine_new)
+        → Ends rules width print reader_old writer_old engine_old reader_new writer_new engine_new result
+    read_nothing none writer_new engine_new result is counts at_most inside failed =
         ends_finish reader_new read.read.buffer held s (subst (λ k. Gives reader reader_new k read.read.buffer) none read.read.gives) engine_new
         (subst (λ (h : Held). PrintsAtMost (length h.text.items) print engine engine_new) read.same at_most) held_read.piece writer_new result
         (subst (λ (h : Held). Finishes rules width print h writer writer_new result) read.same is)
         (subst (λ (h : Held). OnOk result (Prints (length h.text.items) print engine engine_new)) read.same counts)
         (subst (λ (h : Held). 0 < h.waiting → engine_new ≡ engine) read.same inside)
+        (subst (λ (h : Held). (n : ℕ) → IsErrOf result (f.Write n) → Prints (length h.text.items) print engine engine_new) read.same failed)
 
     next_is : (next : IsAt rules width print reader_old reader_new writer_old writer bytes_read held.text.items [])
         × (next.gathered ≡ []) × (next.decoded ≡ s.is_at.decoded) × (next.sent ≡ s.is_at.sent)
@@ -465,6 +481,7 @@ module _ (rules : Rules) (width : ℕ) (print : Print) (reader_old writer_old : 
               ),
             ),
           ))
+          (λ n is. absurd (cc is))
 
     abbrev left : List ℕ
     left = drop (utf8_valid_len bytes_read) bytes_read
@@ -547,6 +564,10 @@ module _ (rules : Rules) (width : ℕ) (print : Print) (reader_old writer_old : 
       page_is : held_new.page.bytes.items ≡ []
       page_is = ap (λ (h : Held). h.page.bytes.items) l.same ∙ no_lines
 
+      -- no lines are to be written, in which a sink could fail
+      found_none : (writer_new : Device) (wrong : RunFault) → StopsWriting held_new wrong writer writer_new → ⊥
+      found_none writer_new wrong stops = omega (arith, stops.2.0, ap length page_is)
+
       found_stopped : (writer_new : Device) (wrong : RunFault) → StopsWriting held_new wrong writer writer_new → Stops rules width print reader_old writer_old reader_new writer_new wrong 0
       found_stopped writer_new wrong stops =
           let at = found_at.0 in
@@ -617,6 +638,38 @@ module _ (rules : Rules) (width : ℕ) (print : Print) (reader_old writer_old : 
           subst (λ (w : RunFault). Stops rules width print reader_old writer_old reader_new writer_new w 0) (sym stops.1)
           (at_write rules width print reader_old reader_new writer_old writer left held_new.text.items held_new.page.bytes.items at writer_new stops.0 (held_new.written + stops.0) stops.2 count 0)
 
+      gathered_counts : Prints (length (concat (gathered_is.0.sent ++ gathered_is.0.gathered))) print engine_old engine_new
+      gathered_counts =
+          subst (λ n. Prints n print engine_old engine_new)
+          (omega (
+            arith,
+            ap (λ ps. length (concat ps)) (ap₂ (λ x y. x ++ y) gathered_is.2 gathered_is.3),
+            ap length
+                (concat-append s.is_at.sent g.pushed.pars),
+            length-append (concat s.is_at.sent) (concat g.pushed.pars),
+          ))
+          (prints_more print engine_old engine engine_new (length (concat s.is_at.sent)) (length (concat g.pushed.pars)) s.counts g.pushed.counts)
+
+      gathers_failed : (writer_new : Device) (wrong : RunFault) → StopsWriting held_new wrong writer writer_new → (n : ℕ) → wrong ≡ f.Write n
+          → HasStopped rules width print reader_old reader_new writer_old writer_new engine_old engine_new n
+      gathers_failed writer_new wrong stops n is =
+          let at = gathered_is.0 in
+          let lines_sent : page rules width print at.sent ≡ page rules width print s.is_at.sent = ap (page rules width print) gathered_is.2 in
+          let count : held_new.written + stops.0 ≡ n = cc (is, stops.1) in
+          let none : front_of left ≡ [] = ap (λ k. chars (take k left)) left_none ∙ chars-nil in
+          let lines_are : held_new.page.bytes.items ≡ page rules width print at.gathered = at.lines_are in
+          let some : 0 < length held_new.text.items =
+          ⊎_elim (λ empty. absurd (omega (arith, stops.2.0, ap length (lines_are ∙ ap (page rules width print) (append_end at.sent at.gathered empty))))) (λ more. more)
+          (gone_on (cut_by rules) (at.sent ++ at.gathered) (chars at.decoded) held_new.text.items at.front) in
+          let text_is : held_new.text.items ++ front_of left ≡ held_new.text.items = ap (λ t. held_new.text.items ++ t) none ∙ append-nil held_new.text.items in
+          stopped_in rules width print reader_old writer_old engine_old reader_new writer writer_new engine_new (at.decoded ++ left) (at.read, at.passed) at.sent at.gathered (paragraphs (cut_by rules) held_new.text.items)
+          (pars_are rules width print reader_old reader_new writer_old writer left held_new.text.items held_new.page.bytes.items at left
+          ∙ ap (λ t. (at.sent ++ at.gathered) ++ paragraphs (cut_by rules) t) text_is)
+          (inl (one_par rules held_new.text.items g.pushed.left some)) at.wrote stops.0 n
+          (subst (λ (t : List ℕ). StoppedAt stops.0 t writer writer_new) at.lines_are stops.2)
+          (omega (arith, count, g.written, ap (λ (h : Held). h.written) same, s.written, ap length lines_sent))
+          gathered_counts
+
       module _ (writer_new : Device) (held_last : Held) (writes : Writes held_new held_last writer writer_new) where
         written_is : (next : IsAt rules width print reader_old reader_new writer_old writer_new left
             held_new.text.items []) × (next.gathered ≡ []) × (next.decoded ≡ gathered_is.0.decoded)
@@ -624,17 +677,7 @@ module _ (rules : Rules) (width : ℕ) (print : Print) (reader_old writer_old : 
         written_is = at_written rules width print reader_old reader_new writer_old writer left held_new.text.items held_new.page.bytes.items gathered_is.0 writer_new writes.wrote
 
         written_counts : Prints (length (concat written_is.0.sent)) print engine_old engine_new
-        written_counts =
-            subst (λ n. Prints n print engine_old engine_new)
-            (omega (
-              arith,
-              ap (λ ps. length (concat ps)) (written_is.3
-                  ∙ ap₂ (λ x y. x ++ y) gathered_is.2 gathered_is.3),
-              ap length
-                  (concat-append s.is_at.sent g.pushed.pars),
-              length-append (concat s.is_at.sent) (concat g.pushed.pars),
-            ))
-            (prints_more print engine_old engine engine_new (length (concat s.is_at.sent)) (length (concat g.pushed.pars)) s.counts g.pushed.counts)
+        written_counts = subst (λ (ps : List (List ℕ)). Prints (length (concat ps)) print engine_old engine_new) (sym written_is.3) gathered_counts
 
         stands_on : IsOpen (cut_by rules) held_new.text.items → is_bad bytes_read ≡ false → Stands rules width print reader_old writer_old engine_old reader_new writer_new engine_new held_last
         stands_on is_open good =
@@ -701,19 +744,39 @@ module _ (rules : Rules) (width : ℕ) (print : Print) (reader_old writer_old : 
           (⊎_elim (λ l. found_stopped held_new engine_new fault l writer_new wrong stops) (λ g. gathers_stopped held_new engine_new fault g writer_new wrong stops) found)
           (subst (λ (w : RunFault). HasPrinted (Some w) 0 print engine_old engine_new) (sym stops.1) tt)
           (no_more_read engine_new at_most) (λ is. absurd (cc (is, stops.1)))
+          (λ n is. ⊎_elim (λ l. absurd (found_none held_new engine_new fault l writer_new wrong stops)) (λ g. gathers_failed held_new engine_new fault g writer_new wrong stops n is) found)
+
+      -- the sink failed: what was to be written then was printed, and no more
+      pub read_failed : Found → (writer_new : Device) (wrong : RunFault) → StopsWriting held_new wrong writer writer_new → StopsAfter rules print held reader reader_new engine engine_new
+      read_failed (inl l) writer_new wrong stops = absurd (found_none held_new engine_new fault l writer_new wrong stops)
+      read_failed (inr g) writer_new wrong stops =
+          let more = take n read.read.buffer in
+          let waiting = take held.waiting held.piece.items in
+          let front_same : held_read.text.items ++ front_of bytes_read ≡ held.text.items ++ front_of (waiting ++ more) =
+          ap₂ (λ t b. t ++ front_of b) (ap (λ (h : Held). h.text.items) same) parts in
+          record {
+            more = more;
+            read = (read.read.gives.bytes, omega (arith, read.read.gives.passes.passed, length-take-le n read.read.buffer read.read.within));
+            pars = g.pushed.pars;
+            rest = held_new.text.items;
+            front = subst (λ (t : List ℕ). IsFront (cut_by rules) g.pushed.pars t held_new.text.items) front_same g.pushed.front;
+            left = g.pushed.left;
+            counts = g.pushed.counts;
+          }
 
       pub read_fault : PrintsAtMost (length (held_read.text.items ++ front_of bytes_read)) print engine engine_new
           → Found → (writer_new : Device) (held_last : Held) → Writes held_new held_last writer writer_new
           → (wrong : RunFault) → fault ≡ Some wrong → Ends rules width print reader_old writer_old engine_old reader_new writer_new engine_new (Err wrong)
       read_fault at_most found writer_new held_last writes wrong is =
+          let never : (n : ℕ) → wrong ≡ f.Write n → ⊥ = no_write rules width print bytes_read held_read held_new engine engine_new fault wrong found is in
           let none : wrong ≡ f.Memory → ⊥ = λ memory. no_memory rules width print bytes_read held_read held_new engine engine_new fault wrong found is memory in
           ⊎_elim
           (λ l. ended reader_new writer_new engine_new wrong (length (concat s.is_at.sent)) (found_fault held_new engine_new fault l writer_new held_last writes wrong is)
-          (found_counts held_new engine_new fault l writer_new held_last writes wrong) (no_more_read engine_new at_most) (λ memory. absurd (none memory)))
+          (found_counts held_new engine_new fault l writer_new held_last writes wrong) (no_more_read engine_new at_most) (λ memory. absurd (none memory)) (λ n same. absurd (never n same)))
           (λ g. ended reader_new writer_new engine_new wrong (length (concat (written_is held_new engine_new fault g writer_new held_last writes).0.sent))
           (gathers_fault held_new engine_new fault g writer_new held_last writes wrong is)
           (printed_as wrong _ print engine_old engine_new (written_counts held_new engine_new fault g writer_new held_last writes))
-          (no_more_read engine_new at_most) (λ memory. absurd (none memory)))
+          (no_more_read engine_new at_most) (λ memory. absurd (none memory)) (λ n same. absurd (never n same)))
           found
 
       pub read_on : Found → (writer_new : Device) (held_last : Held) → Writes held_new held_last writer writer_new
@@ -721,77 +784,3 @@ module _ (rules : Rules) (width : ℕ) (print : Print) (reader_old writer_old : 
           held_last
       read_on (inl l) writer_new held_last writes is = absurd (found_goes_on held_new engine_new fault l is)
       read_on (inr g) writer_new held_last writes is = gathers_on held_new engine_new fault g writer_new held_last writes is
-
--- ---- the start of a run
-module _ (rules : Rules) (width : ℕ) (print : Print) (reader writer : Device) (engine : Engine) where
-  start_at : IsAt rules width print reader reader writer writer [] [] []
-  start_at = record {
-    decoded = [];
-    sent = [];
-    gathered = [];
-    read = kept reader.bytes;
-    passed = omega arith;
-    failures = refl;
-    utf8 = ([], (refl, refl));
-    front = subst (λ (t : List ℕ). IsFront (cut_by rules) [] t []) (sym chars-nil) (front_none (cut_by rules) []);
-    wrote = (Took-nothing writer, refl);
-    lines_are = refl;
-    ahead = omega arith;
-  }
-    where
-      kept : (known : Option (List ℕ)) → Consumes known known []
-      kept None = tt
-      kept (Some xs) = refl
-
-  pub ends_at_once : Ends rules width print reader writer engine reader writer engine (Err f.Memory)
-  unfolding start_at
-  ends_at_once =
-      let stops : Stops rules width print reader writer reader writer f.Memory 0 = at_memory rules width print reader reader writer writer [] [] [] start_at 0 in
-      let read : HasRead reader reader [] = (start_at.read, start_at.passed) in
-      let none : front_of [] ≡ [] = ap (λ n. chars (take n [])) (nothing_valid [] refl) ∙ chars-nil in
-      record {
-        run = stops.run engine engine tt;
-        ahead = stops.ahead;
-        at_most = ([], read, at_most_more print engine engine engine 0 0 (length (front_of [])) (at_most_none print engine) (at_most_none print engine) (omega arith));
-        wants = λ is. (
-          [],
-          read,
-          (
-            ap (λ t. are_within (paragraphs (cut_by rules) t)) none,
-            (0, start_at.wrote, λ some. absurd (omega arith)),
-          ),
-        );
-      }
-
-  pub stands_at_start : Prints 0 print engine engine → (held : Held) → held.waiting ≡ 0 → held.decoded ≡ 0
-      → held.written ≡ 0 → held.text.items ≡ [] → held.page.bytes.items ≡ [] → vec_len held.piece ≡ PIECE
-      → Stands rules width print reader writer engine reader writer engine held
-  unfolding start_at
-  stands_at_start fits held waiting decoded written text lines room =
-      let none : take held.waiting held.piece.items ≡ [] = ap (λ n. take n held.piece.items) waiting in
-      stands_by rules width print reader writer engine reader writer engine held [] [] (
-        start_at,
-        refl,
-        decoded,
-        written,
-        record { uncut = λ some. absurd (omega arith); short = omega arith },
-        record
-            { none = nothing_valid [] refl; fault = utf8_error_len-nil; few = omega arith },
-        fits,
-      )
-      fits none text lines room (omega (arith, ap length none, waiting))
-
--- a step of a run under the rules that it began with
-module _ (rules now : Rules) (width : ℕ) (print : Print) (reader_old writer_old : Device) (engine_old : Engine)
-    (reader writer : Device) (engine : Engine) (reader_new writer_new : Device) (engine_new : Engine)
-    (held held_new : Held) (kept : now ≡ rules)
-    (stands : Stands rules width print reader_old writer_old engine_old reader writer engine held) (result : Result Bool RunFault)
-    (steps : Stands now width print reader_old writer_old engine_old reader writer engine held
-    → Steps now width print reader_old writer_old engine_old reader_new writer_new engine_new held_new result) where
-  stepped : Steps rules width print reader_old writer_old engine_old reader_new writer_new engine_new held_new result
-  stepped =
-      subst (λ (r : Rules). Steps r width print reader_old writer_old engine_old reader_new writer_new engine_new held_new result) kept
-      (steps (subst (λ (r : Rules). Stands r width print reader_old writer_old engine_old reader writer engine held) (sym kept) stands))
-
-  pub stepped_as : (is : Result Bool RunFault) → result ≡ is → Steps rules width print reader_old writer_old engine_old reader_new writer_new engine_new held_new is
-  stepped_as is same = subst (Steps rules width print reader_old writer_old engine_old reader_new writer_new engine_new held_new) same stepped

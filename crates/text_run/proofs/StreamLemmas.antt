@@ -83,6 +83,9 @@ Appends-append (Some us) None c xs ys p q = absurd p
 Appends-append (Some us) (Some bs) None xs ys p q = absurd q
 Appends-append (Some us) (Some bs) (Some cs) xs ys p q = q ∙ ap (λ t. t ++ ys) p ∙ append_assoc us xs ys
 
+pub FailedLast-after : (a b c : Device) → b.failures ≡ a.failures → FailedLast b c → FailedLast a c
+FailedLast-after a b c same failed = record { failures = failed.failures ∙ ap (λ n. min (n + 1) greatest) same; last = failed.last }
+
 pub Took-append : (a b c : Device) (xs ys : List ℕ) → Took a b xs → Took b c ys → Took a c (xs ++ ys)
 Took-append a b c xs ys p q = record { bytes = Appends-append a.bytes b.bytes c.bytes xs ys p.bytes q.bytes; passed = omega (arith, p.passed, q.passed, length-append xs ys) }
 
@@ -226,9 +229,6 @@ module _ (rules : Rules) (width : ℕ) (print : Print) (reader_old writer_old : 
   within [] m less = absurd (omega arith)
   within (p ∷ ps) m less = within_step p ps m less (λ k less_2. within ps k less_2)
 
-  FailedLast-after : (a b c : Device) → b.failures ≡ a.failures → FailedLast b c → FailedLast a c
-  FailedLast-after a b c same failed = record { failures = failed.failures ∙ ap (λ n. min (n + 1) greatest) same; last = failed.last }
-
   -- the sink failed within the lines of some paragraphs more
   pub ends_write : (reader_new writer_mid writer_new : Device) (ending : Ending) (bytes : List ℕ) (sent gathered others more : List (List ℕ)) (m n : ℕ) → Gave reader_old reader_new ending bytes
       → front_paragraphs rules bytes ≡ (sent ++ gathered) ++ others
@@ -267,7 +267,7 @@ module _ (rules : Rules) (width : ℕ) (print : Print) (reader_old writer_old : 
       }
 
 -- what is left of a text whose first paragraphs are known
-gone_on : (is_cut : ℕ → ℕ → Bool) (ps : List (List ℕ)) (text rest : List ℕ) → IsFront is_cut ps text rest → (ps ≡ []) ⊎ (0 < length rest)
+pub gone_on : (is_cut : ℕ → ℕ → Bool) (ps : List (List ℕ)) (text rest : List ℕ) → IsFront is_cut ps text rest → (ps ≡ []) ⊎ (0 < length rest)
 gone_on is_cut ps [] rest front = inl (none ps (front.cuts []))
   where
     none : (qs : List (List ℕ)) → [] ≡ qs ++ paragraphs is_cut (rest ++ []) → qs ≡ []
@@ -295,7 +295,7 @@ module _ (rules : Rules) (width : ℕ) (print : Print) (reader_old reader_new wr
   pub front_is : (after : List ℕ) → front_of (at.decoded ++ after) ≡ chars at.decoded ++ front_of after
   front_is after = ap chars (take-valid-after at.decoded after at.utf8) ∙ chars-append at.decoded (take (utf8_valid_len after) after) at.utf8
 
-  pars_are : (after : List ℕ) → front_paragraphs rules (at.decoded ++ after) ≡ (at.sent ++ at.gathered) ++ paragraphs (cut_by rules) (text ++ front_of after)
+  pub pars_are : (after : List ℕ) → front_paragraphs rules (at.decoded ++ after) ≡ (at.sent ++ at.gathered) ++ paragraphs (cut_by rules) (text ++ front_of after)
   pars_are after = ap (paragraphs (cut_by rules)) (front_is after) ∙ at.front.cuts (front_of after)
 
   begins : (after : List ℕ) (whole : Bool) → (others : List (List ℕ)) × (written_of (front_paragraphs rules (at.decoded ++ after)) whole ≡ (at.sent ++ at.gathered) ++ others)

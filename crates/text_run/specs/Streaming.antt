@@ -13,7 +13,7 @@ use Rattle.lines.specs.declared.engine.TheConstants.{PARAGRAPH_LIMIT}
 use Rattle.lines.specs.declared.engine.Engine.{Engine}
 use Rattle.lines.specs.declared.print.Print.{Print}
 use Rattle.text_run.specs.Pages.{prints_some}
-use Rattle.text_run.specs.TextRun.{are_within, is_within, front_of, is_bad, read_ahead, IsTextRun, PrintsNoMore, ReadsAhead, WantsMemory}
+use Rattle.text_run.specs.TextRun.{are_within, is_within, front_of, is_bad, read_ahead, HasRead, HasStopped, IsTextRun, PrintsNoMore, ReadsAhead, WantsMemory}
 use Rattle.text_run.specs.declared.faults.RunFault.{RunFault}
 use Rattle.text_run.specs.declared.faults.RunFault.TheVariants as f
 use Rattle.text_run.specs.declared.text.TheConstants.{PIECE}
@@ -120,6 +120,16 @@ abbrev pub StopsWriting : Held → RunFault → Device → Device → Type 0
 StopsWriting held fault writer_old writer_new =
     (n : ℕ) × (fault ≡ f.Write (held.written + n)) × StoppedAt n held.page.bytes.items writer_old writer_new
 
+-- The sink failed after some bytes were read: the paragraphs that are known to end then were printed, and no other.
+pub record StopsAfter (rules : Rules) (print : Print) (held : Held) (reader_old reader_new : Device) (engine_old engine_new : Engine) : Type 0 where
+  pub more : List ℕ
+  pub read : HasRead reader_old reader_new more
+  pub pars : List (List ℕ)
+  pub rest : List ℕ
+  pub front : IsFront (cut_by rules) pars (held.text.items ++ front_of (take held.waiting held.piece.items ++ more)) rest
+  pub left : IsOpen (cut_by rules) rest
+  pub counts : Prints (length (concat pars)) print engine_old engine_new
+
 -- the end of a text
 abbrev pub Finishes : Rules → ℕ → Print → Held → Device → Device → Result (Unit {0}) RunFault → Type 0
 Finishes rules width print held old new (Ok done) = (held.waiting ≡ 0) × Wrote (last_lines rules width print held) old new
@@ -165,6 +175,7 @@ pub record Ends (rules : Rules) (width : ℕ) (print : Print) (reader_old writer
   pub ahead : OnErr result (ReadsAhead rules width print reader_old reader_new writer_old writer_new)
   pub at_most : OnErr result (PrintsNoMore print reader_old reader_new engine_old engine_new)
   pub wants : IsErrOf result f.Memory → WantsMemory rules width print reader_old reader_new writer_old writer_new
+  pub stopped : (n : ℕ) → IsErrOf result (f.Write n) → HasStopped rules width print reader_old reader_new writer_old writer_new engine_old engine_new n
 
 -- a step goes on, or ends the run
 abbrev pub Steps : Rules → ℕ → Print → Device → Device → Engine → Device → Device → Engine → Held → Result Bool RunFault → Type 0

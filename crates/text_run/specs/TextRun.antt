@@ -1,5 +1,5 @@
 -- What is written for a text, and how its run ends.
-use Rattle.std.specs.Prelude.{◌≡◌, ◌≢◌, ℕ, ◌+◌, ◌-◌, ◌*◌, ◌<◌, ◌==◌, nat_le, Bool, true, List, ◌++◌, ◌≤◌, length, take, drop, take_while, encode_utf8_all, Option, Some, None, IfSome, ⊤, is_some, is_none, Result, Ok, Err, if◌then◌else◌}
+use Rattle.std.specs.Prelude.{◌≡◌, ◌≢◌, ◌⊎◌, ℕ, ◌+◌, ◌-◌, ◌*◌, ◌<◌, ◌==◌, nat_le, Bool, true, List, ◌++◌, ◌≤◌, length, take, drop, take_while, encode_utf8_all, Option, Some, None, IfSome, ⊤, is_some, is_none, Result, Ok, Err, if◌then◌else◌}
 use Rattle.std.specs.List.{concat, list_all}
 use Rattle.std.specs.Str.{chars}
 use Rattle.std.specs.Str.Lossy.{utf8_valid_len, utf8_error_len}
@@ -123,6 +123,16 @@ WantsMemory rules width print reader_old reader_new writer_old writer_new =
 abbrev pub PrintsNoMore : Print → Device → Device → Engine → Engine → Type 0
 PrintsNoMore print reader_old reader_new engine_old engine_new =
     (bytes : List ℕ) × HasRead reader_old reader_new bytes × PrintsAtMost (length (front_of bytes)) print engine_old engine_new
+
+-- After a failed write: of what was read all paragraphs but the last were printed, or all where the source had no more. The sink
+-- failed in their lines, after n bytes.
+abbrev pub HasStopped : Rules → ℕ → Print → Device → Device → Device → Device → Engine → Engine → ℕ → Type 0
+HasStopped rules width print reader_old reader_new writer_old writer_new engine_old engine_new n =
+    (bytes : List ℕ) × HasRead reader_old reader_new bytes
+    × (let pars = front_paragraphs rules bytes in
+    (k : ℕ) × ((length pars ≡ k + 1) ⊎ ((length pars ≡ k) × IsAtEnd reader_new.bytes))
+    × StoppedAt n (page rules width print (take k pars)) writer_old writer_new
+    × Prints (length (concat (take k pars))) print engine_old engine_new)
 
 -- how many bytes a run reads after the paragraphs that it has written, at most: those of one character more than a paragraph may have, and one piece
 abbrev pub read_ahead : ℕ

@@ -15,9 +15,10 @@ ghost use Rattle.lines.specs.declared.engine.TheConstants.{PARAGRAPH_LIMIT};
 ghost use Rattle.text_run.specs.Counts.{PrintsAtMost};
 ghost use Rattle.text_run.specs.Pages.{prints_some};
 ghost use Rattle.text_run.specs.Streaming.{FindsFault, Finishes, Gathers, GathersLast, IsRead, IsReadTo};
-ghost use Rattle.text_run.specs.Streaming.{Stands, Steps, StopsWriting, Writes};
+ghost use Rattle.text_run.specs.Streaming.{Stands, Steps, StopsAfter, StopsWriting, Writes};
 ghost use Rattle.text_run.specs.TextRun.{are_within, front_of, is_bad};
-ghost use Rattle.text_run.specs.TextRun.{IsTextRun, PrintsNoMore, ReadsAhead, TellsReads, WantsMemory};
+ghost use Rattle.text_run.specs.TextRun.{HasStopped, IsTextRun, PrintsNoMore};
+ghost use Rattle.text_run.specs.TextRun.{ReadsAhead, TellsReads, WantsMemory};
 
 use crate::faults::RunFault;
 use crate::page::{Page, counts_fit, push_paragraph};
@@ -241,8 +242,11 @@ fn finish<W: Sink>(
     ensures counts { OnOk result (Prints (length held.old.text.items) print.now engine.old engine.new) }
     ensures at_most { PrintsAtMost (length held.old.text.items) print.now engine.old engine.new }
 
-    // Where the text ends inside a character, its last paragraph is not printed.
+    // Where the text ends inside a character, its last paragraph is not printed; where the sink failed, it
+    // is.
     ensures inside { 0 < held.old.waiting → engine.new ≡ engine.old }
+    ensures stopped { (n : ℕ) → IsErrOf result (RunFault.Write n)
+        → Prints (length held.old.text.items) print.now engine.old engine.new }
     ensures rules { SameRules engine.old engine.new }
 {
     if held.waiting > 0 {
@@ -289,6 +293,12 @@ fn step<R: Source, W: Sink>(
     ensures decoded { IsErrOf result RunFault.Memory → (n : ℕ)
         → (R.state reader.new).passed ≡ (R.state reader.old).passed + n → 0 < n
         → 0 < utf8_valid_len (take (held.new.waiting + n) held.new.piece.items) }
+
+    // Where the sink failed after bytes were read, no more was printed than what was to be written.
+    ensures stopped { (n : ℕ) → IsErrOf result (RunFault.Write n)
+        → (R.state reader.old).passed < (R.state reader.new).passed
+        → StopsAfter (rules_of engine.old) print.now held.old (R.state reader.old) (R.state reader.new)
+        engine.old engine.new }
     ensures rises { result ≡ Ok true → (R.state reader.old).passed < (R.state reader.new).passed }
     ensures counted { result ≡ Ok true → (R.state reader.new).passed ≤ 2 ^ 64 - 1 }
     ensures rules { SameRules engine.old engine.new }
@@ -334,6 +344,10 @@ pub fn run_text<R: Source, W: Sink>(
     ensures memory { IsErrOf result RunFault.Memory
         → WantsMemory (rules_of engine.old) width print.now
         (R.state reader.old) (R.state reader.new) (W.state writer.old) (W.state writer.new) }
+    ensures stopped { (n : ℕ) → IsErrOf result (RunFault.Write n)
+        → HasStopped (rules_of engine.old) width print.now
+        (R.state reader.old) (R.state reader.new) (W.state writer.old) (W.state writer.new)
+        engine.old engine.new n }
     ensures reads { TellsReads result (R.state reader.old) (R.state reader.new) }
     ensures ahead { OnErr result (ReadsAhead (rules_of engine.old) width print.now
         (R.state reader.old) (R.state reader.new) (W.state writer.old) (W.state writer.new)) }

@@ -1,12 +1,19 @@
-use Rattle.std.proofs.Common.{◌≡◌, ◌∙◌, ℕ, List, IfErr, IfOk, map, take, ap, ap₂, subst}
+use Rattle.std.proofs.Common.{◌≡◌, ◌∙◌, ℕ, List, [], IfErr, IfOk, map, take, ap, ap₂, refl, subst}
 use Rattle.ucd.specs.Tables.{class_of}
 use Rattle.bidi.specs.Classes.{class_in}
 use Rattle.lines.specs.Asked.{visual_part}
 use Rattle.lines.specs.Bytes.{line_bytes}
 use Rattle.lines.specs.Spaces.{line_levels}
 use Rattle.lines.specs.Writing.{PassedOn, StoppedIn}
-use Rattle.lines.proofs.PlainLemmas.{classes_are}
+use Rattle.lines.proofs.PlainLemmas.{classes_are, plain_chars}
 use Rattle.lines.proofs.writing.write_line.Goals as goal
+
+-- where nothing is shown
+pub write_ordered-requires-clause-chars : goal.write_ordered-requires-clause-chars
+write_ordered-requires-clause-chars g c = λ on.
+    let line = c.args.line.now in
+    let tables = line.rules.tables.now in
+    plain_chars tables line.rules.options.reordernsm (map (class_of tables) line.characters.now) [] [] refl (λ k. refl)
 
 pub returns-clause-ok : goal.returns-clause-ok
 returns-clause-ok g c =

@@ -1,6 +1,6 @@
 use Rattle.std.proofs.Common.{◌∙◌, Bool, true, false, Ok, Err, ap, refl}
 use Rattle.lines.specs.Engine.{rules_of}
-use Rattle.text_run.proofs.StepLemmas.{ends_at_once, stands_at_start, stepped_as}
+use Rattle.text_run.proofs.StartLemmas.{ends_at_once, stands_at_start, stepped_as}
 use Rattle.text_run.proofs.text.run_text.Goals as goal
 
 -- memory ran out before anything was read
@@ -18,6 +18,11 @@ pub returns-in_default-clause-at_most : goal.returns-in_default-clause-at_most
 returns-in_default-clause-at_most g c =
     (ends_at_once (rules_of c.args.engine.now) c.args.width c.args.print.now (g.R.Source.state c.args.reader.now)
     (g.W.Sink.state c.args.writer.now) c.args.engine.now).at_most
+
+pub returns-in_default-clause-stopped : goal.returns-in_default-clause-stopped
+returns-in_default-clause-stopped g c =
+    (ends_at_once (rules_of c.args.engine.now) c.args.width c.args.print.now (g.R.Source.state c.args.reader.now)
+    (g.W.Sink.state c.args.writer.now) c.args.engine.now).stopped
 
 pub returns-in_default-clause-memory : goal.returns-in_default-clause-memory
 returns-in_default-clause-memory g c =
@@ -82,6 +87,13 @@ returns-in-Err-clause-memory g c =
     c.args.engine.now _ _ c.loop-held.engine _ _ c.step.new.engine c.loop-held.held c.step.new.held
     c.loop-held.invariant.kept c.loop-held.invariant.stands c.step.result
     (c.step.ensures.steps (g.R.Source.state c.args.reader.now) (g.W.Sink.state c.args.writer.now) c.args.engine.now) (Err c.in-Err.fault) c.in-Err.is).wants
+
+pub returns-in-Err-clause-stopped : goal.returns-in-Err-clause-stopped
+returns-in-Err-clause-stopped g c =
+    (stepped_as (rules_of c.args.engine.now) (rules_of c.loop-held.engine) c.args.width c.args.print.now _ _
+    c.args.engine.now _ _ c.loop-held.engine _ _ c.step.new.engine c.loop-held.held c.step.new.held
+    c.loop-held.invariant.kept c.loop-held.invariant.stands c.step.result
+    (c.step.ensures.steps (g.R.Source.state c.args.reader.now) (g.W.Sink.state c.args.writer.now) c.args.engine.now) (Err c.in-Err.fault) c.in-Err.is).stopped
 
 -- a step that ends otherwise than by a failed read adds no failure, and those before it added none
 pub returns-in-Ok-false-clause-reads : goal.returns-in-Ok-false-clause-reads

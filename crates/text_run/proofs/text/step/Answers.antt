@@ -1,6 +1,6 @@
-use Rattle.std.proofs.Common.{Ok, Err}
+use Rattle.std.proofs.Common.{Ok, Err, arith}
 use Rattle.lines.specs.Engine.{rules_of}
-use Rattle.text_run.proofs.StepLemmas.{ends_read, no_memory, none_written, read_fault, read_memory, read_nothing, read_on, read_stopped}
+use Rattle.text_run.proofs.StepLemmas.{ends_read, no_memory, none_written, read_failed, read_fault, read_memory, read_nothing, read_on, read_stopped}
 use Rattle.text_run.proofs.text.step.Goals as goal
 
 pub returns-in-Err-clause-steps : goal.returns-in-Err-clause-steps
@@ -13,13 +13,14 @@ returns-in-Ok-finish-clause-steps g c = λ reader_start writer_start engine_star
     c.args.engine.now _ _ c.args.held.now _ stands c.in-Ok.ensures.ok c.if-len-eq0.true _ c.finish.new.engine
     (Ok tt)
     c.in-Ok-finish.ensures.ends c.in-Ok-finish.ensures.counts c.finish.ensures.at_most c.finish.ensures.inside
+    (λ n is. absurd (cc is))
 
 pub returns-in-Err-finish-clause-steps : goal.returns-in-Err-finish-clause-steps
 returns-in-Err-finish-clause-steps g c = λ reader_start writer_start engine_start stands.
     read_nothing (rules_of c.args.engine.now) c.args.width c.args.print.now reader_start writer_start engine_start _ _
     c.args.engine.now _ _ c.args.held.now _ stands c.in-Ok.ensures.ok c.if-len-eq0.true _ c.finish.new.engine
     (Err c.in-Err-finish.fault)
-    c.in-Err-finish.ensures.ends tt c.finish.ensures.at_most c.finish.ensures.inside
+    c.in-Err-finish.ensures.ends tt c.finish.ensures.at_most c.finish.ensures.inside c.in-Err-finish.ensures.stopped
 
 pub returns-in_default-clause-steps : goal.returns-in_default-clause-steps
 returns-in_default-clause-steps g c = λ reader_start writer_start engine_start stands.
@@ -60,3 +61,15 @@ returns-in-Err-write-clause-memory g c = λ is. absurd (cc (is, c.in-Err-write.e
 pub returns-in-Some-clause-memory : goal.returns-in-Some-clause-memory
 returns-in-Some-clause-memory g c = λ is.
     absurd (no_memory (rules_of c.args.engine.now) c.args.width c.args.print.now _ _ _ _ _ _ c.in-Some.fault c.in-Ok-gather.ensures.gathers c.in-Some.is (cc is))
+
+-- where the sink failed, the paragraphs that end in what was read were printed
+pub returns-in-Err-finish-clause-stopped : goal.returns-in-Err-finish-clause-stopped
+returns-in-Err-finish-clause-stopped g c = λ n is rises.
+    absurd (omega (arith, rises, c.in-Ok.ensures.ok.read.gives.passes.passed, c.if-len-eq0.true))
+
+pub returns-in-Err-write-clause-stopped : goal.returns-in-Err-write-clause-stopped
+returns-in-Err-write-clause-stopped g c = λ n is rises.
+    let stands = c.requires.stands in
+    read_failed (rules_of c.args.engine.now) c.args.width c.args.print.now stands.0 stands.1 stands.2 _ _
+    c.args.engine.now _ _ c.args.held.now _ stands.3 c.in-Ok.ensures.ok _ c.gather.new.engine _
+    c.in-Ok-gather.ensures.gathers _ _ c.in-Err-write.ensures.err
