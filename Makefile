@@ -42,13 +42,13 @@ all program bench-program conformance-program:
 	mkdir -p bin
 	for name in $(filter fribidi bench conformance,$(programs)); do cp crates/$$name/out/$$name bin/$$name; done
 
-# (store isn't above ucd, but begins when the tables' proofs leave processors idle)
-lib-bidi lib-breaks lib-store: lib-ucd
+lib-bidi lib-breaks: lib-ucd
 lib-lines: lib-device lib-bidi lib-breaks
 lib-session: lib-lines lib-store
 lib-command_line lib-text_run: lib-lines
 lib-tool: lib-session lib-command_line lib-text_run
 lib-trials lib-hordguli_c: lib-session
+lib-trials: lib-excerpt
 lib-hordguli_fribidi: lib-lines
 run-points: lib-ucd lib-tables
 run-fribidi run-refused: lib-tool

@@ -55,7 +55,8 @@ static int changes(const input *one, int way, int greatest) {
 }
 
 /* A bracket that is opened in one isolate, and one of its number that closes it in a later isolate of the depth, where not all that stands
- * in this depth from the one to the other is at one level; at a level at least. */
+ * in this depth from the one to the other is at one level, or where what stands between the isolates is not all neutral; at a level at
+ * least. */
 static int pair_over_isolates(const input *one, int least) {
     static plain p;
     int isolate[MOST];
@@ -64,10 +65,10 @@ static int pair_over_isolates(const input *one, int least) {
     find_isolates(one, &p, 0, isolate);
     for (int i = 0; i < one->length; i++)
         for (int k = i + 1, other = 0; FRIBIDI_IS_BRACKET_OPEN(one->brackets[i]) && k < one->length; k++) {
-            if (p.depth[k] != p.depth[i] || is_removed(one->types[k])) continue;
-            other |= p.level[k] != p.level[i];
-            if (other && isolate[k] != isolate[i] && one->brackets[k] != 0 && one->brackets[k] == FRIBIDI_BRACKET_ID(one->brackets[i])
-                && (p.level[k] >= least || p.level[i] >= least)) return 1;
+            if (p.depth[k] > p.depth[i] || is_removed(one->types[k])) continue;
+            other |= p.depth[k] < p.depth[i] ? !is_neutral(p.type[k]) : p.level[k] != p.level[i];
+            if (other && p.depth[k] == p.depth[i] && isolate[k] != isolate[i] && one->brackets[k] != 0
+                && one->brackets[k] == FRIBIDI_BRACKET_ID(one->brackets[i]) && (p.level[k] >= least || p.level[i] >= least)) return 1;
         }
     return 0;
 }
