@@ -5,6 +5,7 @@ use Rattle.ucd.specs.declared.bidi_class.BidiClass.TheVariants.{L, R, AL, EN, B,
 use Rattle.bidi.specs.declared.base.Base.TheVariants.{Rtl, Ltr, WeakRtl, WeakLtr}
 use Rattle.bidi.specs.Base.{match_of, base_level_of}
 use Rattle.bidi.specs.Cuts.{cut, paragraphs, first_cut}
+use Rattle.bidi.specs.declared.explicit.TheConstants.{MAX_ENTRIES}
 
 -- the first strong character decides, and a weak option speaks only where there is none
 strong_right : base_level_of (R ∷ B ∷ []) WeakLtr ≡ 1
@@ -91,3 +92,7 @@ first_place = refl
 
 no_place : first_cut (cut class_of_code) (97 ∷ 10 ∷ []) ≡ None
 no_place = refl
+
+-- the statuses of X1 stand on the stack
+most_statuses : MAX_ENTRIES ≡ 127
+most_statuses = refl

@@ -1,5 +1,6 @@
 //! The levels of paragraphs before L1 (UAX #9, X1 to I2), found in lists that are used again for each.
-ghost use Rattle.std.specs.Prelude.{◌≡◌, ℕ, ◌<◌, ◌≤◌, map, length, replicate, IfOk, List, OnOk};
+ghost use Rattle.std.specs.Prelude.{◌≡◌, ℕ, ◌<◌, ◌≤◌, map, length, replicate, IfOk, List, OnErr, OnOk};
+ghost use Rattle.std.specs.Prelude.{vec_capacity};
 ghost use Rattle.std.specs.Prelude.{Option, true, false, slice_index_or};
 ghost use Rattle.std.specs.List.{list_all, list_any};
 ghost use Rattle.ucd.specs.Properties.{properties_of};
@@ -245,7 +246,8 @@ fn take_any_brackets(
 
 // So many levels 0, in place of what the list has.
 fn put_zeros(levels: &mut Vec<u8>, len: usize) -> Result<(), AllocError>
-    ensures { OnOk result (levels.new.items ≡ replicate len 0) }
+    ensures ok { OnOk result (levels.new.items ≡ replicate len 0) }
+    ensures full { OnErr result (vec_capacity levels.old < len) }
 {
     levels.clear();
     levels.resize(len, 0)?;

@@ -3,6 +3,7 @@ use Rattle.std.proofs.Common.{◌≡◌, ℕ, ◌-◌, ◌^◌, true, false, Lis
 use Rattle.breaks.specs.declared.mark.Mark.TheVariants.{Never, May, Must}
 use Rattle.lines.specs.Engine.{counted}
 use Rattle.lines.specs.Filling.{line_starts_of, shown}
+use Rattle.lines.specs.declared.bytes.TheConstants.{CHARACTERS_AT_ONCE, ROW_BYTES_AT_ONCE}
 use Rattle.lines.specs.declared.engine.TheConstants.{PARAGRAPH_LIMIT}
 use Rattle.lines.specs.declared.places.Place.{Place}
 
@@ -82,3 +83,10 @@ count_stays = refl
 -- a paragraph has at most so many characters
 paragraph_limit : PARAGRAPH_LIMIT ≡ 1048576
 paragraph_limit = refl
+
+-- what is written at once stands on the stack
+row_room : ROW_BYTES_AT_ONCE ≡ 512
+row_room = refl
+
+characters_at_once : CHARACTERS_AT_ONCE ≡ 64
+characters_at_once = refl

@@ -105,8 +105,8 @@ impl Engine {
         is_cut(&self.tables, before, after)
     }
 
-    /// True only where all characters after which a paragraph may end begin in UTF-8 with a byte below
-    /// U+0020, with C2 or with E2, as in the files of Unicode.
+    /// True only where all characters after which a paragraph may end are U+0085, U+2029 and some below
+    /// U+0020, as in the files of Unicode.
     pub fn has_usual_separators(&self) -> bool
         ensures { result ≡ true → (a b : ℕ) → a < 1114112 → may_separate a ≡ false
             → cut_by (rules_of self.now) a b ≡ false }
@@ -164,6 +164,7 @@ impl Engine {
         ensures laid_out { IfOk result (IsLaidOut (rules_of self.new)) }
         ensures counts { IfOk result (λ laid. LaysOut (length text.items) self.old self.new) }
         ensures err { IfErr result (λ back. back.0.items ≡ text.items) }
+        ensures unwritten { OnErr result (written_of self.new ≡ written_of self.old) }
         ensures at_most { LaysOutAtMost (length text.items) self.old self.new }
 
         // Also where there is no memory, the characters count as analysed.
@@ -190,6 +191,7 @@ impl Engine {
         ensures ok { IfOk result (λ fill. fill ≡ fill_of (rules_of self.old) width laid.now.text) }
         ensures lines { IfOk result (AreLinesOf (rules_of self.new) laid.now.text) }
         ensures counts { IfOk result (λ fill. Fills (length laid.now.text) self.old self.new) }
+        ensures unwritten { OnErr result (written_of self.new ≡ written_of self.old) }
         ensures at_most { FillsAtMost (length laid.now.text) self.old self.new }
         ensures rules { SameRules self.old self.new }
     {
@@ -219,6 +221,7 @@ impl Engine {
         // Also where the sink failed: the lines are found by then.
         ensures failed { ¬ (IsErrOf result PrintFault.Memory)
             → Prints (length text.now) print.now self.old self.new }
+        ensures unwritten { IsErrOf result PrintFault.Memory → written_of self.new ≡ written_of self.old }
         ensures at_most { LaysOutAtMost (length text.now) self.old self.new }
 
         // Also after a fault: the characters count as analysed, and what is not laid out into lines is not
@@ -309,6 +312,7 @@ impl Engine {
             (W.state writer.old) (W.state writer.new)) }
         ensures counts { ¬ (IsErrOf result PrintFault.Memory)
             → LaysOut (length text.now) self.old self.new }
+        ensures unwritten { IsErrOf result PrintFault.Memory → written_of self.new ≡ written_of self.old }
         ensures at_most { LaysOutAtMost (length text.now) self.old self.new }
         ensures analysed { analysed_of self.new ≡ counted (analysed_of self.old) (length text.now) }
         ensures rules { SameRules self.old self.new }
@@ -376,6 +380,7 @@ impl Engine {
         ensures len { IfOk result (λ parts. length parts.levels.items ≡ length text.now) }
         ensures within { IfOk result (λ parts. AreWithin (length text.now) parts.lines.lines) }
         ensures counts { OnOk result (LaysOut (length text.now) self.old self.new) }
+        ensures unwritten { OnErr result (written_of self.new ≡ written_of self.old) }
         ensures at_most { LaysOutAtMost (length text.now) self.old self.new }
         ensures analysed { analysed_of self.new ≡ counted (analysed_of self.old) (length text.now) }
         ensures rules { SameRules self.old self.new }
@@ -428,6 +433,7 @@ impl Engine {
         ensures lines { IfOk result (λ fill. fill ≡ fill_of (rules_of self.old) width laid.now.text) }
         ensures within { IfOk result (λ fill. AreWithin (length laid.now.text) fill.lines) }
         ensures counts { OnOk result (Fills (length laid.now.text) self.old self.new) }
+        ensures unwritten { OnErr result (written_of self.new ≡ written_of self.old) }
         ensures at_most { FillsAtMost (length laid.now.text) self.old self.new }
         ensures rules { SameRules self.old self.new }
     {

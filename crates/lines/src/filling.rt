@@ -1,6 +1,6 @@
 //! Where the lines of a paragraph start.
 ghost use Rattle.std.specs.Prelude.{◌≡◌, ◌+◌, ◌||◌, ◌<◌, ◌≤◌, ◌^◌, List, length, drop, false, IsTrue};
-ghost use Rattle.std.specs.Prelude.{None, Some, IfOk, IfSome, OnOk, if◌then◌else◌};
+ghost use Rattle.std.specs.Prelude.{None, Some, IfOk, IfSome, OnErr, OnOk, if◌then◌else◌};
 ghost use Rattle.lines.specs.Bare.{AreAlike, with_ends};
 ghost use Rattle.lines.specs.Clusters.{cluster_ends};
 ghost use Rattle.lines.specs.Engine.{counted};
@@ -71,6 +71,7 @@ fn line_len(
     ensures known { IfOk result (λ line.
         IsTrue line.1 → places.new ≡ with_ends places.new (cluster_ends text.now)) }
     ensures alike { OnOk result (AreAlike places.new places.old) }
+    ensures memory { OnErr result ((nobreak ≡ false) × (by_break width (drop start places.old) ≡ None)) }
 {
     if let Some(len) = broken_len(&places[start..], width, nobreak) {
         return Ok((len, is_known));
@@ -87,7 +88,7 @@ fn broken_len(rest: &[Place], width: u16, nobreak: bool) -> Option<usize>
     ensures len { (known : List Place) → AreAlike rest.now known
         → IfSome result (λ len. len ≡ line_len nobreak width known) }
     ensures within { IfSome result (λ len. (0 < len) × (len ≤ length rest.now)) }
-    ensures none { result ≡ None → nobreak ≡ false }
+    ensures none { result ≡ None → (nobreak ≡ false) × (by_break width rest.now ≡ None) }
 {
     if nobreak {
         return Some(first_must(rest) + 1);

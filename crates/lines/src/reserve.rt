@@ -1,5 +1,5 @@
 //! Lists that are used again.
-ghost use Rattle.std.specs.Prelude.{◌≡◌, ◌≤◌, length, OnOk};
+ghost use Rattle.std.specs.Prelude.{◌≡◌, ◌≤◌, length, max, OnOk};
 
 use std::alloc::AllocError;
 
@@ -12,7 +12,8 @@ pub fn reserve<T>(list: &mut Vec<T>, len: usize) -> Result<(), AllocError>
 
 /// Sees to it that a list has at least so many items.
 pub fn grow<T: Copy>(list: &mut Vec<T>, len: usize, item: T) -> Result<(), AllocError>
-    ensures { OnOk result (len ≤ length list.new.items) }
+    ensures least { OnOk result (len ≤ length list.new.items) }
+    ensures most { OnOk result (length list.new.items ≡ max (length list.old.items) len) }
 {
     if list.len() < len {
         reserve(list, len)?;

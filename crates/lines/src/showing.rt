@@ -1,6 +1,6 @@
 //! What is shown of each line of a paragraph: its levels after L1, and its shown part in visual order (L2)
 //! with mirrors (L4).
-ghost use Rattle.std.specs.Prelude.{◌≡◌, ◌-◌, ◌<◌, ◌≤◌, ℕ, List, true, false, OnOk};
+ghost use Rattle.std.specs.Prelude.{◌≡◌, ◌-◌, ◌<◌, ◌≤◌, ℕ, List, true, false, OnErr, OnOk};
 ghost use Rattle.std.specs.Prelude.{length, map, take, slice_index};
 ghost use Rattle.std.specs.List.{range_with_len, suffix_len};
 ghost use Rattle.ucd.specs.Properties.{properties_of};
@@ -56,6 +56,7 @@ pub(crate) fn show_lines(
         (length lists.new.levels.items ≡ length paragraph.now.text.characters.now) }
     ensures counts { OnOk result
         (written.new ≡ counted written.old (length paragraph.now.text.characters.now)) }
+    ensures unwritten { OnErr result (written.new ≡ written.old) }
     ensures at_most { RisesBy (length paragraph.now.text.characters.now) written.old written.new }
 {
     let len = paragraph.text.characters.len();

@@ -1,6 +1,6 @@
 //! The layout of one paragraph, in lists that are used again for the next.
-ghost use Rattle.std.specs.Prelude.{◌≡◌, ◌<◌, ◌≤◌, true, false, List, length, map};
-ghost use Rattle.std.specs.Prelude.{IfErr, IfOk, IsErrOf, OnOk};
+ghost use Rattle.std.specs.Prelude.{◌≡◌, ◌<◌, ◌≤◌, true, false, List, length, map, max};
+ghost use Rattle.std.specs.Prelude.{IfErr, IfOk, IsErrOf, OnErr, OnOk};
 ghost use Rattle.ucd.specs.Properties.{properties_of};
 ghost use Rattle.bidi.specs.Levels.{levels_of};
 ghost use Rattle.breaks.specs.Marks.{marks_of};
@@ -138,6 +138,7 @@ impl Workspace {
         ensures within { OnOk result (AreWithin (length text.now) (held_lines kept.new.lines)) }
         ensures lines_len { OnOk result (length kept.new.lines.levels.items ≡ length text.now) }
         ensures counts { OnOk result (LaysOutAll (length text.now) counts.old counts.new) }
+        ensures unwritten { OnErr result (counts.new.written ≡ counts.old.written) }
         ensures at_most { LaysOutSome (length text.now) counts.old counts.new }
         ensures analysed { counts.new.analysed ≡ counted counts.old.analysed (length text.now) }
     {
@@ -179,6 +180,7 @@ impl Workspace {
             (W.state writer.old) (W.state writer.new)) }
         ensures counts { ¬ (IsErrOf result PrintFault.Memory)
             → LaysOutAll (length text.now) counts.old counts.new }
+        ensures unwritten { IsErrOf result PrintFault.Memory → counts.new.written ≡ counts.old.written }
         ensures at_most { LaysOutSome (length text.now) counts.old counts.new }
         ensures analysed { counts.new.analysed ≡ counted counts.old.analysed (length text.now) }
     {
@@ -278,6 +280,7 @@ impl Workspace {
         ensures lines { IfOk result (λ fill. fill ≡ fill_of (rules_in rules.now) width laid.now.text) }
         ensures within { IfOk result (λ fill. AreWithin (length laid.now.text) fill.lines) }
         ensures counts { OnOk result (FillsAll (length laid.now.text) counts.old counts.new) }
+        ensures unwritten { OnErr result (counts.new.written ≡ counts.old.written) }
         ensures at_most { FillsSome (length laid.now.text) counts.old counts.new }
     {
         let text = laid.text();
@@ -429,6 +432,7 @@ fn write_one_line<W: Sink>(
         (W.state writer.old) (W.state writer.new)) }
     ensures counts { ¬ (IsErrOf result PrintFault.Memory)
         → FillsAll (length text.now.characters.now) counts.old counts.new }
+    ensures unwritten { IsErrOf result PrintFault.Memory → counts.new.written ≡ counts.old.written }
     ensures at_most { FillsSome (length text.now.characters.now) counts.old counts.new }
 {
     let Ok(()) = make_room(lists, text.characters.len()) else {
@@ -469,6 +473,7 @@ fn write_lines<W: Sink>(
         paragraph.now.text.characters.now) (W.state writer.old) (W.state writer.new)) }
     ensures counts { ¬ (IsErrOf result PrintFault.Memory)
         → FillsAll (length paragraph.now.text.characters.now) counts.old counts.new }
+    ensures unwritten { IsErrOf result PrintFault.Memory → counts.new.written ≡ counts.old.written }
     ensures at_most { FillsSome (length paragraph.now.text.characters.now) counts.old counts.new }
 {
     let text = &paragraph.text;
@@ -542,7 +547,8 @@ fn take_spans(
 
 // Sees to it that lists have room for so many characters.
 fn make_room(lists: &mut Lists, len: usize) -> Result<(), AllocError>
-    ensures { OnOk result (HasRoom len lists.new) }
+    ensures room { OnOk result (HasRoom len lists.new) }
+    ensures most { OnOk result (length lists.new.chars.items ≡ max (length lists.old.chars.items) len) }
 {
     grow(&mut lists.levels, len, 0)?;
     grow(&mut lists.ltov, len, 0)?;
@@ -626,6 +632,7 @@ fn put_lines(
         (length lists.new.levels.items ≡ length paragraph.now.text.characters.now) }
     ensures counts { OnOk result
         (FillsAll (length paragraph.now.text.characters.now) counts.old counts.new) }
+    ensures unwritten { OnErr result (counts.new.written ≡ counts.old.written) }
     ensures at_most { FillsSome (length paragraph.now.text.characters.now) counts.old counts.new }
 {
     let text = &paragraph.text;
@@ -665,6 +672,7 @@ fn put_lines_of_places(
         (length lists.new.levels.items ≡ length paragraph.now.text.characters.now) }
     ensures counts { OnOk result
         (FillsAll (length paragraph.now.text.characters.now) counts.old counts.new) }
+    ensures unwritten { OnErr result (counts.new.written ≡ counts.old.written) }
     ensures at_most { FillsSome (length paragraph.now.text.characters.now) counts.old counts.new }
 {
     let text = &paragraph.text;

@@ -165,6 +165,11 @@ module _ (is_cut : ℕ → ℕ → Bool) where
             (uncut_join (chars p.front) (c ∷ []) (chars more) (subst (λ (cs : List ℕ). Uncut (chars p.front) cs) rest_is p.uncut) (no_cut, tt));
       }
 
+  -- and one that can separate nothing
+  pub passed_usual : AreUsual is_cut → (text rest more : List ℕ) (c : ℕ) → Passed text rest → rest ≡ encode c ++ more → may_separate c ≡ false → Passed text more
+  passed_usual usual text rest more c p is plain =
+      passed_char text rest more c p is (not_after usual c (chars more) (scalar_lt c (scalar_of rest more c p.rest_utf8 is)) plain)
+
   -- all is passed
   pub passed_all : (text rest : List ℕ) → Passed text rest → length rest ≡ 0 → SplitsAt is_cut (chars text) None
   passed_all text rest p none =

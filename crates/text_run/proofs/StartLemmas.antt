@@ -43,9 +43,9 @@ module _ (rules : Rules) (width : ℕ) (print : Print) (reader writer : Device) 
       kept None = tt
       kept (Some xs) = refl
 
-  pub ends_at_once : Ends rules width print reader writer engine reader writer engine (Err f.Memory)
+  pub ends_at_once : Prints 0 print engine engine → Ends rules width print reader writer engine reader writer engine (Err f.Memory)
   unfolding start_at
-  ends_at_once =
+  ends_at_once fits =
       let stops : Stops rules width print reader writer reader writer f.Memory 0 = at_memory rules width print reader reader writer writer [] [] [] start_at 0 in
       let read : HasRead reader reader [] = (start_at.read, start_at.passed) in
       let none : front_of [] ≡ [] = ap (λ n. chars (take n [])) (nothing_valid [] refl) ∙ chars-nil in
@@ -58,7 +58,7 @@ module _ (rules : Rules) (width : ℕ) (print : Print) (reader writer : Device) 
           read,
           (
             ap (λ t. are_within (paragraphs (cut_by rules) t)) none,
-            (0, start_at.wrote, λ some. absurd (omega arith)),
+            (0, start_at.wrote, λ none. fits, λ some. absurd (omega arith)),
           ),
         );
         stopped = λ n is. absurd (cc is);

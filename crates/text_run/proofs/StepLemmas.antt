@@ -24,6 +24,7 @@ use Rattle.text_run.specs.declared.text.Held.{Held}
 use Rattle.text_run.specs.declared.text.TheConstants.{PIECE}
 use Rattle.text_run.specs.TextRun.{AtEnd, AtFailure, are_within, input_fault, front_of, front_paragraphs, is_bad, written_of, Gave, HasPrinted, HasRead, HasStopped, PrintsNoMore, WantsMemory}
 use Rattle.text_run.specs.Counts.{PrintsAtMost}
+use Rattle.text_run.specs.Pages.{prints_some}
 use Rattle.text_run.specs.Streaming.{Ends, FindsFault, Finishes, Gathers, IsAt, IsBeginning, IsFront, IsFaultAhead, IsOpen, IsRead, Stands, StopsAfter, StopsWriting, Writes, last_lines}
 use Rattle.text_run.proofs.CountLemmas.{at_most_more, at_most_none, at_most_printed, printed_as, prints_more}
 use Rattle.text_run.proofs.Devices.{Took-nothing}
@@ -83,7 +84,7 @@ module _ (rules : Rules) (width : ℕ) (print : Print) (reader_old writer_old : 
   -- a run that stops has counted no more than the characters that were read
   ended : (reader_new writer_new : Device) (engine_new : Engine) (fault : RunFault) (printed : ℕ)
       → Stops rules width print reader_old writer_old reader_new writer_new fault printed
-      → HasPrinted (Some fault) printed print engine_old engine_new → PrintsNoMore print reader_old reader_new engine_old engine_new → (fault ≡ f.Memory → WantsMemory rules width print reader_old reader_new writer_old writer_new)
+      → HasPrinted (Some fault) printed print engine_old engine_new → PrintsNoMore print reader_old reader_new engine_old engine_new → (fault ≡ f.Memory → WantsMemory rules width print reader_old reader_new writer_old writer_new engine_old engine_new)
       → ((n : ℕ) → fault ≡ f.Write n → HasStopped rules width print reader_old reader_new writer_old writer_new engine_old engine_new n)
       → Ends rules width print reader_old writer_old engine_old reader_new writer_new engine_new (Err fault)
   ended reader_new writer_new engine_new fault printed stops counts no_more wants failed =
@@ -330,19 +331,22 @@ module _ (rules : Rules) (width : ℕ) (print : Print) (reader_old writer_old : 
           (prints_more print engine_old engine engine_new (length (concat sent)) (length held.text.items) s.counts counts))
 
       -- the last paragraph's lines are still to be written
-      left_over : 0 < length held.text.items
+      left_over : (engine_new : Engine) → 0 < length held.text.items → prints_some print ≡ true
           → (k : ℕ) × Wrote (page rules width print (take k (front_paragraphs rules (s.is_at.decoded ++ take held.waiting held.piece.items)))) writer_old writer
+          × (prints_some print ≡ false
+          → Prints (length (concat (take k (front_paragraphs rules (s.is_at.decoded ++ take held.waiting held.piece.items))))) print engine_old engine_new)
           × (0 < length (s.is_at.decoded ++ take held.waiting held.piece.items)
           → (if is_bad (s.is_at.decoded ++ take held.waiting held.piece.items) then k + 1 else k)
           < length (front_paragraphs rules (s.is_at.decoded ++ take held.waiting held.piece.items)))
       unfolding last
-      left_over some =
+      left_over engine_new some prints =
           let sent = s.is_at.sent in
           let filled : (length held.text.items == 0) ≡ false = not_none held.text.items some in
           let one : length last ≡ 1 = ap (λ (b : Bool). length (if b then [] else held.text.items ∷ [])) filled in (
             length sent,
             subst (λ (ps : List (List ℕ)). Wrote (page rules width print ps) writer_old writer)
                 (sym (ap (take (length sent)) pars_last ∙ take-append_seam sent last)) s.is_at.wrote,
+            λ none. absurd (true≢false (sym prints ∙ none)),
             λ read. left_by (length sent) _ (is_bad (s.is_at.decoded ++ take held.waiting held.piece.items))
                 (omega (arith, ap length pars_last, length-append sent last, one)) (λ bad. absurd (true≢false (sym bad ∙ no_bad held s))),
           )
@@ -378,7 +382,7 @@ module _ (rules : Rules) (width : ℕ) (print : Print) (reader_old writer_old : 
           (ended reader_new writer engine_new f.Memory 0
           (at_memory rules width print reader_old reader_new writer_old writer (take held.waiting held.piece.items
           ++ []) held.text.items [] next.0 0) tt no_more_last
-          (λ same. (s.is_at.decoded ++ take held.waiting held.piece.items, has_read, (ap are_within (pars_last is.0) ∙ within_last is.0, left_over is.0 is.1)))
+          (λ same. (s.is_at.decoded ++ take held.waiting held.piece.items, has_read, (ap are_within (pars_last is.0) ∙ within_last is.0, left_over is.0 engine_new is.1 is.2)))
           (λ n same. absurd (cc same)))
       ends_finish piece writer_new (Err f.Read) is counts inside failed = absurd is
       ends_finish piece writer_new (Err f.ParagraphTooLong) is counts inside failed = absurd is
@@ -449,9 +453,9 @@ module _ (rules : Rules) (width : ℕ) (print : Print) (reader_old writer_old : 
       pub read_memory : are_within (paragraphs (cut_by rules) (held_read.text.items ++ front_of bytes_read)) ≡ true
           → (is_bad bytes_read ≡ true → 1 < length
           (paragraphs (cut_by rules) (held_read.text.items ++ front_of bytes_read)))
-          → 0 < utf8_valid_len bytes_read
+          → 0 < utf8_valid_len bytes_read → (prints_some print ≡ false → engine_new ≡ engine)
           → Ends rules width print reader_old writer_old engine_old reader_new writer engine_new (Err f.Memory)
-      read_memory within ended_is some =
+      read_memory within ended_is some uncounted =
           let sent = s.is_at.sent in
           let text = held.text.items ++ front_of bytes_read in
           let pars : front_paragraphs rules (s.is_at.decoded ++ bytes_read) ≡ sent ++ paragraphs (cut_by rules) text =
@@ -459,6 +463,8 @@ module _ (rules : Rules) (width : ℕ) (print : Print) (reader_old writer_old : 
           let sent_is : are_within sent ≡ true = sent_within rules width print reader_old reader writer_old writer (take held.waiting held.piece.items) held.text.items [] s.is_at s.all_sent in
           let all : length (front_paragraphs rules (s.is_at.decoded ++ bytes_read)) ≡ length sent + length (paragraphs (cut_by rules) text) =
           omega (arith, ap length pars, length-append sent (paragraphs (cut_by rules) text)) in
+          let first : sent ≡ take (length sent) (front_paragraphs rules (s.is_at.decoded ++ bytes_read)) =
+          sym (ap (take (length sent)) pars ∙ take-append_seam sent (paragraphs (cut_by rules) text)) in
           let less : length sent < length (front_paragraphs rules (s.is_at.decoded ++ bytes_read)) =
           omega (arith, all, pars_some (cut_by rules) text (omega (arith, length-append held.text.items (front_of bytes_read), front_some bytes_read some))) in
           ended reader_new writer engine_new f.Memory 0 (at_memory rules width print reader_old reader_new writer_old writer bytes_read held.text.items [] next_is.0 0) tt no_more_read
@@ -469,9 +475,10 @@ module _ (rules : Rules) (width : ℕ) (print : Print) (reader_old writer_old : 
               ap are_within pars ∙ within_more sent (paragraphs (cut_by rules) text) sent_is ∙ ap (λ t. are_within (paragraphs (cut_by rules) (t ++ front_of bytes_read))) (sym text_same) ∙ within,
               (
                 length sent,
-                subst (λ (ps : List (List ℕ)). Wrote (page rules width print ps) writer_old writer)
-                    (sym (ap (take (length sent)) pars ∙ take-append_seam sent (paragraphs (cut_by rules) text)))
-                    s.is_at.wrote,
+                subst (λ (ps : List (List ℕ)). Wrote (page rules width print ps) writer_old writer) first s.is_at.wrote,
+                λ none. subst (λ (e : Engine). Prints (length (concat (take (length sent) (front_paragraphs rules (s.is_at.decoded ++ bytes_read))))) print engine_old e)
+                    (sym (uncounted none))
+                    (subst (λ (ps : List (List ℕ)). Prints (length (concat ps)) print engine_old engine) first s.counts),
                 λ read. left_by (length sent) _ (is_bad (s.is_at.decoded ++ bytes_read)) less (λ bad. omega (
                   arith,
                   ended_is (sym (is_bad-after s.is_at.decoded bytes_read s.is_at.utf8) ∙ bad),

@@ -4,7 +4,7 @@ use Rattle.std.specs.Str.{chars}
 use Rattle.ucd.specs.Separators.{may_separate}
 use Rattle.bidi.specs.Cuts.{SplitsAt, paragraphs}
 
--- whether a byte begins a character after which a paragraph may end, in the files of Unicode
+-- whether a byte begins a character after which a paragraph may end, in the files of Unicode, or one of some beside these
 abbrev pub may_lead : ℕ → Bool
 may_lead byte = nat_lt byte 32 || (byte == 194 || byte == 226)
 

@@ -174,7 +174,7 @@ pub record Ends (rules : Rules) (width : ℕ) (print : Print) (reader_old writer
   pub run : IsTextRun rules width print reader_old reader_new writer_old writer_new engine_old engine_new result
   pub ahead : OnErr result (ReadsAhead rules width print reader_old reader_new writer_old writer_new)
   pub at_most : OnErr result (PrintsNoMore print reader_old reader_new engine_old engine_new)
-  pub wants : IsErrOf result f.Memory → WantsMemory rules width print reader_old reader_new writer_old writer_new
+  pub wants : IsErrOf result f.Memory → WantsMemory rules width print reader_old reader_new writer_old writer_new engine_old engine_new
   pub stopped : (n : ℕ) → IsErrOf result (f.Write n) → HasStopped rules width print reader_old reader_new writer_old writer_new engine_old engine_new n
 
 -- a step goes on, or ends the run

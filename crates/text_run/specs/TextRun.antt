@@ -1,5 +1,5 @@
 -- What is written for a text, and how its run ends.
-use Rattle.std.specs.Prelude.{◌≡◌, ◌≢◌, ◌⊎◌, ℕ, ◌+◌, ◌-◌, ◌*◌, ◌<◌, ◌==◌, nat_le, Bool, true, List, ◌++◌, ◌≤◌, length, take, drop, take_while, encode_utf8_all, Option, Some, None, IfSome, ⊤, is_some, is_none, Result, Ok, Err, if◌then◌else◌}
+use Rattle.std.specs.Prelude.{◌≡◌, ◌≢◌, ◌⊎◌, ℕ, ◌+◌, ◌-◌, ◌*◌, ◌<◌, ◌==◌, nat_le, Bool, true, false, List, ◌++◌, ◌≤◌, length, take, drop, take_while, encode_utf8_all, Option, Some, None, IfSome, ⊤, is_some, is_none, Result, Ok, Err, if◌then◌else◌}
 use Rattle.std.specs.List.{concat, list_all}
 use Rattle.std.specs.Str.{chars}
 use Rattle.std.specs.Str.Lossy.{utf8_valid_len, utf8_error_len}
@@ -12,6 +12,7 @@ use Rattle.lines.specs.declared.engine.Engine.{Engine}
 use Rattle.lines.specs.declared.print.Print.{Print}
 use Rattle.lines.specs.Engine.{Prints}
 use Rattle.text_run.specs.Counts.{PrintsAtMost}
+use Rattle.text_run.specs.Pages.{prints_some}
 use Rattle.text_run.specs.declared.faults.RunFault.{RunFault}
 use Rattle.text_run.specs.declared.faults.RunFault.TheVariants as fault
 use Rattle.text_run.specs.declared.text.TheConstants.{PIECE}
@@ -110,13 +111,15 @@ abbrev pub HasRead : Device → Device → List ℕ → Type 0
 HasRead old new bytes = Consumes old.bytes new.bytes bytes × (new.passed ≡ old.passed + length bytes)
 
 -- Memory was wanted for what was read: no paragraph of it is too long, and the lines of one are still to be written, which ends
--- before the bytes that are not UTF-8 where there are any; or nothing was read.
-abbrev pub WantsMemory : Rules → ℕ → Print → Device → Device → Device → Device → Type 0
-WantsMemory rules width print reader_old reader_new writer_old writer_new =
+-- before the bytes that are not UTF-8 where there are any; or nothing was read. Where nothing is printed, that paragraph is still to be
+-- counted.
+abbrev pub WantsMemory : Rules → ℕ → Print → Device → Device → Device → Device → Engine → Engine → Type 0
+WantsMemory rules width print reader_old reader_new writer_old writer_new engine_old engine_new =
     (bytes : List ℕ) × HasRead reader_old reader_new bytes
     × (let pars = front_paragraphs rules bytes in
     (are_within pars ≡ true)
     × ((k : ℕ) × Wrote (page rules width print (take k pars)) writer_old writer_new
+    × (prints_some print ≡ false → Prints (length (concat (take k pars))) print engine_old engine_new)
     × (0 < length bytes → (if is_bad bytes then k + 1 else k) < length pars)))
 
 -- at most the characters that were read were printed, up to the first byte that is not UTF-8

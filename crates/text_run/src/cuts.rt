@@ -2,6 +2,7 @@
 //! begin a character after which a paragraph may end, and what stands between these isn't decoded.
 ghost use Rattle.std.specs.Prelude.{◌≡◌, ℕ, ◌<◌, ◌≤◌, true, false, None, length, slice_index, IsTrue};
 ghost use Rattle.std.specs.Str.{IsCharBoundary};
+ghost use Rattle.ucd.specs.Separators.{may_separate};
 ghost use Rattle.bidi.specs.Cuts.{SplitsAt};
 ghost use Rattle.lines.specs.Engine.{rules_of};
 ghost use Rattle.lines.specs.Layouts.{cut_by};
@@ -49,6 +50,9 @@ fn first_end(engine: &Engine, text: &str, is_usual: bool) -> Option<usize>
             return None;
         };
         rest = characters.as_str();
+        if is_usual && !may_separate(c) {
+            continue;
+        }
         let Some(next) = rest.chars().next() else {
             return None;
         };
@@ -56,6 +60,13 @@ fn first_end(engine: &Engine, text: &str, is_usual: bool) -> Option<usize>
             return Some(text.len() - rest.len());
         }
     }
+}
+
+// Whether a paragraph may end after a character, in the files of Unicode.
+fn may_separate(c: char) -> bool
+    ensures { result ≡ may_separate c }
+{
+    c < ' ' || c == '\u{85}' || c == '\u{2029}'
 }
 
 // How many bytes at the front of a text begin no character after which a paragraph may end, as far as that is
@@ -78,6 +89,10 @@ fn next_lead(bytes: &[u8]) -> usize
     ensures before { (k : ℕ) → k < result → may_lead (slice_index bytes.now k) ≡ false }
     ensures here { result < length bytes.now → may_lead (slice_index bytes.now result) ≡ true }
 {
+    // (In a row of such characters no more than the first byte is looked at.)
+    if !bytes.is_empty() && may_lead(bytes[0]) {
+        return 0;
+    }
     let mut at = 0;
     while at + AT_ONCE <= bytes.len() && !has_lead(&bytes[at..at + AT_ONCE]) {
         at += AT_ONCE;

@@ -138,6 +138,8 @@ pub fn push_text(
         page.old.bytes.items page.new.bytes.items engine.old engine.new) }
     ensures memory { OnErr result (0 < length text.now) }
     ensures some { OnErr result (prints_some print.now ≡ false → engine.new ≡ engine.old) }
+    ensures full { OnErr result (prints_some print.now ≡ false
+        → vec_capacity held.old < vec_len held.old + length text.now) }
     ensures at_most { PrintsAtMost (length (held.old.items ++ chars text.now)) print.now
         engine.old engine.new }
     ensures rules { SameRules engine.old engine.new }

@@ -343,7 +343,8 @@ pub fn run_text<R: Source, W: Sink>(
         (R.state reader.old) (R.state reader.new) engine.old engine.new) }
     ensures memory { IsErrOf result RunFault.Memory
         → WantsMemory (rules_of engine.old) width print.now
-        (R.state reader.old) (R.state reader.new) (W.state writer.old) (W.state writer.new) }
+        (R.state reader.old) (R.state reader.new) (W.state writer.old) (W.state writer.new)
+        engine.old engine.new }
     ensures stopped { (n : ℕ) → IsErrOf result (RunFault.Write n)
         → HasStopped (rules_of engine.old) width print.now
         (R.state reader.old) (R.state reader.new) (W.state writer.old) (W.state writer.new)

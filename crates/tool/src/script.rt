@@ -2,7 +2,8 @@
 //! read, and its answer is written before more is read.
 ghost use Rattle.std.specs.Prelude.{◌≡◌, ◌+◌, ◌-◌, ◌<◌, ◌≤◌, ◌++◌, ◌^◌, ◌∷◌, ◌⊎◌, [], true, false};
 ghost use Rattle.std.specs.Prelude.{None, Ok};
-ghost use Rattle.std.specs.Prelude.{length, nat_lt, take, drop, vec_len, option_map, string_bytes};
+ghost use Rattle.std.specs.Prelude.{length, nat_lt, take, drop, vec_capacity, vec_len, option_map};
+ghost use Rattle.std.specs.Prelude.{string_bytes};
 ghost use Rattle.std.specs.Prelude.{IfOk, IfErr, IsErrOf, OnOk, OnErr, MatchOption, MatchResult};
 ghost use Rattle.std.specs.Str.{chars};
 ghost use Rattle.std.specs.Str.Lossy.{utf8_valid_len};
@@ -249,6 +250,8 @@ fn push_characters(text: &str, characters: &mut Vec<char>) -> Result<(), AllocEr
     ensures memory { OnErr result (0 < length text.now) }
     ensures part { OnErr result (length characters.new.items
         < length characters.old.items + length (chars text.now)) }
+    ensures full { OnErr result
+        (vec_capacity characters.old < vec_len characters.old + length (chars text.now)) }
 {
     for c in text.chars() {
         characters.push(c)?;
@@ -308,6 +311,8 @@ fn grow(reading: &mut Reading, bytes: &[u8]) -> Result<(), RunFault>
     requires { reading.old.lines < 2 ^ 64 - 1 }
     ensures ok { OnOk result (Grows bytes.now reading.old reading.new) }
     ensures err { IfErr result (GrowsNot bytes.now reading.old reading.new) }
+    ensures full { IsErrOf result RunFault.Memory
+        → vec_capacity reading.old.line < vec_len reading.old.line + length bytes.now }
 {
     if is_too_long(&reading.line, bytes) {
         return Err(RunFault::BadLine(reading.lines + 1));

@@ -1,5 +1,5 @@
 -- Pages of 256 code points, and the entries that stand for what they hold.
-use Rattle.std.specs.Prelude.{◌≡◌, ℕ, zero, suc, ◌+◌, ◌*◌, ◌/◌, ◌%◌, ◌<◌, ◌≤◌, length, List, [], ◌∷◌, ◌++◌, slice_index, slice_index_or, Option, Some, None, if◌then◌else◌}
+use Rattle.std.specs.Prelude.{◌≡◌, ℕ, zero, suc, ◌+◌, ◌*◌, ◌/◌, ◌%◌, ◌<◌, ◌≤◌, length, List, [], ◌∷◌, ◌++◌, slice_index, slice_index_or, Option, Some, None, if◌then◌else◌, ◌-◌, drop}
 use Rattle.ucd.specs.Answers.{PropertyAnswers, unnamed}
 use Rattle.ucd.specs.declared.category.Category.{Category}
 use Rattle.ucd.specs.declared.category.Category.TheVariants as category
@@ -30,6 +30,10 @@ width_in a = if a.is_wide then width.Wide else width.Other
 
 abbrev pub pictograph_in : PropertyAnswers → Option Pictograph
 pictograph_in a = if a.is_future_pictograph then Some (record {}) else None
+
+-- the last page is this one
+abbrev pub EndsWithPage : List PropertyAnswers → List PropertyAnswers → Type 0
+EndsWithPage pages page = (256 ≤ length pages) × (drop (length pages - 256) pages ≡ page)
 
 -- the pages, to which one more may have been added, have this page by this number
 pub record HasPage (old new page : List PropertyAnswers) (number : ℕ) : Type 0 where

@@ -5,7 +5,7 @@ ghost use Rattle.std.specs.Prelude.{length, slice_index, slice_index_or};
 ghost use Rattle.std.specs.Prelude.{nat_le, nat_lt, ◌&&◌, false, true, if◌then◌else◌, IfOk, IsTrue};
 ghost use Rattle.ucd.specs.Answers.{unnamed};
 ghost use Rattle.ucd.specs.Entries.{AreApart, value_at};
-ghost use Rattle.ucd.specs.Pages.{answers_at, HasPage};
+ghost use Rattle.ucd.specs.Pages.{answers_at, EndsWithPage, HasPage};
 ghost use Rattle.ucd.specs.Puts.{put_by};
 ghost use Rattle.ucd.specs.Separators.{may_separate, IsUsual};
 ghost use Rattle.ucd.specs.declared.bidi_class.BidiClass.TheVariants.{B};
@@ -115,8 +115,8 @@ pub fn pages_of(alloc: Global, points: &[Properties]) -> Result<Pages, AllocErro
     })
 }
 
-// Whether the code points of class B are among those that are of this class in the files of Unicode, and
-// those beside them.
+// Whether the code points of class B are among those that are of this class in the files of Unicode, and the
+// other controls below U+0020.
 fn are_usual(points: &[Properties]) -> bool
     ensures { result ≡ true → (c : ℕ) → c < length points.now
         → IsUsual c (slice_index_or points.now c unnamed) }
@@ -138,7 +138,7 @@ fn is_separator(properties: Properties) -> bool
 fn may_separate(c: usize) -> bool
     ensures { result ≡ may_separate c }
 {
-    c < 0x20 || (0x80 <= c && c < 0xc0) || (0x2000 <= c && c < 0x3000)
+    c < 0x20 || c == 0x85 || c == 0x2029
 }
 
 // The number of a page: that of the last one, if both are equal, or of the next one, which it becomes.
@@ -146,7 +146,8 @@ fn page_number(entries: &mut Vec<Properties>, page: &[Properties]) -> Result<u16
     requires page { length page.now ≡ 256 }
     requires whole { length entries.old.items % 256 ≡ 0 }
     requires room { length entries.old.items ≤ 256 * 4352 }
-    ensures { IfOk result (HasPage entries.old.items entries.new.items page.now) }
+    ensures page { IfOk result (HasPage entries.old.items entries.new.items page.now) }
+    ensures once { EndsWithPage entries.old.items page.now → entries.new.items ≡ entries.old.items }
 {
     let end = entries.len();
     if end >= PAGE && are_equal(&entries[end - PAGE..], page) {

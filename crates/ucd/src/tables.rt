@@ -255,8 +255,8 @@ impl Tables {
         self.properties(c).bidi_class()
     }
 
-    /// True only where the characters of class B are among those whose UTF-8 begins with a byte below U+0020,
-    /// with C2 or with E2, as in the files of Unicode.
+    /// True only where the characters of class B are U+0085, U+2029 and some below U+0020, as in the files of
+    /// Unicode.
     pub fn has_usual_separators(&self) -> bool
         ensures { result ≡ true → (c : ℕ) → c < 1114112 → may_separate c ≡ false → class_of self.now c ≢ B }
     {

@@ -31,5 +31,6 @@ returns c =
       within = rw (l, t, v, h) (all_within _ _ _ _ _ _ _ _ _ _ _ c.requires.starts count (omega (arith, ap length c.in_ok-copy.ensures)) shown);
       lines_len = rw l (search rules);
       counts = c.show_each.ensures.counts;
+      unwritten = tt;
       at_most = record { least = c.show_each.ensures.least; most = omega (arith, c.show_each.ensures.counts) };
     }

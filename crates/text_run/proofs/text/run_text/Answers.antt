@@ -7,27 +7,27 @@ use Rattle.text_run.proofs.text.run_text.Goals as goal
 pub returns-in_default-clause-run : goal.returns-in_default-clause-run
 returns-in_default-clause-run g c =
     (ends_at_once (rules_of c.args.engine.now) c.args.width c.args.print.now (g.R.Source.state c.args.reader.now)
-    (g.W.Sink.state c.args.writer.now) c.args.engine.now).run
+    (g.W.Sink.state c.args.writer.now) c.args.engine.now (c.counts_fit.ensures c.args.print.now)).run
 
 pub returns-in_default-clause-ahead : goal.returns-in_default-clause-ahead
 returns-in_default-clause-ahead g c =
     (ends_at_once (rules_of c.args.engine.now) c.args.width c.args.print.now (g.R.Source.state c.args.reader.now)
-    (g.W.Sink.state c.args.writer.now) c.args.engine.now).ahead
+    (g.W.Sink.state c.args.writer.now) c.args.engine.now (c.counts_fit.ensures c.args.print.now)).ahead
 
 pub returns-in_default-clause-at_most : goal.returns-in_default-clause-at_most
 returns-in_default-clause-at_most g c =
     (ends_at_once (rules_of c.args.engine.now) c.args.width c.args.print.now (g.R.Source.state c.args.reader.now)
-    (g.W.Sink.state c.args.writer.now) c.args.engine.now).at_most
+    (g.W.Sink.state c.args.writer.now) c.args.engine.now (c.counts_fit.ensures c.args.print.now)).at_most
 
 pub returns-in_default-clause-stopped : goal.returns-in_default-clause-stopped
 returns-in_default-clause-stopped g c =
     (ends_at_once (rules_of c.args.engine.now) c.args.width c.args.print.now (g.R.Source.state c.args.reader.now)
-    (g.W.Sink.state c.args.writer.now) c.args.engine.now).stopped
+    (g.W.Sink.state c.args.writer.now) c.args.engine.now (c.counts_fit.ensures c.args.print.now)).stopped
 
 pub returns-in_default-clause-memory : goal.returns-in_default-clause-memory
 returns-in_default-clause-memory g c =
     (ends_at_once (rules_of c.args.engine.now) c.args.width c.args.print.now (g.R.Source.state c.args.reader.now)
-    (g.W.Sink.state c.args.writer.now) c.args.engine.now).wants
+    (g.W.Sink.state c.args.writer.now) c.args.engine.now (c.counts_fit.ensures c.args.print.now)).wants
 
 pub loop-held-init : goal.loop-held-init
 loop-held-init g c =

@@ -26,7 +26,7 @@ pub returns-in_default-clause-steps : goal.returns-in_default-clause-steps
 returns-in_default-clause-steps g c = λ reader_start writer_start engine_start stands.
     read_memory (rules_of c.args.engine.now) c.args.width c.args.print.now reader_start writer_start engine_start _ _
     c.args.engine.now _ _ c.args.held.now _ stands c.in-Ok.ensures.ok c.gather.new.engine c.gather.ensures.at_most
-    c.in_default.ensures.memory c.in_default.ensures.ended c.in_default.ensures.decoded
+    c.in_default.ensures.memory c.in_default.ensures.ended c.in_default.ensures.decoded c.in_default.ensures.some
 
 pub returns-in-Err-write-clause-steps : goal.returns-in-Err-write-clause-steps
 returns-in-Err-write-clause-steps g c = λ reader_start writer_start engine_start stands.

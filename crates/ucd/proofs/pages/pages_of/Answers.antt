@@ -10,4 +10,4 @@ loop-place-preserved c =
     let points = c.args.points.now in
     let page : (k : ℕ) → k < 256 → get_or (take (start + 256 - start) (drop start points)) k unnamed ≡ get_or points (start + k) unnamed =
     λ k lt. get_or-take (start + 256 - start) (drop start points) k unnamed (omega arith) ∙ get_or-drop start points k unnamed in
-    rw c.in_ok-push.ensures.items (pages_more points _ _ _ _ c.loop-place.place _ c.loop-place.invariant c.in_ok-number.ensures page)
+    rw c.in_ok-push.ensures.items (pages_more points _ _ _ _ c.loop-place.place _ c.loop-place.invariant c.in_ok-number.ensures.page page)

@@ -10,7 +10,7 @@ returns-in_ok-put_zeros-clause-level c =
 pub returns-in_ok-put_zeros-clause-levels : goal.returns-in_ok-put_zeros-clause-levels
 returns-in_ok-put_zeros-clause-levels c =
     zeros-are c.args.tables.now c.args.text.now c.args.properties.now c.args.base c.base_level_by-level.result c.requires c.base_level_by-level.ensures
-    c.put_zeros.new.levels.items c.in_ok-put_zeros.ensures c.if-level-eq0.true (sym c.if-are_flat_by.ensures)
+    c.put_zeros.new.levels.items c.in_ok-put_zeros.ensures.ok c.if-level-eq0.true (sym c.if-are_flat_by.ensures)
 
 pub returns-in_ok-put_zeros-clause-len : goal.returns-in_ok-put_zeros-clause-len
 returns-in_ok-put_zeros-clause-len c =

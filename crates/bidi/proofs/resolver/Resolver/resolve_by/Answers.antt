@@ -18,7 +18,7 @@ pub returns-then-are_flat-clause-levels : goal.returns-then-are_flat-clause-leve
 returns-then-are_flat-clause-levels c look text are =
     let classes = c.args.classes.now in
     let zeros = zero_levels look text classes (all_from is_flat classes (sym c.are_flat.ensures ∙ c.if-are_flat.true)) in
-    c.in_ok-put_zeros.ensures ∙ sym zeros ∙ ap (paragraph_levels look text classes) (sym c.if-level-eq0.true ∙ c.base_level_of-level.ensures)
+    c.in_ok-put_zeros.ensures.ok ∙ sym zeros ∙ ap (paragraph_levels look text classes) (sym c.if-level-eq0.true ∙ c.base_level_of-level.ensures)
 
 pub returns-clause-levels : goal.returns-clause-levels
 returns-clause-levels c look text are =
