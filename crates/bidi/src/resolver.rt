@@ -303,8 +303,13 @@ impl Resolver {
             ≡ base_level_of (map (class_of tables.now) text.now) base) }
         ensures levels { OnOk result (levels.new.items ≡ levels_of tables.now text.now base) }
         ensures len { OnOk result (length levels.new.items ≡ length text.now) }
+        ensures memory { OnErr result (0 < length text.now) }
     {
         let level = base_level_by(properties, base);
+        if text.is_empty() {
+            levels.clear();
+            return Ok(level);
+        }
         if level == 0 && are_flat_by(properties) {
             put_zeros(levels, properties.len())?;
         } else {
@@ -365,8 +370,13 @@ impl Resolver {
             → brackets.now ≡ bracket_types look text
             → levels.new.items ≡ paragraph_levels look text classes.now (base_level_of classes.now base)) }
         ensures len { OnOk result (length levels.new.items ≡ length classes.now) }
+        ensures memory { OnErr result (0 < length classes.now) }
     {
         let level = base_level_of(classes, base);
+        if classes.is_empty() {
+            levels.clear();
+            return Ok(level);
+        }
         if level == 0 && are_flat(classes) {
             put_zeros(levels, classes.len())?;
             return Ok(level);
@@ -434,9 +444,13 @@ pub fn resolve(
 ) -> Result<Vec<u8>, AllocError>
     ensures levels { IfOk result (λ levels. levels.items ≡ levels_of tables.now text.now base) }
     ensures len { IfOk result (λ levels. length levels.items ≡ length text.now) }
+    ensures memory { OnErr result (0 < length text.now) }
 {
-    let properties = properties_of(alloc, tables, text)?;
     let mut levels = Vec::new(alloc);
+    if text.is_empty() {
+        return Ok(levels);
+    }
+    let properties = properties_of(alloc, tables, text)?;
     Resolver::new(alloc).resolve(tables, text, &properties, base, &mut levels)?;
     Ok(levels)
 }
@@ -455,6 +469,7 @@ pub fn resolve_by(
         → brackets.now ≡ bracket_types look text
         → levels.items ≡ paragraph_levels look text classes.now (base_level_of classes.now base)) }
     ensures len { IfOk result (λ levels. length levels.items ≡ length classes.now) }
+    ensures memory { OnErr result (0 < length classes.now) }
 {
     let mut levels = Vec::new(alloc);
     Resolver::new(alloc).resolve_by(classes, brackets, base, &mut levels)?;

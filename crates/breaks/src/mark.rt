@@ -1,6 +1,6 @@
 //! The break marks of a paragraph.
 ghost use Rattle.std.specs.Prelude.{◌≡◌, ◌+◌, ◌-◌, ◌<◌, ◌≤◌, ℕ, Bool, List, Some, drop, length, map};
-ghost use Rattle.std.specs.Prelude.{slice_get, slice_index_or, IfOk, OnOk};
+ghost use Rattle.std.specs.Prelude.{slice_get, slice_index_or, vec_capacity, IfOk, OnErr, OnOk};
 ghost use Rattle.ucd.specs.Properties.{properties_of};
 ghost use Rattle.breaks.specs.Marks.{marks_of};
 ghost use Rattle.breaks.specs.Symbols.{character_by};
@@ -36,9 +36,13 @@ pub fn marks(
     ensures marks { IfOk result (λ marks. marks.items
         ≡ marks_of tables.now tailoring.whole_numbers text.now) }
     ensures len { IfOk result (λ marks. length marks.items ≡ length text.now) }
+    ensures memory { OnErr result (0 < length text.now) }
 {
-    let properties = properties_of(alloc, tables, text)?;
     let mut marks = Vec::new(alloc);
+    if text.is_empty() {
+        return Ok(marks);
+    }
+    let properties = properties_of(alloc, tables, text)?;
     marks_into(tables, text, &properties, tailoring, &mut marks)?;
     Ok(marks)
 }
@@ -66,6 +70,7 @@ pub fn marks_into(
     ensures marks { OnOk result (marks.new.items
         ≡ marks_of tables.now tailoring.whole_numbers text.now) }
     ensures len { OnOk result (length marks.new.items ≡ length text.now) }
+    ensures full { OnErr result (vec_capacity marks.old < length text.now) }
 {
     marks.resize(properties.len(), Mark::Must)?;
     mark_properties(tables, text, properties, tailoring.whole_numbers, marks);

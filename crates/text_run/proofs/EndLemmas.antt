@@ -5,36 +5,55 @@ use Rattle.std.specs.List.{onto_first, slice_get}
 use Rattle.std.specs.Str.{chars, IsCharBoundary}
 use Rattle.std.proofs.lemmas.Bool.{and_parts}
 use Rattle.std.proofs.lemmas.Bool.Decides.{nat_tests}
-use Rattle.std.proofs.lemmas.List.{append_assoc, append-nil, get_or-append-add, get_or-take, length-append, length-take-le, nil_from_length, take_all, take-append-drop}
+use Rattle.std.proofs.lemmas.List.{append_assoc, append-nil, get_or-append-add, get_or-drop, get_or-take, length-append, length-take-le, nil_from_length, take_all, take-append-drop}
 use Rattle.std.proofs.lemmas.Str.{IsUtf8-append, IsUtf8-drop, IsUtf8-encode, IsUtf8-past_char, IsUtf8-take, chars-append, chars-nil, chars_past_char, cons_from_encodes, encodes-chars, len_utf8_bounds, length-encode, scalars-chars}
 use Rattle.std.proofs.Math.Seq.{take-append-add, drop-append-add}
 use Rattle.std.proofs.str.Laws.{Shape, of1, of2, of3, of4, shape}
 use Rattle.ucd.specs.Separators.{may_separate}
 use Rattle.bidi.specs.Cuts.{SplitsAt, paragraphs}
-use Rattle.text_run.specs.Ends.{AreUsual, EndsAfter, EndsFirst, FindsEnd, FindsEndAfter, cuts_before, may_lead}
+use Rattle.text_run.specs.Ends.{AreUsual, EndsAfter, EndsFirst, FindsEnd, FindsEndAfter, cuts_before, leads_at, may_lead}
 use Rattle.text_run.proofs.Fronts.{onto, skip_none_seen, skip_some_seen}
 use Rattle.text_run.proofs.LongLemmas.{split_before, uncut_more}
 use Rattle.text_run.proofs.Utf8Lemmas.{past_one, past_two, past_three}
 use lib.Utf8.{encode, encodes, scalar, scalar_cases, scalars}
 
--- a character begins in UTF-8 with a byte that tells whether it may separate
-lead_by : (c : ℕ) (rest : List ℕ) → Shape c → may_lead (get_or (encode c ++ rest) 0 0) ≡ false → may_separate c ≡ false
+-- what follows some bytes begins in a text as it does by itself
+leads_later : (xs ys : List ℕ) (k : ℕ) → leads_at (xs ++ ys) (length xs + k) ≡ leads_at ys k
+leads_later xs ys k =
+    let one : length xs + k + 1 ≡ length xs + (k + 1) = omega arith in
+    let two : length xs + k + 2 ≡ length xs + (k + 2) = omega arith in
+    ap₂ (λ a b. may_lead a b (get_or (xs ++ ys) (length xs + k + 2) 0)) (get_or-append-add xs ys k 0)
+    (ap (λ i. get_or (xs ++ ys) i 0) one ∙ get_or-append-add xs ys (k + 1) 0)
+    ∙ ap (λ c. may_lead (get_or ys k 0) (get_or ys (k + 1) 0) c) (ap (λ i. get_or (xs ++ ys) i 0) two ∙ get_or-append-add xs ys (k + 2) 0)
+
+-- and in a part of it that goes on
+pub leads_within : (bytes : List ℕ) (at n k : ℕ) → k + 2 < n → leads_at (take n (drop at bytes)) k ≡ leads_at bytes (at + k)
+leads_within bytes at n k lt =
+    let one : at + (k + 1) ≡ at + k + 1 = omega arith in
+    let two : at + (k + 2) ≡ at + k + 2 = omega arith in
+    ap₂ (λ a b. may_lead a b (get_or (take n (drop at bytes)) (k + 2) 0)) (get_or-take n (drop at bytes) k 0 (omega (arith, lt)) ∙ get_or-drop at bytes k 0)
+    (get_or-take n (drop at bytes) (k + 1) 0 (omega (arith, lt)) ∙ get_or-drop at bytes (k + 1) 0 ∙ ap (λ i. get_or bytes i 0) one)
+    ∙ ap (λ c. may_lead (get_or bytes (at + k) 0) (get_or bytes (at + k + 1) 0) c)
+    (get_or-take n (drop at bytes) (k + 2) 0 lt ∙ get_or-drop at bytes (k + 2) 0 ∙ ap (λ i. get_or bytes i 0) two)
+
+-- a character begins in UTF-8 with bytes that tell whether it may separate
+lead_by : (c : ℕ) (rest : List ℕ) → Shape c → leads_at (encode c ++ rest) 0 ≡ false → may_separate c ≡ false
 lead_by c rest (of1 l e) plain =
-    let first : may_lead c ≡ false = subst (λ (t : List ℕ). may_lead (get_or (t ++ rest) 0 0) ≡ false) e plain in
-    grind (arith, nat_tests, first)
+    let first : may_lead c (get_or rest 0 0) (get_or rest 1 0) ≡ false = subst (λ (t : List ℕ). leads_at (t ++ rest) 0 ≡ false) e plain in
+    grind (arith, nat_tests, first, l)
 lead_by c rest (of2 a b l u f is e) plain =
-    let first : may_lead a ≡ false = subst (λ (t : List ℕ). may_lead (get_or (t ++ rest) 0 0) ≡ false) e plain in
+    let first : may_lead a b (get_or rest 0 0) ≡ false = subst (λ (t : List ℕ). leads_at (t ++ rest) 0 ≡ false) e plain in
     let least : 128 ≤ c = past_one c (omega (arith, ap length e)) in
     grind (arith, nat_tests, first, is, least)
 lead_by c rest (of3 a b d l u f g is e) plain =
-    let first : may_lead a ≡ false = subst (λ (t : List ℕ). may_lead (get_or (t ++ rest) 0 0) ≡ false) e plain in
+    let first : may_lead a b d ≡ false = subst (λ (t : List ℕ). leads_at (t ++ rest) 0 ≡ false) e plain in
     let least : 2048 ≤ c = past_two c (omega (arith, ap length e)) in
     grind (arith, nat_tests, first, is, least)
 lead_by c rest (of4 a b d x l u f g h is e) plain =
     let least : 65536 ≤ c = past_three c (omega (arith, ap length e)) in
     grind (arith, nat_tests, least)
 
-lead_plain : (c : ℕ) (rest : List ℕ) → scalar c ≡ true → may_lead (get_or (encode c ++ rest) 0 0) ≡ false → may_separate c ≡ false
+lead_plain : (c : ℕ) (rest : List ℕ) → scalar c ≡ true → leads_at (encode c ++ rest) 0 ≡ false → may_separate c ≡ false
 lead_plain c rest valid plain = lead_by c rest (shape c (scalar_cases c valid)) plain
 
 scalar_lt : (c : ℕ) → scalar c ≡ true → c < 1114112
@@ -93,15 +112,17 @@ module _ (is_cut : ℕ → ℕ → Bool) where
   not_before c (d ∷ text) no_cut = no_cut d text refl
 
   -- characters whose bytes begin none after which there is a cut
-  plain_uncut : AreUsual is_cut → (cs ys : List ℕ) → scalars cs ≡ true → ((k : ℕ) → k < length (encodes cs) → may_lead (get_or (encodes cs) k 0) ≡ false) → Uncut cs ys
-  plain_uncut usual [] ys valid plain = tt
-  plain_uncut usual (c ∷ cs) ys valid plain =
+  plain_uncut : AreUsual is_cut → (cs ys : List ℕ) (after : List ℕ) → scalars cs ≡ true → ((k : ℕ) → k < length (encodes cs) → leads_at (encodes cs ++ after) k ≡ false) → Uncut cs ys
+  plain_uncut usual [] ys after valid plain = tt
+  plain_uncut usual (c ∷ cs) ys after valid plain =
       let both = and_parts (scalar c) (scalars cs) valid in
+      let rest = encodes cs ++ after in
+      let whole : (encode c ++ encodes cs) ++ after ≡ encode c ++ rest = append_assoc (encode c) (encodes cs) after in
       let len : length (encode c ++ encodes cs) ≡ length (encode c) + length (encodes cs) = length-append (encode c) (encodes cs) in
       let some : 0 < length (encode c) = omega (arith, length-encode c, (len_utf8_bounds c).0) in (
-        not_after usual c (cs ++ ys) (scalar_lt c both.0) (lead_plain c (encodes cs) both.0 (plain 0 (omega (arith, len, some)))),
-        plain_uncut usual cs ys both.1 (λ k lt. subst (λ b. may_lead b ≡ false) (get_or-append-add (encode c) (encodes cs) k 0)
-            (plain (length (encode c) + k) (omega (arith, lt, len)))),
+        not_after usual c (cs ++ ys) (scalar_lt c both.0) (lead_plain c rest both.0 (subst (λ (t : List ℕ). leads_at t 0 ≡ false) whole (plain 0 (omega (arith, len, some))))),
+        plain_uncut usual cs ys after both.1 (λ k lt. sym (leads_later (encode c) rest k)
+            ∙ subst (λ (t : List ℕ). leads_at t (length (encode c) + k) ≡ false) whole (plain (length (encode c) + k) (omega (arith, lt, len)))),
       )
 
   -- what of a text was passed without a cut, and what is left of it
@@ -139,15 +160,15 @@ module _ (is_cut : ℕ → ℕ → Bool) where
       }
 
   pub passed_plain : (text rest : List ℕ) (n : ℕ) (is_usual : Bool) → (is_usual ≡ true → AreUsual is_cut) → Passed text rest → IsCharBoundary rest n
-      → ((k : ℕ) → k < n → may_lead (get_or rest k 0) ≡ false) → (is_usual ≡ false → n ≡ 0) → Passed text (drop n rest)
+      → ((k : ℕ) → k < n → leads_at rest k ≡ false) → (is_usual ≡ false → n ≡ 0) → Passed text (drop n rest)
   passed_plain text rest n true usual p boundary plain unknown =
       let front = take n rest in
       let utf8 : IsUtf8 front = IsUtf8-take rest n p.rest_utf8 boundary in
-      passed_by text rest n p boundary (λ ys. plain_uncut (usual refl) (chars front) ys (scalars-chars front utf8)
+      passed_by text rest n p boundary (λ ys. plain_uncut (usual refl) (chars front) ys (drop n rest) (scalars-chars front utf8)
       (λ k lt.
       let bytes : encodes (chars front) ≡ front = encodes-chars front utf8 in
       let less : k < n = omega (arith, lt, ap length bytes, length-take-le n rest boundary.0) in
-      subst (λ b. may_lead b ≡ false) (sym (ap (λ (t : List ℕ). get_or t k 0) bytes ∙ get_or-take n rest k 0 less)) (plain k less)))
+      subst (λ (t : List ℕ). leads_at t k ≡ false) (sym (ap (λ t. t ++ drop n rest) bytes ∙ take-append-drop n rest)) (plain k less)))
   passed_plain text rest n false usual p boundary plain unknown =
       passed_by text rest n p boundary (λ ys. subst (λ (cs : List ℕ). Uncut cs ys) (sym (ap (λ k. chars (take k rest)) (unknown refl) ∙ chars-nil)) tt)
 
@@ -164,11 +185,6 @@ module _ (is_cut : ℕ → ℕ → Bool) where
         uncut = subst (λ (cs : List ℕ). Uncut cs (chars more)) (sym (chars-append p.front (encode c) p.utf8 ∙ ap (λ t. chars p.front ++ t) (chars_one c valid)))
             (uncut_join (chars p.front) (c ∷ []) (chars more) (subst (λ (cs : List ℕ). Uncut (chars p.front) cs) rest_is p.uncut) (no_cut, tt));
       }
-
-  -- and one that can separate nothing
-  pub passed_usual : AreUsual is_cut → (text rest more : List ℕ) (c : ℕ) → Passed text rest → rest ≡ encode c ++ more → may_separate c ≡ false → Passed text more
-  passed_usual usual text rest more c p is plain =
-      passed_char text rest more c p is (not_after usual c (chars more) (scalar_lt c (scalar_of rest more c p.rest_utf8 is)) plain)
 
   -- all is passed
   pub passed_all : (text rest : List ℕ) → Passed text rest → length rest ≡ 0 → SplitsAt is_cut (chars text) None

@@ -1,16 +1,15 @@
 -- One step of a run, by what its calls do.
-use Rattle.std.proofs.Common.{◌≡◌, ◌⊎◌, inl, inr, ⊎_elim, ℕ, ◌+◌, ◌*◌, ◌<◌, ◌≤◌, ◌==◌, Bool, true, false, List, [], ◌∷◌, ◌++◌, length, take, drop, min, Option, Some, None, unwrap_or, Result, Ok, Err, vec_len, Vec, Global, encode_utf8_all, refl, sym, subst, ap, ap₂, ◌∙◌, arith, true≢false, if◌then◌else◌}
+use Rattle.std.proofs.Common.{◌≡◌, ◌⊎◌, inl, inr, ⊎_elim, ℕ, ◌+◌, ◌<◌, ◌≤◌, ◌==◌, Bool, true, false, List, [], ◌∷◌, ◌++◌, length, take, drop, min, Option, Some, None, unwrap_or, Result, Ok, Err, vec_len, Vec, Global, encode_utf8_all, refl, sym, subst, ap, ap₂, ◌∙◌, arith, true≢false, if◌then◌else◌}
 use Rattle.std.specs.Prelude.{is_none, is_some, IsErrOf, OnOk}
 use Rattle.std.specs.List.{concat}
 use Rattle.std.specs.Str.{chars}
 use Rattle.std.specs.Str.Lossy.{utf8_valid_len, utf8_error_len}
 use Rattle.std.specs.Io.KnownBytes.{Consumes}
-use Rattle.std.proofs.lemmas.Bool.Decides.{nat_tests}
 use Rattle.std.proofs.Math.Seq.{take-append_seam}
 use Rattle.std.proofs.lemmas.List.Folds.{concat-append}
 use Rattle.std.proofs.lemmas.List.{append_assoc, append-nil, length-append, length-take-le, length-drop, take-append-drop}
 use Rattle.std.proofs.lemmas.Grind.{flat_map-append}
-use Rattle.std.proofs.lemmas.Str.{chars-append, chars-nil, encodes-append, encodes-chars, IsUtf8-append, len_utf8_bounds, length-encode, utf8_valid_len_le}
+use Rattle.std.proofs.lemmas.Str.{chars-append, chars-nil, encodes-append, encodes-chars, IsUtf8-append, utf8_valid_len_le}
 use Rattle.bidi.specs.Cuts.{paragraphs}
 use Rattle.device.specs.Device.{Device, Fails, Gives, StoppedAt, Wrote, greatest}
 use Rattle.lines.specs.Engine.{Prints}
@@ -27,13 +26,11 @@ use Rattle.text_run.specs.Counts.{PrintsAtMost}
 use Rattle.text_run.specs.Pages.{prints_some}
 use Rattle.text_run.specs.Streaming.{Ends, FindsFault, Finishes, Gathers, IsAt, IsBeginning, IsFront, IsFaultAhead, IsOpen, IsRead, Stands, StopsAfter, StopsWriting, Writes, last_lines}
 use Rattle.text_run.proofs.CountLemmas.{at_most_more, at_most_none, at_most_printed, printed_as, prints_more}
-use Rattle.text_run.proofs.Devices.{Took-nothing}
 use Rattle.text_run.proofs.Fronts.{front_join, front_more, front_none}
 use Rattle.text_run.proofs.LeftLemmas.{front_some, last_pars, last_within, left_by, not_none, pars_some}
 use Rattle.text_run.proofs.StopLemmas.{append_end, encoded_len, is_all, last_len, not_all, not_bad, one_par, some_bad, stopped_in}
 use Rattle.text_run.proofs.StreamLemmas.{Consumes-append, Consumes-kept, IsSent, Stops, at_fault, at_long, at_memory, at_write, at_written, ends_write, front_is, gave_all, gone_on, had_all, pars_are, pars_sent, sent_ahead, sent_within, within_more, written_whole, Wrote-append}
-use Rattle.text_run.proofs.Utf8Lemmas.{bad_stays, is_bad-after, nothing_valid, utf8_error_len-nil, utf8_front, utf8_valid_len-after}
-use lib.Utf8.{encode}
+use Rattle.text_run.proofs.Utf8Lemmas.{bad_stays, is_bad-after, utf8_front, utf8_valid_len-after}
 
 module _ (rules : Rules) (width : ℕ) (print : Print) (reader_old writer_old : Device) (engine_old : Engine) (reader writer : Device) (engine : Engine) (held : Held) where
   abbrev Holds : List ℕ → List ℕ → Type 0

@@ -1,12 +1,16 @@
 -- Where the first paragraph of a text in UTF-8 ends. Only the code speaks of these.
-use Rattle.std.specs.Prelude.{◌≡◌, ℕ, ◌<◌, ◌≤◌, ◌==◌, ◌||◌, nat_lt, Bool, false, List, ◌∷◌, ◌++◌, length, take, drop, Option, None, Some, IsUtf8}
+use Rattle.std.specs.Prelude.{◌≡◌, ℕ, ◌<◌, ◌≤◌, ◌+◌, ◌==◌, ◌&&◌, ◌||◌, nat_lt, Bool, false, List, ◌∷◌, ◌++◌, length, take, drop, slice_index, Option, None, Some, IsUtf8}
 use Rattle.std.specs.Str.{chars}
 use Rattle.ucd.specs.Separators.{may_separate}
 use Rattle.bidi.specs.Cuts.{SplitsAt, paragraphs}
 
--- whether a byte begins a character after which a paragraph may end, in the files of Unicode, or one of some beside these
-abbrev pub may_lead : ℕ → Bool
-may_lead byte = nat_lt byte 32 || (byte == 194 || byte == 226)
+-- whether a byte and the two after it begin a character after which a paragraph may end, in the files of Unicode
+abbrev pub may_lead : ℕ → ℕ → ℕ → Bool
+may_lead a b c = nat_lt a 32 || ((a == 194 && b == 133) || (a == 226 && (b == 128 && c == 169)))
+
+-- whether one begins at a place of some bytes
+abbrev pub leads_at : List ℕ → ℕ → Bool
+leads_at bytes k = may_lead (slice_index bytes k) (slice_index bytes (k + 1)) (slice_index bytes (k + 2))
 
 -- there is no cut after other characters
 abbrev pub AreUsual : (ℕ → ℕ → Bool) → Type 0

@@ -1,17 +1,16 @@
-//! Where the first paragraph of a text in UTF-8 ends, by its bytes: with the files of Unicode, few bytes
-//! begin a character after which a paragraph may end, and what stands between these isn't decoded.
-ghost use Rattle.std.specs.Prelude.{◌≡◌, ℕ, ◌<◌, ◌≤◌, true, false, None, length, slice_index, IsTrue};
+//! Where the first paragraph of a text in UTF-8 ends, by its bytes: with the files of Unicode, few
+//! characters are such that a paragraph may end after them, and what stands between these isn't decoded.
+ghost use Rattle.std.specs.Prelude.{◌≡◌, ℕ, ◌<◌, ◌≤◌, ◌+◌, true, false, None, length, slice_index, IsTrue};
 ghost use Rattle.std.specs.Str.{IsCharBoundary};
-ghost use Rattle.ucd.specs.Separators.{may_separate};
 ghost use Rattle.bidi.specs.Cuts.{SplitsAt};
 ghost use Rattle.lines.specs.Engine.{rules_of};
 ghost use Rattle.lines.specs.Layouts.{cut_by};
-ghost use Rattle.text_run.specs.Ends.{AreUsual, FindsEnd, FindsEndAfter, BeginsAfter, may_lead};
+ghost use Rattle.text_run.specs.Ends.{AreUsual, FindsEnd, FindsEndAfter, BeginsAfter, leads_at, may_lead};
 
 use crate::paragraphs::is_cut_after;
 use lines::Engine;
 
-// How many bytes are looked at together.
+// At how many places of a text is looked together.
 const AT_ONCE: usize = 16;
 
 /// How many bytes of a text end the first paragraph of the characters that are held, which have no cut, and
@@ -50,9 +49,6 @@ fn first_end(engine: &Engine, text: &str, is_usual: bool) -> Option<usize>
             return None;
         };
         rest = characters.as_str();
-        if is_usual && !may_separate(c) {
-            continue;
-        }
         let Some(next) = rest.chars().next() else {
             return None;
         };
@@ -62,18 +58,11 @@ fn first_end(engine: &Engine, text: &str, is_usual: bool) -> Option<usize>
     }
 }
 
-// Whether a paragraph may end after a character, in the files of Unicode.
-fn may_separate(c: char) -> bool
-    ensures { result ≡ may_separate c }
-{
-    c < ' ' || c == '\u{85}' || c == '\u{2029}'
-}
-
 // How many bytes at the front of a text begin no character after which a paragraph may end, as far as that is
 // known.
 fn plain_len(text: &str, is_usual: bool) -> usize
     ensures boundary { IsCharBoundary text.now result }
-    ensures plain { (k : ℕ) → k < result → may_lead (slice_index text.now k) ≡ false }
+    ensures plain { (k : ℕ) → k < result → leads_at text.now k ≡ false }
     ensures unknown { is_usual ≡ false → result ≡ 0 }
 {
     if is_usual {
@@ -83,39 +72,57 @@ fn plain_len(text: &str, is_usual: bool) -> usize
     }
 }
 
-// The place of the first byte that may begin such a character, or the end.
+// The place of the first byte that begins such a character, or the end.
 fn next_lead(bytes: &[u8]) -> usize
     ensures within { result ≤ length bytes.now }
-    ensures before { (k : ℕ) → k < result → may_lead (slice_index bytes.now k) ≡ false }
-    ensures here { result < length bytes.now → may_lead (slice_index bytes.now result) ≡ true }
+    ensures before { (k : ℕ) → k < result → leads_at bytes.now k ≡ false }
+    ensures here { result < length bytes.now → leads_at bytes.now result ≡ true }
 {
-    // (In a row of such characters no more than the first byte is looked at.)
-    if !bytes.is_empty() && may_lead(bytes[0]) {
+    // (In a row of such characters no more than the first is looked at.)
+    if !bytes.is_empty() && is_lead(bytes, 0) {
         return 0;
     }
     let mut at = 0;
-    while at + AT_ONCE <= bytes.len() && !has_lead(&bytes[at..at + AT_ONCE]) {
+    while at + AT_ONCE + 2 <= bytes.len() && !has_lead(&bytes[at..at + AT_ONCE + 2]) {
         at += AT_ONCE;
     }
-    while at < bytes.len() && !may_lead(bytes[at]) {
+    while at < bytes.len() && !is_lead(bytes, at) {
         at += 1;
     }
     at
 }
 
-// Whether one of some bytes may: all are looked at, which is faster than to stop.
+// Whether one begins before the last two of some bytes: all are looked at, which is faster than to stop.
 fn has_lead(bytes: &[u8]) -> bool
-    ensures { result ≡ false → (k : ℕ) → k < length bytes.now → may_lead (slice_index bytes.now k) ≡ false }
+    ensures { result ≡ false → (k : ℕ) → k + 2 < length bytes.now → leads_at bytes.now k ≡ false }
 {
     let mut any = false;
-    for k in 0..bytes.len() {
-        any |= may_lead(bytes[k]);
+    for k in 2..bytes.len() {
+        any |= may_lead(bytes[k - 2], bytes[k - 1], bytes[k]);
     }
     any
 }
 
-fn may_lead(byte: u8) -> bool
-    ensures { result ≡ may_lead byte }
+// Whether one begins at a place.
+fn is_lead(bytes: &[u8], at: usize) -> bool
+    requires { at < length bytes.now }
+    ensures { result ≡ leads_at bytes.now at }
 {
-    byte < 0x20 || byte == 0xc2 || byte == 0xe2
+    may_lead(bytes[at], byte_at(bytes, at + 1), byte_at(bytes, at + 2))
+}
+
+// The byte at a place, 0 past the end.
+fn byte_at(bytes: &[u8], at: usize) -> u8
+    ensures { result ≡ slice_index bytes.now at }
+{
+    if at < bytes.len() { bytes[at] } else { 0 }
+}
+
+// (Without a branch.)
+fn may_lead(first: u8, second: u8, third: u8) -> bool
+    ensures { result ≡ may_lead first second third }
+{
+    (first < 0x20)
+        | (((first == 0xc2) & (second == 0x85))
+            | ((first == 0xe2) & ((second == 0x80) & (third == 0xa9))))
 }

@@ -4,7 +4,7 @@ use Rattle.std.proofs.lemmas.List.{nil_from_length}
 use Rattle.std.proofs.lemmas.Str.{chars-nil, chars_past_char}
 use Rattle.lines.specs.Engine.{rules_of}
 use Rattle.lines.specs.Layouts.{cut_by}
-use Rattle.text_run.proofs.EndLemmas.{NotAfter, Passed, passed_all, passed_char, passed_cut, passed_none, passed_plain, passed_usual}
+use Rattle.text_run.proofs.EndLemmas.{NotAfter, Passed, passed_all, passed_char, passed_cut, passed_none, passed_plain}
 use Rattle.text_run.proofs.cuts.first_end.Goals as goal
 use lib.Utf8.{encode}
 
@@ -50,23 +50,6 @@ returns-then-is_cut c =
     c.in-Some.ensures.steps.0 ∙ ap (λ t. encode c.in-Some.c ++ t) (sym c.as_str-rest.ensures) in
     passed_cut is_cut text c.chars-characters.result.rest.now c.as_str-rest.result.now c.next-in-loop-c.new.self.rest.now c.in-Some.c c.in-Some-next.next passed char_is
     (sym c.chars.ensures.rest ∙ c.in-Some-next.ensures.steps.0) (sym c.is_cut.ensures ∙ c.if-is_cut.true)
-
--- nor after this character, whatever follows
-pub loop-c-preserved-then-not-may_separate : goal.loop-c-preserved-then-not-may_separate
-loop-c-preserved-then-not-may_separate c =
-    let is_cut = cut_by (rules_of c.args.engine.now) in
-    let text = c.args.text.now in
-    let passed : Passed is_cut text c.chars-characters.result.rest.now =
-    subst (λ (t : List ℕ). Passed is_cut text t) (sym (c.chars-characters.ensures.rest ∙ c.split_at.ensures.back))
-    (passed_plain is_cut text c.loop-c.rest.now c.plain_len.result c.args.is_usual c.requires c.loop-c.invariant.passed
-    c.plain_len.ensures.boundary c.plain_len.ensures.plain c.plain_len.ensures.unknown) in
-    let char_is : c.chars-characters.result.rest.now ≡ encode c.in-Some.c ++ c.as_str-rest.result.now =
-    c.in-Some.ensures.steps.0 ∙ ap (λ t. encode c.in-Some.c ++ t) (sym c.as_str-rest.ensures) in
-    record {
-      utf8 = c.as_str-rest.utf8;
-      passed = passed_usual is_cut (c.requires c.if-is_usual.true) text c.chars-characters.result.rest.now c.as_str-rest.result.now c.in-Some.c passed char_is
-          (sym c.may_separate.ensures ∙ c.if-not-may_separate.true);
-    }
 
 -- no cut after this character
 pub loop-c-preserved : goal.loop-c-preserved

@@ -1,11 +1,11 @@
-use Rattle.std.proofs.Common.{◌≡◌, ℕ, ◌<◌, ◌≤◌, ◌-◌, ◌+◌, false, length, slice_index}
-use Rattle.text_run.specs.Ends.{may_lead}
+use Rattle.std.proofs.Common.{◌≡◌, ℕ, ◌<◌, ◌≤◌, ◌-◌, ◌+◌, false, length}
+use Rattle.text_run.specs.Ends.{leads_at}
 use Rattle.text_run.proofs.cuts.next_lead.Given as goal
 
 abbrev pub invariant-loop-at : goal.invariant-loop-at
 invariant-loop-at l = record {
   within : l.at ≤ length l.bytes;
-  before : (k : ℕ) → k < l.at → may_lead (slice_index l.bytes k) ≡ false;
+  before : (k : ℕ) → k < l.at → leads_at l.bytes k ≡ false;
 }
 
 abbrev pub decreases-loop-at : goal.decreases-loop-at
@@ -14,7 +14,7 @@ decreases-loop-at l = length l.bytes + 1 - l.at
 abbrev pub invariant-loop-at-2 : goal.invariant-loop-at-2
 invariant-loop-at-2 l = record {
   within : l.at ≤ length l.bytes;
-  before : (k : ℕ) → k < l.at → may_lead (slice_index l.bytes k) ≡ false;
+  before : (k : ℕ) → k < l.at → leads_at l.bytes k ≡ false;
 }
 
 abbrev pub decreases-loop-at-2 : goal.decreases-loop-at-2
