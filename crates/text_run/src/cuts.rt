@@ -79,10 +79,10 @@ fn next_lead(bytes: &[u8]) -> usize
     ensures here { result < length bytes.now → leads_at bytes.now result ≡ true }
 {
     // (In a row of such characters no more than the first is looked at.)
-    if !bytes.is_empty() && is_lead(bytes, 0) {
+    if bytes.is_empty() || is_lead(bytes, 0) {
         return 0;
     }
-    let mut at = 0;
+    let mut at = 1;
     while at + AT_ONCE + 2 <= bytes.len() && !has_lead(&bytes[at..at + AT_ONCE + 2]) {
         at += AT_ONCE;
     }
@@ -108,7 +108,14 @@ fn is_lead(bytes: &[u8], at: usize) -> bool
     requires { at < length bytes.now }
     ensures { result ≡ leads_at bytes.now at }
 {
-    may_lead(bytes[at], byte_at(bytes, at + 1), byte_at(bytes, at + 2))
+    let first = bytes[at];
+    if first < 0x20 {
+        return true;
+    }
+    if first != 0xc2 && first != 0xe2 {
+        return false;
+    }
+    may_lead(first, byte_at(bytes, at + 1), byte_at(bytes, at + 2))
 }
 
 // The byte at a place, 0 past the end.
