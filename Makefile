@@ -5,11 +5,11 @@
 # make ucd    the seven table files of the Unicode version that crates/ucd/src/version.rt names, from Debian's package
 #             unicode-data, into ucd/; where that is of another version, from a folder of files: make ucd UNICODE=FOLDER
 # make check  what to run before each commit, once make has built: what the documents name, the cases, the calls
-#             that fail, Unicode's conformance tests, the libraries' tests, the stored runs, the format, the table
-#             of break marks, and the editor of examples/coedit under tmux
+#             that fail, what the command takes, Unicode's conformance tests, the libraries' tests, the stored runs,
+#             the format, the table of break marks, and the editor of examples/coedit under tmux
 # make test   the gate: every proof from nothing, the must-fail edits, the tests and the stored runs; then what the
-#             documents name, the cases, each allocation refused in turn, each call of a device failing, the C library,
-#             and what the documents show
+#             documents name, the cases, each allocation refused in turn, each call of a device failing, what the
+#             command takes of memory, calls and instructions, the C library, and what the documents show
 # make attack the other wrong bodies, many at a time, over what make has built: make attack CRATES="lines session"
 # make c      proves and builds the C library, as bin/libhordguli.a and bin/libhordguli.so.0 (CC, CXX, CFLAGS, LDFLAGS)
 # make install  lays down the command, the C library, the table files and the manual pages, which make, make c and

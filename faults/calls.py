@@ -4,8 +4,9 @@ import os, re, shutil, subprocess, sys, tempfile
 ROOT = os.path.dirname(os.path.dirname(os.path.abspath(__file__)))
 FOLDER = tempfile.TemporaryDirectory()
 PART, NOTHING = -1, 0
-# memory is asked of the system once, which makes thousands of short runs a third faster
-ONE_HEAP = {"MALLOC_MMAP_THRESHOLD_": "100000000", "MALLOC_TOP_PAD_": "8000000"}
+# Memory is asked of the system once, which makes thousands of short runs a third faster. And names are looked up at the start, since
+# what a later look-up puts on the stack is as long as the processor's registers.
+SAME = {"MALLOC_MMAP_THRESHOLD_": "100000000", "MALLOC_TOP_PAD_": "8000000", "LD_BIND_NOW": "1"}
 TABLES = "DerivedBidiClass BidiBrackets BidiMirroring LineBreak DerivedGeneralCategory EastAsianWidth emoji-data".split()
 
 
@@ -28,15 +29,22 @@ def compiled():
 def environment(fault):
     """That of a run of which the call fails that is said, if one is."""
     given = {f"FAULT_{key.upper()}": str(value) for key, value in fault.items()}
-    return {"PATH": os.environ["PATH"], **ONE_HEAP, **({"LD_PRELOAD": LIBRARY, **given} if given else {})}
+    return {"PATH": os.environ["PATH"], **SAME, **({"LD_PRELOAD": LIBRARY, **given} if given else {})}
 
 
-def run(words, text=b"", stdin=None, cwd=None, **fault):
-    """What is written, what is said, and the status."""
+def run(words, text=b"", stdin=None, cwd=None, program=None, **fault):
+    """What is written, what is said, and the status. The program may be another than the first word."""
     source = {"stdin": stdin} if stdin else {"input": text}
     pipes = {"stdout": subprocess.PIPE, "stderr": subprocess.PIPE}
-    ran = subprocess.run(words, **source, **pipes, cwd=cwd, env=environment(fault), timeout=60)
+    ran = subprocess.run(words, executable=program, **source, **pipes, cwd=cwd, env=environment(fault), timeout=60)
     return ran.stdout, ran.stderr.decode(), ran.returncode
+
+
+def counted(words, text=b"", **given):
+    """How a run ends, and what faults.c counts in it, by its name."""
+    with tempfile.NamedTemporaryFile(dir=FOLDER.name) as file:
+        ending = run(words, text, count=file.name, **given)
+        return ending, {name: int(number) for name, number in map(str.split, file.read().decode().splitlines())}
 
 
 def finish(passed, failed, log):

@@ -3,30 +3,73 @@
  * FAULT_AT    which one of these calls it is, counted from 1
  * FAULT_AS    the error, as a number; with 0 the call passes no byte; with -1 it passes one byte alone
  * FAULT_MOST  how many bytes a read or a write passes at most, but of files named .txt
- * FAULT_COUNT a file that is told how many such calls there were, and how many bytes were asked of malloc and realloc
+ * FAULT_COUNT a file that is told what was counted, a name and a number a line:
+ *             calls   how many calls of that kind there were
+ *             takes   how often memory was asked for, by malloc and realloc
+ *             bytes   and how many bytes of it
+ *             opens   how many files were opened
+ *             reads   how many reads there were
+ *             ends    how many of them passed no byte
+ *             late    how many of them came after one of the same file that passed none
+ *             writes  how many writes there were
+ *             start   how many bytes of the stack were used before the first read of a file that isn't named .txt
+ *             stack   and how many from then on
  * Of writes those to the standard output count. */
 #define _GNU_SOURCE
 #include <dlfcn.h>
 #include <errno.h>
 #include <fcntl.h>
 #include <stdarg.h>
+#include <stdint.h>
 #include <stdio.h>
 #include <stdlib.h>
 #include <string.h>
 #include <unistd.h>
 
-static long calls, at;
-static size_t asked;
+enum { FILES = 1024, WORDS = 1 << 15 }; /* (256 KB of the stack) */
+static const uint64_t UNUSED = 0xa5a5a5a5a5a5a5a5;
+
+static long calls, takes, opens, reads, ends, late, writes, at;
+static size_t bytes;
 static const char *call;
 static int as, is_ready;
 static size_t most = (size_t)-1;
-static char is_table[1024];
+static char is_table[FILES], has_ended[FILES];
+static uintptr_t top, bottom;
+static size_t start_stack;
 
-static void *next(const char *name) { return dlsym(RTLD_NEXT, name); }
+static void *(*real_malloc)(size_t);
+static void *(*real_realloc)(void *, size_t);
+static ssize_t (*real_read)(int, void *, size_t);
+static ssize_t (*real_write)(int, const void *, size_t);
+static int (*real_open)(const char *, int, ...);
+
+static void find_calls(void) {
+    real_malloc = dlsym(RTLD_NEXT, "malloc");
+    real_realloc = dlsym(RTLD_NEXT, "realloc");
+    real_read = dlsym(RTLD_NEXT, "read");
+    real_write = dlsym(RTLD_NEXT, "write");
+    real_open = dlsym(RTLD_NEXT, "open");
+}
 
 static const char *word(const char *name, const char *otherwise) {
     const char *value = getenv(name);
     return value ? value : otherwise;
+}
+
+/* Writes over the stack below, so that what is used of it afterwards can be told. */
+static __attribute__((noinline)) void mark_stack(void) {
+    volatile uint64_t below[WORDS];
+    for (size_t k = 0; k < WORDS; k++)
+        below[k] = UNUSED;
+    bottom = (uintptr_t)below;
+}
+
+static size_t used_stack(void) {
+    volatile uint64_t *at = (volatile uint64_t *)bottom;
+    while ((uintptr_t)at < top && *at == UNUSED)
+        at++;
+    return top - (uintptr_t)at;
 }
 
 __attribute__((constructor)) static void begin(void) {
@@ -35,10 +78,19 @@ __attribute__((constructor)) static void begin(void) {
     as = atoi(word("FAULT_AS", "0"));
     if (getenv("FAULT_MOST"))
         most = strtoul(getenv("FAULT_MOST"), 0, 10);
+    find_calls();
+    top = (uintptr_t)__builtin_frame_address(0);
+    if (getenv("FAULT_COUNT"))
+        mark_stack();
     is_ready = 1;
 }
 
 static int fails(const char *name) { return is_ready && !strcmp(call, name) && ++calls == at; }
+
+static void count_memory(size_t size) {
+    takes += is_ready;
+    bytes += is_ready ? size : 0;
+}
 
 static void *without_memory(void) {
     errno = ENOMEM;
@@ -46,69 +98,85 @@ static void *without_memory(void) {
 }
 
 void *malloc(size_t size) {
-    static void *(*real)(size_t);
-    if (!real)
-        real = next("malloc");
-    asked += size;
-    return fails("malloc") ? without_memory() : real(size);
+    if (!real_malloc)
+        find_calls();
+    count_memory(size);
+    return fails("malloc") ? without_memory() : real_malloc(size);
 }
 
 void *realloc(void *old, size_t size) {
-    static void *(*real)(void *, size_t);
-    if (!real)
-        real = next("realloc");
-    asked += size;
-    return fails("malloc") ? without_memory() : real(old, size);
+    if (!real_realloc)
+        find_calls();
+    count_memory(size);
+    return fails("malloc") ? without_memory() : real_realloc(old, size);
 }
 
 static size_t at_most(int file, size_t size) {
-    return is_table[file & 1023] || size < most ? size : most;
+    return is_table[file & (FILES - 1)] || size < most ? size : most;
+}
+
+/* A read that fails as it is told to, or that of the C library. */
+static ssize_t read_or_fail(int file, void *to, size_t size) {
+    if (!real_read)
+        find_calls();
+    if (fails(is_table[file & (FILES - 1)] ? "read-table" : "read")) {
+        if (as < 0)
+            return real_read(file, to, size ? 1 : 0);
+        errno = as;
+        return as ? -1 : 0;
+    }
+    return real_read(file, to, at_most(file, size));
 }
 
 ssize_t read(int file, void *to, size_t size) {
-    static ssize_t (*real)(int, void *, size_t);
-    if (!real)
-        real = next("read");
-    if (fails(is_table[file & 1023] ? "read-table" : "read")) {
-        if (as < 0)
-            return real(file, to, size ? 1 : 0);
-        errno = as;
-        return as ? -1 : 0;
+    char *ended = &has_ended[file & (FILES - 1)];
+    if (!start_stack && bottom && !is_table[file & (FILES - 1)]) {
+        start_stack = used_stack();
+        mark_stack();
     }
-    return real(file, to, at_most(file, size));
+    reads++;
+    late += *ended;
+    ssize_t passed = read_or_fail(file, to, size);
+    if (passed == 0) {
+        *ended = 1;
+        ends++;
+    }
+    return passed;
 }
 
 ssize_t write(int file, const void *from, size_t size) {
-    static ssize_t (*real)(int, const void *, size_t);
-    if (!real)
-        real = next("write");
+    if (!real_write)
+        find_calls();
     if (file != 1)
-        return real(file, from, size);
+        return real_write(file, from, size);
+    writes++;
     if (fails("write")) {
         if (as < 0)
-            return real(file, from, size ? 1 : 0);
+            return real_write(file, from, size ? 1 : 0);
         errno = as;
         return as ? -1 : 0;
     }
-    return real(file, from, at_most(file, size));
+    return real_write(file, from, at_most(file, size));
 }
 
 int open(const char *path, int flags, ...) {
-    static int (*real)(const char *, int, ...);
     va_list rest;
     va_start(rest, flags);
     int mode = va_arg(rest, int);
     va_end(rest);
-    if (!real)
-        real = next("open");
+    if (!real_open)
+        find_calls();
+    opens++;
     if (fails("open")) {
         errno = as;
         return -1;
     }
-    int file = real(path, flags, mode);
+    int file = real_open(path, flags, mode);
     size_t len = strlen(path);
-    if (file >= 0)
-        is_table[file & 1023] = len > 4 && !strcmp(path + len - 4, ".txt");
+    if (file >= 0) {
+        is_table[file & (FILES - 1)] = len > 4 && !strcmp(path + len - 4, ".txt");
+        has_ended[file & (FILES - 1)] = 0;
+    }
     return file;
 }
 
@@ -117,9 +185,11 @@ __attribute__((destructor)) static void end(void) {
     is_ready = 0;
     if (!path)
         return;
+    size_t stack = used_stack();
     FILE *file = fopen(path, "w");
     if (file) {
-        fprintf(file, "%ld %zu\n", calls, asked);
+        fprintf(file, "calls %ld\ntakes %ld\nbytes %zu\nopens %ld\nreads %ld\nends %ld\nlate %ld\nwrites %ld\nstart %zu\nstack %zu\n",
+                calls, takes, bytes, opens, reads, ends, late, writes, start_stack, stack);
         fclose(file);
     }
 }
