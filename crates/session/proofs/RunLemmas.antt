@@ -4,14 +4,14 @@ use Rattle.std.specs.Result.{IfOk, IfErr, result_eq}
 use Rattle.std.proofs.lemmas.Bool.{cond-true, cond-false, both_ways}
 use Rattle.std.proofs.lemmas.List.{take_more}
 use Rattle.bidi.specs.Cuts.{paragraphs}
-use Rattle.lines.specs.Engine.{SameRules, LaysOutAtMost, FillsAtMost, RisesBy, analysed_of, filled_of, written_of, rules_of}
-use Rattle.lines.specs.Layouts.{cut_by}
+use Rattle.lines.specs.Engine.{SameRules, LaysOutAtMost, FillsAtMost, FindsExtentsAtMost, RisesBy, analysed_of, counted, filled_of, written_of, rules_of}
+use Rattle.lines.specs.Layouts.{Rules, cut_by}
 use Rattle.lines.specs.declared.engine.Engine.{Engine}
 use Rattle.session.specs.Runs.{StopsAt, TakesMemory, WorksAtMost, analysed_by, edit_refusal, filled_by, work_of, work_of_all}
 use Rattle.session.specs.Touched.{fresh}
 use Rattle.session.proofs.EditLemmas.{pars-layouts}
 use Rattle.session.specs.Edits.{Replacement, Held, replaced, refusal, width_refusal, after_edit, after_width, after_one, after_all}
-use Rattle.session.specs.Kept.{pars_of, text_of}
+use Rattle.session.specs.Kept.{changed, layouts_of, pars_of, text_of}
 use Rattle.session.specs.Sessions.{SessionState, IsWholeLayout, IsAnswerFor, IsCountedFor, Edits, EditsNot, SetsWidth, SetsWidthNot, Stays, cuts_at, held_at, text_at}
 use Rattle.session.specs.declared.edits.Damage.{Damage}
 use Rattle.session.specs.declared.edits.Edit.{Edit}
@@ -147,36 +147,55 @@ edit_works edit old new (Err fault) whole m r =
     (subst (λ ps. IsCountedFor fault (LaysOutAtMost (fresh ps edit)) old.engine new.engine) (pars-kept old whole) r.counts)
     (λ e counts. works-laid_out reason n old.engine new.engine e counts)
 
-pub width_works : (width : ℕ) (old new : SessionState) (result : Result Damage EditFault) → IfOk result (SetsWidth width old new) → IfErr result (SetsWidthNot width old new)
-    → Works (width_refusal width) 0 (length (text_at old)) old.engine new.engine
-width_works width old new (Ok damage) m r = works-filled (width_refusal width) (length (text_at old)) old.engine new.engine m.accepted m.counts
-width_works width old new (Err fault) m r =
-    let n = length (text_at old) in
-    works-counted (width_refusal width) 0 n (FillsAtMost n) old.engine new.engine fault r.answer r.counts
-    (λ e counts. works-filled (width_refusal width) n old.engine new.engine e counts)
+-- what rises by exactly so much rises by at most that
+RisesBy-exact : (n most old new : ℕ) → new ≡ counted old n → RisesBy most old new → RisesBy n old new
+RisesBy-exact n most old new exact r = record { least = r.least; most = omega (arith, exact) }
+
+width_counted : (width : ℕ) (old new : SessionState) (result : Result Damage EditFault) → IfOk result (SetsWidth width old new) → IfErr result (SetsWidthNot width old new)
+    → Works (width_refusal width) 0 (changed width old.kept) old.engine new.engine
+width_counted width old new (Ok damage) m r =
+    let n = changed width old.kept in
+    works-filled (width_refusal width) n old.engine new.engine m.accepted (record {
+      analysed = m.exact.analysed;
+      filled = RisesBy-exact n _ (filled_of old.engine) (filled_of new.engine) m.exact.filled m.counts.filled;
+      written = RisesBy-exact n _ (written_of old.engine) (written_of new.engine) m.exact.written m.counts.written;
+    })
+width_counted width old new (Err fault) m r =
+    let n = changed width old.kept in
+    works-counted (width_refusal width) 0 n (FindsExtentsAtMost n) old.engine new.engine fault r.answer r.counts
+    (λ e counts. works-filled (width_refusal width) n old.engine new.engine e (record {
+      analysed = counts.analysed;
+      filled = counts.filled;
+      written = RisesBy-same n (written_of old.engine) (written_of new.engine) counts.written;
+    }))
+
+pub width_works : (width : ℕ) (old new : SessionState) (result : Result Damage EditFault) → IsWholeLayout old → IfOk result (SetsWidth width old new) → IfErr result (SetsWidthNot width old new)
+    → Works (width_refusal width) 0 (changed width (layouts_of (rules_of old.engine) old.width (text_at old))) old.engine new.engine
+width_works width old new result whole m r =
+    subst (λ kept. Works (width_refusal width) 0 (changed width kept) old.engine new.engine) whole.kept (width_counted width old new result m r)
 
 -- where the edits have come from the start, after n of them
 pub record HasRun (start : SessionState) (edits : List Edit) (n : ℕ) (now : SessionState) : Type 0 where
   pub held : held_at now ≡ after_all (cuts_at start) (held_at start) (take n edits)
   pub laid_out : IsWholeLayout now
   pub rules : SameRules start.engine now.engine
-  pub works : WorksAtMost (cuts_at start) (held_at start) (take n edits) start.engine now.engine
+  pub works : WorksAtMost (rules_of start.engine) (held_at start) (take n edits) start.engine now.engine
 
 after_all-push : (is_cut : ℕ → ℕ → Bool) (held : Held) (edits : List Edit) (edit : Edit) → after_all is_cut held (edits ++ edit ∷ []) ≡ after_one is_cut (after_all is_cut held edits) edit
 after_all-push is_cut held [] edit = refl
 after_all-push is_cut held (first ∷ edits) edit = after_all-push is_cut (after_one is_cut held first) edits edit
 
 -- what an edit does is the same where cuts and text are told by the start
-work_of-push : (is_cut : ℕ → ℕ → Bool) (work : Held → Edit → ℕ) (held : Held) (edits : List Edit) (edit : Edit)
-    → work_of_all is_cut work held (edits ++ edit ∷ []) ≡ work_of_all is_cut work held edits + work_of is_cut work (after_all is_cut held edits) edit
-work_of-push is_cut work held [] edit = omega arith
-work_of-push is_cut work held (first ∷ edits) edit = omega (arith, work_of-push is_cut work (after_one is_cut held first) edits edit)
+work_of-push : (rules : Rules) (work : Held → Edit → ℕ) (held : Held) (edits : List Edit) (edit : Edit)
+    → work_of_all rules work held (edits ++ edit ∷ []) ≡ work_of_all rules work held edits + work_of rules work (after_all (cut_by rules) held edits) edit
+work_of-push rules work held [] edit = omega arith
+work_of-push rules work held (first ∷ edits) edit = omega (arith, work_of-push rules work (after_one (cut_by rules) held first) edits edit)
 
-work_of-take : (is_cut : ℕ → ℕ → Bool) (work : Held → Edit → ℕ) (held : Held) (edits : List Edit) (n : ℕ) → work_of_all is_cut work held (take n edits) ≤ work_of_all is_cut work held edits
-work_of-take is_cut work held [] zero = omega arith
-work_of-take is_cut work held [] (suc n) = omega arith
-work_of-take is_cut work held (first ∷ edits) zero = omega arith
-work_of-take is_cut work held (first ∷ edits) (suc n) = omega (arith, work_of-take is_cut work (after_one is_cut held first) edits n)
+work_of-take : (rules : Rules) (work : Held → Edit → ℕ) (held : Held) (edits : List Edit) (n : ℕ) → work_of_all rules work held (take n edits) ≤ work_of_all rules work held edits
+work_of-take rules work held [] zero = omega arith
+work_of-take rules work held [] (suc n) = omega arith
+work_of-take rules work held (first ∷ edits) zero = omega arith
+work_of-take rules work held (first ∷ edits) (suc n) = omega (arith, work_of-take rules work (after_one (cut_by rules) held first) edits n)
 
 RisesBy-more : (n m k a b c : ℕ) → RisesBy n a b → RisesBy m b c → k ≡ n + m → RisesBy k a c
 RisesBy-more n m k a b c r s e = record { least = omega (arith, r.least, s.least); most = omega (arith, r.most, s.most, e) }
@@ -185,25 +204,25 @@ RisesBy-within : (n m a b : ℕ) → n ≤ m → RisesBy n a b → RisesBy m a b
 RisesBy-within n m a b le r = record { least = r.least; most = omega (arith, r.most, le) }
 
 pub whole_works : (start : SessionState) (edits : List Edit) (n : ℕ) (old new : Engine)
-    → WorksAtMost (cuts_at start) (held_at start) (take n edits) old new
-    → WorksAtMost (cuts_at start) (held_at start) edits old new
+    → WorksAtMost (rules_of start.engine) (held_at start) (take n edits) old new
+    → WorksAtMost (rules_of start.engine) (held_at start) edits old new
 whole_works start edits n old new w = record {
-  analysed = RisesBy-within _ _ _ _ (work_of-take (cuts_at start) (analysed_by (cuts_at start)) (held_at start) edits n) w.analysed;
-  filled = RisesBy-within _ _ _ _ (work_of-take (cuts_at start) (filled_by (cuts_at start)) (held_at start) edits n) w.filled;
-  written = RisesBy-within _ _ _ _ (work_of-take (cuts_at start) (filled_by (cuts_at start)) (held_at start) edits n) w.written;
+  analysed = RisesBy-within _ _ _ _ (work_of-take (rules_of start.engine) (analysed_by (rules_of start.engine)) (held_at start) edits n) w.analysed;
+  filled = RisesBy-within _ _ _ _ (work_of-take (rules_of start.engine) (filled_by (rules_of start.engine)) (held_at start) edits n) w.filled;
+  written = RisesBy-within _ _ _ _ (work_of-take (rules_of start.engine) (filled_by (rules_of start.engine)) (held_at start) edits n) w.written;
 }
 
 pub next_works : (start old new : SessionState) (edits : List Edit) (n : ℕ) (d edit : Edit) → n < length edits → get_or edits n d ≡ edit → HasRun start edits n old
-    → Works (edit_refusal (cuts_at old) (held_at old) edit) (analysed_by (cuts_at old) (held_at old) edit) (filled_by (cuts_at old) (held_at old) edit) old.engine new.engine
-    → WorksAtMost (cuts_at start) (held_at start) (take (n + 1) edits) start.engine new.engine
+    → Works (edit_refusal (rules_of old.engine) (held_at old) edit) (analysed_by (rules_of old.engine) (held_at old) edit) (filled_by (rules_of old.engine) (held_at old) edit) old.engine new.engine
+    → WorksAtMost (rules_of start.engine) (held_at start) (take (n + 1) edits) start.engine new.engine
 next_works start old new edits n d edit within read run works =
     let front = take n edits in
     let more : take (n + 1) edits ≡ front ++ edit ∷ [] = take_more edits n d within ∙ ap (λ e. front ++ e ∷ []) read in
-    let sum_is = λ (work : (ℕ → ℕ → Bool) → Held → Edit → ℕ).
-    ap (work_of_all (cuts_at start) (work (cuts_at start)) (held_at start)) more
-    ∙ work_of-push (cuts_at start) (work (cuts_at start)) (held_at start) front edit
-    ∙ ap (λ held. work_of_all (cuts_at start) (work (cuts_at start)) (held_at start) front + work_of (cuts_at start) (work (cuts_at start)) held edit) (sym run.held)
-    ∙ ap (λ r. work_of_all (cuts_at start) (work (cuts_at start)) (held_at start) front + work_of (cut_by r) (work (cut_by r)) (held_at old) edit) (sym run.rules) in
+    let sum_is = λ (work : Rules → Held → Edit → ℕ).
+    ap (work_of_all (rules_of start.engine) (work (rules_of start.engine)) (held_at start)) more
+    ∙ work_of-push (rules_of start.engine) (work (rules_of start.engine)) (held_at start) front edit
+    ∙ ap (λ held. work_of_all (rules_of start.engine) (work (rules_of start.engine)) (held_at start) front + work_of (rules_of start.engine) (work (rules_of start.engine)) held edit) (sym run.held)
+    ∙ ap (λ r. work_of_all (rules_of start.engine) (work (rules_of start.engine)) (held_at start) front + work_of r (work r) (held_at old) edit) (sym run.rules) in
     record {
       analysed = RisesBy-more _ _ _ _ _ _ run.works.analysed works.analysed (sum_is analysed_by);
       filled = RisesBy-more _ _ _ _ _ _ run.works.filled works.filled (sum_is filled_by);
@@ -212,10 +231,10 @@ next_works start old new edits n d edit within read run works =
 
 -- the edit at which a run ended
 pub HasRun-stops : (start old new : SessionState) (edits : List Edit) (n : ℕ) (d edit : Edit) → n < length edits → get_or edits n d ≡ edit → HasRun start edits n old
-    → TakesMemory (cuts_at old) (held_at old) edit
-    → HasStayed (edit_refusal (cuts_at old) (held_at old) edit) old new
-    → Works (edit_refusal (cuts_at old) (held_at old) edit) (analysed_by (cuts_at old) (held_at old) edit) (filled_by (cuts_at old) (held_at old) edit) old.engine new.engine
-    → StopsAt (cuts_at start) (held_at start) edits (held_at new) start.engine new.engine
+    → TakesMemory (rules_of old.engine) (held_at old) edit
+    → HasStayed (edit_refusal (rules_of old.engine) (held_at old) edit) old new
+    → Works (edit_refusal (rules_of old.engine) (held_at old) edit) (analysed_by (rules_of old.engine) (held_at old) edit) (filled_by (rules_of old.engine) (held_at old) edit) old.engine new.engine
+    → StopsAt (rules_of start.engine) (held_at start) edits (held_at new) start.engine new.engine
 HasRun-stops start old new edits n d edit within read run takes stayed works =
     let front = take n edits in
     let more : take (n + 1) edits ≡ front ++ edit ∷ [] = take_more edits n d within ∙ ap (λ e. front ++ e ∷ []) read in
@@ -225,14 +244,14 @@ HasRun-stops start old new edits n d edit within read run takes stayed works =
       after = drop (n + 1) edits;
       place = sym (take-append-drop (n + 1) edits) ∙ ap (λ xs. xs ++ drop (n + 1) edits) more ∙ append_assoc front (edit ∷ []) (drop (n + 1) edits);
       held = stayed.moved.held ∙ run.held;
-      accepted = ap (λ held. edit_refusal (cuts_at start) held edit) stayed.moved.held ∙ ap (λ r. edit_refusal (cut_by r) (held_at old) edit) (sym run.rules) ∙ stayed.accepted;
-      takes = subst (λ held. TakesMemory (cuts_at start) held edit) (sym stayed.moved.held) takes;
-      works = subst (λ done. WorksAtMost (cuts_at start) (held_at start) done start.engine new.engine) more (next_works start old new edits n d edit within read run works);
+      accepted = ap (λ held. edit_refusal (rules_of start.engine) held edit) stayed.moved.held ∙ ap (λ r. edit_refusal r (held_at old) edit) (sym run.rules) ∙ stayed.accepted;
+      takes = subst (λ held. TakesMemory (rules_of start.engine) held edit) (sym stayed.moved.held) takes;
+      works = subst (λ done. WorksAtMost (rules_of start.engine) (held_at start) done start.engine new.engine) more (next_works start old new edits n d edit within read run works);
     }
 
 pub HasRun-next : (start old new : SessionState) (edits : List Edit) (n : ℕ) (d edit : Edit) → n < length edits → get_or edits n d ≡ edit → HasRun start edits n old
     → HasMoved (after_one (cuts_at old) (held_at old) edit) old new
-    → Works (edit_refusal (cuts_at old) (held_at old) edit) (analysed_by (cuts_at old) (held_at old) edit) (filled_by (cuts_at old) (held_at old) edit) old.engine new.engine
+    → Works (edit_refusal (rules_of old.engine) (held_at old) edit) (analysed_by (rules_of old.engine) (held_at old) edit) (filled_by (rules_of old.engine) (held_at old) edit) old.engine new.engine
     → HasRun start edits (n + 1) new
 HasRun-next start old new edits n d edit within read run step works =
     let front = take n edits in

@@ -1,21 +1,21 @@
 -- The lines of all paragraphs at another width.
-use Rattle.std.proofs.Common.{◌≡◌, ℕ, zero, suc, ◌+◌, ◌<◌, ◌≤◌, ◌^◌, ◌==◌, Bool, true, List, [], ◌∷◌, ◌++◌, length, map, take, get_or, sum_by, nat_le, Option, Some, None, unwrap_or, IfSome, refl, sym, ap, ap₂, subst, ◌∙◌, arith}
+use Rattle.std.proofs.Common.{◌≡◌, ℕ, zero, suc, ◌+◌, ◌<◌, ◌≤◌, ◌^◌, ◌==◌, Bool, true, false, if◌then◌else◌, List, [], ◌∷◌, ◌++◌, length, map, take, get_or, sum_by, nat_le, Option, Some, None, unwrap_or, IfSome, refl, sym, ap, ap₂, subst, ◌∙◌, arith}
 use Rattle.std.specs.Borrow.{Bor}
 use Rattle.std.specs.List.{All, AllZip, slice_get, slice_index_or}
-use Rattle.std.proofs.lemmas.Bool.{and_parts, leb-true, cond-false, ne_eqb}
+use Rattle.std.proofs.lemmas.Bool.{and_parts, leb-true, cond-false, cond-true, ne_eqb}
 use Rattle.std.proofs.lemmas.List.{append-nil, get_or-map, length-map, take_all, take_more}
 use Rattle.std.proofs.lemmas.List.Sums.{sum_by_more, sum_by-cons, sum_by-take-le}
 use Rattle.bidi.specs.Cuts.{paragraphs}
 use Rattle.bidi.specs.Pieces.{ArePieces, ParagraphsArePieces}
-use Rattle.lines.specs.Engine.{rules_of, analysed_of, filled_of, written_of, SameRules, FillsAtMost, FindsExtentsAtMost, RewritesAtMost}
+use Rattle.lines.specs.Engine.{rules_of, filled_of, counted, RisesBy, SameRules, Fills, FillsAtMost, FindsExtents, FindsExtentsAtMost, Rewrites, RewritesAtMost}
 use Rattle.lines.specs.Extents.{extents_of, reflowed, LineExtents}
-use Rattle.lines.specs.Layouts.{Layout, Rules, IsLaidOut, IsParagraph, cut_by, layout_of, lines_of}
+use Rattle.lines.specs.Layouts.{Layout, Rules, IsLaidOut, IsParagraph, cut_by, is_line_within, layout_of, lines_of}
 use Rattle.lines.specs.declared.engine.Engine.{Engine}
 use Rattle.store.specs.Exchanging.{pairwise, total_cost}
-use Rattle.session.specs.Sessions.{IsWholeLayout, SetsWidth, SetsWidthNot}
+use Rattle.session.specs.Sessions.{IsWholeLayout, SetsWidth}
 use Rattle.session.specs.Edits.{are_within, text_refusal, width_refusal}
-use Rattle.session.specs.Kept.{text_of, layouts_of, put_into, BringsTo, CanBePut, Writer}
-use Rattle.session.specs.declared.edits.EditFault.TheVariants.{WidthOutOfRange, NoMemory}
+use Rattle.session.specs.Kept.{changed, changed_in, text_of, layouts_of, put_into, written_for, BringsTo, CanBePut, Writer}
+use Rattle.session.specs.declared.edits.EditFault.TheVariants.{WidthOutOfRange}
 use Rattle.session.proofs.EdgeLemmas.{chars_of, lines_of as line_number, length-text, length-lines}
 use Rattle.session.proofs.EditLemmas.{LinesAreFew, few-laid, text-layouts, IsWholeLayout-same}
 use Rattle.session.proofs.JoinedLemmas.{first_piece}
@@ -115,55 +115,84 @@ zip_push R [] (b ∷ ys) x y all more = absurd all
 zip_push R (a ∷ xs) [] x y all more = absurd all
 zip_push R (a ∷ xs) (b ∷ ys) x y all more = (all.0, zip_push R xs ys x y all.1 more)
 
+-- what changes at a width is at most the text
+none_or_all : (keeps : Bool) (n : ℕ) → (if keeps then 0 else n) ≤ n
+none_or_all true n = omega arith
+none_or_all false n = omega arith
+
+changed-within : (width : ℕ) (kept : List Layout) → changed width kept ≤ sum_by chars_of kept
+changed-within width [] = omega arith
+changed-within width (l ∷ kept) =
+    omega (arith, changed-within width kept, none_or_all (is_line_within width l.lines) (length l.text), sum_by-cons (changed_in width) l kept, sum_by-cons chars_of l kept)
+
+pub changed-le : (width : ℕ) (kept : List Layout) → changed width kept ≤ length (text_of kept)
+changed-le width kept = omega (arith, changed-within width kept, length-text kept)
+
+-- a count that rises twice
+counted_none : (count : ℕ) → count < 2 ^ 64 → count ≡ counted count 0
+counted_none count fits = omega (arith, fits)
+
+counted_twice : (count n m k once twice : ℕ) → once ≡ counted count n → twice ≡ counted once m → k ≡ n + m → twice ≡ counted count k
+counted_twice count n m k once twice first second sum = omega (arith, first, second, sum)
+
+rises_twice : (n m k a b c : ℕ) → RisesBy n a b → RisesBy m b c → n + m ≤ k → RisesBy k a c
+rises_twice n m k a b c r s e = record { least = omega (arith, r.least, s.least); most = omega (arith, r.most, s.most, e) }
+
 -- for each of the first so many paragraphs there are the extents of its lines, or none
 pub record AreFilled (start : Engine) (width : ℕ) (kept : List Layout) (n : ℕ) (fills : List (Option LineExtents)) (now : Engine) : Type 0 where
   pub made : AllZip (BringsTo (rules_of start) width) (take n kept) fills
   pub rules : SameRules start now
-  pub analysed : analysed_of now ≡ analysed_of start
-  pub least : filled_of start ≤ filled_of now
-  pub most : filled_of now ≤ filled_of start + sum_by chars_of (take n kept)
-  pub written : written_of now ≡ written_of start
+  pub exact : FindsExtents (changed width (take n kept)) start now
+  pub counts : FindsExtentsAtMost (changed width (take n kept)) start now
 
-pub none_filled : (start : Engine) (width : ℕ) (kept : List Layout) (fills : List (Option LineExtents)) → fills ≡ [] → AreFilled start width kept 0 fills start
-none_filled start width kept fills e = rw e (record { made = tt; rules = refl; analysed = refl; least = omega arith; most = omega arith; written = refl })
+pub none_filled : (start : Engine) (width : ℕ) (kept : List Layout) (fills : List (Option LineExtents)) → filled_of start < 2 ^ 64 → fills ≡ []
+    → AreFilled start width kept 0 fills start
+none_filled start width kept fills fits e = rw e (record {
+  made = tt;
+  rules = refl;
+  exact = record { analysed = refl; filled = counted_none (filled_of start) fits; written = refl };
+  counts = record { analysed = refl; filled = record { least = omega arith; most = omega arith }; written = refl };
+})
 
 module _ (start now : Engine) (width : ℕ) (kept : List Layout) (n : ℕ) (fills : List (Option LineExtents)) (so_far : AreFilled start width kept n fills now) where
-  pub FindsExtentsAtMost-so_far : FindsExtentsAtMost (length (text_of kept)) start now
-  FindsExtentsAtMost-so_far = record {
-    analysed = so_far.analysed;
-    filled = record { least = so_far.least; most = omega (arith, so_far.most, sum_by-take-le chars_of kept n, length-text kept) };
-    written = so_far.written;
-  }
-
   pub all_filled : length kept ≤ n → AllZip (BringsTo (rules_of start) width) kept fills
   all_filled last = subst (λ ks. AllZip (BringsTo (rules_of start) width) ks fills) (take_all n kept last) so_far.made
 
-  module _ (l : Layout) (here : n < length kept) (item : get_or kept n l ≡ l) (next : Engine) (same : SameRules now next) (counts : FindsExtentsAtMost (length l.text) now next) where
-    size : sum_by chars_of (take (n + 1) kept) ≡ sum_by chars_of (take n kept) + length l.text
-    size = sum_by_more chars_of kept n l here ∙ ap (λ x. sum_by chars_of (take n kept) + chars_of x) item
+  pub FindsExtents-all : length kept ≤ n → FindsExtents (changed width kept) start now
+  FindsExtents-all last = subst (λ ks. FindsExtents (changed width ks) start now) (take_all n kept last) so_far.exact
 
-    upto : length l.text + sum_by chars_of (take n kept) ≤ length (text_of kept)
-    upto = omega (arith, size, sum_by-take-le chars_of kept (n + 1), length-text kept)
+  pub FindsExtentsAtMost-all : length kept ≤ n → FindsExtentsAtMost (changed width kept) start now
+  FindsExtentsAtMost-all last = subst (λ ks. FindsExtentsAtMost (changed width ks) start now) (take_all n kept last) so_far.counts
 
-    -- where memory runs out after the next one
-    pub FindsExtentsAtMost-next : FindsExtentsAtMost (length (text_of kept)) start next
-    FindsExtentsAtMost-next = record {
-      analysed = counts.analysed ∙ so_far.analysed;
-      filled = record { least = omega (arith, so_far.least, counts.filled.least); most = omega (arith, so_far.most, counts.filled.most, upto) };
-      written = counts.written ∙ so_far.written;
+  module _ (l : Layout) (here : n < length kept) (item : get_or kept n l ≡ l) (next : Engine) (same : SameRules now next)
+      (counts : FindsExtentsAtMost (changed_in width l) now next) where
+    size : changed width (take (n + 1) kept) ≡ changed width (take n kept) + changed_in width l
+    size = sum_by_more (changed_in width) kept n l here ∙ ap (λ x. changed width (take n kept) + changed_in width x) item
+
+    upto : (most : ℕ) → changed width (take (n + 1) kept) ≤ most → FindsExtentsAtMost most start next
+    upto most within = record {
+      analysed = counts.analysed ∙ so_far.counts.analysed;
+      filled = rises_twice _ _ most _ _ _ so_far.counts.filled counts.filled (omega (arith, size, within));
+      written = counts.written ∙ so_far.counts.written;
     }
 
-    pub AreFilled-next : (part : Option LineExtents) (more : List (Option LineExtents))
+    -- where memory runs out after the next one
+    pub FindsExtentsAtMost-next : FindsExtentsAtMost (changed width kept) start next
+    FindsExtentsAtMost-next = upto (changed width kept) (sum_by-take-le (changed_in width) kept (n + 1))
+
+    pub AreFilled-next : (part : Option LineExtents) (more : List (Option LineExtents)) → FindsExtents (changed_in width l) now next
         → BringsTo (rules_of now) width l part → more ≡ fills ++ part ∷ []
         → AreFilled start width kept (n + 1) more next
-    AreFilled-next part more brings more-is = record {
+    AreFilled-next part more exact brings more-is = record {
       made = rw (more-is, take_more kept n l here, item)
           (zip_push (BringsTo (rules_of start) width) (take n kept) fills l part so_far.made (subst (λ r. BringsTo r width l part) so_far.rules brings));
       rules = same ∙ so_far.rules;
-      analysed = counts.analysed ∙ so_far.analysed;
-      least = omega (arith, so_far.least, counts.filled.least);
-      most = omega (arith, so_far.most, counts.filled.most, size);
-      written = counts.written ∙ so_far.written;
+      exact = record {
+        analysed = exact.analysed ∙ so_far.exact.analysed;
+        filled = counted_twice _ _ _ _ _ _ so_far.exact.filled exact.filled size;
+        written = exact.written ∙ so_far.exact.written;
+      };
+      counts = upto (changed width (take (n + 1) kept)) (omega arith);
     }
 
 -- what an exchange asks, and what it makes
@@ -177,7 +206,7 @@ each_all P (x ∷ xs) h = (h 0 x (omega arith), each_all P xs (λ k d within. h 
 one_fits : (rules : Rules) (width room : ℕ) (l : Layout) (part : Option LineExtents) → IsLaidOut rules l → HasRoom room l → BringsTo rules width l part
     → IfSome part (CanBePut (record { rules = rules; room = room }) l)
 one_fits rules width room l None laid has brings = tt
-one_fits rules width room l (Some extents) laid has brings = record { laid_out = laid; at_width = (width, brings); room = has }
+one_fits rules width room l (Some extents) laid has brings = record { laid_out = laid; at_width = (width, brings.1); room = has }
 
 each_fit : (rules : Rules) (width room : ℕ) (kept : List Layout) (parts : List (Option LineExtents)) → Each (IsLaidOut rules) kept → Each (HasRoom room) kept
     → AllZip (BringsTo rules width) kept parts → fits_any (record { rules = rules; room = room }) kept parts
@@ -193,27 +222,38 @@ all_fit rules same width room kept parts e laid has made =
     subst (λ (r : Rules). fits_any (record { rules = r; room = room }) kept parts) (sym e)
     (each_fit rules width room kept parts laid (each_all (HasRoom room) kept has) made)
 
--- what it costs to write all lines
-cost_of_each : (kept : List Layout) (parts : List (Option LineExtents)) → total_cost {P = Layout} {Part = Option LineExtents} (λ l part. length l.text) kept parts ≤ sum_by chars_of kept
-cost_of_each [] parts = omega arith
-cost_of_each (l ∷ kept) [] = omega arith
-cost_of_each (l ∷ kept) (part ∷ parts) =
+-- the lines that are written are those that change
+one_written : (rules : Rules) (width : ℕ) (l : Layout) (part : Option LineExtents) → BringsTo rules width l part → written_for l part ≡ changed_in width l
+one_written rules width l None brings = sym (cond-true (is_line_within width l.lines) 0 (length l.text) brings.0)
+one_written rules width l (Some extents) brings = sym (cond-false (is_line_within width l.lines) 0 (length l.text) brings.0)
+
+pub written_is_changed : (rules : Rules) (width : ℕ) (kept : List Layout) (parts : List (Option LineExtents)) → AllZip (BringsTo rules width) kept parts
+    → total_cost {P = Layout} {Part = Option LineExtents} written_for kept parts ≡ changed width kept
+written_is_changed rules width [] [] made = refl
+written_is_changed rules width [] (part ∷ parts) made = absurd made
+written_is_changed rules width (l ∷ kept) [] made = absurd made
+written_is_changed rules width (l ∷ kept) (part ∷ parts) made =
     omega (
       arith,
-      cost_of_each kept parts,
-      sum_by-cons chars_of l kept,
-      sum_by-cons (λ (n : ℕ). n) (length l.text) (pairwise {P = Layout} {Part = Option LineExtents} {A = ℕ} (λ m part. length m.text) kept parts),
+      one_written rules width l part made.0,
+      written_is_changed rules width kept parts made.1,
+      sum_by-cons (changed_in width) l kept,
+      sum_by-cons (λ (n : ℕ). n) (written_for l part) (pairwise {P = Layout} {Part = Option LineExtents} {A = ℕ} written_for kept parts),
     )
 
-pub cost_of_all : (kept : List Layout) (parts : List (Option LineExtents)) → total_cost {P = Layout} {Part = Option LineExtents} (λ l part. length l.text) kept parts ≤ length (text_of kept)
-cost_of_all kept parts = omega (arith, cost_of_each kept parts, length-text kept)
-
 -- the extents were found, and then the lines written
-pub FillsAtMost-written : (n m : ℕ) (old found new : Engine) → FindsExtentsAtMost n old found → m ≤ n → RewritesAtMost m found new → FillsAtMost n old new
-FillsAtMost-written n m old found new finds within writes = record {
+pub Fills-written : (n m : ℕ) (old found new : Engine) → FindsExtents n old found → m ≡ n → Rewrites m found new → Fills n old new
+Fills-written n m old found new finds same writes = record {
   analysed = writes.analysed ∙ finds.analysed;
-  filled = record { least = omega (arith, finds.filled.least, writes.filled); most = omega (arith, finds.filled.most, writes.filled) };
-  written = record { least = omega (arith, finds.written, writes.written.least); most = omega (arith, finds.written, writes.written.most, within) };
+  filled = writes.filled ∙ finds.filled;
+  written = writes.written ∙ ap₂ counted finds.written same;
+}
+
+pub FillsAtMost-written : (n m most : ℕ) (old found new : Engine) → FindsExtentsAtMost n old found → m ≡ n → n ≤ most → RewritesAtMost m found new → FillsAtMost most old new
+FillsAtMost-written n m most old found new finds same within writes = record {
+  analysed = writes.analysed ∙ finds.analysed;
+  filled = record { least = omega (arith, finds.filled.least, writes.filled); most = omega (arith, finds.filled.most, writes.filled, within) };
+  written = record { least = omega (arith, finds.written, writes.written.least); most = omega (arith, finds.written, writes.written.most, same, within) };
 }
 
 abbrev pub refilled_one : Rules → ℕ → Layout → Layout
@@ -224,9 +264,9 @@ refilled rules width kept = map (refilled_one rules width) kept
 
 one_brought : (rules : Rules) (width room : ℕ) (l : Layout) (part : Option LineExtents) → IsLaidOut rules l → BringsTo rules width l part
     → put_into (record { rules = rules; room = room }) l part ≡ refilled_one rules width l
-one_brought rules width room l None laid brings = ap (λ ls. record l { lines = ls }) brings
+one_brought rules width room l None laid brings = ap (λ ls. record l { lines = ls }) brings.1
 one_brought rules width room l (Some extents) laid brings =
-    ap (reflowed rules l) brings
+    ap (reflowed rules l) brings.1
     ∙ subst (λ (m : Layout). reflowed rules m (extents_of rules width m.text) ≡ refilled_one rules width m) (sym laid.from_scratch) refl
 
 each_brought : (rules : Rules) (width room : ℕ) (kept : List Layout) (parts : List (Option LineExtents)) → Each (IsLaidOut rules) kept → AllZip (BringsTo rules width) kept parts
@@ -272,17 +312,8 @@ module _ (law : ParagraphsArePieces) (few : LinesAreFew) (engine : Engine) (old 
       ap length after_is ∙ length-map (paragraphs (cut_by (rules_of engine)) (text_of kept)) (layout_of (rules_of engine) width)
       ∙ sym (ap length whole.kept ∙ length-map (paragraphs (cut_by (rules_of engine)) (text_of kept)) (layout_of (rules_of engine) old))
 
-  module _ (new_engine : Engine) (same : SameRules engine new_engine) (counts : FillsAtMost (length (text_of kept)) engine new_engine) where
-    pub SetsWidthNot-no_memory : SetsWidthNot width (record { engine = engine; width = old; kept = kept }) (record { engine = new_engine; width = old; kept = kept }) NoMemory
-    SetsWidthNot-no_memory = record {
-      answer = accepted;
-      kept = refl;
-      at_width = refl;
-      laid_out = IsWholeLayout-same engine new_engine old kept same whole;
-      rules = same;
-      counts = counts;
-    }
-
+  module _ (new_engine : Engine) (same : SameRules engine new_engine) (counts : FillsAtMost (length (text_of kept)) engine new_engine)
+      (exact : Fills (changed width kept) engine new_engine) where
     pub SetsWidth-after : (made : List Layout) (count lines lines_2 : ℕ) → made ≡ after → count ≡ length kept → lines ≡ sum_by line_number kept → lines_2 ≡ sum_by line_number made
         → SetsWidth width (record { engine = engine; width = old; kept = kept }) (record { engine = new_engine; width = width; kept = made })
         (record { first_line = 0; old_lines = lines; new_lines = lines_2; first_par = 0; old_pars = count; new_pars = count })
@@ -307,4 +338,5 @@ module _ (law : ParagraphsArePieces) (few : LinesAreFew) (engine : Engine) (old 
             new_pars = count-is ∙ sym (ap length made-is ∙ number-after);
           };
           counts = counts;
+          exact = exact;
         }

@@ -1,6 +1,9 @@
--- The definitions of touched paragraphs and of lists of edits, worked on rows.
+-- The definitions of touched paragraphs, of what a width changes, and of lists of edits, worked on rows.
 use Rattle.std.proofs.Common.{◌≡◌, ℕ, ◌==◌, Bool, List, [], ◌∷◌, refl}
+use Rattle.lines.specs.Layouts.{Layout}
+use Rattle.lines.specs.Visual.{Line}
 use Rattle.session.specs.Edits.{after_all, deletion, insertion}
+use Rattle.session.specs.Kept.{changed}
 use Rattle.session.specs.Touched.{first_touched, touched_count, fresh}
 use Rattle.session.specs.declared.edits.TheConstants.{TEXT_LIMIT}
 use Rattle.session.specs.declared.edits.Edit.{Edit}
@@ -23,6 +26,22 @@ over-three = (refl, refl, refl)
 -- in an empty text nothing is touched
 in-nothing : (first_touched [] (insertion 0 (120 ∷ [])) ≡ 0) × (touched_count [] (insertion 0 (120 ∷ [])) ≡ 0) × (fresh [] (insertion 0 (120 ∷ [])) ≡ 1)
 in-nothing = (refl, refl, refl)
+
+-- the same three, the second in two lines: a width of 2 columns leaves the others as they are, and one of 1 none
+abbrev line_of : ℕ → ℕ → Line
+line_of start columns = record { start = start; columns = columns; levels = []; ltov = []; vtol = []; chars = [] }
+
+abbrev laid : List ℕ → List Line → Layout
+laid text lines = record { text = text; base = 0; levels = []; marks = []; lines = lines }
+
+abbrev three_laid : List Layout
+three_laid =
+    laid (97 ∷ 98 ∷ 10 ∷ []) (line_of 0 2 ∷ [])
+    ∷ laid (99 ∷ 100 ∷ 10 ∷ []) (line_of 0 1 ∷ line_of 1 1 ∷ [])
+    ∷ laid (101 ∷ 102 ∷ []) (line_of 0 2 ∷ []) ∷ []
+
+changed-of-three : (changed 2 three_laid ≡ 3) × (changed 1 three_laid ≡ 8) × (changed 2 [] ≡ 0)
+changed-of-three = (refl, refl, refl)
 
 -- edits that are refused change nothing
 abbrev after_newline : ℕ → ℕ → Bool

@@ -1,9 +1,9 @@
 -- What is kept of a text: the layouts of its paragraphs, made anew from the text alone.
-use Rattle.std.specs.Prelude.{◌≡◌, ℕ, ◌-◌, ◌<◌, ◌≤◌, Bool, true, List, length, map, slice_index, Option, Some, None, refl}
+use Rattle.std.specs.Prelude.{◌≡◌, ℕ, ◌-◌, ◌<◌, ◌≤◌, Bool, true, false, List, length, map, sum_by, slice_index, Option, Some, None, if◌then◌else◌, refl}
 use Rattle.std.specs.List.{concat, flat_map}
 use Rattle.bidi.specs.Cuts.{paragraphs}
 use Rattle.lines.specs.Extents.{extents_in, extents_of, reflowed, LineExtents}
-use Rattle.lines.specs.Layouts.{Layout, Rules, IsLaidOut, cut_by, layout_of, lines_of, visuals}
+use Rattle.lines.specs.Layouts.{Layout, Rules, IsLaidOut, cut_by, is_line_within, layout_of, lines_of, visuals}
 use Rattle.lines.specs.Visual.{Visual}
 
 -- there is a cut between two texts, unless one of them is empty
@@ -24,6 +24,14 @@ lines_in kept = flat_map visuals kept
 abbrev pub layouts_of : Rules → ℕ → List ℕ → List Layout
 layouts_of rules width text = map (layout_of rules width) (paragraphs (cut_by rules) text)
 
+-- how many characters a change to a width fills anew: all of a paragraph, but none where it has one line, which fits
+abbrev pub changed_in : ℕ → Layout → ℕ
+changed_in width kept = if is_line_within width kept.lines then 0 else length kept.text
+
+-- and of all paragraphs
+abbrev pub changed : ℕ → List Layout → ℕ
+changed width kept = sum_by (changed_in width) kept
+
 -- what the lines of paragraphs are written by: the rules, and room for so many characters
 pub record Writer : Type 0 where
   pub rules : Rules
@@ -43,6 +51,11 @@ abbrev pub taken_from : Layout → Option LineExtents → Option LineExtents
 taken_from kept None = None
 taken_from kept (Some extents) = Some (extents_in kept.lines)
 
+-- of how many characters the lines are written then
+abbrev pub written_for : Layout → Option LineExtents → ℕ
+written_for kept None = 0
+written_for kept (Some extents) = length kept.text
+
 pub chars_stay : (writer : Writer) (kept : Layout) (part : Option LineExtents) → length (put_into writer kept part).text ≡ length kept.text
 chars_stay writer kept None = refl
 chars_stay writer kept (Some extents) = refl
@@ -53,7 +66,7 @@ pub record CanBePut (writer : Writer) (kept : Layout) (extents : LineExtents) : 
   pub at_width : (width : ℕ) × (extents ≡ extents_of writer.rules width kept.text)
   pub room : length kept.text ≤ writer.room
 
--- with them a layout has the lines of its text at a width
+-- with them a layout has the lines of its text at a width, and there are none where its line fits that width
 abbrev pub BringsTo : Rules → ℕ → Layout → Option LineExtents → Type 0
-BringsTo rules width kept None = kept.lines ≡ lines_of rules width kept.text
-BringsTo rules width kept (Some extents) = extents ≡ extents_of rules width kept.text
+BringsTo rules width kept None = (is_line_within width kept.lines ≡ true) × (kept.lines ≡ lines_of rules width kept.text)
+BringsTo rules width kept (Some extents) = (is_line_within width kept.lines ≡ false) × (extents ≡ extents_of rules width kept.text)

@@ -1,32 +1,34 @@
 -- Where a list of edits ends for want of memory, and how much it works.
-use Rattle.std.specs.Prelude.{◌≡◌, ℕ, ◌+◌, ◌<◌, Bool, List, [], ◌∷◌, ◌++◌, length, Option, None, is_none, if◌then◌else◌}
+use Rattle.std.specs.Prelude.{◌≡◌, ℕ, ◌+◌, ◌<◌, List, [], ◌∷◌, ◌++◌, length, Option, None, is_none, if◌then◌else◌}
 use Rattle.std.specs.Str.{chars}
 use Rattle.bidi.specs.Cuts.{paragraphs}
 use Rattle.lines.specs.Engine.{analysed_of, filled_of, written_of, RisesBy}
+use Rattle.lines.specs.Layouts.{Rules, cut_by}
 use Rattle.lines.specs.declared.engine.Engine.{Engine}
 use Rattle.session.specs.Edits.{Held, after_all, after_one, deletion, insertion, refusal, width_refusal}
+use Rattle.session.specs.Kept.{changed, layouts_of}
 use Rattle.session.specs.Touched.{fresh}
 use Rattle.session.specs.declared.edits.Edit.{Edit}
 use Rattle.session.specs.declared.edits.Edit.TheVariants.{Insert, Delete, SetWidth}
 use Rattle.session.specs.declared.edits.EditFault.{EditFault}
 
-module _ (is_cut : ℕ → ℕ → Bool) where
+module _ (rules : Rules) where
   -- why an edit is refused
   abbrev pub edit_refusal : Held → Edit → Option EditFault
-  edit_refusal held (Insert pos text) = refusal is_cut held.text (insertion pos (chars text.now))
-  edit_refusal held (Delete pos count) = refusal is_cut held.text (deletion pos count)
+  edit_refusal held (Insert pos text) = refusal (cut_by rules) held.text (insertion pos (chars text.now))
+  edit_refusal held (Delete pos count) = refusal (cut_by rules) held.text (deletion pos count)
   edit_refusal held (SetWidth width) = width_refusal width
 
   -- how many characters an edit that isn't refused analyses at most, and how many it fills into lines and writes
   abbrev pub analysed_by : Held → Edit → ℕ
-  analysed_by held (Insert pos text) = fresh (paragraphs is_cut held.text) (insertion pos (chars text.now))
-  analysed_by held (Delete pos count) = fresh (paragraphs is_cut held.text) (deletion pos count)
+  analysed_by held (Insert pos text) = fresh (paragraphs (cut_by rules) held.text) (insertion pos (chars text.now))
+  analysed_by held (Delete pos count) = fresh (paragraphs (cut_by rules) held.text) (deletion pos count)
   analysed_by held (SetWidth width) = 0
 
   abbrev pub filled_by : Held → Edit → ℕ
-  filled_by held (Insert pos text) = fresh (paragraphs is_cut held.text) (insertion pos (chars text.now))
-  filled_by held (Delete pos count) = fresh (paragraphs is_cut held.text) (deletion pos count)
-  filled_by held (SetWidth width) = length held.text
+  filled_by held (Insert pos text) = fresh (paragraphs (cut_by rules) held.text) (insertion pos (chars text.now))
+  filled_by held (Delete pos count) = fresh (paragraphs (cut_by rules) held.text) (deletion pos count)
+  filled_by held (SetWidth width) = changed width (layouts_of rules held.width held.text)
 
   -- one that is refused does no work
   abbrev pub work_of : (Held → Edit → ℕ) → Held → Edit → ℕ
@@ -35,7 +37,7 @@ module _ (is_cut : ℕ → ℕ → Bool) where
   -- and all of a list, one after another
   abbrev pub work_of_all : (Held → Edit → ℕ) → Held → List Edit → ℕ
   work_of_all work held [] = 0
-  work_of_all work held (edit ∷ edits) = work_of work held edit + work_of_all work (after_one is_cut held edit) edits
+  work_of_all work held (edit ∷ edits) = work_of work held edit + work_of_all work (after_one (cut_by rules) held edit) edits
 
   pub record WorksAtMost (start : Held) (edits : List Edit) (old new : Engine) : Type 0 where
     pub analysed : RisesBy (work_of_all analysed_by start edits) (analysed_of old) (analysed_of new)
@@ -54,7 +56,7 @@ module _ (is_cut : ℕ → ℕ → Bool) where
     pub edit : Edit
     pub after : List Edit
     pub place : edits ≡ front ++ edit ∷ after
-    pub held : now ≡ after_all is_cut start front
+    pub held : now ≡ after_all (cut_by rules) start front
     pub accepted : edit_refusal now edit ≡ None
     pub takes : TakesMemory now edit
     pub works : WorksAtMost start (front ++ edit ∷ []) old new

@@ -1,14 +1,14 @@
 -- What a session shows, and what its calls do.
 use Rattle.std.specs.Prelude.{◌≡◌, ℕ, ◌<◌, ◌==◌, Bool, List, length, Option, Some, None, if◌then◌else◌}
 use Rattle.bidi.specs.Cuts.{paragraphs}
-use Rattle.lines.specs.Engine.{rules_of, SameRules, LaysOutAtMost, FillsAtMost}
+use Rattle.lines.specs.Engine.{rules_of, SameRules, LaysOutAtMost, Fills, FillsAtMost, FindsExtentsAtMost}
 use Rattle.lines.specs.Layouts.{Layout, cut_by}
 use Rattle.lines.specs.Pages.{page}
 use Rattle.lines.specs.declared.engine.Engine.{Engine}
 use Rattle.lines.specs.declared.print.Print.{Print}
 use Rattle.session.specs.Edits.{Replacement, Held, replaced, refusal, text_refusal, width_refusal}
 use Rattle.session.specs.Damage.{IsDamage, NamesAll}
-use Rattle.session.specs.Kept.{pars_of, text_of, layouts_of}
+use Rattle.session.specs.Kept.{changed, pars_of, text_of, layouts_of}
 use Rattle.session.specs.Touched.{fresh}
 use Rattle.session.specs.declared.edits.Damage.{Damage}
 use Rattle.session.specs.declared.edits.EditFault.{EditFault}
@@ -79,7 +79,7 @@ pub record Edits (edit : Replacement) (old new : SessionState) (answer : Damage)
   pub damage : IsDamage edit old.kept new.kept answer
   pub counts : LaysOutAtMost (fresh (pars_of old.kept) edit) old.engine new.engine
 
--- the lines were filled anew
+-- the lines were filled anew that don't fit as they are
 pub record SetsWidth (width : ℕ) (old new : SessionState) (answer : Damage) : Type 0 where
   pub accepted : width_refusal width ≡ None
   pub text : text_at new ≡ text_at old
@@ -88,6 +88,7 @@ pub record SetsWidth (width : ℕ) (old new : SessionState) (answer : Damage) : 
   pub rules : SameRules old.engine new.engine
   pub damage : NamesAll old.kept new.kept answer
   pub counts : FillsAtMost (length (text_at old)) old.engine new.engine
+  pub exact : Fills (changed width old.kept) old.engine new.engine
 
 -- an edit was refused, and all is as before
 pub record Stays (reason : Option EditFault) (bound : Engine → Engine → Type 0) (old new : SessionState) (fault : EditFault) : Type 0 where
@@ -102,4 +103,4 @@ abbrev pub EditsNot : Replacement → SessionState → SessionState → EditFaul
 EditsNot edit old = Stays (refusal (cuts_at old) (text_at old) edit) (LaysOutAtMost (fresh (pars_of old.kept) edit)) old
 
 abbrev pub SetsWidthNot : ℕ → SessionState → SessionState → EditFault → Type 0
-SetsWidthNot width old = Stays (width_refusal width) (FillsAtMost (length (text_at old))) old
+SetsWidthNot width old = Stays (width_refusal width) (FindsExtentsAtMost (changed width old.kept)) old

@@ -115,7 +115,7 @@ impl<'a> Exchanger<Kept> for Reflow<'a> {
     type Part = Option<Extents>;
 
     ghost use Rattle.std.specs.Prelude.{IfSome};
-    ghost use Rattle.session.specs.Kept.{chars_stay, put_into, taken_from, CanBePut, Writer};
+    ghost use Rattle.session.specs.Kept.{chars_stay, put_into, taken_from, written_for, CanBePut, Writer};
 
     ghost Kind = { Writer };
 
@@ -130,8 +130,8 @@ impl<'a> Exchanger<Kept> for Reflow<'a> {
 
     ghost worked = { λ reflow. reflow.written };
 
-    // The characters of the paragraph, at most.
-    ghost cost = { λ kept _. length kept.text };
+    // The characters of a paragraph whose lines are written.
+    ghost cost = { written_for };
 
     ghost keeps_chars = { λ by kept part _. chars_stay by kept part };
 

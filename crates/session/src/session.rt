@@ -391,7 +391,8 @@ impl<S: ParagraphStore<Kept>> Session<S> {
         )
     }
 
-    /// Brings all lines to another width, in columns.
+    /// Brings all lines to another width, in columns. A paragraph of one line, which fits, stays as it is, and
+    /// each other one is filled and written once.
     pub fn set_width(&mut self, width: u16) -> Result<Damage, EditFault>
         ensures ok { IfOk result (SetsWidth width self.old self.new) }
         ensures err { IfErr result (SetsWidthNot width self.old self.new) }
@@ -512,9 +513,9 @@ impl<S: ParagraphStore<Kept>> Session<S> {
     pub fn run(&mut self, edits: &[Edit<'_>]) -> Result<(), AllocError>
         ensures ok { OnOk result (held_at self.new
             ≡ after_all (cuts_at self.old) (held_at self.old) edits.now) }
-        ensures err { OnErr result (StopsAt (cuts_at self.old) (held_at self.old) edits.now
+        ensures err { OnErr result (StopsAt (rules_of self.old.engine) (held_at self.old) edits.now
             (held_at self.new) self.old.engine self.new.engine) }
-        ensures counts { WorksAtMost (cuts_at self.old) (held_at self.old) edits.now
+        ensures counts { WorksAtMost (rules_of self.old.engine) (held_at self.old) edits.now
             self.old.engine self.new.engine }
         ensures laid_out { IsWholeLayout self.new }
         ensures rules { SameRules self.old.engine self.new.engine }

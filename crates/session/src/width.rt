@@ -1,12 +1,13 @@
 //! A width change: of all lines that change it is known where they start and how much of each is
 //! shown, before the first of them is written over those at the old width.
 ghost use Rattle.std.specs.Prelude.{◌≡◌, ◌^◌, ◌<◌, ◌≤◌, ℕ, false, true, is_none, length, map, sum_by};
-ghost use Rattle.std.specs.Prelude.{IfOk, IfErr, IfSome, IsErrOf, OnErr};
+ghost use Rattle.std.specs.Prelude.{IfOk, IfErr, IfSome, IsErrOf, OnErr, OnOk};
 ghost use Rattle.std.specs.List.{All, AllZip};
-ghost use Rattle.lines.specs.Engine.{rules_of, FindsExtentsAtMost, RewritesAtMost, SameRules};
+ghost use Rattle.lines.specs.Engine.{rules_of, FindsExtents, FindsExtentsAtMost, SameRules};
+ghost use Rattle.lines.specs.Engine.{Rewrites, RewritesAtMost};
 ghost use Rattle.lines.specs.Layouts.{is_line_within, IsLaidOut};
 ghost use Rattle.session.specs.Sessions.{IsWholeLayout, SetsWidth, SetsWidthNot};
-ghost use Rattle.session.specs.Kept.{put_into, text_of, BringsTo, CanBePut};
+ghost use Rattle.session.specs.Kept.{changed, changed_in, put_into, written_for, BringsTo, CanBePut};
 ghost use Rattle.session.specs.declared.edits.EditFault.TheVariants.{NoMemory};
 ghost use Rattle.store.specs.Exchanging.{pairwise, total_cost};
 
@@ -31,8 +32,11 @@ fn find_one(
     ensures memory { OnErr result (is_line_within width laid.now.lines ≡ false) }
     ensures unfilled { is_line_within width laid.now.lines ≡ true → engine.new ≡ engine.old }
     ensures rules { SameRules engine.old engine.new }
-    ensures counts { FindsExtentsAtMost (length laid.now.text) engine.old engine.new }
+    ensures exact { OnOk result (FindsExtents (changed_in width laid.now) engine.old engine.new) }
+    ensures counts { FindsExtentsAtMost (changed_in width laid.now) engine.old engine.new }
 {
+    // Shows that the count fits.
+    let _filled = engine.filled();
     if laid.keeps_lines(width) {
         return Ok(None);
     }
@@ -52,9 +56,13 @@ fn find_each(
         AllZip (BringsTo (rules_of engine.old) width) (map (λ kept. kept.now) list.now) parts.items) }
     ensures memory { OnErr result (0 < length list.now) }
     ensures rules { SameRules engine.old engine.new }
-    ensures counts { FindsExtentsAtMost (length (text_of (map (λ kept. kept.now) list.now)))
+    ensures exact { OnOk result (FindsExtents (changed width (map (λ kept. kept.now) list.now))
+        engine.old engine.new) }
+    ensures counts { FindsExtentsAtMost (changed width (map (λ kept. kept.now) list.now))
         engine.old engine.new }
 {
+    // Shows that the count fits.
+    let _filled = engine.filled();
     let mut parts = Vec::with_capacity(alloc, list.len())?;
     for kept in list {
         parts.push(find_one(alloc, engine, kept.laid(), width)?)?;
@@ -98,7 +106,9 @@ fn find_all<S: ParagraphStore<Kept>>(
     ensures unwritten { IfOk result (λ found. found.1.written ≡ 0) }
     ensures memory { OnErr result (0 < length (S.items store.now)) }
     ensures rules { SameRules engine.old engine.new }
-    ensures counts { FindsExtentsAtMost (length (text_of (S.items store.now))) engine.old engine.new }
+    ensures exact { OnOk result (FindsExtents (changed width (S.items store.now))
+        engine.old engine.new) }
+    ensures counts { FindsExtentsAtMost (changed width (S.items store.now)) engine.old engine.new }
 {
     // The law by which each paragraph is one.
     paragraphs_are_pieces();
@@ -126,8 +136,9 @@ fn reflow_all<S: ParagraphStore<Kept>>(
         (put_into (record { rules = rules_of engine.old; room = room.len }))
         (S.items store.old) parts.old.items }
     ensures rules { SameRules engine.old engine.new }
-    ensures counts { RewritesAtMost
-        (total_cost (λ kept _. length kept.text) (S.items store.old) parts.old.items)
+    ensures counts { Rewrites (total_cost written_for (S.items store.old) parts.old.items)
+        engine.old engine.new }
+    ensures at_most { RewritesAtMost (total_cost written_for (S.items store.old) parts.old.items)
         engine.old engine.new }
 {
     let mut reflow = Reflow { engine, room };

@@ -1,8 +1,9 @@
 -- What items and parts that fit make together.
-use Rattle.std.proofs.Common.{◌≡◌, ℕ, zero, suc, ◌+◌, ◌<◌, List, [], ◌∷◌, ◌++◌, length, get_or, set, take, sum_by, refl, sym, ap, ◌∙◌, subst, arith}
+use Rattle.std.proofs.Common.{◌≡◌, ℕ, zero, suc, ◌+◌, ◌<◌, ◌≤◌, List, [], ◌∷◌, ◌++◌, length, get_or, set, take, sum_by, refl, sym, ap, ◌∙◌, subst, arith}
 use Rattle.std.specs.List.{AllZip}
+use Rattle.std.proofs.lemmas.List.{take_all}
 use Rattle.std.proofs.lemmas.List.Sums.{sum_by-append, sum_by-cons, sum_by_more}
-use Rattle.store.specs.Exchanging.{pairwise, total_cost}
+use Rattle.store.specs.Exchanging.{pairwise, raised, total_cost}
 
 module _ {P Part : Type 0} (fits : P → Part → Type 0) where
   pub as_many : (items : List P) (parts : List Part) → AllZip fits items parts → length parts ≡ length items
@@ -32,7 +33,15 @@ module _ {P Part : Type 0} (fits : P → Part → Type 0) where
   pairwise_at f (x ∷ xs) (p ∷ ps) zero d e a h g = refl
   pairwise_at f (x ∷ xs) (p ∷ ps) (suc k) d e a h g = pairwise_at f xs ps k d e a (omega arith) g.1
 
-  -- what the first items and one more cost
+  -- what all items cost, and the first ones and one more
+  pub cost_all : (cost : P → Part → ℕ) (items : List P) (parts : List Part) (k : ℕ) → length items ≤ k → AllZip fits items parts
+      → sum_by (λ (n : ℕ). n) (take k (pairwise cost items parts)) ≡ total_cost cost items parts
+  cost_all cost items parts k last g =
+      let all = pairwise cost items parts in
+      let n = length-pairwise cost items parts g in
+      let m : length all ≤ k = omega (arith, n) in
+      ap (sum_by (λ (n : ℕ). n)) (take_all k all m)
+
   pub cost_more : (cost : P → Part → ℕ) (items : List P) (parts : List Part) (k : ℕ) (d : P) (e : Part) → k < length items → AllZip fits items parts
       → sum_by (λ (n : ℕ). n) (take (k + 1) (pairwise cost items parts))
       ≡ sum_by (λ (n : ℕ). n) (take k (pairwise cost items parts)) + cost (get_or items k d) (get_or parts k e)
@@ -85,6 +94,10 @@ pub set_one : {A : Type 0} (one : List A) (y : A) → length one ≡ 1 → set o
 set_one [] y l = absurd (omega arith)
 set_one (x ∷ []) y l = refl
 set_one (x ∷ z ∷ xs) y l = absurd (omega arith)
+
+-- a count that is raised twice
+pub raised_twice : (count n m k once twice : ℕ) → once ≡ raised count n → twice ≡ raised once m → k ≡ n + m → twice ≡ raised count k
+raised_twice count n m k once twice first second sum = omega (arith, first, second, sum)
 
 -- A node's items and parts: those of the left subtree, its own, and those of the right subtree.
 module _ {P Part : Type 0} (fits : P → Part → Type 0) (xs : List P) (x : P) (ys : List P) (ps rest one qs : List Part) where

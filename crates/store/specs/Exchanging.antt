@@ -1,5 +1,5 @@
--- What items and parts make that belong together in order.
-use Rattle.std.specs.Prelude.{ℕ, List, map, sum_by}
+-- What items and parts make that belong together in order, and how a count of the work rises.
+use Rattle.std.specs.Prelude.{ℕ, ◌+◌, ◌-◌, ◌^◌, List, map, max, min, sum_by}
 use Rattle.std.specs.List.{zip}
 
 abbrev pub pairwise : {P Part A : Type 0} → (P → Part → A) → List P → List Part → List A
@@ -8,3 +8,7 @@ pairwise f items parts = map (λ p. f p.0 p.1) (zip items parts)
 -- what they cost together
 abbrev pub total_cost : {P Part : Type 0} → (P → Part → ℕ) → List P → List Part → ℕ
 total_cost cost items parts = sum_by (λ n. n) (pairwise cost items parts)
+
+-- a count after n more, up to the greatest number of 64 bits, from which on it stays
+abbrev pub raised : ℕ → ℕ → ℕ
+raised count n = max count (min (count + n) (2 ^ 64 - 1))

@@ -1,5 +1,6 @@
 //! What a store asks of its items.
-ghost use Rattle.std.specs.Prelude.{◌≡◌, ◌+◌, ◌≤◌, ℕ};
+ghost use Rattle.std.specs.Prelude.{◌≡◌, ℕ};
+ghost use Rattle.store.specs.Exchanging.{raised};
 
 /// An item with so many characters and lines.
 pub trait Measured {
@@ -35,7 +36,7 @@ pub trait Exchanger<P: Measured> {
 
     ghost handed_out: { Kind → P → Self.Part → Self.Part };
 
-    // How much it has worked, and how much an exchange adds to that at most.
+    // How much it has worked, up to the greatest `u64`, and how much an exchange adds to that.
     ghost worked: { Self → ℕ };
 
     ghost cost: { P → Self.Part → ℕ };
@@ -46,8 +47,7 @@ pub trait Exchanger<P: Measured> {
         ensures item { item.new ≡ exchanged (kind self.old) item.old part.old }
         ensures part { part.new ≡ handed_out (kind self.old) item.old part.old }
         ensures same { kind self.new ≡ kind self.old }
-        ensures least { worked self.old ≤ worked self.new }
-        ensures most { worked self.new ≤ worked self.old + cost item.old part.old };
+        ensures worked { worked self.new ≡ raised (worked self.old) (cost item.old part.old) };
 
     // The number of characters stays.
     ghost keeps_chars: { (by : Kind) (item : P) (part : Self.Part) → fits by item part

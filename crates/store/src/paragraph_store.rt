@@ -3,7 +3,7 @@ ghost use Rattle.std.specs.Prelude.{◌≡◌, ◌+◌, ◌-◌, ◌^◌, ◌<�
 ghost use Rattle.std.specs.Prelude.{ℕ, List, [], length, map, slice_get, slice_range, option_map, sum_by};
 ghost use Rattle.std.specs.Prelude.{IfOk, IfErr, OnOk, OnErr};
 ghost use Rattle.std.specs.List.{splice, AllZip};
-ghost use Rattle.store.specs.Exchanging.{pairwise, total_cost};
+ghost use Rattle.store.specs.Exchanging.{pairwise, raised, total_cost};
 ghost use Rattle.store.specs.Finding.{Finds};
 
 use crate::found::Found;
@@ -83,8 +83,7 @@ pub trait ParagraphStore<P: Measured> {
         ensures parts { parts.new.items
             ≡ pairwise (E.handed_out (E.kind by.old)) (items self.old) parts.old.items }
         ensures same { E.kind by.new ≡ E.kind by.old }
-        ensures least { E.worked by.old ≤ E.worked by.new }
-        ensures most { E.worked by.new
-            ≤ E.worked by.old + total_cost E.cost (items self.old) parts.old.items }
+        ensures worked { E.worked by.new
+            ≡ raised (E.worked by.old) (total_cost E.cost (items self.old) parts.old.items) }
         ensures chars { sum_by P.chars (items self.new) ≡ sum_by P.chars (items self.old) };
 }

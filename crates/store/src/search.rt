@@ -2,7 +2,7 @@
 ghost use Rattle.std.specs.Prelude.{◌≡◌, ℕ, ◌+◌, ◌^◌, ◌<◌, ◌≤◌, ◌++◌};
 ghost use Rattle.std.specs.Prelude.{length, map, sum_by, option_map, slice_get, vec_capacity};
 ghost use Rattle.std.specs.List.{AllZip};
-ghost use Rattle.store.specs.Exchanging.{pairwise, total_cost};
+ghost use Rattle.store.specs.Exchanging.{pairwise, raised, total_cost};
 ghost use Rattle.store.specs.Finding.{Finds, measure};
 ghost use Rattle.store.specs.Trees.{height, in_order, IsBalanced, nodes_to};
 
@@ -96,9 +96,8 @@ impl<P: Measured> Subtree<P> {
         ensures parts { parts.new
             ≡ pairwise (E.handed_out (E.kind by.old)) (in_order self.old) parts.old }
         ensures same { E.kind by.new ≡ E.kind by.old }
-        ensures least { E.worked by.old ≤ E.worked by.new }
-        ensures most { E.worked by.new
-            ≤ E.worked by.old + total_cost E.cost (in_order self.old) parts.old }
+        ensures worked { E.worked by.new
+            ≡ raised (E.worked by.old) (total_cost E.cost (in_order self.old) parts.old) }
         ensures count { length (in_order self.new) ≡ length (in_order self.old) }
         ensures chars { sum_by P.chars (in_order self.new) ≡ sum_by P.chars (in_order self.old) }
         ensures height { height self.new ≡ height self.old }

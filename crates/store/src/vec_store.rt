@@ -4,7 +4,7 @@ ghost use Rattle.std.specs.Prelude.{ℕ, List, [], length, take, drop, reverse};
 ghost use Rattle.std.specs.Prelude.{slice_get, slice_range, option_map, sum_by, vec_len, vec_capacity};
 ghost use Rattle.std.specs.Prelude.{IfOk, IfErr, OnOk, OnErr};
 ghost use Rattle.std.specs.List.{splice, AllZip};
-ghost use Rattle.store.specs.Exchanging.{pairwise, total_cost};
+ghost use Rattle.store.specs.Exchanging.{pairwise, raised, total_cost};
 ghost use Rattle.store.specs.Finding.{Finds, measure};
 
 use crate::found::{Found, Unit};
@@ -146,8 +146,7 @@ fn exchange_each<P: Measured, E: Exchanger<P>>(by: &mut E, items: &mut [P], part
     ensures items { items.new ≡ pairwise (E.exchanged (E.kind by.old)) items.old parts.old }
     ensures parts { parts.new ≡ pairwise (E.handed_out (E.kind by.old)) items.old parts.old }
     ensures same { E.kind by.new ≡ E.kind by.old }
-    ensures least { E.worked by.old ≤ E.worked by.new }
-    ensures most { E.worked by.new ≤ E.worked by.old + total_cost E.cost items.old parts.old }
+    ensures worked { E.worked by.new ≡ raised (E.worked by.old) (total_cost E.cost items.old parts.old) }
     ensures chars { sum_by P.chars items.new ≡ sum_by P.chars items.old }
 {
     for index in 0..items.len() {

@@ -3,18 +3,18 @@ use Rattle.std.proofs.Common.{◌≡◌, ℕ, ◌+◌, ◌≤◌, Bool, List, []
 use Rattle.std.proofs.lemmas.Bool.{cond-true, true≢false}
 use Rattle.std.proofs.lemmas.List.{append-nil}
 use Rattle.bidi.specs.Cuts.{paragraphs}
-use Rattle.lines.specs.Engine.{LaysOutAtMost, FillsAtMost, RisesBy, analysed_of, filled_of, written_of, rules_of}
+use Rattle.lines.specs.Engine.{LaysOutAtMost, Fills, FillsAtMost, FindsExtentsAtMost, RisesBy, analysed_of, counted, filled_of, written_of, rules_of}
 use Rattle.lines.specs.Layouts.{Rules, layout_of}
 use Rattle.lines.specs.declared.engine.Engine.{Engine}
 use Rattle.session.specs.Edits.{Replacement, Held, refusal, width_refusal}
-use Rattle.session.specs.Kept.{pars_of}
+use Rattle.session.specs.Kept.{changed, pars_of}
 use Rattle.session.specs.Sessions.{SessionState, IsWholeLayout, IsAnswerFor, IsCountedFor, Edits, EditsNot, SetsWidth, SetsWidthNot, cuts_at, held_at, text_at}
 use Rattle.session.specs.Touched.{fresh}
 use Rattle.session.specs.declared.edits.Damage.{Damage}
 use Rattle.session.specs.declared.edits.EditFault.{EditFault}
 use Rattle.session.specs.declared.edits.EditFault.TheVariants.{OutOfRange, WidthOutOfRange, TextTooLong, ParagraphTooLong, NoMemory}
 use Rattle.tool.specs.Scripts.{Request, SetWidth, request_of_line}
-use Rattle.tool.specs.ScriptRun.{after_line, after_lines, is_good, request_refusal}
+use Rattle.tool.specs.ScriptRun.{after_line, after_lines, is_good, layouts_at, request_refusal}
 use Rattle.tool.specs.Work.{RequestWorks, LineWorks, LinesWork, Works, analysed_by, filled_by, work_of_line, work_of_lines}
 
 -- ---- counts
@@ -93,24 +93,45 @@ edit_works edit old new (Err fault) whole m r =
     (subst (λ ps. IsCountedFor fault (LaysOutAtMost (fresh ps edit)) old.engine new.engine) (pars_kept old whole) r.counts)
     (λ e counts. laid_out reason n old.engine new.engine e counts)
 
-width_worked : (width : ℕ) (old new : SessionState) (result : Result Damage EditFault) → IfOk result (SetsWidth width old new) → IfErr result (SetsWidthNot width old new)
-    → Worked (width_refusal width) 0 (length (text_at old)) old.engine new.engine
-width_worked width old new (Ok damage) m r = filled_anew (width_refusal width) (length (text_at old)) old.engine new.engine m.accepted m.counts
-width_worked width old new (Err fault) m r =
-    let n = length (text_at old) in
-    counted_for (width_refusal width) 0 n (FillsAtMost n) old.engine new.engine fault r.answer r.counts
-    (λ e counts. filled_anew (width_refusal width) n old.engine new.engine e counts)
+-- what rises by exactly so much rises by at most that
+exact_rise : (n most old new : ℕ) → new ≡ counted old n → RisesBy most old new → RisesBy n old new
+exact_rise n most old new exact r = record { least = r.least; most = omega (arith, exact) }
 
-pub width_works : (width : ℕ) (old new : SessionState) (result : Result Damage EditFault) → nat_lt 65535 width ≡ false
+filled_exactly : (n most : ℕ) (old new : Engine) → Fills n old new → FillsAtMost most old new → FillsAtMost n old new
+filled_exactly n most old new exact counts = record {
+  analysed = exact.analysed;
+  filled = exact_rise n most (filled_of old) (filled_of new) exact.filled counts.filled;
+  written = exact_rise n most (written_of old) (written_of new) exact.written counts.written;
+}
+
+found_only : (n : ℕ) (old new : Engine) → FindsExtentsAtMost n old new → FillsAtMost n old new
+found_only n old new counts = record {
+  analysed = counts.analysed;
+  filled = counts.filled;
+  written = same_rise n (written_of old) (written_of new) counts.written;
+}
+
+width_worked : (width : ℕ) (old new : SessionState) (result : Result Damage EditFault) → IfOk result (SetsWidth width old new) → IfErr result (SetsWidthNot width old new)
+    → Worked (width_refusal width) 0 (changed width old.kept) old.engine new.engine
+width_worked width old new (Ok damage) m r =
+    let n = changed width old.kept in
+    filled_anew (width_refusal width) n old.engine new.engine m.accepted (filled_exactly n (length (text_at old)) old.engine new.engine m.exact m.counts)
+width_worked width old new (Err fault) m r =
+    let n = changed width old.kept in
+    counted_for (width_refusal width) 0 n (FindsExtentsAtMost n) old.engine new.engine fault r.answer r.counts
+    (λ e counts. filled_anew (width_refusal width) n old.engine new.engine e (found_only n old.engine new.engine counts))
+
+pub width_works : (width : ℕ) (old new : SessionState) (result : Result Damage EditFault) → nat_lt 65535 width ≡ false → IsWholeLayout old
     → IfOk result (SetsWidth width old new) → IfErr result (SetsWidthNot width old new)
     → RequestWorks (rules_of old.engine) (held_at old) (SetWidth width) old.engine new.engine
-width_works width old new result small m r =
-    let w = width_worked width old new result m r in
+width_works width old new result small whole m r =
+    let n = changed width (layouts_at (rules_of old.engine) (held_at old)) in
+    let w = subst (λ kept. Worked (width_refusal width) 0 (changed width kept) old.engine new.engine) whole.kept (width_worked width old new result m r) in
     let reason : request_refusal (rules_of old.engine) (held_at old) (SetWidth width) ≡ width_refusal width = ap (λ b. if b then Some WidthOutOfRange else width_refusal width) small in
     record {
       analysed = subst (λ (o : Option EditFault). RisesBy (if is_none o then 0 else 0) (analysed_of old.engine) (analysed_of new.engine)) (sym reason) w.analysed;
-      filled = subst (λ (o : Option EditFault). RisesBy (if is_none o then length (text_at old) else 0) (filled_of old.engine) (filled_of new.engine)) (sym reason) w.filled;
-      written = subst (λ (o : Option EditFault). RisesBy (if is_none o then length (text_at old) else 0) (written_of old.engine) (written_of new.engine)) (sym reason) w.written;
+      filled = subst (λ (o : Option EditFault). RisesBy (if is_none o then n else 0) (filled_of old.engine) (filled_of new.engine)) (sym reason) w.filled;
+      written = subst (λ (o : Option EditFault). RisesBy (if is_none o then n else 0) (written_of old.engine) (written_of new.engine)) (sym reason) w.written;
     }
 
 -- ---- lines, one after another

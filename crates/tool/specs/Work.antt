@@ -1,12 +1,13 @@
 -- How much work the lines of a script ask for at most: each request what its edit asks of a session, one that is refused nothing.
-use Rattle.std.specs.Prelude.{ℕ, ◌+◌, Bool, List, [], ◌∷◌, length, Option, Some, None, is_none, if◌then◌else◌}
+use Rattle.std.specs.Prelude.{ℕ, ◌+◌, Bool, List, [], ◌∷◌, Option, Some, None, is_none, if◌then◌else◌}
 use Rattle.bidi.specs.Cuts.{paragraphs}
 use Rattle.lines.specs.Engine.{analysed_of, filled_of, written_of, RisesBy}
 use Rattle.lines.specs.Layouts.{Rules, cut_by}
 use Rattle.lines.specs.declared.engine.Engine.{Engine}
 use Rattle.session.specs.Edits.{Held, deletion, insertion}
+use Rattle.session.specs.Kept.{changed}
 use Rattle.session.specs.Touched.{fresh}
-use Rattle.tool.specs.ScriptRun.{after_line, request_refusal}
+use Rattle.tool.specs.ScriptRun.{after_line, layouts_at, request_refusal}
 use Rattle.tool.specs.Scripts.{Request, Insert, Delete, SetWidth, Show, Ask, request_of_line}
 
 module _ (rules : Rules) where
@@ -21,7 +22,7 @@ module _ (rules : Rules) where
   abbrev pub filled_by : Held → Request → ℕ
   filled_by held (Insert pos piece) = fresh (paragraphs (cut_by rules) held.text) (insertion pos piece)
   filled_by held (Delete pos count) = fresh (paragraphs (cut_by rules) held.text) (deletion pos count)
-  filled_by held (SetWidth width) = length held.text
+  filled_by held (SetWidth width) = changed width (layouts_at rules held)
   filled_by held Show = 0
   filled_by held (Ask question) = 0
 

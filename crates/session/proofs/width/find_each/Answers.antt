@@ -1,9 +1,9 @@
-use Rattle.std.proofs.Common.{◌∙◌}
-use Rattle.session.proofs.WidthLemmas.{all_filled, all_listed, none_filled, read_here, read_item, read_laid, values, FindsExtentsAtMost-so_far, FindsExtentsAtMost-next, AreFilled-next}
+use Rattle.std.proofs.Common.{◌∙◌, arith}
+use Rattle.session.proofs.WidthLemmas.{all_filled, all_listed, none_filled, read_here, read_item, read_laid, values, FindsExtents-all, FindsExtentsAtMost-all, FindsExtentsAtMost-next, AreFilled-next}
 use Rattle.session.proofs.width.find_each.Goals as goal
 
 pub loop-kept-init : goal.loop-kept-init
-loop-kept-init c = none_filled c.args.engine.now c.args.width (values c.args.list.now) c.in_ok-parts.parts.items c.in_ok-parts.ensures.items
+loop-kept-init c = none_filled c.args.engine.now c.args.width (values c.args.list.now) c.in_ok-parts.parts.items (omega (arith, c.filled-filled.ensures)) c.in_ok-parts.ensures.items
 
 pub find_one-requires-clause-laid : goal.find_one-requires-clause-laid
 find_one-requires-clause-laid c =
@@ -36,7 +36,7 @@ loop-kept-preserved c =
     c.laid.result.now (read_here c.args.list.now c.loop-kept.kept-index c.kept-item.result c.laid.result.now c.loop-kept-test.true c.kept-item.is c.laid.ensures)
     (read_item c.args.list.now c.loop-kept.kept-index c.kept-item.result c.laid.result.now c.loop-kept-test.true c.kept-item.is c.laid.ensures)
     c.find_one.new.engine c.find_one.ensures.rules c.find_one.ensures.counts
-    c.in_ok-find_one.field-0 c.push.new.self.items c.in_ok-find_one.ensures.ok c.in_ok-push.ensures.items
+    c.in_ok-find_one.field-0 c.push.new.self.items c.in_ok-find_one.ensures.exact c.in_ok-find_one.ensures.ok c.in_ok-push.ensures.items
 
 pub returns-clause-ok : goal.returns-clause-ok
 returns-clause-ok c =
@@ -48,4 +48,10 @@ returns-clause-rules c = c.loop-kept.invariant.rules
 
 pub returns-clause-counts : goal.returns-clause-counts
 returns-clause-counts c =
-    FindsExtentsAtMost-so_far c.args.engine.now c.loop-kept.engine c.args.width (values c.args.list.now) c.loop-kept.kept-index c.loop-kept.parts.items c.loop-kept.invariant
+    FindsExtentsAtMost-all c.args.engine.now c.loop-kept.engine c.args.width (values c.args.list.now) c.loop-kept.kept-index c.loop-kept.parts.items c.loop-kept.invariant
+    (all_listed c.args.list.now c.loop-kept.kept-index c.loop-kept-test.false)
+
+pub returns-clause-exact : goal.returns-clause-exact
+returns-clause-exact c =
+    FindsExtents-all c.args.engine.now c.loop-kept.engine c.args.width (values c.args.list.now) c.loop-kept.kept-index c.loop-kept.parts.items c.loop-kept.invariant
+    (all_listed c.args.list.now c.loop-kept.kept-index c.loop-kept-test.false)

@@ -1,7 +1,7 @@
 use Rattle.std.proofs.Common.{◌∙◌, length}
 use Rattle.lines.specs.Engine.{rules_of}
 use Rattle.session.specs.Kept.{text_of}
-use Rattle.session.proofs.WidthLemmas.{all_brought, all_fit, cost_of_all, each_laid_out, refilled_fit, FillsAtMost-written, SetsWidth-after}
+use Rattle.session.proofs.WidthLemmas.{all_brought, all_fit, changed-le, each_laid_out, refilled_fit, written_is_changed, Fills-written, FillsAtMost-written, SetsWidth-after}
 use Rattle.session.proofs.width.set_width.Goals as goal
 
 pub reflow_all-requires-clause-fit : goal.reflow_all-requires-clause-fit
@@ -24,8 +24,10 @@ returns-clause-ok g c =
     let laid = each_laid_out c.paragraphs_are_pieces.ensures c.args.engine.now c.args.width.now kept c.requires in
     let made = c.reflow_all.ensures.items
     ∙ all_brought (rules_of c.args.engine.now) (rules_of c.find_all.new.engine) c.args.new_width c.in-Ok.room.len kept c.in-Ok.parts.items c.find_all.ensures.rules laid c.in-Ok.ensures.ok in
+    let same = written_is_changed (rules_of c.args.engine.now) c.args.new_width kept c.in-Ok.parts.items c.in-Ok.ensures.ok in
     SetsWidth-after c.paragraphs_are_pieces.ensures c.lines_are_few.ensures c.args.engine.now c.args.width.now c.args.new_width kept c.requires c.if-new_width-eq0.false
     c.reflow_all.new.engine (c.reflow_all.ensures.rules ∙ c.find_all.ensures.rules)
-    (FillsAtMost-written (length (text_of kept)) _ c.args.engine.now c.find_all.new.engine c.reflow_all.new.engine
-    c.find_all.ensures.counts (cost_of_all kept c.in-Ok.parts.items) c.reflow_all.ensures.counts)
+    (FillsAtMost-written _ _ (length (text_of kept)) c.args.engine.now c.find_all.new.engine c.reflow_all.new.engine
+    c.find_all.ensures.counts same (changed-le c.args.new_width kept) c.reflow_all.ensures.at_most)
+    (Fills-written _ _ c.args.engine.now c.find_all.new.engine c.reflow_all.new.engine c.in-Ok.ensures.exact same c.reflow_all.ensures.counts)
     _ _ _ _ made c.count-count.ensures c.total_lines-old_lines.ensures c.total_lines.ensures

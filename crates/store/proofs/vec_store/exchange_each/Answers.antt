@@ -1,7 +1,6 @@
-use Rattle.std.proofs.Common.{◌≡◌, ◌<◌, ℕ, length, get_or, sum_by, refl, ap, sym, subst, arith, ◌∙◌}
-use Rattle.std.proofs.lemmas.List.Sums.{sum_by-take-le}
-use Rattle.store.specs.Exchanging.{pairwise}
-use Rattle.store.proofs.ExchangeLemmas.{as_many, cost_more, fit_at, same_sum, length-pairwise, pairwise_at}
+use Rattle.std.proofs.Common.{◌≡◌, ◌<◌, length, get_or, sum_by, refl, ap, sym, subst, arith, ◌∙◌}
+use Rattle.store.specs.Exchanging.{pairwise, raised}
+use Rattle.store.proofs.ExchangeLemmas.{as_many, cost_all, cost_more, fit_at, raised_twice, same_sum, length-pairwise, pairwise_at}
 use Rattle.store.proofs.ListLemmas.{get_next, set_next, made_all}
 use Rattle.store.proofs.vec_store.exchange_each.Goals as goal
 
@@ -53,8 +52,7 @@ loop-index-preserved g c =
       items = set_next _ xs c.loop-index.items k y l c.loop-index-test.true c.loop-index.invariant.items y_is;
       parts = set_next _ ps c.loop-index.parts k q (m ∙ sym n) h c.loop-index.invariant.parts q_is;
       same = c.exchange.ensures.same ∙ c.loop-index.invariant.same;
-      least = omega (arith, c.loop-index.invariant.least, c.exchange.ensures.least);
-      most = omega (arith, c.loop-index.invariant.most, c.exchange.ensures.most, cost_is, costs);
+      worked = raised_twice _ _ _ _ _ _ c.loop-index.invariant.worked (c.exchange.ensures.worked ∙ ap (raised (g.E.Exchanger.worked c.loop-index.by)) cost_is) costs;
     }
 
 pub returns-clause-items : goal.returns-clause-items
@@ -80,7 +78,9 @@ returns-clause-chars g c =
     ap (sum_by g.P.Measured.chars) (returns-clause-items g c)
     ∙ same_sum (g.E.Exchanger.fits by) g.P.Measured.chars (g.E.Exchanger.exchanged by) (g.met.E.Exchanger.keeps_chars by) c.args.items.now c.args.parts.now c.requires
 
-pub returns-clause-most : goal.returns-clause-most
-returns-clause-most g c =
-    let all = pairwise g.E.Exchanger.cost c.args.items.now c.args.parts.now in
-    omega (arith, c.loop-index.invariant.most, sum_by-take-le (λ (n : ℕ). n) all c.loop-index.index)
+pub returns-clause-worked : goal.returns-clause-worked
+returns-clause-worked g c =
+    let by = g.E.Exchanger.kind c.args.by.now in
+    c.loop-index.invariant.worked
+    ∙ ap (raised (g.E.Exchanger.worked c.args.by.now))
+    (cost_all (g.E.Exchanger.fits by) g.E.Exchanger.cost c.args.items.now c.args.parts.now c.loop-index.index (omega arith) c.requires)

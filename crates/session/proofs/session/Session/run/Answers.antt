@@ -36,7 +36,7 @@ returns-then-eq-clause-err g c =
       | in-SetWidth w ↦ rw w.self-is
           (HasRun-stops _ _ _ _ _ _ _ c.loop-edit-test.true w.in-SetWidth.is c.loop-edit.invariant
           (w.set_width-result.ensures.memory (sym w.result-is ∙ out)) (stays _ _ _ _ _ w.set_width-result.ensures.err (sym w.result-is ∙ out))
-          (width_works _ c.loop-edit.self w.set_width-result.new.self _ w.set_width-result.ensures.ok
+          (width_works _ c.loop-edit.self w.set_width-result.new.self _ whole w.set_width-result.ensures.ok
           w.set_width-result.ensures.err))
     ]
 
@@ -60,7 +60,7 @@ returns-then-eq-clause-counts g c =
           (whole_works c.args.self.now _ _ c.args.self.now.engine w.set_width-result.new.self.engine
           (next_works c.args.self.now c.loop-edit.self w.set_width-result.new.self _ _ _ _ c.loop-edit-test.true
           w.in-SetWidth.is c.loop-edit.invariant
-          (width_works _ c.loop-edit.self w.set_width-result.new.self _ w.set_width-result.ensures.ok
+          (width_works _ c.loop-edit.self w.set_width-result.new.self _ whole w.set_width-result.ensures.ok
           w.set_width-result.ensures.err)))
     ]
 
@@ -87,7 +87,7 @@ loop-edit-preserved g c =
       | in-SetWidth w ↦ rw w.self-is
           (HasRun-next _ _ _ _ _ _ _ c.loop-edit-test.true w.in-SetWidth.is c.loop-edit.invariant
           (refilled_to _ _ _ _ w.set_width-result.ensures.ok w.set_width-result.ensures.err (rw w.result-is at other))
-          (width_works _ _ _ _ w.set_width-result.ensures.ok w.set_width-result.ensures.err))
+          (width_works _ _ _ _ whole w.set_width-result.ensures.ok w.set_width-result.ensures.err))
     ]
 
 pub returns-clause-ok : goal.returns-clause-ok

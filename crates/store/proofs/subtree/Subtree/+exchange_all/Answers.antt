@@ -4,7 +4,7 @@ use Rattle.store.specs.Exchanging.{pairwise, total_cost}
 use Rattle.store.specs.Subtrees.{tree_of, tree_of_node, IsSummed, IsSound}
 use Rattle.store.specs.Trees.{in_order, height}
 use Rattle.std.proofs.lemmas.List.Sums.{sum_by-append}
-use Rattle.store.proofs.ExchangeLemmas.{as_many, length-pairwise, fit_front, fit_item, fit_right, pairwise-append, pairwise_parts, sum_parts, same_sum, set_one, AreParted}
+use Rattle.store.proofs.ExchangeLemmas.{as_many, length-pairwise, fit_front, fit_item, fit_right, pairwise-append, pairwise_parts, raised_twice, sum_parts, same_sum, set_one, AreParted}
 use Rattle.store.proofs.SubtreeLemmas.{balanced_again, summed_again, IsLike}
 use Rattle.store.proofs.subtree.Subtree.+exchange_all.Goals as goal
 
@@ -254,8 +254,8 @@ returns-clause-balanced g t c =
     c.exchange_all.ensures.balanced c.exchange_all-2.ensures.balanced c.exchange_all.ensures.height c.exchange_all-2.ensures.height
 
 -- what the parts of a node cost
-pub returns-clause-most : goal.returns-clause-most
-returns-clause-most g t c =
+pub returns-clause-worked : goal.returns-clause-worked
+returns-clause-worked g t c =
     let by = g.E.Exchanger.kind c.args.by.now in
     let cost = g.E.Exchanger.cost in
     let n = c.deref_mut-node.result.now in
@@ -276,4 +276,4 @@ returns-clause-most g t c =
     let costs : total_cost cost (in_order c.args.self.now) c.args.parts.now ≡ total_cost cost xs ps + (cost n.item (get_or one 0 d) + total_cost cost ys qs) =
     ap (λ zs. total_cost cost zs c.args.parts.now) (ap in_order tree_is)
     ∙ sum_parts (g.E.Exchanger.fits by) xs n.item ys ps rest one qs (λ (n : ℕ). n) cost d parted in
-    omega (arith, costs, c.exchange_all.ensures.most, c.exchange.ensures.most, c.exchange_all-2.ensures.most)
+    raised_twice _ _ _ _ _ _ c.exchange_all.ensures.worked (raised_twice _ _ _ _ _ _ c.exchange.ensures.worked c.exchange_all-2.ensures.worked refl) costs
