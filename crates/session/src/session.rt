@@ -391,8 +391,8 @@ impl<S: ParagraphStore<Kept>> Session<S> {
         )
     }
 
-    /// Brings all lines to another width, in columns. A paragraph of one line, which fits, stays as it is, and
-    /// each other one is filled and written once.
+    /// Brings all lines to another width, in columns. A paragraph of one line, which fits, stays as it is,
+    /// and each other one is filled and written once.
     pub fn set_width(&mut self, width: u16) -> Result<Damage, EditFault>
         ensures ok { IfOk result (SetsWidth width self.old self.new) }
         ensures err { IfErr result (SetsWidthNot width self.old self.new) }
