@@ -145,3 +145,8 @@ IsSettingsFault words Queries =
     (fault_of program words ≡ []) × (is_some (base_of (matches_of program words)) ≡ true) × (script_fits (matches_of program words) ≡ true)
     × (queries_fit (matches_of program words) ≡ false)
 IsSettingsFault words NoMemory = Unit {0}
+
+-- want of memory hides nothing that is wrong with words that `clap` takes
+abbrev pub HidesNothing : List Row → SettingsFault → Type 0
+HidesNothing rows NoMemory = (is_some (base_of rows) ≡ true) × (script_fits rows ≡ true) × (queries_fit rows ≡ true)
+HidesNothing rows fault = Unit {0}

@@ -5,7 +5,7 @@ ghost use Rattle.clap.specs.Words.{Text, app_of, found_of, rows_of, rule_of, wit
 ghost use Rattle.clap.specs.Takes.{is_given};
 ghost use Rattle.command_line.specs.CommandLine.{program, ucd_rule, width_rule, script_rule};
 ghost use Rattle.command_line.specs.CommandLine.{files_rule, flag_rule};
-ghost use Rattle.command_line.specs.CommandLine.{AreMatches, AreSettings, IsSettingsFault};
+ghost use Rattle.command_line.specs.CommandLine.{AreMatches, AreSettings, HidesNothing, IsSettingsFault};
 ghost use Rattle.command_line.specs.CommandLine.{base_by, base_of, fits_queries, fits_script};
 ghost use Rattle.command_line.specs.CommandLine.{layout_rules, print_rules};
 
@@ -232,6 +232,7 @@ fn settings_of<'a>(alloc: Global, matches: &ArgMatches<'a>) -> Result<Settings<'
     requires { (words : List Text) × AreMatches words matches.now }
     ensures ok { (words : List Text) → AreMatches words matches.now → IfOk result (AreSettings words) }
     ensures err { (words : List Text) → AreMatches words matches.now → IfErr result (IsSettingsFault words) }
+    ensures memory { IfErr result (HidesNothing (rows_of (found_of matches.now))) }
 {
     let Some(options) = options_of(matches) else {
         return Err(SettingsFault::Directions);
@@ -242,17 +243,18 @@ fn settings_of<'a>(alloc: Global, matches: &ArgMatches<'a>) -> Result<Settings<'
     let Some(width) = matches.get_one::<u16>("width") else {
         unreachable!()
     };
-    let Ok(files) = Vec::from_slice(alloc, matches.get_strs("files").unwrap_or(&[])) else {
-        return Err(SettingsFault::NoMemory);
-    };
+    let texts = matches.get_strs("files").unwrap_or(&[]);
     let script = matches.get_str("script");
-    if !fits_script(script, files.len()) {
+    if !fits_script(script, texts.len()) {
         return Err(SettingsFault::ScriptFiles);
     }
     let queries = is_set(matches, "queries");
     if !fits_queries(queries, script) {
         return Err(SettingsFault::Queries);
     }
+    let Ok(files) = Vec::from_slice(alloc, texts) else {
+        return Err(SettingsFault::NoMemory);
+    };
     Ok(Settings {
         ucd,
         width,

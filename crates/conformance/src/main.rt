@@ -1,16 +1,22 @@
 //! Tells what is found of the paragraphs that standard input names, one a line, each by the hexadecimal
-//! numbers of its
-//! characters, for Unicode's conformance tests (`conformance/run`), with the table files of the folder UCD:
+//! numbers of its characters, with the table files of the folder UCD:
 //!
 //! - `conformance marks-of UCD` prints the break marks of each.
 //! - `conformance lines-of UCD DIRECTION` prints the base level, the levels and the order of each, in one
 //! line.
+//! - `conformance levels-of UCD DIRECTION` prints the levels of each before L1.
+//! - `conformance starts-of UCD WIDTH` prints where the lines of each start, filled again at a width.
 //!
-//! Without words it says this.
+//! Without words it says this. The first two are for Unicode's conformance tests (`conformance/run`); the
+//! others call what the command calls nowhere, so that `faults/amounts` sees what these calls take.
 #![tactic(auto)]
 
+ghost use Rattle.std.specs.Prelude.{◌<◌, IfOk};
+ghost use Rattle.lines.specs.Engine.{rules_of};
+ghost use Rattle.lines.specs.Layouts.{IsLaidOut};
+
 use anyhow::{Result, bail};
-use bidi::Base;
+use bidi::{Base, resolve};
 use breaks::{Mark, Tailoring, marks};
 use lines::{Engine, Laid, Options, PARAGRAPH_LIMIT};
 use std::alloc::Global;
@@ -19,7 +25,8 @@ use std::{env, io};
 use tables::in_folder;
 use ucd::Tables;
 
-const USAGE: &str = "conformance marks-of UCD, or conformance lines-of UCD ltr|rtl|wltr|wrtl";
+const USAGE: &str = "conformance marks-of UCD, or conformance lines-of UCD ltr|rtl|wltr|wrtl,
+or conformance levels-of UCD ltr|rtl|wltr|wrtl, or conformance starts-of UCD WIDTH";
 
 fn main(rt: HostRuntime) -> Result<()> {
     let words: Vec<String> = env::args(&rt)?.collect(rt.alloc())?;
@@ -27,12 +34,18 @@ fn main(rt: HostRuntime) -> Result<()> {
 }
 
 fn run(rt: &HostRuntime, words: &[String]) -> Result<()> {
-    let subject = word(words, 1);
+    let (subject, folder, choice) = (word(words, 1), word(words, 2), word(words, 3));
     if subject == "marks-of" {
-        return marks_of(rt, word(words, 2));
+        return tell_by_tables(rt, folder, Subject::Marks);
+    }
+    if subject == "levels-of" {
+        return tell_by_tables(rt, folder, Subject::Levels(base(choice)?));
     }
     if subject == "lines-of" {
-        return lines_of(rt, word(words, 2), word(words, 3));
+        return tell_by_engine(rt, folder, in_one_line(base(choice)?), None);
+    }
+    if subject == "starts-of" {
+        return tell_by_engine(rt, folder, Options::default(), Some(width(choice)?));
     }
     println!(rt; "{USAGE}")?;
     Ok(())
@@ -46,36 +59,85 @@ fn word(words: &[String], place: usize) -> &str {
     }
 }
 
-// Prints the marks of the positions of each paragraph, one after each of its characters: `x` where no line
-// ends, `/` where one may and `!` where one must.
-fn marks_of(rt: &HostRuntime, folder: &str) -> Result<()> {
+const DIRECTIONS: [(&str, Base); 4] = [
+    ("ltr", Base::Ltr),
+    ("rtl", Base::Rtl),
+    ("wltr", Base::WeakLtr),
+    ("wrtl", Base::WeakRtl),
+];
+
+// The direction that is named, as the command's options have it.
+fn base(direction: &str) -> Result<Base> {
+    for (name, base) in &DIRECTIONS {
+        if direction == *name {
+            return Ok(*base);
+        }
+    }
+    bail!("in which direction?")
+}
+
+fn width(digits: &str) -> Result<u16> {
+    Ok(u16::from_str_radix(digits, 10)?)
+}
+
+// Lines end at the ends of paragraphs alone.
+fn in_one_line(base: Base) -> Options {
+    Options {
+        base,
+        nobreak: true,
+        ..Options::default()
+    }
+}
+
+// What is told of paragraphs by the tables alone.
+#[derive(Clone, Copy)]
+enum Subject {
+    Marks,
+    Levels(Base),
+}
+
+fn tell_by_tables(rt: &HostRuntime, folder: &str, subject: Subject) -> Result<()> {
     let tables = in_folder(rt, folder)?;
-    write_marks_of(rt, &tables)
+    write_by_tables(rt, &tables, subject)
 }
 
-fn write_marks_of(rt: &HostRuntime, tables: &Tables) -> Result<()> {
+fn write_by_tables(rt: &HostRuntime, tables: &Tables, subject: Subject) -> Result<()> {
     let mut output = BufWriter::new(rt.alloc(), io::writer(rt))?;
-    write_all_marks(rt, tables, &mut output)
-}
-
-fn write_all_marks<W: Write>(rt: &HostRuntime, tables: &Tables, output: &mut W) -> Result<()> {
     for line in BufReader::new(rt.alloc(), rt.reader())?.lines(rt.alloc()) {
-        write_marks(rt.alloc(), tables, line?.as_str(), output)?;
+        let text = characters(rt.alloc(), line?.as_str())?;
+        write_subject(rt.alloc(), tables, &text, subject, &mut output)?;
     }
     Ok(output.flush()?)
 }
 
-fn write_marks<W: Write>(alloc: Global, tables: &Tables, line: &str, output: &mut W) -> Result<()> {
-    let text = characters(alloc, line)?;
+fn write_subject<W: Write>(
+    alloc: Global,
+    tables: &Tables,
+    text: &[char],
+    subject: Subject,
+    output: &mut W,
+) -> Result<()> {
+    match subject {
+        Subject::Marks => write_marks(alloc, tables, text, output),
+        Subject::Levels(base) => {
+            write_levels(output, &resolve(alloc, tables, text, base)?)?;
+            Ok(writeln!(output)?)
+        }
+    }
+}
+
+// Prints the marks of the positions of a paragraph, one after each of its characters: `x` where no line
+// ends, `/` where one may and `!` where one must.
+fn write_marks<W: Write>(
+    alloc: Global,
+    tables: &Tables,
+    text: &[char],
+    output: &mut W,
+) -> Result<()> {
     let tailoring = Tailoring {
         whole_numbers: true,
     };
-    let marks = marks(alloc, tables, &text, tailoring)?;
-    write_signs(output, &marks)
-}
-
-fn write_signs<W: Write>(output: &mut W, marks: &[Mark]) -> Result<()> {
-    for mark in marks {
+    for mark in &marks(alloc, tables, text, tailoring)? {
         write!(output, "{}", sign(*mark))?;
     }
     Ok(writeln!(output)?)
@@ -89,62 +151,40 @@ fn sign(mark: Mark) -> char {
     }
 }
 
-// Lays each paragraph out in one line, and prints its base level and, of what is shown, the levels after L1
-// and the logical positions in visual order: `1; 1 2; 1 0`. The direction is `ltr`, `rtl`, `wltr` or `wrtl`,
-// as the command's options have them.
-fn lines_of(rt: &HostRuntime, folder: &str, direction: &str) -> Result<()> {
-    let mut engine = engine(rt, folder, direction)?;
-    let answer = write_lines_of(rt, &mut engine);
+// Lays paragraphs out, and tells of each in one line, or where its lines start at a width.
+fn tell_by_engine(
+    rt: &HostRuntime,
+    folder: &str,
+    options: Options,
+    width: Option<u16>,
+) -> Result<()> {
+    let mut engine = Engine::new(in_folder(rt, folder)?, options);
+    let answer = write_by_engine(rt, &mut engine, width);
     let_go(engine);
     answer
 }
 
-fn write_lines_of(rt: &HostRuntime, engine: &mut Engine) -> Result<()> {
+fn write_by_engine(rt: &HostRuntime, engine: &mut Engine, width: Option<u16>) -> Result<()> {
     let mut output = BufWriter::new(rt.alloc(), io::writer(rt))?;
-    write_lines(rt, engine, &mut output)
-}
-
-fn write_lines<W: Write>(rt: &HostRuntime, engine: &mut Engine, output: &mut W) -> Result<()> {
     for line in BufReader::new(rt.alloc(), rt.reader())?.lines(rt.alloc()) {
-        write_laid(rt.alloc(), engine, line?.as_str(), output)?;
+        let text = characters(rt.alloc(), line?.as_str())?;
+        write_laid_out(rt.alloc(), engine, text, width, &mut output)?;
     }
     Ok(output.flush()?)
 }
 
-fn write_laid<W: Write>(
+fn write_laid_out<W: Write>(
     alloc: Global,
     engine: &mut Engine,
-    line: &str,
+    text: Vec<char>,
+    width: Option<u16>,
     output: &mut W,
 ) -> Result<()> {
-    let text = characters(alloc, line)?;
     let laid = lay_out(alloc, engine, text)?;
-    write_line(output, &laid)
-}
-
-const DIRECTIONS: [(&str, Base); 4] = [
-    ("ltr", Base::Ltr),
-    ("rtl", Base::Rtl),
-    ("wltr", Base::WeakLtr),
-    ("wrtl", Base::WeakRtl),
-];
-
-fn base(direction: &str) -> Result<Base> {
-    for (name, base) in &DIRECTIONS {
-        if direction == *name {
-            return Ok(*base);
-        }
+    match width {
+        Some(width) => write_starts(alloc, engine, laid, width, output),
+        None => write_line(output, &laid),
     }
-    bail!("in which direction?")
-}
-
-fn engine(rt: &HostRuntime, folder: &str, direction: &str) -> Result<Engine> {
-    let options = Options {
-        base: base(direction)?,
-        nobreak: true,
-        ..Options::default()
-    };
-    Ok(Engine::new(in_folder(rt, folder)?, options))
 }
 
 // The characters that a line names by their hexadecimal numbers.
@@ -164,6 +204,8 @@ fn character(word: &str) -> Result<char> {
     }
 }
 
+// Prints the base level of a paragraph in one line and, of what is shown, the levels after L1 and the logical
+// positions in visual order: `1; 1 2; 1 0`.
 fn write_line<W: Write>(output: &mut W, laid: &Laid) -> Result<()> {
     let Some(line) = laid.line(0) else {
         bail!("there is no line");
@@ -173,14 +215,34 @@ fn write_line<W: Write>(output: &mut W, laid: &Laid) -> Result<()> {
     }
     write!(output, "{};", line.base())?;
     write_levels(output, line.levels())?;
+    write!(output, ";")?;
     write_places(output, line.vtol())
+}
+
+// Fills the lines of a paragraph again at a width, puts them in, and prints where they start.
+fn write_starts<W: Write>(
+    alloc: Global,
+    engine: &mut Engine,
+    laid: Laid,
+    width: u16,
+    output: &mut W,
+) -> Result<()>
+    requires { IsLaidOut (rules_of engine.old) laid }
+{
+    if width == 0 {
+        bail!("at which width?");
+    }
+    let mut laid = laid;
+    let mut fill = engine.refill(alloc, &laid, width)?;
+    laid.exchange(&mut fill);
+    write_places(output, laid.line_starts())
 }
 
 fn write_levels<W: Write>(output: &mut W, levels: &[u8]) -> Result<()> {
     for level in levels {
         write!(output, " {level}")?;
     }
-    Ok(write!(output, ";")?)
+    Ok(())
 }
 
 fn write_places<W: Write>(output: &mut W, places: &[u32]) -> Result<()> {
@@ -190,8 +252,10 @@ fn write_places<W: Write>(output: &mut W, places: &[u32]) -> Result<()> {
     Ok(writeln!(output)?)
 }
 
-// Lays a paragraph out in one line.
-fn lay_out(alloc: Global, engine: &mut Engine, text: Vec<char>) -> Result<Laid> {
+// Lays a paragraph out in as few lines as there can be.
+fn lay_out(alloc: Global, engine: &mut Engine, text: Vec<char>) -> Result<Laid>
+    ensures { IfOk result (IsLaidOut (rules_of engine.new)) }
+{
     let is_long = text.len() > PARAGRAPH_LIMIT;
     if text.is_empty() || is_long || engine.first_cut(&text).is_some() {
         bail!("that is no paragraph");
@@ -203,6 +267,5 @@ fn lay_out(alloc: Global, engine: &mut Engine, text: Vec<char>) -> Result<Laid> 
 }
 
 // Lets go of an engine. Only this function does, since the proof of each that does walks through all the
-// lists
-// that an engine has.
+// lists that an engine has.
 fn let_go(_engine: Engine) {}

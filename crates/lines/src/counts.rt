@@ -45,6 +45,16 @@ impl Count {
         self.value = self.value.saturating_add(len as u64);
     }
 
+    /// Raises it by so many characters, before they are worked on.
+    pub(crate) fn take(&mut self, len: usize) -> Counted
+        ensures counted { result ≡ len }
+        ensures counts { self.new ≡ counted self.old len }
+        ensures least { self.old ≤ self.new }
+    {
+        self.raise(len);
+        Counted { len }
+    }
+
     /// Raises it by what another counted.
     pub(crate) fn add(&mut self, other: Count)
         ensures counts { self.new ≡ counted self.old other }
@@ -53,6 +63,21 @@ impl Count {
         let Count { value } = other;
         self.value = self.value.saturating_add(value);
     }
+}
+
+/// So many characters that a count was raised by. It isn't `Copy`: who works on them twice has to count them
+/// twice.
+#[derive(Debug, Drop)]
+pub(crate) struct Counted {
+    len: usize,
+}
+
+impl Model for Counted {
+    ghost use Rattle.std.specs.Prelude.{ℕ};
+
+    ghost Value = { ℕ };
+
+    ghost view = { λ c. c.len };
 }
 
 /// How many characters were analysed, how many filled into lines, and of how many the lines were written.

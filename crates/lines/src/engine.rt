@@ -105,11 +105,13 @@ impl Engine {
         is_cut(&self.tables, before, after)
     }
 
-    /// True only where all characters after which a paragraph may end are U+0085, U+2029 and some below
+    /// Whether all characters after which a paragraph may end are among U+0085, U+2029 and those below
     /// U+0020, as in the files of Unicode.
     pub fn has_usual_separators(&self) -> bool
-        ensures { result ≡ true → (a b : ℕ) → a < 1114112 → may_separate a ≡ false
+        ensures yes { result ≡ true → (a b : ℕ) → a < 1114112 → may_separate a ≡ false
             → cut_by (rules_of self.now) a b ≡ false }
+        ensures no { result ≡ false → ¬ ((a b : ℕ) → a < 1114112 → may_separate a ≡ false
+            → cut_by (rules_of self.now) a b ≡ false) }
     {
         self.tables.has_usual_separators()
     }
@@ -167,8 +169,9 @@ impl Engine {
         ensures unwritten { OnErr result (written_of self.new ≡ written_of self.old) }
         ensures at_most { LaysOutAtMost (length text.items) self.old self.new }
 
-        // Also where there is no memory, the characters count as analysed.
+        // Also where there is no memory, the characters count as analysed and as filled.
         ensures analysed { analysed_of self.new ≡ counted (analysed_of self.old) (length text.items) }
+        ensures filled { filled_of self.new ≡ counted (filled_of self.old) (length text.items) }
         ensures rules { SameRules self.old self.new }
     {
         match self.parts(alloc, &text, width) {
@@ -193,6 +196,7 @@ impl Engine {
         ensures counts { IfOk result (λ fill. Fills (length laid.now.text) self.old self.new) }
         ensures unwritten { OnErr result (written_of self.new ≡ written_of self.old) }
         ensures at_most { FillsAtMost (length laid.now.text) self.old self.new }
+        ensures filled { filled_of self.new ≡ counted (filled_of self.old) (length laid.now.text) }
         ensures rules { SameRules self.old self.new }
     {
         self.fill(alloc, laid, width)
@@ -224,9 +228,11 @@ impl Engine {
         ensures unwritten { IsErrOf result PrintFault.Memory → written_of self.new ≡ written_of self.old }
         ensures at_most { LaysOutAtMost (length text.now) self.old self.new }
 
-        // Also after a fault: the characters count as analysed, and what is not laid out into lines is not
-        // counted as filled or written.
+        // Also after a fault: the characters count as analysed, and as filled too, unless they aren't laid out
+        // into lines. They count as neither filled nor written then.
         ensures analysed { analysed_of self.new ≡ counted (analysed_of self.old) (length text.now) }
+        ensures filled { skips_lines print.now ≡ false
+            → filled_of self.new ≡ counted (filled_of self.old) (length text.now) }
         ensures skipped { skips_lines print.now ≡ true → (filled_of self.new ≡ filled_of self.old)
             × (written_of self.new ≡ written_of self.old) }
         ensures rules { SameRules self.old self.new }
@@ -249,6 +255,7 @@ impl Engine {
         ensures counts { IfOk result (λ extents.
             FindsExtents (length laid.now.text) self.old self.new) }
         ensures at_most { FindsExtentsAtMost (length laid.now.text) self.old self.new }
+        ensures filled { filled_of self.new ≡ counted (filled_of self.old) (length laid.now.text) }
         ensures rules { SameRules self.old self.new }
     {
         self.find_extents(alloc, laid.text(), laid.marks(), width)
@@ -315,6 +322,7 @@ impl Engine {
         ensures unwritten { IsErrOf result PrintFault.Memory → written_of self.new ≡ written_of self.old }
         ensures at_most { LaysOutAtMost (length text.now) self.old self.new }
         ensures analysed { analysed_of self.new ≡ counted (analysed_of self.old) (length text.now) }
+        ensures filled { filled_of self.new ≡ counted (filled_of self.old) (length text.now) }
         ensures rules { SameRules self.old self.new }
     {
         let work = self.work.get_or_insert_with(|| Workspace::new(alloc));
@@ -383,6 +391,7 @@ impl Engine {
         ensures unwritten { OnErr result (written_of self.new ≡ written_of self.old) }
         ensures at_most { LaysOutAtMost (length text.now) self.old self.new }
         ensures analysed { analysed_of self.new ≡ counted (analysed_of self.old) (length text.now) }
+        ensures filled { filled_of self.new ≡ counted (filled_of self.old) (length text.now) }
         ensures rules { SameRules self.old self.new }
     {
         let work = self.work.get_or_insert_with(|| Workspace::new(alloc));
@@ -416,6 +425,7 @@ impl Engine {
             ≡ extents_of (rules_of self.old) width text.now) }
         ensures counts { OnOk result (FindsExtents (length text.now) self.old self.new) }
         ensures at_most { FindsExtentsAtMost (length text.now) self.old self.new }
+        ensures filled { filled_of self.new ≡ counted (filled_of self.old) (length text.now) }
         ensures rules { SameRules self.old self.new }
     {
         let work = self.work.get_or_insert_with(|| Workspace::new(alloc));
@@ -435,6 +445,7 @@ impl Engine {
         ensures counts { OnOk result (Fills (length laid.now.text) self.old self.new) }
         ensures unwritten { OnErr result (written_of self.new ≡ written_of self.old) }
         ensures at_most { FillsAtMost (length laid.now.text) self.old self.new }
+        ensures filled { filled_of self.new ≡ counted (filled_of self.old) (length laid.now.text) }
         ensures rules { SameRules self.old self.new }
     {
         let work = self.work.get_or_insert_with(|| Workspace::new(alloc));

@@ -3,7 +3,6 @@ ghost use Rattle.std.specs.Prelude.{◌≡◌, ◌+◌, ◌||◌, ◌<◌, ◌�
 ghost use Rattle.std.specs.Prelude.{None, Some, IfOk, IfSome, OnErr, OnOk, if◌then◌else◌};
 ghost use Rattle.lines.specs.Bare.{AreAlike, with_ends};
 ghost use Rattle.lines.specs.Clusters.{cluster_ends};
-ghost use Rattle.lines.specs.Engine.{counted};
 ghost use Rattle.lines.specs.Filling.{by_break, by_cluster, first_end, line_end};
 ghost use Rattle.lines.specs.Filling.{is_break, is_must, line_len, line_starts_of, stop};
 ghost use Rattle.lines.specs.Kept.{AreStarts};
@@ -12,14 +11,14 @@ ghost use Rattle.lines.specs.declared.places.Place.{Place};
 ghost use Rattle.lines.specs.declared.engine.TheConstants.{PARAGRAPH_LIMIT};
 
 use crate::clusters::mark_clusters;
-use crate::counts::Count;
+use crate::counts::Counted;
 use crate::places::Place;
 use breaks::Mark;
 use std::alloc::{AllocError, Global};
 
 /// Puts where each line of a paragraph starts, at a width, in place of what a list has. Where clusters end
-/// isn't known of the places: it is found, and put to them, for the first line that needs it. Counts the
-/// characters.
+/// isn't known of the places: it is found, and put to them, for the first line that needs it. The characters
+/// are counted.
 pub fn line_starts(
     alloc: Global,
     text: &[char],
@@ -27,18 +26,16 @@ pub fn line_starts(
     width: u16,
     nobreak: bool,
     starts: &mut Vec<u32>,
-    filled: &mut Count,
+    _filled: Counted,
 ) -> Result<(), AllocError>
+    requires counted { _filled ≡ length text.now }
     requires len { length places.old ≡ length text.now }
     requires within { length places.old ≤ PARAGRAPH_LIMIT }
     ensures lines { OnOk result (starts.new.items
         ≡ line_starts_of nobreak width (with_ends places.old (cluster_ends text.now))) }
     ensures starts { OnOk result (AreStarts (length text.now) starts.new.items) }
     ensures alike { OnOk result (AreAlike places.new places.old) }
-    ensures counts { filled.new ≡ counted filled.old (length text.now) }
-    ensures least { filled.old ≤ filled.new }
 {
-    filled.raise(text.len());
     starts.clear();
     let mut start = 0;
     let mut is_known = false;

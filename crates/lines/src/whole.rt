@@ -2,7 +2,7 @@
 //! characters are printed: it is one line, of which neither break marks nor columns are found.
 ghost use Rattle.std.specs.Prelude.{◌≡◌, ◌<◌, ◌≤◌, Bool, true, false, length, IfOk, IfErr};
 ghost use Rattle.breaks.specs.Bases.{resolved};
-ghost use Rattle.lines.specs.Counts.{FillsAll, FillsSome};
+ghost use Rattle.lines.specs.Engine.{counted};
 ghost use Rattle.lines.specs.Pages.{lines_bytes};
 ghost use Rattle.lines.specs.Paragraphs.{IsLookedUp, lines_at};
 ghost use Rattle.lines.specs.Whole.{ends_line, IsShownLen, IsWhole};
@@ -10,7 +10,7 @@ ghost use Rattle.lines.specs.Writing.{PassedOn, StoppedIn};
 ghost use Rattle.lines.specs.declared.engine.TheConstants.{PARAGRAPH_LIMIT};
 
 use crate::bytes::WriteFault;
-use crate::counts::Counts;
+use crate::counts::{Count, Counted};
 use crate::fill::Shown;
 use crate::paragraph::Text;
 use crate::places::is_trailing;
@@ -73,8 +73,10 @@ pub(crate) fn write_whole<W: Sink>(
     ltov: &mut [u32],
     vtol: &mut [u32],
     chars: &mut [char],
-    counts: &mut Counts,
+    _filled: Counted,
+    written: &mut Count,
 ) -> Result<u64, WriteFault>
+    requires counted { _filled ≡ length text.now.characters.now }
     requires text { IsLookedUp text.now }
     requires limit { length text.now.characters.now ≤ PARAGRAPH_LIMIT }
     requires some { 0 < length text.now.characters.now }
@@ -92,11 +94,10 @@ pub(crate) fn write_whole<W: Sink>(
     ensures err { IfErr result (λ fault. StoppedIn (lines_bytes form.now.width form.now.print.now
         text.now.base text.now.characters.now (lines_at text.now levels.now form.now.width)) 0
         (W.state writer.old) (W.state writer.new) fault.written) }
-    ensures counts { FillsAll (length text.now.characters.now) counts.old counts.new }
-    ensures at_most { FillsSome (length text.now.characters.now) counts.old counts.new }
+    ensures counts { written.new ≡ counted written.old (length text.now.characters.now) }
+    ensures least { written.old ≤ written.new }
 {
-    counts.filled.raise(text.characters.len());
-    counts.written.raise(text.characters.len());
+    written.raise(text.characters.len());
     let whole_numbers = text.rules.options.whole_numbers;
     marks_are_as_many(
         text.rules.tables,

@@ -6,7 +6,6 @@ ghost use Rattle.bidi.specs.Levels.{levels_of};
 ghost use Rattle.breaks.specs.Marks.{marks_of};
 ghost use Rattle.lines.specs.Bare.{with_ends};
 ghost use Rattle.lines.specs.Clusters.{cluster_ends};
-ghost use Rattle.lines.specs.Counts.{FillsAll, FillsSome};
 ghost use Rattle.lines.specs.Engine.{counted, RisesBy};
 ghost use Rattle.lines.specs.Extents.{shown_from};
 ghost use Rattle.lines.specs.Filling.{line_starts_of};
@@ -25,7 +24,7 @@ ghost use Rattle.lines.specs.Places.{places_of};
 ghost use Rattle.lines.specs.declared.engine.TheConstants.{PARAGRAPH_LIMIT};
 
 use crate::bytes::WriteFault;
-use crate::counts::{Count, Counts};
+use crate::counts::{Count, Counted, Counts};
 use crate::extents::{Extents, look_up};
 use crate::fill::{Fill, Lists, Shown};
 use crate::filling::line_starts;
@@ -141,7 +140,9 @@ impl Workspace {
         ensures unwritten { OnErr result (counts.new.written ≡ counts.old.written) }
         ensures at_most { LaysOutSome (length text.now) counts.old counts.new }
         ensures analysed { counts.new.analysed ≡ counted counts.old.analysed (length text.now) }
+        ensures filled { counts.new.filled ≡ counted counts.old.filled (length text.now) }
     {
+        let filled = counts.filled.take(text.len());
         let base = self.resolve(rules, text, &mut kept.levels, &mut counts.analysed)?;
         take_marks(rules, text, &self.properties, &mut kept.marks)?;
         let paragraph = Paragraph {
@@ -154,8 +155,9 @@ impl Workspace {
             levels: &kept.levels,
             marks: &kept.marks,
         };
-        let places = &mut self.places;
-        put_lines(alloc, &paragraph, places, width, &mut kept.lines, counts)?;
+        let (places, lists) = (&mut self.places, &mut kept.lines);
+        let written = &mut counts.written;
+        put_lines(alloc, &paragraph, places, width, lists, filled, written)?;
         Ok(base)
     }
 
@@ -183,7 +185,9 @@ impl Workspace {
         ensures unwritten { IsErrOf result PrintFault.Memory → counts.new.written ≡ counts.old.written }
         ensures at_most { LaysOutSome (length text.now) counts.old counts.new }
         ensures analysed { counts.new.analysed ≡ counted counts.old.analysed (length text.now) }
+        ensures filled { counts.new.filled ≡ counted counts.old.filled (length text.now) }
     {
+        let filled = counts.filled.take(text.len());
         let levels = &mut kept.levels;
         let Ok(base) = self.resolve(rules, text, levels, &mut counts.analysed) else {
             return Err(PrintFault::Memory);
@@ -194,8 +198,10 @@ impl Workspace {
             properties: self.properties.as_slice(),
             base,
         };
+        let written = &mut counts.written;
         if is_one_line(form, &text) {
-            return write_one_line(form, &text, &kept.levels, &mut kept.lines, counts, writer);
+            let lists = &mut kept.lines;
+            return write_one_line(form, &text, &kept.levels, lists, filled, written, writer);
         }
         let Ok(()) = take_marks(rules, text.characters, text.properties, &mut kept.marks) else {
             return Err(PrintFault::Memory);
@@ -207,7 +213,9 @@ impl Workspace {
         };
         let places = &mut self.places;
         let lists = &mut kept.lines;
-        write_lines(alloc, &paragraph, places, form, lists, counts, writer)
+        write_lines(
+            alloc, &paragraph, places, form, lists, filled, written, writer,
+        )
     }
 
     // The base level of a paragraph, and its levels, put into a list. What the tables say of its characters
@@ -251,20 +259,15 @@ impl Workspace {
         ensures extents { IfOk result (λ extents. extents ≡ extents_of (rules_in rules.now) width text.now) }
         ensures counts { OnOk result (FindsAll (length text.now) counts.old counts.new) }
         ensures at_most { FindsSome (length text.now) counts.old counts.new }
+        ensures filled { counts.new.filled ≡ counted counts.old.filled (length text.now) }
     {
+        let filled = counts.filled.take(text.len());
         let tables = rules.tables;
         take_properties(tables, text, &mut self.properties)?;
         let whole_numbers = rules.options.whole_numbers;
         let places = &mut self.places;
         take_places(tables, text, &self.properties, whole_numbers, marks, places)?;
-        extents_of_places(
-            alloc,
-            text,
-            places,
-            width,
-            rules.options.nobreak,
-            &mut counts.filled,
-        )
+        extents_of_places(alloc, text, places, width, rules.options.nobreak, filled)
     }
 
     /// The lines of a paragraph that is laid out, at another width.
@@ -282,8 +285,10 @@ impl Workspace {
         ensures counts { OnOk result (FillsAll (length laid.now.text) counts.old counts.new) }
         ensures unwritten { OnErr result (counts.new.written ≡ counts.old.written) }
         ensures at_most { FillsSome (length laid.now.text) counts.old counts.new }
+        ensures filled { counts.new.filled ≡ counted counts.old.filled (length laid.now.text) }
     {
         let text = laid.text();
+        let filled = counts.filled.take(text.len());
         take_properties(rules.tables, text, &mut self.properties)?;
         let paragraph = Paragraph {
             text: Text {
@@ -297,7 +302,10 @@ impl Workspace {
         };
         let places = &mut self.places;
         let mut lists = Lists::new(alloc);
-        put_lines(alloc, &paragraph, places, width, &mut lists, counts)?;
+        let written = &mut counts.written;
+        put_lines(
+            alloc, &paragraph, places, width, &mut lists, filled, written,
+        )?;
         Ok(Fill::of(lists))
     }
 }
@@ -322,16 +330,15 @@ fn extents_of_places(
     places: &mut [Place],
     width: u16,
     nobreak: bool,
-    filled: &mut Count,
+    filled: Counted,
 ) -> Result<Extents, AllocError>
+    requires counted { filled ≡ length text.now }
     requires len { length places.old ≡ length text.now }
     requires within { length text.now ≤ PARAGRAPH_LIMIT }
     ensures starts { IfOk result (λ extents. extents.starts
         ≡ line_starts_of nobreak width (with_ends places.old (cluster_ends text.now))) }
     ensures shown { IfOk result (λ extents. extents.shown
         ≡ shown_from (length text.now) (with_ends places.old (cluster_ends text.now)) extents.starts) }
-    ensures counts { filled.new ≡ counted filled.old (length text.now) }
-    ensures least { filled.old ≤ filled.new }
 {
     let mut starts = Vec::new(alloc);
     let mut shown = Vec::new(alloc);
@@ -358,8 +365,9 @@ fn put_spans(
     nobreak: bool,
     starts: &mut Vec<u32>,
     shown: &mut Vec<Shown>,
-    filled: &mut Count,
+    filled: Counted,
 ) -> Result<(), AllocError>
+    requires counted { filled ≡ length text.now }
     requires len { length places.old ≡ length text.now }
     requires within { length text.now ≤ PARAGRAPH_LIMIT }
     ensures starts { OnOk result (starts.new.items
@@ -367,8 +375,6 @@ fn put_spans(
     ensures shown { OnOk result (shown.new.items
         ≡ shown_from (length text.now) (with_ends places.old (cluster_ends text.now)) starts.new.items) }
     ensures ordered { OnOk result (AreStarts (length text.now) starts.new.items) }
-    ensures counts { filled.new ≡ counted filled.old (length text.now) }
-    ensures least { filled.old ≤ filled.new }
 {
     line_starts(alloc, text, places, width, nobreak, starts, filled)?;
     take_shown(places, starts, shown)
@@ -411,9 +417,11 @@ fn write_one_line<W: Sink>(
     text: &Text<'_>,
     levels: &[u8],
     lists: &mut Lists,
-    counts: &mut Counts,
+    filled: Counted,
+    written: &mut Count,
     writer: &mut W,
 ) -> Result<(), PrintFault>
+    requires counted { filled ≡ length text.now.characters.now }
     requires text { IsLookedUp text.now }
     requires limit { length text.now.characters.now ≤ PARAGRAPH_LIMIT }
     requires some { 0 < length text.now.characters.now }
@@ -431,16 +439,18 @@ fn write_one_line<W: Sink>(
         form.now.width form.now.print.now text.now.characters.now)
         (W.state writer.old) (W.state writer.new)) }
     ensures counts { ¬ (IsErrOf result PrintFault.Memory)
-        → FillsAll (length text.now.characters.now) counts.old counts.new }
-    ensures unwritten { IsErrOf result PrintFault.Memory → counts.new.written ≡ counts.old.written }
-    ensures at_most { FillsSome (length text.now.characters.now) counts.old counts.new }
+        → written.new ≡ counted written.old (length text.now.characters.now) }
+    ensures unwritten { IsErrOf result PrintFault.Memory → written.new ≡ written.old }
+    ensures at_most { RisesBy (length text.now.characters.now) written.old written.new }
 {
     let Ok(()) = make_room(lists, text.characters.len()) else {
         return Err(PrintFault::Memory);
     };
     let row = &mut lists.levels;
     let (ltov, vtol, chars) = (&mut lists.ltov, &mut lists.vtol, &mut lists.chars);
-    match write_whole(writer, form, text, levels, row, ltov, vtol, chars, counts) {
+    match write_whole(
+        writer, form, text, levels, row, ltov, vtol, chars, filled, written,
+    ) {
         Ok(_) => Ok(()),
         Err(fault) => Err(PrintFault::Write(fault)),
     }
@@ -453,9 +463,11 @@ fn write_lines<W: Sink>(
     places: &mut Vec<Place>,
     form: &Form<'_>,
     lists: &mut Lists,
-    counts: &mut Counts,
+    filled: Counted,
+    written: &mut Count,
     writer: &mut W,
 ) -> Result<(), PrintFault>
+    requires counted { filled ≡ length paragraph.now.text.characters.now }
     requires text { IsLookedUp paragraph.now.text }
     requires base { paragraph.now.text.base
         ≡ base_of (rules_in paragraph.now.text.rules) paragraph.now.text.characters.now }
@@ -472,23 +484,15 @@ fn write_lines<W: Sink>(
         (rules_in paragraph.now.text.rules) form.now.width form.now.print.now
         paragraph.now.text.characters.now) (W.state writer.old) (W.state writer.new)) }
     ensures counts { ¬ (IsErrOf result PrintFault.Memory)
-        → FillsAll (length paragraph.now.text.characters.now) counts.old counts.new }
-    ensures unwritten { IsErrOf result PrintFault.Memory → counts.new.written ≡ counts.old.written }
-    ensures at_most { FillsSome (length paragraph.now.text.characters.now) counts.old counts.new }
+        → written.new ≡ counted written.old (length paragraph.now.text.characters.now) }
+    ensures unwritten { IsErrOf result PrintFault.Memory → written.new ≡ written.old }
+    ensures at_most { RisesBy (length paragraph.now.text.characters.now) written.old written.new }
 {
     let text = &paragraph.text;
-    let Ok(()) = take_spans(
-        alloc,
-        paragraph,
-        places,
-        form.width,
-        lists,
-        &mut counts.filled,
-    ) else {
+    let Ok(()) = take_spans(alloc, paragraph, places, form.width, lists, filled) else {
         return Err(PrintFault::Memory);
     };
-    let count = &mut counts.written;
-    match write_spans(writer, form, text, paragraph.levels, lists, count) {
+    match write_spans(writer, form, text, paragraph.levels, lists, written) {
         Ok(_) => Ok(()),
         Err(fault) => Err(PrintFault::Write(fault)),
     }
@@ -502,8 +506,9 @@ fn take_spans(
     places: &mut Vec<Place>,
     width: u16,
     lists: &mut Lists,
-    filled: &mut Count,
+    filled: Counted,
 ) -> Result<(), AllocError>
+    requires counted { filled ≡ length paragraph.now.text.characters.now }
     requires text { IsLookedUp paragraph.now.text }
     requires marks { paragraph.now.marks.now ≡ marks_of paragraph.now.text.rules.tables.now
         paragraph.now.text.rules.options.whole_numbers paragraph.now.text.characters.now }
@@ -519,9 +524,6 @@ fn take_spans(
     ensures ordered { OnOk result
         (AreStarts (length paragraph.now.text.characters.now) lists.new.starts.items) }
     ensures room { OnOk result (HasRoom (length paragraph.now.text.characters.now) lists.new) }
-    ensures counts { OnOk result
-        (filled.new ≡ counted filled.old (length paragraph.now.text.characters.now)) }
-    ensures at_most { RisesBy (length paragraph.now.text.characters.now) filled.old filled.new }
 {
     let text = &paragraph.text;
     take_places(
@@ -612,8 +614,10 @@ fn put_lines(
     places: &mut Vec<Place>,
     width: u16,
     lists: &mut Lists,
-    counts: &mut Counts,
+    filled: Counted,
+    written: &mut Count,
 ) -> Result<(), AllocError>
+    requires counted { filled ≡ length paragraph.now.text.characters.now }
     requires text { IsLookedUp paragraph.now.text }
     requires base { paragraph.now.text.base
         ≡ base_of (rules_in paragraph.now.text.rules) paragraph.now.text.characters.now }
@@ -631,9 +635,9 @@ fn put_lines(
     ensures lines_len { OnOk result
         (length lists.new.levels.items ≡ length paragraph.now.text.characters.now) }
     ensures counts { OnOk result
-        (FillsAll (length paragraph.now.text.characters.now) counts.old counts.new) }
-    ensures unwritten { OnErr result (counts.new.written ≡ counts.old.written) }
-    ensures at_most { FillsSome (length paragraph.now.text.characters.now) counts.old counts.new }
+        (written.new ≡ counted written.old (length paragraph.now.text.characters.now)) }
+    ensures unwritten { OnErr result (written.new ≡ written.old) }
+    ensures at_most { RisesBy (length paragraph.now.text.characters.now) written.old written.new }
 {
     let text = &paragraph.text;
     take_places(
@@ -644,7 +648,7 @@ fn put_lines(
         paragraph.marks,
         places,
     )?;
-    put_lines_of_places(alloc, paragraph, places, width, lists, counts)
+    put_lines_of_places(alloc, paragraph, places, width, lists, filled, written)
 }
 
 // Puts them there by their places, of which it isn't known where clusters end.
@@ -654,8 +658,10 @@ fn put_lines_of_places(
     places: &mut [Place],
     width: u16,
     lists: &mut Lists,
-    counts: &mut Counts,
+    filled: Counted,
+    written: &mut Count,
 ) -> Result<(), AllocError>
+    requires counted { filled ≡ length paragraph.now.text.characters.now }
     requires text { IsLookedUp paragraph.now.text }
     requires places { with_ends places.old (cluster_ends paragraph.now.text.characters.now)
         ≡ places_of paragraph.now.text.rules.tables.now
@@ -671,9 +677,9 @@ fn put_lines_of_places(
     ensures lines_len { OnOk result
         (length lists.new.levels.items ≡ length paragraph.now.text.characters.now) }
     ensures counts { OnOk result
-        (FillsAll (length paragraph.now.text.characters.now) counts.old counts.new) }
-    ensures unwritten { OnErr result (counts.new.written ≡ counts.old.written) }
-    ensures at_most { FillsSome (length paragraph.now.text.characters.now) counts.old counts.new }
+        (written.new ≡ counted written.old (length paragraph.now.text.characters.now)) }
+    ensures unwritten { OnErr result (written.new ≡ written.old) }
+    ensures at_most { RisesBy (length paragraph.now.text.characters.now) written.old written.new }
 {
     let text = &paragraph.text;
     line_starts(
@@ -683,7 +689,7 @@ fn put_lines_of_places(
         width,
         text.rules.options.nobreak,
         &mut lists.starts,
-        &mut counts.filled,
+        filled,
     )?;
-    show_lines(paragraph, places, lists, &mut counts.written)
+    show_lines(paragraph, places, lists, written)
 }

@@ -1,5 +1,6 @@
 pub mod Counts
 pub mod Ends
 pub mod Pages
+pub mod Pieces
 pub mod Streaming
 pub mod TextRun

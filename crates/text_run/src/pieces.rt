@@ -1,9 +1,10 @@
 //! The characters of a text whose bytes come in pieces, each of which may end inside a character.
-ghost use Rattle.std.specs.Prelude.{◌≡◌, ◌+◌, ◌++◌, ◌<◌, ◌≤◌, false, true, None, length, take, OnErr, OnOk};
+ghost use Rattle.std.specs.Prelude.{◌≡◌, ◌+◌, ◌++◌, ◌<◌, ◌≤◌, ℕ, false, true, None, length, take, OnErr, OnOk};
 ghost use Rattle.std.specs.Prelude.{vec_len, vec_capacity};
 ghost use Rattle.std.specs.Str.{chars};
 ghost use Rattle.std.specs.Str.Lossy.{utf8_valid_len, utf8_error_len};
 ghost use Rattle.text_run.specs.Ends.{Moved};
+ghost use Rattle.text_run.specs.Pieces.{char_len, IsCutOff};
 ghost use Rattle.text_run.specs.TextRun.{is_bad};
 
 use simdutf8::compat::from_utf8;
@@ -138,7 +139,9 @@ fn is_beginning(bytes: &[u8]) -> bool
 
 // Where the last character of some bytes begins, if it seems to be cut off, and else the end.
 fn whole_len(bytes: &[u8]) -> usize
-    ensures { result ≤ length bytes.now }
+    ensures within { result ≤ length bytes.now }
+    ensures cut { result < length bytes.now → IsCutOff bytes.now result }
+    ensures whole { result ≡ length bytes.now → (k : ℕ) → k < length bytes.now → ¬ (IsCutOff bytes.now k) }
 {
     for after in 1..4 {
         if after > bytes.len() {
@@ -158,7 +161,9 @@ fn whole_len(bytes: &[u8]) -> usize
 }
 
 // How many bytes a character has that begins with this one, which isn't ASCII.
-fn char_len(first: u8) -> usize {
+fn char_len(first: u8) -> usize
+    ensures { result ≡ char_len first }
+{
     if first < 0xe0 {
         2
     } else if first < 0xf0 {

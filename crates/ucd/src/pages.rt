@@ -31,6 +31,8 @@ pub struct Pages {
     ghost within: { (p : ℕ) → p < 4352 → slice_index index.items p * 256 + 256 ≤ length entries.items },
     ghost usual: { has_usual_separators ≡ true
         → (c : ℕ) → c < 1114112 → IsUsual c (answers_at index.items entries.items c) },
+    ghost unusual: { has_usual_separators ≡ false
+        → ¬ ((c : ℕ) → c < 1114112 → IsUsual c (answers_at index.items entries.items c)) },
 }
 
 impl Pages {
@@ -118,8 +120,10 @@ pub fn pages_of(alloc: Global, points: &[Properties]) -> Result<Pages, AllocErro
 // Whether the code points of class B are among those that are of this class in the files of Unicode, and the
 // other controls below U+0020.
 fn are_usual(points: &[Properties]) -> bool
-    ensures { result ≡ true → (c : ℕ) → c < length points.now
+    ensures yes { result ≡ true → (c : ℕ) → c < length points.now
         → IsUsual c (slice_index_or points.now c unnamed) }
+    ensures no { result ≡ false → ¬ ((c : ℕ) → c < length points.now
+        → IsUsual c (slice_index_or points.now c unnamed)) }
 {
     for c in 0..points.len() {
         if is_separator(points[c]) && !may_separate(c) {
@@ -130,7 +134,8 @@ fn are_usual(points: &[Properties]) -> bool
 }
 
 fn is_separator(properties: Properties) -> bool
-    ensures { result ≡ false → properties.bidi_class ≢ B }
+    ensures no { result ≡ false → properties.bidi_class ≢ B }
+    ensures yes { result ≡ true → properties.bidi_class ≡ B }
 {
     matches!(properties.bidi_class(), BidiClass::B)
 }

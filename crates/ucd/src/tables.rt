@@ -255,10 +255,13 @@ impl Tables {
         self.properties(c).bidi_class()
     }
 
-    /// True only where the characters of class B are U+0085, U+2029 and some below U+0020, as in the files of
+    /// Whether the characters of class B are among U+0085, U+2029 and those below U+0020, as in the files of
     /// Unicode.
     pub fn has_usual_separators(&self) -> bool
-        ensures { result ≡ true → (c : ℕ) → c < 1114112 → may_separate c ≡ false → class_of self.now c ≢ B }
+        ensures yes { result ≡ true
+            → (c : ℕ) → c < 1114112 → may_separate c ≡ false → class_of self.now c ≢ B }
+        ensures no { result ≡ false
+            → ¬ ((c : ℕ) → c < 1114112 → may_separate c ≡ false → class_of self.now c ≢ B) }
     {
         self.pages.has_usual_separators
     }

@@ -60,7 +60,7 @@ returns-clause-ok c = λ words m.
     c.in-Some-get_one.ensures.value in
     let is_width : number_of m.width.text ≡ c.in-Some-get_one.width = ap (λ o. unwrap_or o 0) (sym (ap (option_map number_of) m.width.first) ∙ width) in
     let script = c.get_str-script.ensures ∙ first_value-rows found (codes "script") ∙ ap (first_of (codes "script")) m.rows in
-    let files = ap (map (λ s. s.now)) c.in-Ok.ensures.items ∙ ap (λ (s : Bor (List (Bor Text))). map (λ v. v.now) s.now) c.unwrap_or.ensures
+    let texts = ap (λ (s : Bor (List (Bor Text))). map (λ v. v.now) s.now) c.unwrap_or-texts.ensures
     ∙ texts_or_none c.get_strs.result _ refl
     ∙ ap (λ texts. unwrap_or texts []) (c.get_strs.ensures ∙ raw_values-rows found (codes "files") ∙ ap (all_of (codes "files")) m.rows) in
     let fits : c.fits_script.result ≡ true = search rules in
@@ -84,10 +84,10 @@ returns-clause-ok c = λ words m.
       whole_numbers = c.in-Some.ensures.whole_numbers ∙ given (codes "whole-numbers");
       script = script;
       queries = c.is_set-queries.ensures ∙ given (codes "queries");
-      files = files;
+      files = ap (map (λ s. s.now)) c.in-Ok.ensures.items ∙ texts;
       asked = queries_told c.is_set-queries.result c.get_str-script.result (matches_of program _) script (c.is_set-queries.ensures ∙ given (codes "queries")) ∙ sym c.fits_queries.ensures ∙ asks;
-      one = script_one c.get_str-script.result c.len.result (matches_of program _) script
-          (omega (arith, c.len.ensures, ap length files, length-map c.in-Ok.files.items (λ (s : Bor Text). s.now)))
+      one = script_one c.get_str-script.result (length c.unwrap_or-texts.result.now) (matches_of program _) script
+          (omega (arith, ap length texts, length-map c.unwrap_or-texts.result.now (λ (s : Bor Text). s.now)))
           ∙ sym c.fits_script.ensures ∙ fits;
     }
 
@@ -95,15 +95,15 @@ pub returns-then-not-fits_script-clause-err : goal.returns-then-not-fits_script-
 returns-then-not-fits_script-clause-err c = λ words m.
     let found = found_of c.args.matches.now in
     let script = c.get_str-script.ensures ∙ first_value-rows found (codes "script") ∙ ap (first_of (codes "script")) m.rows in
-    let files = ap (map (λ s. s.now)) c.in-Ok.ensures.items ∙ ap (λ (s : Bor (List (Bor Text))). map (λ v. v.now) s.now) c.unwrap_or.ensures
+    let texts = ap (λ (s : Bor (List (Bor Text))). map (λ v. v.now) s.now) c.unwrap_or-texts.ensures
     ∙ texts_or_none c.get_strs.result _ refl
     ∙ ap (λ texts. unwrap_or texts []) (c.get_strs.ensures ∙ raw_values-rows found (codes "files") ∙ ap (all_of (codes "files")) m.rows) in
     let isnt : c.fits_script.result ≡ false = search rules in (
       m.taken,
       ap is_some (sym (c.in-Some.ensures.base ∙ ap base_of m.rows)),
       script_one c.get_str-script.result
-          c.len.result (matches_of program _) script
-          (omega (arith, c.len.ensures, ap length files, length-map c.in-Ok.files.items (λ (s : Bor Text). s.now)))
+          (length c.unwrap_or-texts.result.now) (matches_of program _) script
+          (omega (arith, ap length texts, length-map c.unwrap_or-texts.result.now (λ (s : Bor Text). s.now)))
           ∙ sym c.fits_script.ensures ∙ isnt,
     )
 
@@ -111,16 +111,32 @@ pub returns-then-not-fits_queries-clause-err : goal.returns-then-not-fits_querie
 returns-then-not-fits_queries-clause-err c = λ words m.
     let found = found_of c.args.matches.now in
     let script = c.get_str-script.ensures ∙ first_value-rows found (codes "script") ∙ ap (first_of (codes "script")) m.rows in
-    let files = ap (map (λ s. s.now)) c.in-Ok.ensures.items ∙ ap (λ (s : Bor (List (Bor Text))). map (λ v. v.now) s.now) c.unwrap_or.ensures
+    let texts = ap (λ (s : Bor (List (Bor Text))). map (λ v. v.now) s.now) c.unwrap_or-texts.ensures
     ∙ texts_or_none c.get_strs.result _ refl
     ∙ ap (λ texts. unwrap_or texts []) (c.get_strs.ensures ∙ raw_values-rows found (codes "files") ∙ ap (all_of (codes "files")) m.rows) in
     let fits : c.fits_script.result ≡ true = search rules in
     let isnt : c.fits_queries.result ≡ false = search rules in (
       m.taken,
       ap is_some (sym (c.in-Some.ensures.base ∙ ap base_of m.rows)),
-      script_one c.get_str-script.result c.len.result (matches_of program _) script
-          (omega (arith, c.len.ensures, ap length files, length-map c.in-Ok.files.items (λ (s : Bor Text). s.now)))
+      script_one c.get_str-script.result (length c.unwrap_or-texts.result.now) (matches_of program _) script
+          (omega (arith, ap length texts, length-map c.unwrap_or-texts.result.now (λ (s : Bor Text). s.now)))
           ∙ sym c.fits_script.ensures ∙ fits,
       queries_told c.is_set-queries.result c.get_str-script.result (matches_of program _) script
           (c.is_set-queries.ensures ∙ ap (is_given (codes "queries")) m.rows) ∙ sym c.fits_queries.ensures ∙ isnt,
+    )
+
+pub returns-in_default-from_slice-clause-memory : goal.returns-in_default-from_slice-clause-memory
+returns-in_default-from_slice-clause-memory c =
+    let found = found_of c.args.matches.now in
+    let script = c.get_str-script.ensures ∙ first_value-rows found (codes "script") in
+    let texts = ap (λ (s : Bor (List (Bor Text))). map (λ v. v.now) s.now) c.unwrap_or-texts.ensures
+    ∙ texts_or_none c.get_strs.result _ refl
+    ∙ ap (λ texts. unwrap_or texts []) (c.get_strs.ensures ∙ raw_values-rows found (codes "files")) in
+    let fits : c.fits_script.result ≡ true = search rules in
+    let asks : c.fits_queries.result ≡ true = search rules in (
+      ap is_some (sym c.in-Some.ensures.base),
+      script_one c.get_str-script.result (length c.unwrap_or-texts.result.now) (rows_of found) script
+          (omega (arith, ap length texts, length-map c.unwrap_or-texts.result.now (λ (s : Bor Text). s.now)))
+          ∙ sym c.fits_script.ensures ∙ fits,
+      queries_told c.is_set-queries.result c.get_str-script.result (rows_of found) script c.is_set-queries.ensures ∙ sym c.fits_queries.ensures ∙ asks,
     )

@@ -4,8 +4,14 @@ use Rattle.ucd.proofs.PagedLemmas.{class_is}
 use Rattle.ucd.proofs.tables.Tables.has_usual_separators.Goals as goal
 
 -- what the pages say of all code points
-pub returns : goal.returns
-returns c = λ is x lt other separates.
+pub returns-clause-yes : goal.returns-clause-yes
+returns-clause-yes c = λ is x lt other separates.
     c.self.inside.pages.usual is x lt other
     (sym (class_is c.self.inside.pages.index.items c.self.inside.pages.entries.items c.self.inside.brackets c.self.inside.mirrors x lt)
     ∙ ap (λ t. class_of t x) c.self.view_is ∙ separates)
+
+pub returns-clause-no : goal.returns-clause-no
+returns-clause-no c = λ isnt all.
+    c.self.inside.pages.unusual isnt (λ x lt other separates. all x lt other
+    (sym (ap (λ t. class_of t x) c.self.view_is)
+    ∙ class_is c.self.inside.pages.index.items c.self.inside.pages.entries.items c.self.inside.brackets c.self.inside.mirrors x lt ∙ separates))
