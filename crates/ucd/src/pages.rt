@@ -10,7 +10,6 @@ ghost use Rattle.ucd.specs.Puts.{put_by};
 ghost use Rattle.ucd.specs.Separators.{may_separate, IsUsual};
 ghost use Rattle.ucd.specs.declared.bidi_class.BidiClass.TheVariants.{B};
 
-use crate::bidi_class::BidiClass;
 use crate::grammar::{Entry, Property};
 use crate::properties::Properties;
 use std::alloc::{AllocError, Global};
@@ -118,32 +117,34 @@ pub fn pages_of(alloc: Global, points: &[Properties]) -> Result<Pages, AllocErro
 }
 
 // Whether the code points of class B are among those that are of this class in the files of Unicode, and the
-// other controls below U+0020.
+// other controls below U+0020: so none of those between is.
 fn are_usual(points: &[Properties]) -> bool
+    requires { length points.now ≡ 1114112 }
     ensures yes { result ≡ true → (c : ℕ) → c < length points.now
         → IsUsual c (slice_index_or points.now c unnamed) }
     ensures no { result ≡ false → ¬ ((c : ℕ) → c < length points.now
         → IsUsual c (slice_index_or points.now c unnamed)) }
 {
-    for c in 0..points.len() {
-        if is_separator(points[c]) && !may_separate(c) {
-            return false;
-        }
+    let low = has_separator(points, 0x20, 0x85);
+    let middle = has_separator(points, 0x86, 0x2029);
+    let high = has_separator(points, 0x202a, points.len());
+    !(low | middle | high)
+}
+
+// Whether a code point from `first` up to `end` is of class B. It looks at all of them, since that takes less
+// than a way out at each.
+fn has_separator(points: &[Properties], first: usize, end: usize) -> bool
+    requires { (first ≤ end) × (end ≤ length points.now) }
+    ensures no { result ≡ false → (c : ℕ) → first ≤ c → c < end
+        → (slice_index_or points.now c unnamed).bidi_class ≢ B }
+    ensures yes { result ≡ true → ¬ ((c : ℕ) → first ≤ c → c < end
+        → (slice_index_or points.now c unnamed).bidi_class ≢ B) }
+{
+    let mut found = false;
+    for c in first..end {
+        found |= points[c].is_separator();
     }
-    true
-}
-
-fn is_separator(properties: Properties) -> bool
-    ensures no { result ≡ false → properties.bidi_class ≢ B }
-    ensures yes { result ≡ true → properties.bidi_class ≡ B }
-{
-    matches!(properties.bidi_class(), BidiClass::B)
-}
-
-fn may_separate(c: usize) -> bool
-    ensures { result ≡ may_separate c }
-{
-    c < 0x20 || c == 0x85 || c == 0x2029
+    found
 }
 
 // The number of a page: that of the last one, if both are equal, or of the next one, which it becomes.
@@ -162,16 +163,15 @@ fn page_number(entries: &mut Vec<Properties>, page: &[Properties]) -> Result<u16
     Ok((end / PAGE) as u16)
 }
 
-// Whether two pages are equal.
+// Whether two pages are equal. It looks at all of both, since most are.
 fn are_equal(one: &[Properties], other: &[Properties]) -> bool
     requires { length one.now ≡ length other.now }
     ensures same { IsTrue result → one.now ≡ other.now }
     ensures all { one.now ≡ other.now → IsTrue result }
 {
+    let mut equal = true;
     for k in 0..one.len() {
-        if !one[k].is(other[k]) {
-            return false;
-        }
+        equal &= one[k].is(other[k]);
     }
-    true
+    equal
 }

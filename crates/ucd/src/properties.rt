@@ -1,6 +1,7 @@
 //! What the tables say of one character, looked up once, in 16 bits.
-ghost use Rattle.std.specs.Prelude.{◌≡◌, ◌<◌, true, false, IsTrue};
+ghost use Rattle.std.specs.Prelude.{◌≡◌, ◌≢◌, ◌<◌, true, false, IsTrue};
 ghost use Rattle.ucd.specs.declared.properties.TheConstants.{LINE_INDEX_COUNT};
+ghost use Rattle.ucd.specs.declared.bidi_class.BidiClass.TheVariants.{B};
 
 use crate::bidi_class::BidiClass;
 use crate::line_class::LineClass;
@@ -133,6 +134,14 @@ impl Properties {
         ensures { result ≡ self.bidi_class }
     {
         BidiClass::at((self.bits % 32) as usize)
+    }
+
+    /// Whether the bidirectional class is B, by the bits alone.
+    pub(crate) fn is_separator(self) -> bool
+        ensures no { result ≡ false → self.bidi_class ≢ B }
+        ensures yes { result ≡ true → self.bidi_class ≡ B }
+    {
+        self.bits % 32 == BidiClass::B as u16
     }
 
     /// The line breaking class.
