@@ -8,7 +8,8 @@
 //! - `conformance starts-of UCD WIDTH` prints where the lines of each start, filled again at a width.
 //!
 //! Without words it says this. The first two are for Unicode's conformance tests (`conformance/run`); the
-//! others call what the command calls nowhere, so that `faults/amounts` sees what these calls take.
+//! others call what the command calls nowhere, so that `faults/amounts` sees what these calls take. Marks and
+//! levels are told by a copy of the tables, for the same reason.
 #![tactic(auto)]
 
 ghost use Rattle.std.specs.Prelude.{◌<◌, IfOk};
@@ -97,8 +98,13 @@ enum Subject {
 }
 
 fn tell_by_tables(rt: &HostRuntime, folder: &str, subject: Subject) -> Result<()> {
-    let tables = in_folder(rt, folder)?;
+    let tables = copied(rt, folder)?;
     write_by_tables(rt, &tables, subject)
+}
+
+// The tables of a folder, copied.
+fn copied(rt: &HostRuntime, folder: &str) -> Result<Tables> {
+    Ok(in_folder(rt, folder)?.copy(rt.alloc())?)
 }
 
 fn write_by_tables(rt: &HostRuntime, tables: &Tables, subject: Subject) -> Result<()> {
