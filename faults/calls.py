@@ -32,18 +32,18 @@ def environment(fault):
     return {"PATH": os.environ["PATH"], **SAME, **({"LD_PRELOAD": LIBRARY, **given} if given else {})}
 
 
-def run(words, text=b"", stdin=None, cwd=None, program=None, **fault):
+def run(words, input=b"", stdin=None, cwd=None, program=None, **fault):
     """What is written, what is said, and the status. The program may be another than the first word."""
-    source = {"stdin": stdin} if stdin else {"input": text}
+    source = {"stdin": stdin} if stdin else {"input": input}
     pipes = {"stdout": subprocess.PIPE, "stderr": subprocess.PIPE}
     ran = subprocess.run(words, executable=program, **source, **pipes, cwd=cwd, env=environment(fault), timeout=60)
     return ran.stdout, ran.stderr.decode(), ran.returncode
 
 
-def counted(words, text=b"", **given):
+def counted(words, input=b"", **given):
     """How a run ends, and what faults.c counts in it, by its name."""
     with tempfile.NamedTemporaryFile(dir=FOLDER.name) as file:
-        ending = run(words, text, count=file.name, **given)
+        ending = run(words, input, count=file.name, **given)
         return ending, {name: int(number) for name, number in map(str.split, file.read().decode().splitlines())}
 
 
