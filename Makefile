@@ -1,6 +1,6 @@
 # make demo   the command on the sample texts, compiled and not yet proved: one minute. A text of one's own:
 #             make demo TEXT=FILE OPTIONS="--width 60 --basedir"
-# make        proves and builds the program, as bin/fribidi, and what make check and make bench run
+# make        proves and builds the program, as bin/fribidi, and what make check runs
 # make program  proves and builds bin/fribidi alone
 # make ucd    the seven table files of the Unicode version that crates/ucd/src/version.rt names, from Debian's package
 #             unicode-data, into ucd/; where that is of another version, from a folder of files: make ucd UNICODE=FOLDER

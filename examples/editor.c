@@ -1,4 +1,7 @@
-/* A screen editor over libhordguli and termios: editor [--log FILE] [--ucd FOLDER] TEXT
+/* A screen editor over libhordguli and termios: editor [--log FILE] [--ucd FOLDER] TEXT, built by
+ *
+ *     cc -o editor examples/editor.c $(pkg-config --cflags --libs hordguli) \
+ *         -DUCDDIR=\"$(pkg-config --variable=ucddir hordguli)\"
  *
  * It knows nothing of directions, line breaks or columns. The text stands in a session as wide as the window; a key
  * changes it, the damage says which lines gave way to how many others, and these are drawn. Carets, clicks and clusters
@@ -154,6 +157,17 @@ static void scroll_to(size_t line) {
     }
 }
 
+/* Takes control characters out, which a terminal obeys. They have no columns. */
+static size_t without_controls(char *bytes, size_t length) {
+    size_t kept = 0;
+    for (size_t k = 0; k < length; k++) {
+        unsigned char byte = (unsigned char)bytes[k];
+        if (byte == 0xC2 && (unsigned char)bytes[k + 1] < 0xA0) k++; /* U+0080 to U+009F */
+        else if (byte >= ' ' && byte != 0x7F) bytes[kept++] = bytes[k];
+    }
+    return kept;
+}
+
 static void draw_line(size_t line) {
     static char *bytes;
     static size_t room;
@@ -162,7 +176,7 @@ static void draw_line(size_t line) {
         bytes = sure(realloc(bytes, length));
         room = length;
     }
-    fwrite(bytes, 1, length - 1, stdout);
+    fwrite(bytes, 1, without_controls(bytes, length), stdout);
     drawn++;
 }
 

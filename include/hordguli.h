@@ -4,15 +4,26 @@
  * of the width all that it holds is the layout of the whole current text, and each edit says which lines it replaced.
  *
  * Positions, lengths and offsets count characters, which are Unicode scalar values: 0 to D7FF and E000 to 10FFFF. Lines
- * and paragraphs count from 0. Columns are those of a terminal. Text comes in and goes out as UTF-8; nothing ends in a
- * NUL, and a NUL is a character as others.
+ * and paragraphs count from 0. Text comes in and goes out as UTF-8; nothing ends in a NUL, and a NUL is a character as
+ * others.
+ *
+ * A paragraph ends after a separator: U+000A, U+000D, U+001C to U+001E, U+0085 or U+2029, of which U+000D before U+000A
+ * is none. One that ends the text begins no paragraph. A line ends with its paragraph, after U+000B, U+000C and U+2028,
+ * and where UAX #14 lets it; where no such place is, inside a word. Its shown part is all of it but the spaces (U+0020)
+ * and the characters after which a line must end that stand at its end.
+ *
+ * Columns are a terminal's: those of a line are the sum of its shown characters' widths, by the tables of the version
+ * of Unicode that `fribidi --version` names last. A tab and other control characters take none, and are written as they
+ * are: who writes to a terminal takes them out.
  *
  * Every call that can fail answers a status. HORDGULI_OK is 0. After any other status nothing is changed: the handles
- * hold what they held, and what `out` parameters point to is as it was, but where a call says otherwise.
+ * hold what they held, and what the pointers for answers point to is as it was, but where a call says otherwise.
+ * Beneath each call's text stand the statuses that it can answer beside HORDGULI_OK, without `HORDGULI_`: it answers
+ * the first that holds, and NO_MEMORY where memory that it wants is refused.
  *
  * What is tested: null pointers, positions and numbers past the end, bits that are not known, room that is too small,
  * bytes that are no UTF-8, numbers that are no characters, closed handles, and arrays that overlap one another or the
- * handle. A pointer may be null where a call says so, and where its length is 0.
+ * handle. A pointer may be null where a call says so, and where the length that it is handed in with is 0.
  *
  * What cannot be tested, and is the caller's to see to:
  *   - Pointers that are not null point to as many elements as are told, of their type.
@@ -21,7 +32,8 @@
  *   - A handle is in one call at a time, also in one that only reads. Different handles may be in calls at the same
  *     time on different threads: a session has nothing in common with the tables that it was opened on, nor with other
  *     sessions. Tables may be used by one thread after another, where a lock, or the start or the end of a thread,
- *     orders the calls. A session stays on the thread that opened it, since of sessions that is not proved.
+ *     orders the calls. A session is used and closed by the thread that opened it: that another one may is not proved,
+ *     though nothing of it is known to be bound to a thread.
  *   - No call is made from a signal handler that interrupts a call of the library or of malloc.
  *   - In a child of `fork` the handles are the child's own; those that were in a call of another thread at the time of
  *     the fork must not be used in the child.
@@ -65,7 +77,7 @@ typedef int32_t hordguli_status;
 #define HORDGULI_ALREADY_OPEN 10
 /* A bit of the options or of the print flags that is not known. */
 #define HORDGULI_UNKNOWN_OPTION 11
-/* There is too little room; the call tells how much is wanted. */
+/* There is too little room: what the call says is wanted. */
 #define HORDGULI_NO_ROOM 12
 /* A pointer is null that may not be. */
 #define HORDGULI_NULL 13
@@ -78,17 +90,24 @@ typedef int32_t hordguli_status;
  * "unknown status". */
 const char *hordguli_status_text(hordguli_status status);
 
+/* The version of this header, for the preprocessor. */
+#define HORDGULI_VERSION_MAJOR 0
+#define HORDGULI_VERSION_MINOR 5
+#define HORDGULI_VERSION_PATCH 0
+
 /* The version of the library, as "0.5.0", and the Unicode version whose rules it keeps, as "15.0": constants. */
 const char *hordguli_version(void);
 const char *hordguli_unicode_version(void);
 
-/* ---- Options of a session: 0, or one of the directions with any of the others. ---- */
+/* ---- Options of a session: one base direction, and with it, by `|`, any of the others. ---- */
 
-/* The base direction of a paragraph: that of its first strong character, and where there is none from left to right; or
- * from right to left; or from left to right whatever the text; or from right to left whatever the text. */
+/* The base direction of a paragraph is that of its first strong character; where none is strong, from left to right. */
 #define HORDGULI_WEAK_LTR UINT32_C(0)
+/* The same; where none is strong, from right to left. */
 #define HORDGULI_WEAK_RTL UINT32_C(1)
+/* From left to right, whatever the text. */
 #define HORDGULI_LTR UINT32_C(2)
+/* From right to left, whatever the text. */
 #define HORDGULI_RTL UINT32_C(3)
 /* Lines end at mandatory breaks only. */
 #define HORDGULI_NOBREAK UINT32_C(4)
@@ -97,7 +116,7 @@ const char *hordguli_unicode_version(void);
 /* No line ends inside a number (in place of UAX #14, LB25). */
 #define HORDGULI_WHOLE_NUMBERS UINT32_C(16)
 
-/* ---- What is printed of a line: any of these. ---- */
+/* ---- What is printed of a line: any of these, by `|`. ---- */
 
 /* The line itself, in visual order. */
 #define HORDGULI_PRINT_VISUAL UINT32_C(1)
@@ -111,7 +130,7 @@ const char *hordguli_unicode_version(void);
 #define HORDGULI_PRINT_PADDED UINT32_C(32)
 /* Characters at odd levels as their mirrors. */
 #define HORDGULI_PRINT_MIRRORED UINT32_C(64)
-/* What the command prints that has no option. */
+/* What the command prints where no option says otherwise. */
 #define HORDGULI_PRINT_DEFAULT (HORDGULI_PRINT_VISUAL | HORDGULI_PRINT_PADDED | HORDGULI_PRINT_MIRRORED)
 
 /* ---- Break marks: what a line does after a character. ---- */
@@ -185,7 +204,8 @@ void hordguli_tables_close(hordguli_tables *tables);
 /* ---- Sessions ---- */
 
 /* What an edit replaced: `old_lines` lines from `first_line` on by `new_lines` others, and so with paragraphs. All
- * lines before stay, and all after them too, by other numbers where the counts differ. */
+ * lines before stay, and all after them too, by other numbers where the counts differ. An edit that changes nothing is
+ * accepted, and has a damage as others; that of a change of the width names all lines and paragraphs. */
 typedef struct hordguli_damage {
     size_t first_line;
     size_t old_lines;
@@ -196,8 +216,8 @@ typedef struct hordguli_damage {
 } hordguli_damage;
 
 /* Opens a session on a text, by a copy of the tables (some 140 KB). `text` may be null where `length` is 0.
- *   NULL, OVERLAP, WIDTH_OUT_OF_RANGE, ALREADY_OPEN (the session), CLOSED (the tables), UNKNOWN_OPTION, NOT_UTF8,
- *   TEXT_TOO_LONG, PARAGRAPH_TOO_LONG, NO_MEMORY */
+ *   NULL, OVERLAP, WIDTH_OUT_OF_RANGE (above 65,535), UNKNOWN_OPTION, NOT_UTF8, ALREADY_OPEN (the session), CLOSED (the
+ *   tables), WIDTH_OUT_OF_RANGE (0), TEXT_TOO_LONG, PARAGRAPH_TOO_LONG, NO_MEMORY */
 hordguli_status hordguli_session_open(hordguli_session *session, hordguli_tables *tables, uint32_t options,
                                       uint32_t width, const char *text, size_t length);
 
@@ -233,8 +253,9 @@ typedef struct hordguli_counts {
 /*   NULL, OVERLAP, CLOSED */
 hordguli_status hordguli_session_counts(hordguli_session *session, hordguli_counts *counts);
 
-/* How much work a session has done: how many characters were analysed, how many were filled into lines, and of how many
- * the lines were written; each up to 2^64 - 1, at which it stays. */
+/* How much work a session has done, for who looks whether it is as little as it should be: how many characters were
+ * analysed (levels and break marks), filled into lines (where these begin), and put into the order of their lines; each
+ * up to 2^64 - 1, at which it stays. */
 typedef struct hordguli_work {
     uint64_t analysed;
     uint64_t filled;
@@ -257,8 +278,9 @@ typedef struct hordguli_place {
     size_t offset;  /* how many characters of the line are before it */
 } hordguli_place;
 
-/* The place of the character at a position. The end of the text is after its last character, or where the next
- * paragraph would begin: in a text that is empty or ends with a separator, so that `line` is the count of lines there.
+/* The place of the character at a position, or of the end of the text, where `pos` is the count of characters: that is
+ * after the last character of the last line. But where the text is empty or ends with a separator it is where the next
+ * paragraph would begin, so that `line` and `paragraph` are the counts of lines and of paragraphs there.
  *   NULL, OVERLAP, CLOSED, OUT_OF_RANGE */
 hordguli_status hordguli_place_of(hordguli_session *session, size_t pos, hordguli_place *place);
 
@@ -272,20 +294,22 @@ typedef struct hordguli_caret {
 
 /* Where a caret stands before the character at a position: at its left edge where its level is even, and else at its
  * right edge. Before a character that is not shown, and at the end of the text, it stands at the line's end in the
- * direction of the paragraph; on the line that would come, at column 0.
+ * direction of the paragraph: right of all columns where that is from left to right, and else at column 0. Where the
+ * next paragraph would begin, on a line that is not there yet, `column` is 0 (a screen's right edge where `level` is
+ * odd).
  *   NULL, OVERLAP, CLOSED, OUT_OF_RANGE */
 hordguli_status hordguli_caret_at(hordguli_session *session, size_t pos, hordguli_caret *caret);
 
 /* The character at a column. */
 typedef struct hordguli_hit {
     size_t pos;
-    uint32_t trailing;  /* 1 where a caret belongs after it, 0 else */
+    uint32_t trailing;  /* 1 where the position after it is meant, else 0 */
     uint32_t zero;      /* always 0 */
 } hordguli_hit;
 
 /* The character whose columns cover a column of a line, counted from 0 at the left edge of its shown part (where it is
  * printed padded, that is right of `padding` columns); right of that part the rightmost character that takes columns,
- * and in a line without columns its start.
+ * and there alone, where its level is even, `trailing` is 1. In a line without columns it is the line's start.
  *   NULL, OVERLAP, CLOSED, OUT_OF_RANGE */
 hordguli_status hordguli_hit_at(hordguli_session *session, size_t line, size_t column, hordguli_hit *hit);
 
@@ -305,8 +329,8 @@ hordguli_status hordguli_cluster_at(hordguli_session *session, size_t pos, hordg
 /* A line as it is shown. */
 typedef struct hordguli_line_info {
     size_t start;      /* the position of its first character */
-    size_t length;     /* how many characters it has, those at its end that are not shown among them */
-    size_t shown;      /* how many of them are shown */
+    size_t length;     /* how many characters it has, with those at its end that are not shown */
+    size_t shown;      /* how many of them are shown: all but those */
     size_t columns;    /* how many columns these take */
     size_t padding;    /* how many columns are left of them where the line is printed padded */
     uint32_t base;     /* the base level of its paragraph, 0 or 1 */
@@ -327,20 +351,20 @@ hordguli_status hordguli_line(hordguli_session *session, size_t line, hordguli_l
                               uint32_t *characters, uint8_t *levels, uint32_t *ltov, uint32_t *vtol,
                               size_t *columns);
 
-/* The lines first .. first + count as they are printed, each with its line feed, by print flags, into an array with
+/* The `count` lines from `first` on as they are printed, each with its line feed, by print flags, into an array with
  * room for `room` bytes; `length` is how many bytes they are, also where the room is too small. `bytes` may be null
  * where `room` is 0. It takes memory for the bytes.
  *   NULL, OVERLAP, UNKNOWN_OPTION, CLOSED, OUT_OF_RANGE, NO_MEMORY, NO_ROOM */
 hordguli_status hordguli_lines_utf8(hordguli_session *session, size_t first, size_t count, uint32_t print, size_t room,
                                     char *bytes, size_t *length);
 
-/* The characters pos .. pos + count as UTF-8, into an array with room for `room` bytes; `length` is how many bytes they
- * are, also where the room is too small. `bytes` may be null where `room` is 0. It takes memory for the bytes.
+/* The `count` characters from `pos` on as UTF-8, into an array with room for `room` bytes; `length` is how many bytes
+ * they are, also where the room is too small. `bytes` may be null where `room` is 0. It takes memory for the bytes.
  *   NULL, OVERLAP, CLOSED, OUT_OF_RANGE, NO_MEMORY, NO_ROOM */
 hordguli_status hordguli_text(hordguli_session *session, size_t pos, size_t count, size_t room, char *bytes,
                               size_t *length);
 
-/* How many bytes of UTF-8 the characters pos .. pos + count are.
+/* How many bytes of UTF-8 the `count` characters from `pos` on are.
  *   NULL, OVERLAP, CLOSED, OUT_OF_RANGE */
 hordguli_status hordguli_utf8_length(hordguli_session *session, size_t pos, size_t count, size_t *length);
 

@@ -18,7 +18,10 @@ static void same(const char *got, size_t length, const char *wanted) {
 /* ---- Constants ---- */
 
 static void constants(void) {
+    char version[40];
+    snprintf(version, sizeof version, "%d.%d.%d", HORDGULI_VERSION_MAJOR, HORDGULI_VERSION_MINOR, HORDGULI_VERSION_PATCH);
     HOLDS(strcmp(hordguli_version(), HORDGULI_VERSION_WANTED) == 0);
+    HOLDS(strcmp(hordguli_version(), version) == 0);
     HOLDS(strcmp(hordguli_unicode_version(), "15.0") == 0);
     HOLDS(strcmp(hordguli_status_text(HORDGULI_OK), "ok") == 0);
     for (hordguli_status a = 0; a <= HORDGULI_UNREAD_FILE; a++) {

@@ -1,5 +1,5 @@
 -- Lines that are written as they are shown are those of the paragraph.
-use Rattle.std.proofs.Common.{◌≡◌, ℕ, zero, suc, ◌+◌, ◌-◌, ◌<◌, ◌≤◌, ◌==◌, Bool, List, [], ◌∷◌, length, map, take, drop, get_or, Option, Some, refl, sym, ap, ap₂, ◌∙◌, arith}
+use Rattle.std.proofs.Common.{◌≡◌, ℕ, zero, suc, ◌+◌, ◌-◌, ◌<◌, ◌≤◌, ◌==◌, Bool, List, [], ◌∷◌, length, map, take, drop, get_or, Some, refl, sym, ap, ap₂, ◌∙◌, arith}
 use Rattle.std.specs.Prelude.{option_map, slice_get, slice_range}
 use Rattle.std.proofs.lemmas.List.{length-map, length-take-le, take-take}
 use Rattle.ucd.specs.Tables.{class_of}

@@ -1,5 +1,5 @@
 -- What is printed of a line.
-use Rattle.std.specs.Prelude.{ℕ, ◌-◌, ◌&&◌, not, List, [], ◌++◌, codes, map, replicate, slice_index, encode_utf8_all, if◌then◌else◌}
+use Rattle.std.specs.Prelude.{ℕ, ◌-◌, ◌&&◌, List, [], ◌++◌, codes, map, replicate, slice_index, encode_utf8_all, if◌then◌else◌}
 use Rattle.std.specs.Fmt.{decimal}
 use Rattle.std.specs.List.{join_with_byte}
 use Rattle.lines.specs.Order.{is_odd}

@@ -228,8 +228,8 @@ impl Engine {
         ensures unwritten { IsErrOf result PrintFault.Memory → written_of self.new ≡ written_of self.old }
         ensures at_most { LaysOutAtMost (length text.now) self.old self.new }
 
-        // Also after a fault: the characters count as analysed, and as filled too, unless they aren't laid out
-        // into lines. They count as neither filled nor written then.
+        // Also after a fault: the characters count as analysed, and as filled too, unless they aren't laid
+        // out into lines. They count as neither filled nor written then.
         ensures analysed { analysed_of self.new ≡ counted (analysed_of self.old) (length text.now) }
         ensures filled { skips_lines print.now ≡ false
             → filled_of self.new ≡ counted (filled_of self.old) (length text.now) }

@@ -22,7 +22,8 @@ use ucd::LineClass;
 /// Whether no line must end after a character of a paragraph but the last.
 pub(crate) fn is_whole(text: &Text<'_>) -> bool
     requires { IsLookedUp text.now }
-    ensures { result ≡ true → IsWhole text.now.rules.tables.now text.now.characters.now }
+    ensures yes { result ≡ true → IsWhole text.now.rules.tables.now text.now.characters.now }
+    ensures no { result ≡ false → ¬ (IsWhole text.now.rules.tables.now text.now.characters.now) }
 {
     let properties = text.properties;
     let last = properties.len().saturating_sub(1);

@@ -404,6 +404,9 @@ fn is_one_line(form: &Form<'_>, text: &Text<'_>) -> bool
     ensures unseen { result ≡ true → form.now.print.now.visual ≡ false }
     ensures some { result ≡ true → 0 < length text.now.characters.now }
     ensures whole { result ≡ true → IsWhole text.now.rules.tables.now text.now.characters.now }
+    ensures no { result ≡ false → text.now.rules.options.nobreak ≡ true → form.now.print.now.visual ≡ false
+        → 0 < length text.now.characters.now
+        → ¬ (IsWhole text.now.rules.tables.now text.now.characters.now) }
 {
     if !text.rules.options.nobreak || form.print.visual || text.characters.is_empty() {
         return false;

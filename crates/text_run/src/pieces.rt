@@ -1,6 +1,6 @@
 //! The characters of a text whose bytes come in pieces, each of which may end inside a character.
-ghost use Rattle.std.specs.Prelude.{◌≡◌, ◌+◌, ◌++◌, ◌<◌, ◌≤◌, ℕ, false, true, None, length, take, OnErr, OnOk};
-ghost use Rattle.std.specs.Prelude.{vec_len, vec_capacity};
+ghost use Rattle.std.specs.Prelude.{◌≡◌, ◌+◌, ◌++◌, ◌<◌, ◌≤◌, ℕ, false, true, None, OnErr, OnOk};
+ghost use Rattle.std.specs.Prelude.{length, slice_index, take, vec_len, vec_capacity};
 ghost use Rattle.std.specs.Str.{chars};
 ghost use Rattle.std.specs.Str.Lossy.{utf8_valid_len, utf8_error_len};
 ghost use Rattle.text_run.specs.Ends.{Moved};
@@ -86,7 +86,10 @@ fn push_row<'a>(text: &'a str, low: u8, high: u8, characters: &mut Vec<char>) ->
 }
 
 fn begins_between(text: &str, low: u8, high: u8) -> bool
-    ensures { result ≡ true → 0 < length text.now }
+    ensures some { result ≡ true → 0 < length text.now }
+    ensures yes { result ≡ true → (low ≤ slice_index text.now 0) × (slice_index text.now 0 < high) }
+    ensures no { result ≡ false → 0 < length text.now → low ≤ slice_index text.now 0
+        → high ≤ slice_index text.now 0 }
 {
     match text.as_bytes().first() {
         Some(first) => low <= *first && *first < high,
@@ -124,12 +127,12 @@ fn checked(bytes: &[u8]) -> (&str, bool)
     }
 }
 
-// Whether some bytes are the beginning of a character and no more, or none at all. It may say no of
-// such bytes.
+// Whether some bytes are the beginning of a character and no more, or none at all.
 fn is_beginning(bytes: &[u8]) -> bool
     ensures none { result ≡ true → utf8_valid_len bytes.now ≡ 0 }
     ensures fault { result ≡ true → utf8_error_len bytes.now ≡ None }
     ensures few { result ≡ true → length bytes.now < 4 }
+    ensures all { utf8_valid_len bytes.now ≡ 0 → utf8_error_len bytes.now ≡ None → result ≡ true }
 {
     match from_utf8(bytes) {
         Ok(_) => bytes.is_empty(),

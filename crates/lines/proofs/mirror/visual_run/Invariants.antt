@@ -1,4 +1,4 @@
-use Rattle.std.proofs.Common.{◌≡◌, length, map, take}
+use Rattle.std.proofs.Common.{◌≡◌, map, take}
 use Rattle.lines.specs.Mirroring.{mirrored}
 use Rattle.lines.proofs.mirror.visual_run.Given as goal
 

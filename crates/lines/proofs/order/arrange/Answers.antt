@@ -1,7 +1,7 @@
-use Rattle.std.proofs.Common.{◌∙◌, [], length, map, ap, sym, arith}
+use Rattle.std.proofs.Common.{◌∙◌, [], map, ap, sym}
 use Rattle.bidi.specs.Classes.{class_in}
 use Rattle.lines.specs.Order.{has_base, reverse_with_next, vtol_of}
-use Rattle.lines.proofs.OrderLemmas.{length-order, vtol_within}
+use Rattle.lines.proofs.OrderLemmas.{vtol_within}
 use Rattle.lines.proofs.order.arrange.Goals as goal
 
 pub returns-then-reordernsm : goal.returns-then-reordernsm

@@ -1,4 +1,4 @@
-use Rattle.std.proofs.Common.{◌∙◌, length, take, ap, sym, subst, List, ℕ, arith}
+use Rattle.std.proofs.Common.{◌∙◌, length, take, ap, sym, subst, List, ℕ}
 use Rattle.std.specs.List.{flat_map, range_with_len}
 use Rattle.std.proofs.lemmas.List.{length-take-le}
 use Rattle.bidi.specs.Runs.{AreWithin}

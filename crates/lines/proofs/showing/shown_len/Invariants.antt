@@ -1,5 +1,5 @@
 use Rattle.std.proofs.Common.{◌≡◌, ℕ, ◌<◌, ◌≤◌, true, length}
-use Rattle.lines.specs.Filling.{nothing, place_at}
+use Rattle.lines.specs.Filling.{place_at}
 use Rattle.lines.proofs.showing.shown_len.Given as goal
 
 abbrev pub invariant-loop-len : goal.invariant-loop-len

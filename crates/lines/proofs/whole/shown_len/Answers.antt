@@ -1,12 +1,10 @@
 use Rattle.std.proofs.Common.{◌≡◌, ◌∙◌, ℕ, ◌-◌, ◌<◌, true, get_or, length, ap, subst, sym, inl, inr, arith}
 use Rattle.std.proofs.lemmas.Bool.{cases_eq}
-use Rattle.std.proofs.lemmas.List.{length-map}
-use Rattle.ucd.specs.Properties.{properties_of}
 use Rattle.ucd.specs.Tables.{is_mark_in}
 use Rattle.ucd.specs.declared.line_class.LineClass.{LineClass}
 use Rattle.ucd.specs.declared.line_class.LineClass.TheVariants.{BK, CR, LF, NL, SP}
 use Rattle.ucd.specs.declared.properties.Properties.{Properties}
-use Rattle.std.proofs.Common.{List, [], ◌∷◌}
+use Rattle.std.proofs.Common.{[], ◌∷◌}
 use Rattle.breaks.specs.Bases.{resolved}
 use Rattle.breaks.specs.Classes.{is_one_of}
 use Rattle.lines.specs.Places.{is_trailing_in}

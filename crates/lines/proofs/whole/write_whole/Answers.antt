@@ -1,4 +1,4 @@
-use Rattle.std.proofs.Common.{◌≡◌, ◌∙◌, IfErr, IfOk, List, ℕ, subst}
+use Rattle.std.proofs.Common.{IfErr, IfOk, List, ℕ, subst}
 use Rattle.lines.specs.Writing.{PassedOn, StoppedIn}
 use Rattle.lines.proofs.WholeLemmas.{whole_bytes}
 use Rattle.lines.proofs.whole.write_whole.Goals as goal

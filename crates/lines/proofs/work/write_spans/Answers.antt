@@ -1,4 +1,4 @@
-use Rattle.std.proofs.Common.{◌∙◌, IfErr, IfOk, List, ap, ap₂, length, subst}
+use Rattle.std.proofs.Common.{◌∙◌, IfErr, IfOk, List, ap, ap₂, subst}
 use Rattle.lines.specs.Pages.{lines_bytes}
 use Rattle.lines.specs.Showing.{lines_shown}
 use Rattle.lines.specs.Visual.{Line}

@@ -1,4 +1,4 @@
-use Rattle.std.proofs.Common.{◌≡◌, ◌∙◌, ℕ, List, [], IfErr, IfOk, map, take, ap, ap₂, refl, subst}
+use Rattle.std.proofs.Common.{◌∙◌, ℕ, List, [], IfErr, IfOk, map, take, ap, ap₂, refl, subst}
 use Rattle.ucd.specs.Tables.{class_of}
 use Rattle.bidi.specs.Classes.{class_in}
 use Rattle.lines.specs.Asked.{visual_part}

@@ -1,9 +1,8 @@
-use Rattle.std.proofs.Common.{◌≡◌, ◌∙◌, ℕ, IfErr, IfOk, length, map, take, true, ap, subst, sym}
+use Rattle.std.proofs.Common.{◌∙◌, IfErr, IfOk, length, map, take, ap, subst, sym}
 use Rattle.std.proofs.lemmas.List.{length-take-le}
 use Rattle.std.proofs.lemmas.Bool.{both_ways}
 use Rattle.ucd.specs.Tables.{class_of}
 use Rattle.bidi.specs.Classes.{class_in}
-use Rattle.lines.specs.Asked.{visual_part}
 use Rattle.lines.specs.Bytes.{line_bytes}
 use Rattle.lines.specs.Mirroring.{visual_chars}
 use Rattle.lines.specs.Order.{vtol_of}

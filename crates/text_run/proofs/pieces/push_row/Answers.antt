@@ -20,7 +20,7 @@ loop-c-preserved c =
     let least : 0 < length (encode c.in-Some.c) = omega (arith, length-encode c.in-Some.c, (len_utf8_bounds c.in-Some.c).0) in
     record {
       utf8 = c.as_str-rest.utf8;
-      some = c.begins_between.ensures c.if-not-begins_between.false;
+      some = c.begins_between.ensures.some c.if-not-begins_between.false;
       few = omega (arith, len, c.loop-c.invariant.few);
       moved =
           moved_one c.args.characters.now.items c.args.text.now c.loop-c.characters.items c.push_reserved.new.self.items c.loop-c.rest.now c.as_str-rest.result.now c.in-Some.c

@@ -1,4 +1,4 @@
-use Rattle.std.proofs.Common.{◌≡◌, ◌∙◌, ap, sym, true≢false}
+use Rattle.std.proofs.Common.{◌∙◌, ap, sym, true≢false}
 use Rattle.ucd.specs.Tables.{class_of}
 use Rattle.lines.specs.Engine.{rules_of}
 use Rattle.lines.specs.Layouts.{Rules}

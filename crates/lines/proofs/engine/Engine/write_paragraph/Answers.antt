@@ -1,10 +1,8 @@
-use Rattle.std.proofs.Common.{◌≡◌, ◌∙◌, List, [], ℕ, length, IfErr, OnOk, if◌then◌else◌, ap, subst, sym}
+use Rattle.std.proofs.Common.{◌≡◌, ◌∙◌, List, ℕ, length, IfErr, OnOk, subst, sym}
 use Rattle.device.specs.Device.{Wrote}
 use Rattle.breaks.specs.Marks.{marks_of}
-use Rattle.lines.specs.Bytes.{direction_line}
 use Rattle.lines.specs.Engine.{rules_of}
-use Rattle.lines.specs.Layouts.{EngineState, base_of}
-use Rattle.lines.specs.Pages.{paragraph_bytes}
+use Rattle.lines.specs.Layouts.{EngineState}
 use Rattle.lines.specs.Printing.{FailedAs}
 use Rattle.lines.proofs.SkippedLemmas.{direction_only}
 use Rattle.lines.proofs.engine.Engine.write_paragraph.Goals as goal

@@ -1,4 +1,4 @@
-use Rattle.std.proofs.Common.{◌≡◌, ◌∙◌, List, ℕ, ap, length, subst, sym}
+use Rattle.std.proofs.Common.{◌≡◌, ◌∙◌, List, ℕ, ap, subst, sym}
 use Rattle.bidi.specs.Levels.{levels_of}
 use Rattle.lines.specs.Layouts.{fill_of, Layout}
 use Rattle.lines.specs.Paragraphs.{rules_in}
