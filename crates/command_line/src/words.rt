@@ -118,7 +118,7 @@ fn ucd<'a>(alloc: Global) -> Arg<'a>
         .value_name("DIR")
         .required(true)
         .action(ArgAction::Set)
-        .help("the folder of the Unicode table files")
+        .help("the folder of the Unicode table files; an installed command has its own")
 }
 
 // How many columns a line may take.

@@ -20,14 +20,14 @@ use Rattle.lines.proofs.SkippedLemmas.{some_text}
 use Rattle.lines.specs.Visual.{Line}
 use Rattle.store.specs.Finding.{Finds}
 use Rattle.store.specs.declared.found.Found.{Found}
-use Rattle.session.specs.Kept.{lines_in, pars_of, text_of}
+use Rattle.session.specs.Kept.{lines_in, text_of}
 use Rattle.session.specs.Places.{count_to, lines_from, line_starts, paragraph_starts, paragraphs_from, is_closed, next_place, place_at, place_in, IsLined}
 use Rattle.session.specs.Sessions.{SessionState, IsWholeLayout, cuts_at, text_at}
 use Rattle.session.specs.declared.edits.TheConstants.{TEXT_LIMIT}
 use Rattle.session.proofs.RefusalLemmas.{allowed-length}
 use Rattle.session.proofs.WidthLemmas.{all_each, each_laid_out}
 use Rattle.session.specs.declared.places.Place.{Place}
-use Rattle.session.proofs.EdgeLemmas.{chars_of, lines_of, front_is, item_read, length-lines, length-text, length-visuals, start_of-is, sum_next, sum_whole}
+use Rattle.session.proofs.EdgeLemmas.{chars_of, lines_of, item_read, length-lines, length-text, length-visuals, sum_whole}
 use Rattle.session.proofs.LineLemmas.{slice_get_after, slice_get_left}
 
 -- ---- where lines begin

@@ -1,5 +1,5 @@
 -- Memory is wanted only where there is a text to keep.
-use Rattle.std.proofs.Common.{◌≡◌, ℕ, ◌+◌, ◌-◌, ◌<◌, ◌≤◌, List, [], ◌++◌, length, map, take, drop, get_or, refl, sym, ap, ◌∙◌, inl, inr, Result, Ok, Err, arith}
+use Rattle.std.proofs.Common.{◌≡◌, ℕ, ◌+◌, ◌-◌, ◌<◌, ◌≤◌, List, [], ◌++◌, length, take, drop, get_or, ap, ◌∙◌, inl, inr, Result, Ok, Err, arith}
 use Rattle.std.specs.Result.{OnErr}
 use Rattle.std.proofs.Math.Seq.{take-nil}
 use Rattle.std.proofs.lemmas.Bool.{cases_lt}
@@ -8,7 +8,7 @@ use Rattle.lines.specs.Engine.{rules_of}
 use Rattle.lines.specs.Layouts.{Layout, Rules}
 use Rattle.lines.specs.declared.engine.Engine.{Engine}
 use Rattle.session.specs.Kept.{pars_of, text_of, layouts_of}
-use Rattle.session.specs.Sessions.{SessionState, IsWholeLayout}
+use Rattle.session.specs.Sessions.{IsWholeLayout}
 
 -- what holds anyway holds of an error, and what holds of an error holds where there is one
 pub on_err : {A E P : Type 0} (r : Result A E) → P → OnErr r P

@@ -1,4 +1,4 @@
-use Rattle.std.proofs.Common.{◌+◌, take, encode_utf8, encode_utf8_all, length, ap, arith}
+use Rattle.std.proofs.Common.{take, encode_utf8, encode_utf8_all, length, ap, arith}
 use Rattle.std.proofs.lemmas.List.{length-append}
 use Rattle.lines.proofs.WriteLemmas.{encoded-more}
 use Rattle.session.proofs.reading.bytes_of.Goals as goal

@@ -1,6 +1,6 @@
-use Rattle.std.proofs.Common.{◌≡◌, ◌+◌, ◌-◌, ◌≤◌, ◌++◌, drop, length, take, encode_utf8_all, sym, ap, ◌∙◌, arith}
+use Rattle.std.proofs.Common.{◌+◌, ◌-◌, ◌++◌, drop, length, take, encode_utf8_all, ap, ◌∙◌, arith}
 use Rattle.std.specs.List.{slice_range}
-use Rattle.lines.specs.Writing.{PassedOn, StoppedIn}
+use Rattle.lines.specs.Writing.{StoppedIn}
 use Rattle.lines.proofs.WriteLemmas.{encoded-append, passed-append, same_fault, stopped-after, stopped-before}
 use Rattle.session.specs.Kept.{text_of}
 use Rattle.session.proofs.EdgeLemmas.{length-text}

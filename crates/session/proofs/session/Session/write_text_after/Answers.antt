@@ -1,4 +1,4 @@
-use Rattle.std.proofs.Common.{◌≡◌, ◌+◌, length, refl, sym, ◌∙◌, arith}
+use Rattle.std.proofs.Common.{◌≡◌, length, refl, sym, ◌∙◌, arith}
 use Rattle.session.specs.Kept.{text_of}
 use Rattle.session.proofs.EdgeLemmas.{length-text}
 use Rattle.session.proofs.PlaceLemmas.{lines_lined}
