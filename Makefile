@@ -56,6 +56,9 @@ run-refused: lib-trials
 lib-tables: lib-ucd
 run-bench: lib-session lib-tables
 run-conformance: lib-lines lib-tables
+# (bidi and session keep all processors busy, lines and tool don't: so these wait for them)
+lib-store lib-tables: lib-bidi
+run-conformance: $(if $(filter run-fribidi,$(MAKECMDGOALS)),lib-session)
 
 run-fribidi: words = -- --help
 run-bench: words = -- edits tree 1 1

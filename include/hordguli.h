@@ -9,8 +9,8 @@
  *
  * A paragraph ends after a separator: U+000A, U+000D, U+001C to U+001E, U+0085 or U+2029, of which U+000D before U+000A
  * is none. One that ends the text begins no paragraph. A line ends with its paragraph, after U+000B, U+000C and U+2028,
- * and where UAX #14 lets it; where no such place is, inside a word. Its shown part is all of it but the spaces (U+0020)
- * and the characters after which a line must end that stand at its end.
+ * and where UAX #14 lets it; where no such place is, inside a word. Its shown part is all of it but U+0020, U+000A to
+ * U+000D, U+0085, U+2028 and U+2029 that stand at its end.
  *
  * Columns are a terminal's: those of a line are the sum of its shown characters' widths, by the tables of the version
  * of Unicode that `fribidi --version` names last. A tab and other control characters take none, and are written as they
