@@ -45,16 +45,6 @@ impl Count {
         self.value = self.value.saturating_add(len as u64);
     }
 
-    /// Raises it by so many characters, before they are worked on.
-    pub(crate) fn take(&mut self, len: usize) -> Counted
-        ensures counted { result ≡ len }
-        ensures counts { self.new ≡ counted self.old len }
-        ensures least { self.old ≤ self.new }
-    {
-        self.raise(len);
-        Counted { len }
-    }
-
     /// Raises it by what another counted.
     pub(crate) fn add(&mut self, other: Count)
         ensures counts { self.new ≡ counted self.old other }
@@ -65,8 +55,8 @@ impl Count {
     }
 }
 
-/// So many characters that a count was raised by. It isn't `Copy`: who works on them twice has to count them
-/// twice.
+/// So many characters that are counted as filled into lines. It isn't `Copy`: who fills them twice has to
+/// count them twice.
 #[derive(Debug, Drop)]
 pub(crate) struct Counted {
     len: usize,
@@ -89,6 +79,8 @@ pub(crate) struct Counts {
 }
 
 impl Counts {
+    ghost use Rattle.lines.specs.Engine.{counted};
+
     /// None of any.
     pub(crate) fn zero() -> Counts
         ensures { result ≡ record { analysed = 0; filled = 0; written = 0 } }
@@ -98,6 +90,18 @@ impl Counts {
             filled: Count::zero(),
             written: Count::zero(),
         }
+    }
+
+    /// Raises that of what is filled into lines by so many characters, before they are.
+    pub(crate) fn take_filled(&mut self, len: usize) -> Counted
+        ensures counted { result ≡ len }
+        ensures analysed { self.new.analysed ≡ self.old.analysed }
+        ensures filled { self.new.filled ≡ counted self.old.filled len }
+        ensures written { self.new.written ≡ self.old.written }
+        ensures least { self.old.filled ≤ self.new.filled }
+    {
+        self.filled.raise(len);
+        Counted { len }
     }
 
     /// Lets go of them with the tables by which the work was done. There is no other way.

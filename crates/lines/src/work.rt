@@ -142,7 +142,7 @@ impl Workspace {
         ensures analysed { counts.new.analysed ≡ counted counts.old.analysed (length text.now) }
         ensures filled { counts.new.filled ≡ counted counts.old.filled (length text.now) }
     {
-        let filled = counts.filled.take(text.len());
+        let filled = counts.take_filled(text.len());
         let base = self.resolve(rules, text, &mut kept.levels, &mut counts.analysed)?;
         take_marks(rules, text, &self.properties, &mut kept.marks)?;
         let paragraph = Paragraph {
@@ -187,7 +187,7 @@ impl Workspace {
         ensures analysed { counts.new.analysed ≡ counted counts.old.analysed (length text.now) }
         ensures filled { counts.new.filled ≡ counted counts.old.filled (length text.now) }
     {
-        let filled = counts.filled.take(text.len());
+        let filled = counts.take_filled(text.len());
         let levels = &mut kept.levels;
         let Ok(base) = self.resolve(rules, text, levels, &mut counts.analysed) else {
             return Err(PrintFault::Memory);
@@ -261,7 +261,7 @@ impl Workspace {
         ensures at_most { FindsSome (length text.now) counts.old counts.new }
         ensures filled { counts.new.filled ≡ counted counts.old.filled (length text.now) }
     {
-        let filled = counts.filled.take(text.len());
+        let filled = counts.take_filled(text.len());
         let tables = rules.tables;
         take_properties(tables, text, &mut self.properties)?;
         let whole_numbers = rules.options.whole_numbers;
@@ -288,7 +288,7 @@ impl Workspace {
         ensures filled { counts.new.filled ≡ counted counts.old.filled (length laid.now.text) }
     {
         let text = laid.text();
-        let filled = counts.filled.take(text.len());
+        let filled = counts.take_filled(text.len());
         take_properties(rules.tables, text, &mut self.properties)?;
         let paragraph = Paragraph {
             text: Text {
@@ -553,7 +553,10 @@ fn take_spans(
 // Sees to it that lists have room for so many characters.
 fn make_room(lists: &mut Lists, len: usize) -> Result<(), AllocError>
     ensures room { OnOk result (HasRoom len lists.new) }
-    ensures most { OnOk result (length lists.new.chars.items ≡ max (length lists.old.chars.items) len) }
+    ensures levels { OnOk result (length lists.new.levels.items ≡ max (length lists.old.levels.items) len) }
+    ensures ltov { OnOk result (length lists.new.ltov.items ≡ max (length lists.old.ltov.items) len) }
+    ensures vtol { OnOk result (length lists.new.vtol.items ≡ max (length lists.old.vtol.items) len) }
+    ensures chars { OnOk result (length lists.new.chars.items ≡ max (length lists.old.chars.items) len) }
 {
     grow(&mut lists.levels, len, 0)?;
     grow(&mut lists.ltov, len, 0)?;
