@@ -56,8 +56,7 @@ run-refused: lib-trials
 lib-tables: lib-ucd
 run-bench: lib-session lib-tables
 run-conformance: lib-lines lib-tables
-# (bidi and session keep all processors busy, lines and tool don't: so these wait for them)
-lib-store lib-tables: lib-bidi
+# (session and what is beside it keep all processors busy, tool doesn't: so this waits for it)
 run-conformance: $(if $(filter run-fribidi,$(MAKECMDGOALS)),lib-session)
 
 run-fribidi: words = -- --help
