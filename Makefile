@@ -30,7 +30,7 @@ OPTIONS = --width 44 --basedir
 .PHONY: all program ucd demo check tmux parallel test attack bench-program conformance-program conformance bench c fribidi fribidi-compare \
 	callers install uninstall
 
-all: programs = fribidi conformance refused
+all: programs = fribidi conformance oom_driver
 program: programs = fribidi
 bench-program: programs = fribidi bench
 conformance-program: programs = conformance
@@ -47,12 +47,12 @@ lib-lines: lib-device lib-bidi lib-breaks
 lib-session: lib-lines lib-store
 lib-command_line lib-text_run: lib-lines
 lib-tool: lib-session lib-command_line lib-text_run
-lib-trials lib-hordguli_c: lib-session
-lib-trials: lib-excerpt
+lib-oom_calls lib-hordguli_c: lib-session
+lib-oom_calls: lib-test_tables
 lib-hordguli_fribidi: lib-lines
-run-points: lib-ucd lib-tables
-run-fribidi run-refused: lib-tool
-run-refused: lib-trials
+run-dump_properties: lib-ucd lib-tables
+run-fribidi run-oom_driver: lib-tool
+run-oom_driver: lib-oom_calls
 lib-tables: lib-ucd
 run-bench: lib-session lib-tables
 run-conformance: lib-lines lib-tables
@@ -61,18 +61,18 @@ run-conformance: $(if $(filter run-fribidi,$(MAKECMDGOALS)),lib-session)
 
 run-fribidi: words = -- --help
 run-bench: words = -- edits tree 1 1
-run-points: words = -- data
+run-dump_properties: words = -- data
 
 lib-%:
-	.ci/prove $* lib
+	tools/prove $* lib
 
 run-%:
-	.ci/prove $* run $(words)
+	tools/prove $* run $(words)
 
 ucd:
-	@.ci/ucd '$(UNICODE)'
+	@tools/collect_ucd '$(UNICODE)'
 
-# The program runs in a new folder, with copies of the files that are handed in: for each text of demo/, with its words.
+# The program runs in a new folder, with copies of the files that are handed in: for each text of examples/texts/, with its words.
 try = cd crates/fribidi && rt try $(foreach table,$(TABLES),--data ucd/$(table).txt=$(CURDIR)/ucd/$(table).txt)
 
 demo: ucd
@@ -80,12 +80,12 @@ demo: ucd
 ifdef TEXT
 	@$(try) --data text=$(abspath $(TEXT)) -- --ucd ucd $(OPTIONS) text
 else
-	@tail -n +1 demo/*.txt
-	@$(try) --data sample.txt=$(CURDIR)/demo/sample.txt --cases $(CURDIR)/demo -- --ucd ucd
+	@tail -n +1 examples/texts/*.txt
+	@$(try) --data sample.txt=$(CURDIR)/examples/texts/sample.txt --cases $(CURDIR)/examples/texts -- --ucd ucd
 endif
 
 check: ucd tmux parallel
-	.ci/check
+	tools/check
 
 # The editor of examples/ is driven in it.
 tmux:
@@ -96,21 +96,21 @@ parallel:
 	@command -v parallel > /dev/null || { apt-get update -q && apt-get install -qy parallel; }
 
 test:
-	@.ci/gate
+	@tools/ci
 
 c:
 	$(MAKE) --no-print-directory --jobs=$(JOBS) lib-hordguli_c
-	c/build
+	tools/build_c
 
 fribidi: ucd
-	$(MAKE) --no-print-directory --jobs=$(JOBS) lib-hordguli_fribidi run-points
-	c/fribidi/build
+	$(MAKE) --no-print-directory --jobs=$(JOBS) lib-hordguli_fribidi run-dump_properties
+	tools/build_fribidi
 
 fribidi-compare: fribidi
-	c/fribidi/test compare 1000000
+	tests/fribidi/run compare 1000000
 
 callers: fribidi
-	c/fribidi/callers
+	tests/fribidi/callers
 
 # (by the environment, so that a path may have spaces)
 install uninstall: export PREFIX := $(PREFIX)
@@ -118,13 +118,13 @@ install uninstall: export LIBDIR := $(LIBDIR)
 install uninstall: export DESTDIR := $(DESTDIR)
 install uninstall: export COMMAND := $(COMMAND)
 install uninstall:
-	@c/install $@
+	@tools/install $@
 
 attack:
-	attack/run $(CRATES)
+	tests/mutants/run $(CRATES)
 
 conformance: conformance-program ucd
-	conformance/run
+	tests/conformance/run
 
 bench: bench-program c fribidi ucd parallel
 	bench/compare

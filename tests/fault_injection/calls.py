@@ -1,7 +1,7 @@
 """Runs a program whose calls of the C library fail, as faults.c says, and what the scripts that do so share."""
 import os, re, shutil, subprocess, sys, tempfile
 
-ROOT = os.path.dirname(os.path.dirname(os.path.abspath(__file__)))
+ROOT = os.path.dirname(os.path.dirname(os.path.dirname(os.path.abspath(__file__))))
 FOLDER = tempfile.TemporaryDirectory()
 PART, NOTHING = -1, 0
 # Memory is asked of the system once, which makes thousands of short runs a third faster. And names are looked up at the start, since
@@ -22,7 +22,7 @@ def compiled():
     if not shutil.which("cc"):
         subprocess.run("apt-get update -q && apt-get install -qy gcc libc6-dev", shell=True, check=True, stdout=sys.stderr)
     library = f"{FOLDER.name}/faults.so"
-    subprocess.run(["cc", "-Wall", "-Werror", "-O1", "-shared", "-fPIC", "-o", library, f"{ROOT}/faults/faults.c", "-ldl"], check=True)
+    subprocess.run(["cc", "-Wall", "-Werror", "-O1", "-shared", "-fPIC", "-o", library, f"{ROOT}/tests/fault_injection/faults.c", "-ldl"], check=True)
     return library
 
 

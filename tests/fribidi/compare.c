@@ -1,6 +1,6 @@
 /* FriBidi's calls beside ours, on lists of types at random: compare OURS COUNT [SEED]. Each list is 1 to 200 long, has types of all
  * 23 kinds and brackets, and is asked for in one of the five base directions; half of the lists have no type that X9 takes out.
- * Where none of the predicates of docs/FRIBIDI.md holds the two agree, call by call. Each predicate is a function below of the
+ * Where none of the predicates of docs/fribidi-compat.md holds the two agree, call by call. Each predicate is a function below of the
  * name that it has there. Of the inputs that meet one alone at least half differ. */
 #include "both.h"
 

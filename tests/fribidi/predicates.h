@@ -1,4 +1,4 @@
-/* The lines of the table of docs/FRIBIDI.md, each a predicate on the input alone: the types, the brackets and the base direction that
+/* The lines of the table of docs/fribidi-compat.md, each a predicate on the input alone: the types, the brackets and the base direction that
  * is asked for, and of a line the levels and the direction that are handed in. */
 typedef struct predicate {
     const char *name;
@@ -39,9 +39,9 @@ static int separator_inside(const input *one) {
     return 0;
 }
 
-#include "plain.h"
+#include "reference.h"
 
-/* Whether one of the ways of plain.h changes a level, alone or beside the others, or the greatest level. */
+/* Whether one of the ways of reference.h changes a level, alone or beside the others, or the greatest level. */
 static int changes(const input *one, int way, int greatest) {
     input plain = *one; /* the call that takes no brackets */
     memset(plain.brackets, 0, sizeof plain.brackets);

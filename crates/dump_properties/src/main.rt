@@ -1,6 +1,7 @@
-//! Prints what the table files of a folder say of each character that has another class than L, a bracket or
-//! a mirror: the character, its class, its bracket with whether it opens a pair, and its mirror. The static
-//! numbers of FriBidi's calls are compared with it. `points FOLDER`.
+//! Prints the properties of characters by the table files of a folder: `dump_properties FOLDER`.
+//!
+//! One line per property: a bidi class other than L, a bracket with whether it opens a pair, or a mirror.
+//! `tests/fribidi/run` compares the tables of FriBidi's interface with it.
 #![tactic(auto)]
 
 use anyhow::{Result, bail};
@@ -13,21 +14,21 @@ use ucd::{BidiClass, Tables};
 fn main(rt: HostRuntime) -> Result<()> {
     let words: Vec<String> = env::args(&rt)?.collect(rt.alloc())?;
     let Some(folder) = words.get(1) else {
-        bail!("points FOLDER");
+        bail!("usage: dump_properties FOLDER");
     };
     let tables = in_folder(&rt, folder.as_str())?;
-    write_points(&rt, &tables)
+    write_buffered(&rt, &tables)
 }
 
-fn write_points(rt: &HostRuntime, tables: &Tables) -> Result<()> {
+fn write_buffered(rt: &HostRuntime, tables: &Tables) -> Result<()> {
     let mut output = BufWriter::new(rt.alloc(), io::writer(rt))?;
-    write_all_points(tables, &mut output)
+    write_all(tables, &mut output)
 }
 
-fn write_all_points<W: Write>(tables: &Tables, output: &mut W) -> Result<()> {
+fn write_all<W: Write>(tables: &Tables, output: &mut W) -> Result<()> {
     for number in 0..1_114_112_u32 {
         if let Some(c) = char::from_u32(number) {
-            write_point(tables, c, output)?;
+            write_properties(tables, c, output)?;
         }
     }
     Ok(output.flush()?)

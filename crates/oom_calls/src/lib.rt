@@ -1,5 +1,5 @@
-//! The calls of the libraries that can want memory, each tried: one that is refused has to leave all as it
-//! was, or to give back what it was given, and is then made again. The program `refused` makes them.
+//! Every library call that can fail with out of memory. A failed call must leave everything as it was, or
+//! return what it was given; it is then made again. The program `oom_driver` makes these calls.
 #![tactic(auto)]
 
 mod page;

@@ -2,6 +2,7 @@
 //! tree, by the test tables and at 80 columns.
 use device::{FromRead, ToWrite};
 use lines::{Engine, Options, Print};
+use oom_calls::tables::FILES;
 use session::{Kept, Session};
 use std::alloc::Global;
 use std::fs::File;
@@ -9,7 +10,6 @@ use std::{env, fs};
 use store::VecStore;
 use text_run::RunFault;
 use tool::{ProgramFault, ScriptOptions, open_text, run_script};
-use trials::tables::FILES;
 use ucd::Tables;
 
 // The lines alone, as the command prints them where no option asks for more.

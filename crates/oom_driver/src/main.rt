@@ -1,22 +1,22 @@
-//! What the gate asks of the libraries in a program beside the command.
+//! Drives the libraries under allocation failures, and edit scripts over a list of paragraphs.
 //!
-//! `refused` makes each call that can want memory, and tells how each went. A call that is refused has to
-//! leave all as it was, or to give back what it was given, and is then made again, so what is printed is the
-//! same whichever one allocation is refused: the gate has each refused in turn (`faults/run`).
+//! `oom_driver` makes every library call that can fail with out of memory, and prints how each went. A failed
+//! call must leave everything as it was, or return what it was given; it is then made again. So the output is
+//! the same whichever single allocation fails: `tests/fault_injection/run` fails each in turn.
 //!
-//! `refused TEXT SCRIPT`, two files, runs an edit script over a text that is kept in a list: `cases/run` runs
-//! the worked scripts over both stores.
+//! `oom_driver TEXT SCRIPT` runs an edit script over a text whose paragraphs are kept in a list.
+//! `tests/cli/run` runs scripts over both stores this way.
 #![tactic(auto)]
 
 mod list_script;
 mod runs;
 
+use oom_calls::{Wrong, paragraphs, sessions, stores, tables};
 use session::Kept;
 use std::alloc::Global;
 use std::io;
 use std::process::ExitCode;
 use store::{ParagraphStore, TreeStore, VecStore};
-use trials::{Wrong, paragraphs, sessions, stores, tables};
 
 // Where something is wrong the status is the same and what is printed is not. A refusal of what isn't
 // tried here, as of a line's printing, may end the program with another status.

@@ -2,14 +2,14 @@
 //! of whole lines of a script.
 use device::{FromRead, ToWrite};
 use lines::{Engine, Print};
+use oom_calls::sessions::{ALL, open};
+use oom_calls::tables::{engine, let_go};
+use oom_calls::{Printed, Writer, Wrong};
 use session::{Kept, Session};
 use std::alloc::Global;
 use store::ParagraphStore;
 use text_run::{RunFault, run_text};
 use tool::{ScriptOptions, run_script};
-use trials::sessions::{ALL, open};
-use trials::tables::{engine, let_go};
-use trials::{Printed, Writer, Wrong};
 
 const LINES: Print = Print {
     basedir: false,

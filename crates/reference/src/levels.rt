@@ -13,7 +13,7 @@ use ucd::{BidiClass, Tables};
 
 /// The level of each character of a list that has no explicit formatting character, no isolate, and no
 /// character that X9 takes out.
-pub fn plain_levels(
+pub fn reference_levels(
     alloc: Global,
     tables: &Tables,
     text: &[char],

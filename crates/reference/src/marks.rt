@@ -15,7 +15,7 @@ use ucd::{LineClass, Tables};
 
 /// The mark of the position after each character of a text, in place of what a list holds. Another list
 /// is used for the classes of the bases.
-pub fn plain_marks(
+pub fn reference_marks(
     tables: &Tables,
     text: &[char],
     tailoring: Tailoring,

@@ -1,7 +1,7 @@
 use Rattle.std.proofs.Common.{arith}
-use Rattle.trials.specs.declared.stores.Item.{Item}
-use Rattle.trials.proofs.StoreLemmas.{sum_of_splice}
-use Rattle.trials.proofs.stores.replace.Goals as goal
+use Rattle.oom_calls.specs.declared.stores.Item.{Item}
+use Rattle.oom_calls.proofs.StoreLemmas.{sum_of_splice}
+use Rattle.oom_calls.proofs.stores.replace.Goals as goal
 
 pub replace-requires-clause-chars_fit : goal.replace-requires-clause-chars_fit
 replace-requires-clause-chars_fit g c =
