@@ -128,6 +128,7 @@ conformance: conformance-program ucd
 
 bench: bench-program c fribidi ucd parallel
 	bench/compare
+	bench/startup
 	bench/edits
 	bench/levels
 	bench/marks
