@@ -2,40 +2,41 @@
  *
  * Lays out bidirectional text in lines of a given width (UAX #9, UAX #14). A session holds a text and its layout, and
  * keeps the layout up to date when the text is edited or the width changes. Each edit reports which lines it replaced.
+ * The exact rules and limits are in docs/reference.md, in the sources.
  *
  * UNITS
  *
- * A character is a Unicode scalar value. Positions and lengths count characters, except that the length of a `char`
- * array counts bytes. Positions, lines, paragraphs and columns start at 0. Text is UTF-8, in and out. It has no NUL
- * terminator, and U+0000 is an ordinary character.
+ * A character is a Unicode scalar value. Positions and lengths are in characters. Lengths of `char` arrays are in
+ * bytes. Positions, lines, paragraphs and columns start at 0. Text is UTF-8, in and out. It has no NUL terminator, and
+ * U+0000 is an ordinary character.
  *
  * PARAGRAPHS AND LINES
  *
- * A paragraph ends after a separator: U+000A, U+000D, U+001C to U+001E, U+0085 or U+2029. U+000D U+000A is one
+ * A paragraph ends after a separator: U+000A, U+000D, U+001C to U+001E, U+0085 or U+2029. The pair U+000D U+000A is one
  * separator. A separator at the end of the text starts no new paragraph. An empty text has no paragraphs and no lines.
  *
  * A line ends with its paragraph, after U+000B, U+000C or U+2028, or at a break opportunity (UAX #14). If none of these
- * fits the width, it ends inside a word, between grapheme clusters. A line has at least one character, so it can be
- * wider than the width.
+ * fits the width, the line ends inside a word, at the last grapheme cluster boundary that fits. If none of those fits
+ * either, the line is wider than the width.
  *
  * The tail of a line is not shown: all U+0020, U+000A to U+000D, U+0085, U+2028 and U+2029 at its end. The rest of the
  * line is its shown part.
  *
  * COLUMNS
  *
- * A column is a terminal cell. The columns of a line are the sum of the widths of its shown characters, by the Unicode
- * version that `fribidi --version` prints last. Tabs and other control characters have width 0 and are written
- * unchanged. A program that writes to a terminal has to remove or replace them.
+ * A column is a terminal cell. The columns of a line are the sum of the widths of its shown characters. Widths are
+ * those of the Unicode version that `fribidi --version` prints last. Tabs and other control characters have width 0 and
+ * are written unchanged. A program that writes to a terminal has to remove or replace them.
  *
  * ERRORS
  *
  * A function that can fail returns a status. HORDGULI_OK is 0. After any other status nothing has changed, including
  * output parameters, unless the function says otherwise.
  *
- * `Errors` lists the other statuses, without `HORDGULI_`, in the order in which they are checked. The first that
- * applies is returned. Only NO_MEMORY can come before its turn: it is returned as soon as an allocation fails. A
- * function that does not list it allocates nothing. `Cost` is the running time; n is the number of paragraphs in the
- * session.
+ * `Errors` lists the other statuses of a function, without `HORDGULI_`, in the order in which they are checked. The
+ * first that applies is returned. Only NO_MEMORY can come before its turn: it is returned as soon as an allocation
+ * fails. A function that does not list it allocates nothing. `Cost` is the running time; n is the number of paragraphs
+ * in the session.
  *
  * POINTERS
  *
@@ -51,7 +52,9 @@
  * `*length`. If the buffer is too small, they return NO_ROOM, leave it unchanged, and store the required size. So call
  * once with capacity 0, then again with a buffer of the required size.
  *
- *     status = hordguli_text(&session, pos, count, 0, NULL, &length);
+ *     size_t length = 0;
+ *     char *buffer = NULL;
+ *     hordguli_status status = hordguli_text(&session, pos, count, 0, NULL, &length);
  *     if (status == HORDGULI_NO_ROOM && (buffer = malloc(length)) != NULL)
  *         status = hordguli_text(&session, pos, count, length, buffer, &length);
  *
@@ -67,11 +70,11 @@
  *   - Use and close a session in the thread that opened it. Nothing in it is known to depend on the thread, but the
  *     proof does not cover other threads.
  *   - Do not call the library in a signal handler that can interrupt the library or malloc.
- *   - After `fork`, the child must not use a handle that was in a call of another thread.
+ *   - After `fork`, the child has its own handles. It must not use one that was in a call of another thread.
  *
  * MEMORY
  *
- * Memory comes from malloc, realloc and free. The library keeps no pointer of the caller after a call, writes to no
+ * Memory comes from malloc, realloc and free. The library keeps no pointers from the caller after a call, writes to no
  * stream, calls no callbacks, and has no state outside its handles. The strings it returns are constants. */
 #ifndef HORDGULI_H
 #define HORDGULI_H
@@ -145,9 +148,9 @@ const char *hordguli_unicode_version(void);
 #define HORDGULI_WEAK_LTR UINT32_C(0)
 /* The direction of a paragraph's first strong character, or RTL if there is none. */
 #define HORDGULI_WEAK_RTL UINT32_C(1)
-/* Left-to-right. */
+/* All paragraphs are left-to-right. */
 #define HORDGULI_LTR UINT32_C(2)
-/* Right-to-left. */
+/* All paragraphs are right-to-left. */
 #define HORDGULI_RTL UINT32_C(3)
 /* Ends lines at mandatory breaks only. */
 #define HORDGULI_NOBREAK UINT32_C(4)
@@ -155,7 +158,7 @@ const char *hordguli_unicode_version(void);
  * mark onto the cell to its left. For RTL text A, mark, B the default order is B, mark, A, so such a terminal draws the
  * mark onto B. With this option the order is B, A, mark. */
 #define HORDGULI_REORDER_NSM UINT32_C(8)
-/* Does not break inside a number, such as `$(1,200)`. Replaces LB25 of UAX #14 by: no break inside
+/* Does not break inside a number, such as `$(1,200)`. Instead of LB25 (UAX #14), there is no break inside a match of
  * `(PR|PO)? (OP|HY)? NU (NU|SY|IS)* (CL|CP)? (PR|PO)?`. */
 #define HORDGULI_WHOLE_NUMBERS UINT32_C(16)
 
@@ -189,26 +192,25 @@ const char *hordguli_unicode_version(void);
 /* A line must end after the character. */
 #define HORDGULI_BREAK_MUST 2
 
-/* ---- Handles ---- */
+/* ---- Handles ----
+ *
+ * The member `at` is private. */
 
-/* A handle of tables. `at` is private. */
 typedef struct hordguli_tables {
     void *at;
 } hordguli_tables;
 
-/* A handle of a session. `at` is private. */
 typedef struct hordguli_session {
     void *at;
 } hordguli_session;
 
-/* A closed handle of tables. */
+/* Initial values of handles: closed. */
 #define HORDGULI_TABLES_INIT { NULL }
-/* A closed handle of a session. */
 #define HORDGULI_SESSION_INIT { NULL }
 
 /* ---- Tables ----
  *
- * Tables hold the character properties of seven files of the Unicode Character Database. */
+ * Tables hold character properties from seven files of the Unicode Character Database. */
 
 /* The number of files. */
 #define HORDGULI_TABLE_FILES 7
@@ -222,7 +224,6 @@ typedef struct hordguli_session {
 #define HORDGULI_EAST_ASIAN_WIDTH 5  /* EastAsianWidth.txt */
 #define HORDGULI_EMOJI_DATA 6        /* emoji-data.txt */
 
-/* The content of a file. */
 typedef struct hordguli_bytes {
     const void *bytes;
     size_t length;
@@ -262,7 +263,8 @@ void hordguli_tables_close(hordguli_tables *tables);
 /* ---- Sessions and edits ---- */
 
 /* What an edit replaced: `old_lines` lines from `first_line` on became `new_lines` lines, and likewise for paragraphs.
- * All other lines are unchanged, except for the numbers of the lines after. */
+ * All other lines are unchanged, except for the numbers of the lines after. An edit replaces all paragraphs that
+ * contain or touch its range, even if it inserts and deletes nothing. */
 typedef struct hordguli_damage {
     size_t first_line;
     size_t old_lines;
@@ -282,20 +284,19 @@ hordguli_status hordguli_session_open(hordguli_session *session, hordguli_tables
 /* Frees the session and closes the handle. Safe on a closed handle or NULL. */
 void hordguli_session_close(hordguli_session *session);
 
-/* Inserts text before the character at `pos`, or at the end of the text. An edit lays out again the paragraphs that
- * contain or touch its range. It may be empty.
+/* Inserts text before the character at `pos`, or at the end of the text. Stores in `*damage` what it replaced.
  * Errors: NULL, OVERLAP, NOT_UTF8, CLOSED, OUT_OF_RANGE, TEXT_TOO_LONG, PARAGRAPH_TOO_LONG, NO_MEMORY.
- * Cost: O(log n), plus the layout of the new paragraphs, plus O(1) per old paragraph. */
+ * Cost: O(log n), plus O(1) per replaced paragraph, plus the layout of the new ones. */
 hordguli_status hordguli_insert(hordguli_session *session, size_t pos, const char *text, size_t length,
                                 hordguli_damage *damage);
 
-/* Deletes `count` characters from `pos` on, which can join paragraphs.
+/* Deletes `count` characters from `pos` on. This can join paragraphs.
  * Errors: NULL, OVERLAP, CLOSED, OUT_OF_RANGE, PARAGRAPH_TOO_LONG, NO_MEMORY.
  * Cost: as `hordguli_insert`. */
 hordguli_status hordguli_delete(hordguli_session *session, size_t pos, size_t count, hordguli_damage *damage);
 
-/* Replaces `count` characters from `pos` on by text, in one edit.
- * Errors: as `hordguli_insert`.
+/* Replaces `count` characters from `pos` on with text, in one edit.
+ * Errors: NULL, OVERLAP, NOT_UTF8, CLOSED, OUT_OF_RANGE, TEXT_TOO_LONG, PARAGRAPH_TOO_LONG, NO_MEMORY.
  * Cost: as `hordguli_insert`. */
 hordguli_status hordguli_replace(hordguli_session *session, size_t pos, size_t count, const char *text, size_t length,
                                  hordguli_damage *damage);
@@ -305,7 +306,6 @@ hordguli_status hordguli_replace(hordguli_session *session, size_t pos, size_t c
  * Cost: O(n), plus wrapping each paragraph that is not one line within the new width. */
 hordguli_status hordguli_set_width(hordguli_session *session, uint32_t width, hordguli_damage *damage);
 
-/* The size of a session. */
 typedef struct hordguli_counts {
     size_t characters;
     size_t lines;
@@ -318,11 +318,11 @@ typedef struct hordguli_counts {
  * Cost: O(1). */
 hordguli_status hordguli_session_counts(hordguli_session *session, hordguli_counts *counts);
 
-/* Work counters, for checking that edits stay incremental. They count characters since the session was opened, with
- * those of the opening, and stop at UINT64_MAX. */
+/* Work counters, for checking that edits stay incremental. They count characters from the opening of the session on,
+ * and stop at UINT64_MAX. */
 typedef struct hordguli_work {
-    uint64_t analysed;  /* given levels and break marks */
-    uint64_t filled;    /* divided into lines */
+    uint64_t analysed;  /* levels and break marks computed */
+    uint64_t filled;    /* line starts computed */
     uint64_t written;   /* put into visual order */
 } hordguli_work;
 
@@ -338,25 +338,23 @@ hordguli_status hordguli_session_work(hordguli_session *session, hordguli_work *
  * Cost: O(log n). */
 hordguli_status hordguli_line_start(hordguli_session *session, size_t line, size_t *start);
 
-/* The place of a character. */
 typedef struct hordguli_place {
     size_t paragraph;
     size_t line;
     size_t offset;  /* characters before it in the line */
 } hordguli_place;
 
-/* Stores in `*place` the place of the character at `pos`. At the end of the text it is after the last character. But if
- * the text is empty or ends with a separator, it is the start of the next paragraph, which does not exist yet:
+/* Stores in `*place` the place of the character at `pos`. At the end of the text this is after the last character. But
+ * if the text is empty or ends with a separator, it is the start of the next paragraph, which does not exist yet. Then
  * `paragraph` and `line` are the counts of paragraphs and lines.
  * Errors: NULL, OVERLAP, CLOSED, OUT_OF_RANGE.
- * Cost: O(log n + log m), where m is the number of lines of the paragraph. */
+ * Cost: O(log n + log m) in a paragraph of m lines. */
 hordguli_status hordguli_place_of(hordguli_session *session, size_t pos, hordguli_place *place);
 
-/* A caret on the screen. */
 typedef struct hordguli_caret {
     size_t line;
     size_t column;   /* columns left of it in the shown part, without padding */
-    uint32_t level;  /* level of the character after it, or the base level */
+    uint32_t level;  /* level of the character after it if shown, else base level */
     uint32_t zero;   /* always 0 */
 } hordguli_caret;
 
@@ -371,7 +369,6 @@ typedef struct hordguli_caret {
  * Cost: as `hordguli_place_of`, plus O(length of the line). */
 hordguli_status hordguli_caret_at(hordguli_session *session, size_t pos, hordguli_caret *caret);
 
-/* The character at a column. */
 typedef struct hordguli_hit {
     size_t pos;
     uint32_t trailing;  /* 1 if the caret goes after the character, else 0 */
@@ -389,7 +386,8 @@ typedef struct hordguli_hit {
  *     if (!status) status = hordguli_cluster_at(&session, hit.pos, &cluster);
  *     if (!status) pos = hit.trailing ? cluster.end : cluster.start;
  *
- * If `x` is in the padding, use column 0, and set `trailing` to 1 if the level of the character is odd.
+ * If `x` is in the padding, use column 0. Then, if the line has columns and the character's level (see
+ * `hordguli_caret_at`) is odd, set `trailing` to 1.
  *
  * Errors: NULL, OVERLAP, CLOSED, OUT_OF_RANGE.
  * Cost: O(log n), plus O(length of the line). */
@@ -401,26 +399,25 @@ typedef struct hordguli_cluster {
     size_t end;
 } hordguli_cluster;
 
-/* Stores in `*cluster` the grapheme cluster of the character at `pos`. OUT_OF_RANGE includes the end of the text.
+/* Stores in `*cluster` the grapheme cluster of the character at `pos`. The end of the text is OUT_OF_RANGE.
  * Errors: NULL, OVERLAP, CLOSED, OUT_OF_RANGE, NO_MEMORY.
  * Cost: O(log n), plus time and memory proportional to the whole paragraph. */
 hordguli_status hordguli_cluster_at(hordguli_session *session, size_t pos, hordguli_cluster *cluster);
 
 /* ---- Lines and text ---- */
 
-/* A line. */
 typedef struct hordguli_line_info {
     size_t start;      /* position of its first character */
     size_t length;     /* characters, including the tail */
     size_t shown;      /* characters in the shown part */
     size_t columns;    /* columns of the shown part */
-    size_t padding;    /* columns left of it if printed padded */
+    size_t padding;    /* spaces left of it when printed padded */
     uint32_t base;     /* base level of its paragraph, 0 or 1 */
     uint32_t first;    /* 1 if it is the first line of its paragraph, else 0 */
 } hordguli_line_info;
 
-/* Stores a line in `*info`, and `info->shown` elements in each array. Arrays have `capacity` elements, and may be NULL.
- * Positions count from the start of the line.
+/* Stores a line in `*info`, and `info->shown` elements in each array. Arrays have `capacity` elements each. NULL arrays
+ * are skipped. Positions count from the start of the line.
  *   characters  characters in visual order, mirrored
  *   levels      level of each character after L1, in logical order
  *   ltov        visual position of each logical position
@@ -428,7 +425,7 @@ typedef struct hordguli_line_info {
  *   columns     columns at each visual position
  *
  * With NO_ROOM, `*info` is set and the arrays are unchanged.
- * Errors: NULL (`session`, `info`), OVERLAP, CLOSED, OUT_OF_RANGE, NO_ROOM.
+ * Errors: NULL, OVERLAP, CLOSED, OUT_OF_RANGE, NO_ROOM.
  * Cost: O(log n), plus the elements written. */
 hordguli_status hordguli_line(hordguli_session *session, size_t line, hordguli_line_info *info, size_t capacity,
                               uint32_t *characters, uint8_t *levels, uint32_t *ltov, uint32_t *vtol,
@@ -457,7 +454,11 @@ hordguli_status hordguli_text(hordguli_session *session, size_t pos, size_t coun
  * Cost: O(log n) per paragraph, plus O(count). */
 hordguli_status hordguli_utf8_length(hordguli_session *session, size_t pos, size_t count, size_t *length);
 
-/* A paragraph. */
+/* Stores in `*count` the number of characters in UTF-8 text of `length` bytes.
+ * Errors: NULL, OVERLAP, NOT_UTF8.
+ * Cost: O(length). */
+hordguli_status hordguli_count_utf8(const char *bytes, size_t length, size_t *count);
+
 typedef struct hordguli_paragraph_info {
     size_t length;  /* characters, including the separator */
     size_t lines;
@@ -466,12 +467,12 @@ typedef struct hordguli_paragraph_info {
 } hordguli_paragraph_info;
 
 /* Stores a paragraph in `*info`, and `info->length` elements in each array, in logical order. Arrays have `capacity`
- * elements, and may be NULL.
+ * elements each. NULL arrays are skipped.
  *   levels      level of each character before L1
  *   marks       break mark after each character
  *
  * With NO_ROOM, `*info` is set and the arrays are unchanged.
- * Errors: NULL (`session`, `info`), OVERLAP, CLOSED, OUT_OF_RANGE, NO_ROOM.
+ * Errors: NULL, OVERLAP, CLOSED, OUT_OF_RANGE, NO_ROOM.
  * Cost: O(log n), plus the elements written. */
 hordguli_status hordguli_paragraph(hordguli_session *session, size_t paragraph, hordguli_paragraph_info *info,
                                    size_t capacity, uint8_t *levels, uint8_t *marks);
@@ -505,11 +506,6 @@ hordguli_status hordguli_levels(hordguli_tables *tables, uint32_t direction, con
  * Cost: time and memory proportional to `count`. */
 hordguli_status hordguli_marks(hordguli_tables *tables, uint32_t options, const uint32_t *characters, size_t count,
                                size_t capacity, uint8_t *marks);
-
-/* Stores in `*count` the number of characters in UTF-8 text of `length` bytes.
- * Errors: NULL, OVERLAP, NOT_UTF8.
- * Cost: O(length). */
-hordguli_status hordguli_count_utf8(const char *bytes, size_t length, size_t *count);
 
 #ifdef __cplusplus
 }
