@@ -1,6 +1,6 @@
-/* Implements hordguli.h on top of the proved crate hordguli_c. This file checks what the crate cannot: that no pointer
- * is NULL unless it may be, that arrays, output parameters and handles do not overlap, and that a width fits into 16
- * bits. The crate checks everything else. */
+/* Implements hordguli.h on top of the proved crate hordguli_c. This file checks what the crate cannot: NULL pointers,
+ * overlapping arrays, output parameters and handles, and widths of more than 16 bits. The crate checks everything
+ * else. */
 #include "core.h"
 
 #define PUBLIC __attribute__((visibility("default")))
@@ -235,7 +235,7 @@ PUBLIC hordguli_status hordguli_paragraph(hordguli_session *session, size_t para
 
 /* ---- Levels and breaks without a session ---- */
 
-/* Stands in for NULL if there are no characters. */
+/* Used instead of NULL if there are no characters. */
 static const uint32_t no_characters[1] = {0};
 #define CHARACTERS(pointer) ((pointer) == NULL ? no_characters : (pointer))
 

@@ -353,8 +353,8 @@ hordguli_status hordguli_place_of(hordguli_session *session, size_t pos, hordgul
 
 typedef struct hordguli_caret {
     size_t line;
-    size_t column;   /* columns left of it in the shown part, without padding */
-    uint32_t level;  /* level of the character after it if shown, else base level */
+    size_t column;   /* columns left of it, without padding */
+    uint32_t level;  /* level of the character if shown, else base level */
     uint32_t zero;   /* always 0 */
 } hordguli_caret;
 
@@ -387,13 +387,13 @@ typedef struct hordguli_hit {
  *     if (!status) pos = hit.trailing ? cluster.end : cluster.start;
  *
  * If `x` is in the padding, use column 0. Then, if the line has columns and the character's level (see
- * `hordguli_caret_at`) is odd, set `trailing` to 1.
+ * `hordguli_caret_at`) is odd, set `trailing` to 1. `cluster.end` can be the start of the next line.
  *
  * Errors: NULL, OVERLAP, CLOSED, OUT_OF_RANGE.
  * Cost: O(log n), plus O(length of the line). */
 hordguli_status hordguli_hit_at(hordguli_session *session, size_t line, size_t column, hordguli_hit *hit);
 
-/* A grapheme cluster, from `start` to before `end`. */
+/* The characters from `start` up to, but not including, `end`. */
 typedef struct hordguli_cluster {
     size_t start;
     size_t end;
@@ -413,7 +413,7 @@ typedef struct hordguli_line_info {
     size_t columns;    /* columns of the shown part */
     size_t padding;    /* spaces left of it when printed padded */
     uint32_t base;     /* base level of its paragraph, 0 or 1 */
-    uint32_t first;    /* 1 if it is the first line of its paragraph, else 0 */
+    uint32_t first;    /* 1 for the first line of a paragraph, else 0 */
 } hordguli_line_info;
 
 /* Stores a line in `*info`, and `info->shown` elements in each array. Arrays have `capacity` elements each. NULL arrays
