@@ -1,4 +1,4 @@
-/* What a library says of each code point that has another type than LTR, a bracket or a mirror: points LIBRARY. A difference
+/* What a library says of each code point that has another type than LTR, a bracket or a mirror: properties LIBRARY. A difference
  * between a call on one character and that on a string is told as a failure. */
 #include "both.h"
 
