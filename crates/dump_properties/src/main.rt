@@ -34,7 +34,7 @@ fn write_all<W: Write>(tables: &Tables, output: &mut W) -> Result<()> {
     Ok(output.flush()?)
 }
 
-fn write_point<W: Write>(tables: &Tables, c: char, output: &mut W) -> Result<()> {
+fn write_properties<W: Write>(tables: &Tables, c: char, output: &mut W) -> Result<()> {
     let class = tables.bidi_class(c);
     if class != BidiClass::L {
         writeln!(output, "{:x} class {}", c as u32, name_of(class))?;
