@@ -1,18 +1,18 @@
-/* The calls of hordguli.h, over those of the proved crate hordguli_c. What is decided here is what that cannot test: that
- * no pointer is null but where there is nothing at it, that no array and nothing that is written has a byte in common
- * with another or with a handle, and that a width fits into 16 bits. All else is the core's. */
+/* Implements hordguli.h on top of the proved crate hordguli_c. This file checks what the crate cannot: NULL pointers,
+ * overlapping arrays, output parameters and handles, and widths of more than 16 bits. The crate checks everything
+ * else. */
 #include "core.h"
 
 #define PUBLIC __attribute__((visibility("default")))
 
-/* ---- What pointers point to ---- */
+/* ---- Pointer checks ---- */
 
 typedef struct part {
     const void *at;
     size_t size;
 } part;
 
-/* Whether two parts have a byte in common. One that is longer than any object can be has it with all. */
+/* Returns whether two parts overlap. A part that is longer than any object can be overlaps with everything. */
 static int overlap(const part *parts, size_t count) {
     for (size_t i = 0; i < count; i++) {
         uintptr_t a = (uintptr_t)parts[i].at;
@@ -33,7 +33,7 @@ static size_t times(size_t count, size_t size) { return count > SIZE_MAX / size 
 #define ARRAY(pointer, count) {(pointer), (pointer) == NULL ? 0 : times((count), sizeof *(pointer))}
 #define LACKS(pointer, count) ((pointer) == NULL && (count) != 0)
 
-/* What stands where an array has no elements: it is never null, and nothing is read or written there. */
+/* The crate needs pointers that are not NULL, also for arrays without elements. It does not read or write there. */
 #define BYTES(pointer) ((const uint8_t *)((pointer) == NULL ? (const void *)"" : (const void *)(pointer)))
 #define ROOM(type, pointer, none) ((pointer) == NULL ? (none) : (type *)(pointer))
 #define LENGTH(pointer, count) ((pointer) == NULL ? 0 : (count))
@@ -91,7 +91,7 @@ PUBLIC void hordguli_tables_close(hordguli_tables *tables) {
     if (tables != NULL) hordguli_core_tables_close(tables);
 }
 
-/* ---- Sessions ---- */
+/* ---- Sessions and edits ---- */
 
 PUBLIC hordguli_status hordguli_session_open(hordguli_session *session, hordguli_tables *tables, uint32_t options,
                                              uint32_t width, const char *text, size_t length) {
@@ -144,7 +144,7 @@ PUBLIC hordguli_status hordguli_session_work(hordguli_session *session, hordguli
     return (hordguli_status)hordguli_core_session_work(session, work);
 }
 
-/* ---- Places ---- */
+/* ---- Carets and hit testing ---- */
 
 PUBLIC hordguli_status hordguli_line_start(hordguli_session *session, size_t line, size_t *start) {
     if (session == NULL || start == NULL) return HORDGULI_NULL;
@@ -176,9 +176,9 @@ PUBLIC hordguli_status hordguli_cluster_at(hordguli_session *session, size_t pos
     return (hordguli_status)hordguli_core_cluster_at(session, pos, cluster);
 }
 
-/* ---- Lines, paragraphs and text ---- */
+/* ---- Lines and text ---- */
 
-PUBLIC hordguli_status hordguli_line(hordguli_session *session, size_t line, hordguli_line_info *info, size_t room,
+PUBLIC hordguli_status hordguli_line(hordguli_session *session, size_t line, hordguli_line_info *info, size_t capacity,
                                      uint32_t *characters, uint8_t *levels, uint32_t *ltov, uint32_t *vtol,
                                      size_t *columns) {
     uint32_t none[1];
@@ -188,30 +188,31 @@ PUBLIC hordguli_status hordguli_line(hordguli_session *session, size_t line, hor
                       | (ltov != NULL ? HORDGULI_CORE_LTOV : 0) | (vtol != NULL ? HORDGULI_CORE_VTOL : 0)
                       | (columns != NULL ? HORDGULI_CORE_COLUMNS : 0);
     if (session == NULL || info == NULL) return HORDGULI_NULL;
-    if (OVERLAP(AT(session), AT(info), ARRAY(characters, room), ARRAY(levels, room), ARRAY(ltov, room),
-                ARRAY(vtol, room), ARRAY(columns, room)))
+    if (OVERLAP(AT(session), AT(info), ARRAY(characters, capacity), ARRAY(levels, capacity), ARRAY(ltov, capacity),
+                ARRAY(vtol, capacity), ARRAY(columns, capacity)))
         return HORDGULI_OVERLAP;
     return (hordguli_status)hordguli_core_line(
-        session, line, info, wanted, ROOM(uint32_t, characters, none), LENGTH(characters, room),
-        ROOM(uint8_t, levels, no_levels), LENGTH(levels, room), ROOM(uint32_t, ltov, none), LENGTH(ltov, room),
-        ROOM(uint32_t, vtol, none), LENGTH(vtol, room), ROOM(size_t, columns, no_columns), LENGTH(columns, room));
+        session, line, info, wanted, ROOM(uint32_t, characters, none), LENGTH(characters, capacity),
+        ROOM(uint8_t, levels, no_levels), LENGTH(levels, capacity), ROOM(uint32_t, ltov, none), LENGTH(ltov, capacity),
+        ROOM(uint32_t, vtol, none), LENGTH(vtol, capacity), ROOM(size_t, columns, no_columns),
+        LENGTH(columns, capacity));
 }
 
 PUBLIC hordguli_status hordguli_lines_utf8(hordguli_session *session, size_t first, size_t count, uint32_t print,
-                                           size_t room, char *bytes, size_t *length) {
+                                           size_t capacity, char *buffer, size_t *length) {
     uint8_t none[1];
-    if (session == NULL || length == NULL || LACKS(bytes, room)) return HORDGULI_NULL;
-    if (OVERLAP(AT(session), AT(length), ARRAY(bytes, room))) return HORDGULI_OVERLAP;
-    return (hordguli_status)hordguli_core_lines_utf8(session, first, count, print, ROOM(uint8_t, bytes, none), room,
-                                                     length);
+    if (session == NULL || length == NULL || LACKS(buffer, capacity)) return HORDGULI_NULL;
+    if (OVERLAP(AT(session), AT(length), ARRAY(buffer, capacity))) return HORDGULI_OVERLAP;
+    return (hordguli_status)hordguli_core_lines_utf8(session, first, count, print, ROOM(uint8_t, buffer, none),
+                                                     capacity, length);
 }
 
-PUBLIC hordguli_status hordguli_text(hordguli_session *session, size_t pos, size_t count, size_t room, char *bytes,
+PUBLIC hordguli_status hordguli_text(hordguli_session *session, size_t pos, size_t count, size_t capacity, char *buffer,
                                      size_t *length) {
     uint8_t none[1];
-    if (session == NULL || length == NULL || LACKS(bytes, room)) return HORDGULI_NULL;
-    if (OVERLAP(AT(session), AT(length), ARRAY(bytes, room))) return HORDGULI_OVERLAP;
-    return (hordguli_status)hordguli_core_text(session, pos, count, ROOM(uint8_t, bytes, none), room, length);
+    if (session == NULL || length == NULL || LACKS(buffer, capacity)) return HORDGULI_NULL;
+    if (OVERLAP(AT(session), AT(length), ARRAY(buffer, capacity))) return HORDGULI_OVERLAP;
+    return (hordguli_status)hordguli_core_text(session, pos, count, ROOM(uint8_t, buffer, none), capacity, length);
 }
 
 PUBLIC hordguli_status hordguli_utf8_length(hordguli_session *session, size_t pos, size_t count, size_t *length) {
@@ -221,20 +222,20 @@ PUBLIC hordguli_status hordguli_utf8_length(hordguli_session *session, size_t po
 }
 
 PUBLIC hordguli_status hordguli_paragraph(hordguli_session *session, size_t paragraph, hordguli_paragraph_info *info,
-                                          size_t room, uint8_t *levels, uint8_t *marks) {
+                                          size_t capacity, uint8_t *levels, uint8_t *marks) {
     uint8_t none[1];
     uint32_t wanted = (levels != NULL ? HORDGULI_CORE_PARAGRAPH_LEVELS : 0)
                       | (marks != NULL ? HORDGULI_CORE_PARAGRAPH_MARKS : 0);
     if (session == NULL || info == NULL) return HORDGULI_NULL;
-    if (OVERLAP(AT(session), AT(info), ARRAY(levels, room), ARRAY(marks, room))) return HORDGULI_OVERLAP;
+    if (OVERLAP(AT(session), AT(info), ARRAY(levels, capacity), ARRAY(marks, capacity))) return HORDGULI_OVERLAP;
     return (hordguli_status)hordguli_core_paragraph(session, paragraph, info, wanted, ROOM(uint8_t, levels, none),
-                                                    LENGTH(levels, room), ROOM(uint8_t, marks, none),
-                                                    LENGTH(marks, room));
+                                                    LENGTH(levels, capacity), ROOM(uint8_t, marks, none),
+                                                    LENGTH(marks, capacity));
 }
 
-/* ---- Without a session ---- */
+/* ---- Levels and breaks without a session ---- */
 
-/* Numbers of no characters. */
+/* Used instead of NULL if there are no characters. */
 static const uint32_t no_characters[1] = {0};
 #define CHARACTERS(pointer) ((pointer) == NULL ? no_characters : (pointer))
 
@@ -246,21 +247,21 @@ PUBLIC hordguli_status hordguli_base(hordguli_tables *tables, uint32_t direction
 }
 
 PUBLIC hordguli_status hordguli_levels(hordguli_tables *tables, uint32_t direction, const uint32_t *characters,
-                                       size_t count, size_t room, uint8_t *levels) {
+                                       size_t count, size_t capacity, uint8_t *levels) {
     uint8_t none[1];
-    if (tables == NULL || LACKS(levels, room) || LACKS(characters, count)) return HORDGULI_NULL;
-    if (OVERLAP(AT(tables), ARRAY(levels, room), ARRAY(characters, count))) return HORDGULI_OVERLAP;
+    if (tables == NULL || LACKS(levels, capacity) || LACKS(characters, count)) return HORDGULI_NULL;
+    if (OVERLAP(AT(tables), ARRAY(levels, capacity), ARRAY(characters, count))) return HORDGULI_OVERLAP;
     return (hordguli_status)hordguli_core_levels(tables, direction, CHARACTERS(characters), count,
-                                                 ROOM(uint8_t, levels, none), room);
+                                                 ROOM(uint8_t, levels, none), capacity);
 }
 
 PUBLIC hordguli_status hordguli_marks(hordguli_tables *tables, uint32_t options, const uint32_t *characters,
-                                      size_t count, size_t room, uint8_t *marks) {
+                                      size_t count, size_t capacity, uint8_t *marks) {
     uint8_t none[1];
-    if (tables == NULL || LACKS(marks, room) || LACKS(characters, count)) return HORDGULI_NULL;
-    if (OVERLAP(AT(tables), ARRAY(marks, room), ARRAY(characters, count))) return HORDGULI_OVERLAP;
+    if (tables == NULL || LACKS(marks, capacity) || LACKS(characters, count)) return HORDGULI_NULL;
+    if (OVERLAP(AT(tables), ARRAY(marks, capacity), ARRAY(characters, count))) return HORDGULI_OVERLAP;
     return (hordguli_status)hordguli_core_marks(tables, options, CHARACTERS(characters), count,
-                                                ROOM(uint8_t, marks, none), room);
+                                                ROOM(uint8_t, marks, none), capacity);
 }
 
 PUBLIC hordguli_status hordguli_count_utf8(const char *bytes, size_t length, size_t *count) {

@@ -1,45 +1,81 @@
-/* hordguli: bidirectional text in lines.
+/* hordguli: bidirectional text layout in lines
  *
- * A session holds a text and its layout at a width: the lines, each as it is shown. Under inserts, deletes and changes
- * of the width all that it holds is the layout of the whole current text, and each edit says which lines it replaced.
+ * Lays out bidirectional text in lines of a given width (UAX #9, UAX #14). A session holds a text and its layout, and
+ * keeps the layout up to date when the text is edited or the width changes. Each edit reports which lines it replaced.
+ * The exact rules and limits are in docs/reference.md, in the sources.
  *
- * Positions, lengths and offsets count characters, which are Unicode scalar values: 0 to D7FF and E000 to 10FFFF. Lines
- * and paragraphs count from 0. Text comes in and goes out as UTF-8; nothing ends in a NUL, and a NUL is a character as
- * others.
+ * UNITS
  *
- * A paragraph ends after a separator: U+000A, U+000D, U+001C to U+001E, U+0085 or U+2029, of which U+000D before U+000A
- * is none. One that ends the text begins no paragraph. A line ends with its paragraph, after U+000B, U+000C and U+2028,
- * and where UAX #14 lets it; where no such place is, inside a word. Its shown part is all of it but U+0020, U+000A to
- * U+000D, U+0085, U+2028 and U+2029 that stand at its end.
+ * A character is a Unicode scalar value. Positions and lengths are in characters. Lengths of `char` arrays are in
+ * bytes. Positions, lines, paragraphs and columns start at 0. Text is UTF-8, in and out. It has no NUL terminator, and
+ * U+0000 is an ordinary character.
  *
- * Columns are a terminal's: those of a line are the sum of its shown characters' widths, by the tables of the version
- * of Unicode that `fribidi --version` names last. A tab and other control characters take none, and are written as they
- * are: who writes to a terminal takes them out.
+ * PARAGRAPHS AND LINES
  *
- * Every call that can fail answers a status. HORDGULI_OK is 0. After any other status nothing is changed: the handles
- * hold what they held, and what the pointers for answers point to is as it was, but where a call says otherwise.
- * Beneath each call's text stand the statuses that it can answer beside HORDGULI_OK, without `HORDGULI_`: it answers
- * the first that holds, and NO_MEMORY where memory that it wants is refused.
+ * A paragraph ends after a separator: U+000A, U+000D, U+001C to U+001E, U+0085 or U+2029. The pair U+000D U+000A is one
+ * separator. A separator at the end of the text starts no new paragraph. An empty text has no paragraphs and no lines.
  *
- * What is tested: null pointers, positions and numbers past the end, bits that are not known, room that is too small,
- * bytes that are no UTF-8, numbers that are no characters, closed handles, and arrays that overlap one another or the
- * handle. A pointer may be null where a call says so, and where the length that it is handed in with is 0.
+ * A line ends with its paragraph, after U+000B, U+000C or U+2028, or at a break opportunity (UAX #14). If none of these
+ * fits the width, the line ends inside a word, at the last grapheme cluster boundary that fits. If none of those fits
+ * either, the line is wider than the width.
  *
- * What cannot be tested, and is the caller's to see to:
- *   - Pointers that are not null point to as many elements as are told, of their type.
- *   - A handle is `HORDGULI_TABLES_INIT` or `HORDGULI_SESSION_INIT` before its first call. It is never copied: of two
- *     copies the second uses what the first gave back.
- *   - A handle is in one call at a time, also in one that only reads. Different handles may be in calls at the same
- *     time on different threads: a session has nothing in common with the tables that it was opened on, nor with other
- *     sessions. Tables may be used by one thread after another, where a lock, or the start or the end of a thread,
- *     orders the calls. A session is used and closed by the thread that opened it: that another one may is not proved,
- *     though nothing of it is known to be bound to a thread.
- *   - No call is made from a signal handler that interrupts a call of the library or of malloc.
- *   - In a child of `fork` the handles are the child's own; those that were in a call of another thread at the time of
- *     the fork must not be used in the child.
+ * The tail of a line is not shown: all U+0020, U+000A to U+000D, U+0085, U+2028 and U+2029 at its end. The rest of the
+ * line is its shown part.
  *
- * The library keeps no pointer of the caller's after a call, gives out none of its own, writes to no stream, calls no
- * function of the caller's and has no state but that of the handles. Memory is had of malloc, realloc and free. */
+ * COLUMNS
+ *
+ * A column is a terminal cell. The columns of a line are the sum of the widths of its shown characters. Widths are
+ * those of the Unicode version that `fribidi --version` prints last. Tabs and other control characters have width 0 and
+ * are written unchanged. A program that writes to a terminal has to remove or replace them.
+ *
+ * ERRORS
+ *
+ * A function that can fail returns a status. HORDGULI_OK is 0. After any other status nothing has changed, including
+ * output parameters, unless the function says otherwise.
+ *
+ * `Errors` lists the other statuses of a function, without `HORDGULI_`, in the order in which they are checked. The
+ * first that applies is returned. Only NO_MEMORY can come before its turn: it is returned as soon as an allocation
+ * fails. A function that does not list it allocates nothing. `Cost` is the running time; n is the number of paragraphs
+ * in the session.
+ *
+ * POINTERS
+ *
+ * A pointer may be NULL if the function says so, or if the length or capacity of its array is 0. The arrays, output
+ * parameters and handles of a call must not overlap. An array of more than PTRDIFF_MAX bytes counts as overlapping. The
+ * library cannot check the following:
+ *   - A pointer other than NULL must point to as many elements as the call says.
+ *   - A handle must be initialized with `HORDGULI_TABLES_INIT` or `HORDGULI_SESSION_INIT`, and must not be copied.
+ *
+ * BUFFERS
+ *
+ * `hordguli_lines_utf8` and `hordguli_text` write to a buffer of `capacity` bytes and store the byte count in
+ * `*length`. If the buffer is too small, they return NO_ROOM, leave it unchanged, and store the required size. So call
+ * once with capacity 0, then again with a buffer of the required size.
+ *
+ *     size_t length = 0;
+ *     char *buffer = NULL;
+ *     hordguli_status status = hordguli_text(&session, pos, count, 0, NULL, &length);
+ *     if (status == HORDGULI_NO_ROOM && (buffer = malloc(length)) != NULL)
+ *         status = hordguli_text(&session, pos, count, length, buffer, &length);
+ *
+ * `hordguli_line` and `hordguli_paragraph` store the required number of elements in `*info`.
+ *
+ * THREADS, SIGNALS AND FORK
+ *
+ *   - Use a handle in one call at a time, even if the calls only read. A call moves the object out of its handle and
+ *     back, which the proof of the library depends on. This is why handles are not `const`.
+ *   - Different handles may be used in different threads at the same time. A session shares nothing with other sessions
+ *     or with the tables it was opened with.
+ *   - Tables may be used in several threads if a lock, or the start or end of a thread, orders the calls.
+ *   - Use and close a session in the thread that opened it. Nothing in it is known to depend on the thread, but the
+ *     proof does not cover other threads.
+ *   - Do not call the library in a signal handler that can interrupt the library or malloc.
+ *   - After `fork`, the child has its own handles. It must not use one that was in a call of another thread.
+ *
+ * MEMORY
+ *
+ * Memory comes from malloc, realloc and free. The library keeps no pointers from the caller after a call, writes to no
+ * stream, calls no callbacks, and has no state outside its handles. The strings it returns are constants. */
 #ifndef HORDGULI_H
 #define HORDGULI_H
 
@@ -50,96 +86,115 @@
 extern "C" {
 #endif
 
-/* ---- Statuses. They are never renumbered. ---- */
+/* ---- Statuses ---- */
 
+/* The result of a call. The numbers never change. */
 typedef int32_t hordguli_status;
 
+/* Success. */
 #define HORDGULI_OK 0
-/* A position, a range, or the number of a line or of a paragraph reaches past the end. */
+/* A position, range, line or paragraph is past the end. */
 #define HORDGULI_OUT_OF_RANGE 1
-/* A width is 0, or greater than 65,535. */
+/* The width is 0 or greater than 65,535. */
 #define HORDGULI_WIDTH_OUT_OF_RANGE 2
 /* The text would have more than 16,777,216 characters. */
 #define HORDGULI_TEXT_TOO_LONG 3
 /* A paragraph would have more than 1,048,576 characters. */
 #define HORDGULI_PARAGRAPH_TOO_LONG 4
-/* Memory ran out. */
+/* Out of memory. */
 #define HORDGULI_NO_MEMORY 5
-/* A table file is refused: `hordguli_table_fault` names the file, the line and the cause. */
+/* A table file is malformed. `hordguli_table_fault` says where and why. */
 #define HORDGULI_TABLE_FAULT 6
-/* Bytes that are no UTF-8. */
+/* The text is not valid UTF-8. */
 #define HORDGULI_NOT_UTF8 7
-/* A number that is no Unicode scalar value. */
+/* A number is not a Unicode scalar value. */
 #define HORDGULI_NOT_A_CHARACTER 8
 /* The handle is closed. */
 #define HORDGULI_CLOSED 9
-/* The handle that is to be opened is open. */
+/* The handle to open is already open. */
 #define HORDGULI_ALREADY_OPEN 10
-/* A bit of the options or of the print flags that is not known. */
+/* The options or print flags have an unknown bit. */
 #define HORDGULI_UNKNOWN_OPTION 11
-/* There is too little room: what the call says is wanted. */
+/* The capacity is too small. */
 #define HORDGULI_NO_ROOM 12
-/* A pointer is null that may not be. */
+/* A pointer is NULL that must not be. */
 #define HORDGULI_NULL 13
-/* Arrays overlap. */
+/* Arrays, output parameters or handles overlap. */
 #define HORDGULI_OVERLAP 14
-/* A table file cannot be read: `hordguli_table_fault` names the file. */
+/* A table file cannot be read. `hordguli_table_fault` says which. */
 #define HORDGULI_UNREAD_FILE 15
 
-/* What a status means, in a few words of English: a constant, which ends in a NUL. A status that is none is
- * "unknown status". */
+/* Returns a short English description of a status, or "unknown status". */
 const char *hordguli_status_text(hordguli_status status);
 
-/* The version of this header, for the preprocessor. */
+/* ---- Version ---- */
+
+/* The version of this header. */
 #define HORDGULI_VERSION_MAJOR 0
 #define HORDGULI_VERSION_MINOR 5
 #define HORDGULI_VERSION_PATCH 0
 
-/* The version of the library, as "0.5.0", and the Unicode version whose rules it keeps, as "15.0": constants. */
+/* Returns the version of the library, such as "0.5.0". */
 const char *hordguli_version(void);
+
+/* Returns the Unicode version of the rules for levels and line breaks, such as "15.0". */
 const char *hordguli_unicode_version(void);
 
-/* ---- Options of a session: one base direction, and with it, by `|`, any of the others. ---- */
+/* ---- Session options ----
+ *
+ * One base direction, combined by `|` with any of the others. */
 
-/* The base direction of a paragraph is that of its first strong character; where none is strong, from left to right. */
+/* The direction of a paragraph's first strong character, or LTR if there is none. */
 #define HORDGULI_WEAK_LTR UINT32_C(0)
-/* The same; where none is strong, from right to left. */
+/* The direction of a paragraph's first strong character, or RTL if there is none. */
 #define HORDGULI_WEAK_RTL UINT32_C(1)
-/* From left to right, whatever the text. */
+/* All paragraphs are left-to-right. */
 #define HORDGULI_LTR UINT32_C(2)
-/* From right to left, whatever the text. */
+/* All paragraphs are right-to-left. */
 #define HORDGULI_RTL UINT32_C(3)
-/* Lines end at mandatory breaks only. */
+/* Ends lines at mandatory breaks only. */
 #define HORDGULI_NOBREAK UINT32_C(4)
-/* Marks on characters at odd levels stand in reading order after them (UAX #9, L3). */
+/* Puts nonspacing marks at odd levels after their base in visual order (UAX #9, L3). Use it if the terminal draws a
+ * mark onto the cell to its left. For RTL text A, mark, B the default order is B, mark, A, so such a terminal draws the
+ * mark onto B. With this option the order is B, A, mark. */
 #define HORDGULI_REORDER_NSM UINT32_C(8)
-/* No line ends inside a number (in place of UAX #14, LB25). */
+/* Does not break inside a number, such as `$(1,200)`. Instead of LB25 (UAX #14), there is no break inside a match of
+ * `(PR|PO)? (OP|HY)? NU (NU|SY|IS)* (CL|CP)? (PR|PO)?`. */
 #define HORDGULI_WHOLE_NUMBERS UINT32_C(16)
 
-/* ---- What is printed of a line: any of these, by `|`. ---- */
+/* ---- Print flags ----
+ *
+ * What `hordguli_lines_utf8` writes for each line, combined by `|`. */
 
-/* The line itself, in visual order. */
+/* The shown part in visual order. */
 #define HORDGULI_PRINT_VISUAL UINT32_C(1)
-/* `LTR` or `RTL` after the first line of each paragraph. */
+/* `LTR` or `RTL`, after the first line of each paragraph. */
 #define HORDGULI_PRINT_BASEDIR UINT32_C(2)
-/* Of each logical position the visual one, of each visual position the logical one, and the level of each character. */
+/* The visual position of each logical position. */
 #define HORDGULI_PRINT_LTOV UINT32_C(4)
+/* The logical position of each visual position. */
 #define HORDGULI_PRINT_VTOL UINT32_C(8)
+/* The level of each character after L1, in logical order. */
 #define HORDGULI_PRINT_LEVELS UINT32_C(16)
-/* Lines of paragraphs from right to left with spaces left of them, up to the width. */
+/* Pads visual lines of RTL paragraphs with spaces on the left, up to the width. */
 #define HORDGULI_PRINT_PADDED UINT32_C(32)
-/* Characters at odd levels as their mirrors. */
+/* Mirrors characters at odd levels in visual lines (UAX #9, L4). */
 #define HORDGULI_PRINT_MIRRORED UINT32_C(64)
-/* What the command prints where no option says otherwise. */
+/* What the command `fribidi` prints by default. */
 #define HORDGULI_PRINT_DEFAULT (HORDGULI_PRINT_VISUAL | HORDGULI_PRINT_PADDED | HORDGULI_PRINT_MIRRORED)
 
-/* ---- Break marks: what a line does after a character. ---- */
+/* ---- Break marks ---- */
 
+/* No line ends after the character. */
 #define HORDGULI_BREAK_NEVER 0
+/* A line may end after the character. */
 #define HORDGULI_BREAK_MAY 1
+/* A line must end after the character. */
 #define HORDGULI_BREAK_MUST 2
 
-/* ---- Handles. Their member is the library's. ---- */
+/* ---- Handles ----
+ *
+ * The member `at` is private. */
 
 typedef struct hordguli_tables {
     void *at;
@@ -149,14 +204,18 @@ typedef struct hordguli_session {
     void *at;
 } hordguli_session;
 
-/* Handles that are closed. */
+/* Initial values of handles: closed. */
 #define HORDGULI_TABLES_INIT { NULL }
 #define HORDGULI_SESSION_INIT { NULL }
 
-/* ---- Tables: what the files of the Unicode Character Database say. ---- */
+/* ---- Tables ----
+ *
+ * Tables hold character properties from seven files of the Unicode Character Database. */
 
-/* The files, in this order. */
+/* The number of files. */
 #define HORDGULI_TABLE_FILES 7
+
+/* The index of each file. */
 #define HORDGULI_BIDI_CLASS 0        /* DerivedBidiClass.txt */
 #define HORDGULI_BIDI_BRACKETS 1     /* BidiBrackets.txt */
 #define HORDGULI_BIDI_MIRRORING 2    /* BidiMirroring.txt */
@@ -165,47 +224,47 @@ typedef struct hordguli_session {
 #define HORDGULI_EAST_ASIAN_WIDTH 5  /* EastAsianWidth.txt */
 #define HORDGULI_EMOJI_DATA 6        /* emoji-data.txt */
 
-/* The content of a file. `bytes` may be null where `length` is 0. */
 typedef struct hordguli_bytes {
     const void *bytes;
     size_t length;
 } hordguli_bytes;
 
-/* What is wrong with a line: the first of these that holds, in the order 1, 4, 2, 3, 5, 6. */
-#define HORDGULI_CAUSE_NOT_ASCII 1     /* a byte above 7F stands before the `#` */
-#define HORDGULI_CAUSE_CODE_POINT 2    /* the first field is no code point, and no range where the file has ranges */
-#define HORDGULI_CAUSE_REVERSED 3      /* a range ends before it begins */
-#define HORDGULI_CAUSE_FIELD_COUNT 4   /* the line has another number of fields than the lines of its file */
-#define HORDGULI_CAUSE_VALUE 5         /* a value that the file does not have */
-#define HORDGULI_CAUSE_NAMED_BEFORE 6  /* a character of the line was named by an earlier line */
+/* Why a line is malformed. If several causes apply, the first in the order 1, 4, 2, 3, 5, 6 is reported. */
+#define HORDGULI_CAUSE_NOT_ASCII 1     /* a byte above 7F before the `#` */
+#define HORDGULI_CAUSE_CODE_POINT 2    /* the first field is not a code point, nor a range in a file that has ranges */
+#define HORDGULI_CAUSE_REVERSED 3      /* a range ends before it starts */
+#define HORDGULI_CAUSE_FIELD_COUNT 4   /* the wrong number of fields */
+#define HORDGULI_CAUSE_VALUE 5         /* a value that the file does not allow */
+#define HORDGULI_CAUSE_NAMED_BEFORE 6  /* a character that an earlier line names */
 
-/* The first line at fault, in the order of the files and of their lines. */
+/* The first malformed line, by file and then by line. */
 typedef struct hordguli_table_fault {
-    size_t file;   /* 0 to 6, as above */
-    size_t line;   /* counted from 1; 0 where the file cannot be read */
-    size_t cause;  /* 1 to 6, as above; 0 where the file cannot be read */
+    size_t file;   /* 0 to 6 */
+    size_t line;   /* from 1; 0 if the file cannot be read */
+    size_t cause;  /* 1 to 6; 0 if the file cannot be read */
 } hordguli_table_fault;
 
-/* Opens tables of the contents of the seven files. `fault` may be null; it is set where the status is
- * HORDGULI_TABLE_FAULT.
- *   NULL, OVERLAP, ALREADY_OPEN, TABLE_FAULT, NO_MEMORY */
+/* Opens tables from the contents of the files. `fault` may be NULL, and is set only with TABLE_FAULT. NULL and OVERLAP
+ * are checked for the parameters first, then for each file in turn.
+ * Errors: NULL, OVERLAP, ALREADY_OPEN, TABLE_FAULT, NO_MEMORY.
+ * Cost: O(size of the files), plus passes over all code points. */
 hordguli_status hordguli_tables_read(hordguli_tables *tables, const hordguli_bytes files[HORDGULI_TABLE_FILES],
                                      hordguli_table_fault *fault);
 
-/* Opens tables of the seven files of a folder, whose path ends in a NUL. `fault` may be null; it is set where the
- * status is HORDGULI_TABLE_FAULT or HORDGULI_UNREAD_FILE.
- *   NULL, OVERLAP, ALREADY_OPEN, UNREAD_FILE, TABLE_FAULT, NO_MEMORY */
+/* Opens tables from the files in a folder, whose path ends in a NUL. `fault` may be NULL, and is set only with
+ * UNREAD_FILE and TABLE_FAULT.
+ * Errors: NULL, OVERLAP, ALREADY_OPEN, UNREAD_FILE, TABLE_FAULT, NO_MEMORY.
+ * Cost: as `hordguli_tables_read`. */
 hordguli_status hordguli_tables_open_folder(hordguli_tables *tables, const char *folder, hordguli_table_fault *fault);
 
-/* Gives the memory of tables back, and closes the handle. A closed handle and a null pointer survive it. Tables may be
- * closed before the sessions that were opened on them: each of these has a copy. */
+/* Frees the tables and closes the handle. Safe on a closed handle or NULL. Open sessions keep working. */
 void hordguli_tables_close(hordguli_tables *tables);
 
-/* ---- Sessions ---- */
+/* ---- Sessions and edits ---- */
 
-/* What an edit replaced: `old_lines` lines from `first_line` on by `new_lines` others, and so with paragraphs. All
- * lines before stay, and all after them too, by other numbers where the counts differ. An edit that changes nothing is
- * accepted, and has a damage as others; that of a change of the width names all lines and paragraphs. */
+/* What an edit replaced: `old_lines` lines from `first_line` on became `new_lines` lines, and likewise for paragraphs.
+ * All other lines are unchanged, except for the numbers of the lines after. An edit replaces all paragraphs that
+ * contain or touch its range, even if it inserts and deletes nothing. */
 typedef struct hordguli_damage {
     size_t first_line;
     size_t old_lines;
@@ -215,34 +274,38 @@ typedef struct hordguli_damage {
     size_t new_paragraphs;
 } hordguli_damage;
 
-/* Opens a session on a text, by a copy of the tables (some 140 KB). `text` may be null where `length` is 0.
- *   NULL, OVERLAP, WIDTH_OUT_OF_RANGE (above 65,535), UNKNOWN_OPTION, NOT_UTF8, ALREADY_OPEN (the session), CLOSED (the
- *   tables), WIDTH_OUT_OF_RANGE (0), TEXT_TOO_LONG, PARAGRAPH_TOO_LONG, NO_MEMORY */
+/* Opens a session on a text, with a copy of the tables (about 140 KB). `width` is in columns.
+ * Errors: NULL, OVERLAP, WIDTH_OUT_OF_RANGE (above 65,535), UNKNOWN_OPTION, NOT_UTF8, ALREADY_OPEN (the session),
+ * CLOSED (the tables), WIDTH_OUT_OF_RANGE (0), TEXT_TOO_LONG, PARAGRAPH_TOO_LONG, NO_MEMORY.
+ * Cost: time and memory proportional to `length`. */
 hordguli_status hordguli_session_open(hordguli_session *session, hordguli_tables *tables, uint32_t options,
                                       uint32_t width, const char *text, size_t length);
 
-/* Gives the memory of a session back, and closes the handle. A closed handle and a null pointer survive it. */
+/* Frees the session and closes the handle. Safe on a closed handle or NULL. */
 void hordguli_session_close(hordguli_session *session);
 
-/* Puts a text before the character at a position, or at the end. `text` may be null where `length` is 0.
- *   NULL, OVERLAP, NOT_UTF8, CLOSED, OUT_OF_RANGE, TEXT_TOO_LONG, PARAGRAPH_TOO_LONG, NO_MEMORY */
+/* Inserts text before the character at `pos`, or at the end of the text. Stores in `*damage` what it replaced.
+ * Errors: NULL, OVERLAP, NOT_UTF8, CLOSED, OUT_OF_RANGE, TEXT_TOO_LONG, PARAGRAPH_TOO_LONG, NO_MEMORY.
+ * Cost: O(log n), plus O(1) per replaced paragraph, plus the layout of the new ones. */
 hordguli_status hordguli_insert(hordguli_session *session, size_t pos, const char *text, size_t length,
                                 hordguli_damage *damage);
 
-/* Takes `count` characters out, from a position on.
- *   NULL, OVERLAP, CLOSED, OUT_OF_RANGE, PARAGRAPH_TOO_LONG, NO_MEMORY */
+/* Deletes `count` characters from `pos` on. This can join paragraphs.
+ * Errors: NULL, OVERLAP, CLOSED, OUT_OF_RANGE, PARAGRAPH_TOO_LONG, NO_MEMORY.
+ * Cost: as `hordguli_insert`. */
 hordguli_status hordguli_delete(hordguli_session *session, size_t pos, size_t count, hordguli_damage *damage);
 
-/* Puts a text in place of `count` characters from a position on: one edit, with one damage.
- *   as hordguli_insert */
+/* Replaces `count` characters from `pos` on with text, in one edit.
+ * Errors: NULL, OVERLAP, NOT_UTF8, CLOSED, OUT_OF_RANGE, TEXT_TOO_LONG, PARAGRAPH_TOO_LONG, NO_MEMORY.
+ * Cost: as `hordguli_insert`. */
 hordguli_status hordguli_replace(hordguli_session *session, size_t pos, size_t count, const char *text, size_t length,
                                  hordguli_damage *damage);
 
-/* Brings all lines to another width, in columns.
- *   NULL, OVERLAP, WIDTH_OUT_OF_RANGE, CLOSED, NO_MEMORY */
+/* Sets the width, in columns, and rewraps all paragraphs. The damage covers all lines, even if the width is the same.
+ * Errors: NULL, OVERLAP, WIDTH_OUT_OF_RANGE, CLOSED, NO_MEMORY.
+ * Cost: O(n), plus wrapping each paragraph that is not one line within the new width. */
 hordguli_status hordguli_set_width(hordguli_session *session, uint32_t width, hordguli_damage *damage);
 
-/* How much a session holds. */
 typedef struct hordguli_counts {
     size_t characters;
     size_t lines;
@@ -250,164 +313,199 @@ typedef struct hordguli_counts {
     size_t width;
 } hordguli_counts;
 
-/*   NULL, OVERLAP, CLOSED */
+/* Stores in `*counts` the size of a session.
+ * Errors: NULL, OVERLAP, CLOSED.
+ * Cost: O(1). */
 hordguli_status hordguli_session_counts(hordguli_session *session, hordguli_counts *counts);
 
-/* How much work a session has done, for who looks whether it is as little as it should be: how many characters were
- * analysed (levels and break marks), filled into lines (where these begin), and put into the order of their lines; each
- * up to 2^64 - 1, at which it stays. */
+/* Work counters, for checking that edits stay incremental. They count characters from the opening of the session on,
+ * and stop at UINT64_MAX. */
 typedef struct hordguli_work {
-    uint64_t analysed;
-    uint64_t filled;
-    uint64_t written;
+    uint64_t analysed;  /* levels and break marks computed */
+    uint64_t filled;    /* line starts computed */
+    uint64_t written;   /* put into visual order */
 } hordguli_work;
 
-/*   NULL, OVERLAP, CLOSED */
+/* Stores in `*work` the work counters. Calls that fail with NO_MEMORY can increase them too.
+ * Errors: NULL, OVERLAP, CLOSED.
+ * Cost: O(1). */
 hordguli_status hordguli_session_work(hordguli_session *session, hordguli_work *work);
 
-/* ---- Places ---- */
+/* ---- Carets and hit testing ---- */
 
-/* The position at which a line begins.
- *   NULL, OVERLAP, CLOSED, OUT_OF_RANGE */
+/* Stores in `*start` the position of the first character of a line.
+ * Errors: NULL, OVERLAP, CLOSED, OUT_OF_RANGE.
+ * Cost: O(log n). */
 hordguli_status hordguli_line_start(hordguli_session *session, size_t line, size_t *start);
 
-/* Where a character stands. */
 typedef struct hordguli_place {
     size_t paragraph;
     size_t line;
-    size_t offset;  /* how many characters of the line are before it */
+    size_t offset;  /* characters before it in the line */
 } hordguli_place;
 
-/* The place of the character at a position, or of the end of the text, where `pos` is the count of characters: that is
- * after the last character of the last line. But where the text is empty or ends with a separator it is where the next
- * paragraph would begin, so that `line` and `paragraph` are the counts of lines and of paragraphs there.
- *   NULL, OVERLAP, CLOSED, OUT_OF_RANGE */
+/* Stores in `*place` the place of the character at `pos`. At the end of the text this is after the last character. But
+ * if the text is empty or ends with a separator, it is the start of the next paragraph, which does not exist yet. Then
+ * `paragraph` and `line` are the counts of paragraphs and lines.
+ * Errors: NULL, OVERLAP, CLOSED, OUT_OF_RANGE.
+ * Cost: O(log n + log m) in a paragraph of m lines. */
 hordguli_status hordguli_place_of(hordguli_session *session, size_t pos, hordguli_place *place);
 
-/* Where a caret stands. */
 typedef struct hordguli_caret {
     size_t line;
-    size_t column;   /* how many columns are left of it, from the left edge of the line's shown part on */
-    uint32_t level;  /* the level of the character after it; the base level where none is shown there */
+    size_t column;   /* columns left of it, without padding */
+    uint32_t level;  /* level of the character if shown, else base level */
     uint32_t zero;   /* always 0 */
 } hordguli_caret;
 
-/* Where a caret stands before the character at a position: at its left edge where its level is even, and else at its
- * right edge. Before a character that is not shown, and at the end of the text, it stands at the line's end in the
- * direction of the paragraph: right of all columns where that is from left to right, and else at column 0. Where the
- * next paragraph would begin, on a line that is not there yet, `column` is 0 (a screen's right edge where `level` is
- * odd).
- *   NULL, OVERLAP, CLOSED, OUT_OF_RANGE */
+/* Stores in `*caret` where to draw the caret for `pos`:
+ *   - Before a shown character: at its left edge if its level is even, else at its right edge.
+ *   - Before the tail or inside it, and at the end of the text: at the end of the line. That is right of all columns in
+ *     an LTR paragraph, and column 0 in an RTL one.
+ *   - At the start of a paragraph that does not exist yet (see `hordguli_place_of`): at column 0. If `level`, the base
+ *     level of an empty paragraph, is odd, draw the caret at the right edge of the screen.
+ *
+ * Errors: NULL, OVERLAP, CLOSED, OUT_OF_RANGE.
+ * Cost: as `hordguli_place_of`, plus O(length of the line). */
 hordguli_status hordguli_caret_at(hordguli_session *session, size_t pos, hordguli_caret *caret);
 
-/* The character at a column. */
 typedef struct hordguli_hit {
     size_t pos;
-    uint32_t trailing;  /* 1 where the position after it is meant, else 0 */
+    uint32_t trailing;  /* 1 if the caret goes after the character, else 0 */
     uint32_t zero;      /* always 0 */
 } hordguli_hit;
 
-/* The character whose columns cover a column of a line, counted from 0 at the left edge of its shown part (where it is
- * printed padded, that is right of `padding` columns); right of that part the rightmost character that takes columns,
- * and there alone, where its level is even, `trailing` is 1. In a line without columns it is the line's start.
- *   NULL, OVERLAP, CLOSED, OUT_OF_RANGE */
+/* Stores in `*hit` the character at a column of a line. Column 0 is the left edge of the shown part, right of padding.
+ *   - In the shown part: the character that covers the column, with `trailing` 0.
+ *   - Right of it: the rightmost character that has columns. `trailing` is 1 if its level is even, else 0.
+ *   - In a line without columns: the first character, with `trailing` 0.
+ *
+ * So `trailing` is 0 everywhere but right of the text. To place the caret at screen column `x` of a padded line:
+ *
+ *     status = hordguli_hit_at(&session, line, x - info.padding, &hit);
+ *     if (!status) status = hordguli_cluster_at(&session, hit.pos, &cluster);
+ *     if (!status) pos = hit.trailing ? cluster.end : cluster.start;
+ *
+ * If `x` is in the padding, use column 0. Then, if the line has columns and the character's level (see
+ * `hordguli_caret_at`) is odd, set `trailing` to 1. `cluster.end` can be the start of the next line.
+ *
+ * Errors: NULL, OVERLAP, CLOSED, OUT_OF_RANGE.
+ * Cost: O(log n), plus O(length of the line). */
 hordguli_status hordguli_hit_at(hordguli_session *session, size_t line, size_t column, hordguli_hit *hit);
 
-/* A grapheme cluster: the characters from `start` on, up to `end` and without it. */
+/* The characters from `start` up to, but not including, `end`. */
 typedef struct hordguli_cluster {
     size_t start;
     size_t end;
 } hordguli_cluster;
 
-/* The grapheme cluster of the character at a position. It takes time and memory for the paragraph's characters. There
- * is none at the end of the text: HORDGULI_OUT_OF_RANGE.
- *   NULL, OVERLAP, CLOSED, OUT_OF_RANGE, NO_MEMORY */
+/* Stores in `*cluster` the grapheme cluster of the character at `pos`. The end of the text is OUT_OF_RANGE.
+ * Errors: NULL, OVERLAP, CLOSED, OUT_OF_RANGE, NO_MEMORY.
+ * Cost: O(log n), plus time and memory proportional to the whole paragraph. */
 hordguli_status hordguli_cluster_at(hordguli_session *session, size_t pos, hordguli_cluster *cluster);
 
-/* ---- Lines, paragraphs and text ---- */
+/* ---- Lines and text ---- */
 
-/* A line as it is shown. */
 typedef struct hordguli_line_info {
-    size_t start;      /* the position of its first character */
-    size_t length;     /* how many characters it has, with those at its end that are not shown */
-    size_t shown;      /* how many of them are shown: all but those */
-    size_t columns;    /* how many columns these take */
-    size_t padding;    /* how many columns are left of them where the line is printed padded */
-    uint32_t base;     /* the base level of its paragraph, 0 or 1 */
-    uint32_t first;    /* 1 where it is the first line of its paragraph, 0 else */
+    size_t start;      /* position of its first character */
+    size_t length;     /* characters, including the tail */
+    size_t shown;      /* characters in the shown part */
+    size_t columns;    /* columns of the shown part */
+    size_t padding;    /* spaces left of it when printed padded */
+    uint32_t base;     /* base level of its paragraph, 0 or 1 */
+    uint32_t first;    /* 1 for the first line of a paragraph, else 0 */
 } hordguli_line_info;
 
-/* A line, and into each array that is not null, which has room for `room` elements, one element for each of the `shown`
- * characters; positions in the line count from its start:
- *   characters  the characters in visual order, mirrored
- *   levels      the level of each after L1, in logical order
- *   ltov        of each logical position the visual one
- *   vtol        of each visual position the logical one
- *   columns     of each visual position how many columns its character takes
- * Where `room` is too small and an array is not null, `info` is set all the same, and no array is written: `shown`
- * elements are wanted.
- *   NULL (session, info), OVERLAP, CLOSED, OUT_OF_RANGE, NO_ROOM */
-hordguli_status hordguli_line(hordguli_session *session, size_t line, hordguli_line_info *info, size_t room,
+/* Stores a line in `*info`, and `info->shown` elements in each array. Arrays have `capacity` elements each. NULL arrays
+ * are skipped. Positions count from the start of the line.
+ *   characters  characters in visual order, mirrored
+ *   levels      level of each character after L1, in logical order
+ *   ltov        visual position of each logical position
+ *   vtol        logical position of each visual position
+ *   columns     columns at each visual position
+ *
+ * With NO_ROOM, `*info` is set and the arrays are unchanged.
+ * Errors: NULL, OVERLAP, CLOSED, OUT_OF_RANGE, NO_ROOM.
+ * Cost: O(log n), plus the elements written. */
+hordguli_status hordguli_line(hordguli_session *session, size_t line, hordguli_line_info *info, size_t capacity,
                               uint32_t *characters, uint8_t *levels, uint32_t *ltov, uint32_t *vtol,
                               size_t *columns);
 
-/* The `count` lines from `first` on as they are printed, each with its line feed, by print flags, into an array with
- * room for `room` bytes; `length` is how many bytes they are, also where the room is too small. `bytes` may be null
- * where `room` is 0. It takes memory for the bytes.
- *   NULL, OVERLAP, UNKNOWN_OPTION, CLOSED, OUT_OF_RANGE, NO_MEMORY, NO_ROOM */
-hordguli_status hordguli_lines_utf8(hordguli_session *session, size_t first, size_t count, uint32_t print, size_t room,
-                                    char *bytes, size_t *length);
+/* Writes `count` lines from `first` on to a buffer (see BUFFERS), as UTF-8. `print` selects what is written for each
+ * line, in the order VISUAL, BASEDIR, LTOV, VTOL, LEVELS. Each of these ends in U+000A. Numbers are decimal, separated
+ * by spaces. For example, the lines that an edit changed:
+ *
+ *     status = hordguli_lines_utf8(&session, damage.first_line, damage.new_lines,
+ *                                  HORDGULI_PRINT_DEFAULT, capacity, buffer, &length);
+ *
+ * Errors: NULL, OVERLAP, UNKNOWN_OPTION, CLOSED, OUT_OF_RANGE, NO_MEMORY, NO_ROOM.
+ * Cost: O(log n) per paragraph, plus time and memory proportional to the output, even with capacity 0. */
+hordguli_status hordguli_lines_utf8(hordguli_session *session, size_t first, size_t count, uint32_t print,
+                                    size_t capacity, char *buffer, size_t *length);
 
-/* The `count` characters from `pos` on as UTF-8, into an array with room for `room` bytes; `length` is how many bytes
- * they are, also where the room is too small. `bytes` may be null where `room` is 0. It takes memory for the bytes.
- *   NULL, OVERLAP, CLOSED, OUT_OF_RANGE, NO_MEMORY, NO_ROOM */
-hordguli_status hordguli_text(hordguli_session *session, size_t pos, size_t count, size_t room, char *bytes,
+/* Writes `count` characters from `pos` on to a buffer (see BUFFERS), as UTF-8.
+ * Errors: NULL, OVERLAP, CLOSED, OUT_OF_RANGE, NO_MEMORY, NO_ROOM.
+ * Cost: as `hordguli_lines_utf8`. */
+hordguli_status hordguli_text(hordguli_session *session, size_t pos, size_t count, size_t capacity, char *buffer,
                               size_t *length);
 
-/* How many bytes of UTF-8 the `count` characters from `pos` on are.
- *   NULL, OVERLAP, CLOSED, OUT_OF_RANGE */
+/* Stores in `*length` the size in bytes of `count` characters from `pos` on, as UTF-8.
+ * Errors: NULL, OVERLAP, CLOSED, OUT_OF_RANGE.
+ * Cost: O(log n) per paragraph, plus O(count). */
 hordguli_status hordguli_utf8_length(hordguli_session *session, size_t pos, size_t count, size_t *length);
 
-/* A paragraph. */
+/* Stores in `*count` the number of characters in UTF-8 text of `length` bytes.
+ * Errors: NULL, OVERLAP, NOT_UTF8.
+ * Cost: O(length). */
+hordguli_status hordguli_count_utf8(const char *bytes, size_t length, size_t *count);
+
 typedef struct hordguli_paragraph_info {
-    size_t length;  /* how many characters it has, its separator among them */
-    size_t lines;   /* how many lines it has */
-    uint32_t base;  /* its base level, 0 or 1 */
+    size_t length;  /* characters, including the separator */
+    size_t lines;
+    uint32_t base;  /* base level, 0 or 1 */
     uint32_t zero;  /* always 0 */
 } hordguli_paragraph_info;
 
-/* A paragraph, and into each array that is not null, which has room for `room` elements, one element for each of its
- * characters in logical order:
- *   levels      the level before L1
- *   marks       the break mark after it
- * Where `room` is too small and an array is not null, `info` is set all the same, and no array is written: `length`
- * elements are wanted.
- *   NULL (session, info), OVERLAP, CLOSED, OUT_OF_RANGE, NO_ROOM */
+/* Stores a paragraph in `*info`, and `info->length` elements in each array, in logical order. Arrays have `capacity`
+ * elements each. NULL arrays are skipped.
+ *   levels      level of each character before L1
+ *   marks       break mark after each character
+ *
+ * With NO_ROOM, `*info` is set and the arrays are unchanged.
+ * Errors: NULL, OVERLAP, CLOSED, OUT_OF_RANGE, NO_ROOM.
+ * Cost: O(log n), plus the elements written. */
 hordguli_status hordguli_paragraph(hordguli_session *session, size_t paragraph, hordguli_paragraph_info *info,
-                                   size_t room, uint8_t *levels, uint8_t *marks);
+                                   size_t capacity, uint8_t *levels, uint8_t *marks);
 
-/* ---- Without a session: one paragraph of characters, for who does the rest himself. It is not cut, whatever its
- * characters. `characters` may be null where `count` is 0. ---- */
+/* ---- Levels and breaks without a session ----
+ *
+ * These functions take one paragraph of `count` characters, and do not split it at separators. `direction` is a base
+ * direction without other options. NO_ROOM means that `capacity` is less than `count`.
+ *
+ * To lay out text with these functions, a caller has to:
+ *   - split the text into paragraphs (UAX #9, P1);
+ *   - choose where lines end, by break marks and widths;
+ *   - reset the levels of separators and of white space at the end of each line (L1);
+ *   - reorder each line by its levels (L2);
+ *   - mirror characters at odd levels (L4). */
 
-/* Its base level, 0 or 1, by a direction: HORDGULI_WEAK_LTR, _WEAK_RTL, _LTR or _RTL.
- *   NULL, OVERLAP, UNKNOWN_OPTION, CLOSED, NOT_A_CHARACTER, NO_MEMORY */
+/* Stores in `*base` the base level of a paragraph, 0 or 1.
+ * Errors: NULL, OVERLAP, UNKNOWN_OPTION, CLOSED, NOT_A_CHARACTER, NO_MEMORY.
+ * Cost: time and memory proportional to `count`. */
 hordguli_status hordguli_base(hordguli_tables *tables, uint32_t direction, const uint32_t *characters, size_t count,
                               uint32_t *base);
 
-/* The level of each character before L1, by a direction, into an array with room for `room` levels; `count` are wanted.
- *   NULL, OVERLAP, UNKNOWN_OPTION, CLOSED, NO_ROOM, NOT_A_CHARACTER, NO_MEMORY */
+/* Stores in `levels` the level of each character before L1.
+ * Errors: NULL, OVERLAP, UNKNOWN_OPTION, CLOSED, NO_ROOM, NOT_A_CHARACTER, NO_MEMORY.
+ * Cost: time and memory proportional to `count`. */
 hordguli_status hordguli_levels(hordguli_tables *tables, uint32_t direction, const uint32_t *characters, size_t count,
-                                size_t room, uint8_t *levels);
+                                size_t capacity, uint8_t *levels);
 
-/* The break mark after each character, into an array with room for `room` marks; `count` are wanted. `options` is 0 or
- * HORDGULI_WHOLE_NUMBERS.
- *   NULL, OVERLAP, UNKNOWN_OPTION, CLOSED, NO_ROOM, NOT_A_CHARACTER, NO_MEMORY */
+/* Stores in `marks` the break mark after each character. `options` is 0 or HORDGULI_WHOLE_NUMBERS.
+ * Errors: NULL, OVERLAP, UNKNOWN_OPTION, CLOSED, NO_ROOM, NOT_A_CHARACTER, NO_MEMORY.
+ * Cost: time and memory proportional to `count`. */
 hordguli_status hordguli_marks(hordguli_tables *tables, uint32_t options, const uint32_t *characters, size_t count,
-                               size_t room, uint8_t *marks);
-
-/* How many characters some UTF-8 has. `bytes` may be null where `length` is 0.
- *   NULL, OVERLAP, NOT_UTF8 */
-hordguli_status hordguli_count_utf8(const char *bytes, size_t length, size_t *count);
+                               size_t capacity, uint8_t *marks);
 
 #ifdef __cplusplus
 }

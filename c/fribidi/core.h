@@ -7,7 +7,7 @@
 #include <stddef.h>
 #include <stdint.h>
 
-/* Of single characters, by tables of pages, which have the lengths that c/fribidi/tables gives them. */
+/* Of single characters, by tables of pages, which have the lengths that tools/generate_fribidi_tables gives them. */
 uint32_t hordguli_fribidi_core_type(uint32_t character, const uint8_t index[static 4352], const uint32_t pages[static 65536]);
 void hordguli_fribidi_core_types(const uint8_t index[static 4352], const uint32_t pages[static 65536],
                                  const uint32_t *characters, size_t length, uint32_t *types, size_t room);

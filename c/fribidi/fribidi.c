@@ -1,6 +1,6 @@
 /* FriBidi's calls on types, levels and lines, over those of the proved crate hordguli_fribidi, and over the static numbers of
- * single characters that c/fribidi/tables makes. What is decided here is what that cannot test: that no pointer is null, and
- * that a length is not below 0. Written from FriBidi's header and manual; what it does otherwise stands in docs/FRIBIDI.md. */
+ * single characters that tools/generate_fribidi_tables makes. What is decided here is what that cannot test: that no pointer is null, and
+ * that a length is not below 0. Written from FriBidi's header and manual; what it does otherwise stands in docs/fribidi-compat.md. */
 #include "core.h"
 #include "tables.h"
 

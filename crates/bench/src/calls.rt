@@ -1,5 +1,5 @@
 //! How long the calls of a session take on the text of a file, beside the same calls through C
-//! (`c/tests/speed.c`).
+//! (`tests/c/speed.c`).
 use crate::edits::{close, open};
 use crate::numbers::Numbers;
 use crate::paragraphs::{engine, let_go};

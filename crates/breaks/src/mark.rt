@@ -26,7 +26,7 @@ pub enum Mark {
 }
 
 /// The mark of the position after each character of a paragraph (UAX #14, LB1 to LB31, as
-/// docs/PROFILE.md has them). After the last one it is `Must`.
+/// docs/reference.md has them). After the last one it is `Must`.
 pub fn marks(
     alloc: Global,
     tables: &Tables,

@@ -1,7 +1,6 @@
-//! What `--version` prints: the product's version, and both of Unicode's. `.ci/versions` writes this file,
-//! and the gate compares it: the product's is that of the file `VERSION`, the first of Unicode's that of
-//! `ucd`, whose rules are kept, and the other one that of the kit's tables, by which columns and grapheme
-//! clusters are told.
+//! What `--version` prints: the product's version and two of Unicode's. The first is that of the rules and
+//! table files (`ucd`), the second that of the kit's tables, for columns and grapheme clusters.
+//! `tools/sync_versions` writes this file from the file `VERSION`, and CI compares it.
 
 /// The versions.
 pub const VERSION: &str = "0.5.0

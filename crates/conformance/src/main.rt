@@ -7,8 +7,8 @@
 //! - `conformance levels-of UCD DIRECTION` prints the levels of each before L1.
 //! - `conformance starts-of UCD WIDTH` prints where the lines of each start, filled again at a width.
 //!
-//! Without words it says this. The first two are for Unicode's conformance tests (`conformance/run`); the
-//! others call what the command calls nowhere, so that `faults/amounts` sees what these calls take. Marks and
+//! Without words it says this. The first two are for Unicode's conformance tests (`tests/conformance/run`); the
+//! others call what the command calls nowhere, so that `tests/resources/run` sees what these calls take. Marks and
 //! levels are told by a copy of the tables, for the same reason.
 #![tactic(auto)]
 

@@ -1,5 +1,5 @@
 //! A session in a few lines: a text is opened, edited, brought to another width, read and printed.
-//! `README.md` shows what stands below the line on proofs, and the gate compares the two.
+//! `README.md` shows the lines of `main` and `edit`, and CI compares the two.
 #![tactic(auto)]
 
 use anyhow::Result;

@@ -1,4 +1,4 @@
-//! What the first lines of `device`, `lines` and `session` show: `docs/run` looks whether their lines stand
+//! What the first lines of `device`, `lines` and `session` show: `tests/docs/run` looks whether their lines stand
 //! here.
 use crate::files::{FILES, engine};
 use device::{ToWrite, write_all};

@@ -4,13 +4,13 @@ use ucd::{Cause, TableFault, Tables, UcdFiles};
 
 /// The table files of the tests.
 pub const FILES: UcdFiles<'_> = UcdFiles {
-    bidi_class: excerpt::BIDI_CLASS,
-    bidi_brackets: excerpt::BIDI_BRACKETS,
-    bidi_mirroring: excerpt::BIDI_MIRRORING,
-    line_break: excerpt::LINE_BREAK,
-    general_category: excerpt::GENERAL_CATEGORY,
-    east_asian_width: excerpt::EAST_ASIAN_WIDTH,
-    emoji_data: excerpt::EMOJI_DATA,
+    bidi_class: test_tables::BIDI_CLASS,
+    bidi_brackets: test_tables::BIDI_BRACKETS,
+    bidi_mirroring: test_tables::BIDI_MIRRORING,
+    line_break: test_tables::LINE_BREAK,
+    general_category: test_tables::GENERAL_CATEGORY,
+    east_asian_width: test_tables::EAST_ASIAN_WIDTH,
+    emoji_data: test_tables::EMOJI_DATA,
 };
 
 /// What files say, which are read once more where memory was wanting.

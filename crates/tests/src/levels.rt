@@ -1,4 +1,4 @@
-//! Levels of short lists are those that the plain passes find, and worked rows.
+//! Levels of short lists equal those of the reference implementation; worked rows.
 ghost use Rattle.std.specs.Prelude.{◌≡◌, map, IfOk};
 ghost use Rattle.ucd.specs.Properties.{properties_of};
 
@@ -6,7 +6,7 @@ use crate::files::{FILES, read};
 use bidi::{
     Base, BracketType, Resolver, base_level, base_level_by, base_level_of, resolve, resolve_by,
 };
-use plain::levels::plain_levels;
+use reference::levels::reference_levels;
 use std::alloc::{AllocError, Global};
 use std::test::Fail;
 use ucd::{BidiClass, Properties, Tables};
@@ -184,7 +184,7 @@ fn is_found_after_pdf(
     is_found(alloc, resolver, tables, &longer, base, 1, wanted)
 }
 
-// Whether a resolver finds the levels of a list that the plain passes find, and finds them also after a PDF.
+// Whether a resolver returns the reference levels of a list, also when it resolved a PDF before.
 fn is_same(
     alloc: Global,
     resolver: &mut Resolver,
@@ -192,7 +192,7 @@ fn is_same(
     text: &[char],
     base: Base,
 ) -> Result<bool, AllocError> {
-    let wanted = plain_levels(alloc, tables, text, base)?;
+    let wanted = reference_levels(alloc, tables, text, base)?;
     if !is_found(alloc, resolver, tables, text, base, 0, &wanted)? {
         return Ok(false);
     }

@@ -1,11 +1,11 @@
-//! Worked rows, and lists of characters of which the walk finds the marks that the plain body does. The
-//! tests pass too where one allocation is refused, whichever it is.
+//! Worked rows, and lists of characters whose break marks equal those of the reference implementation. The
+//! tests also pass if any one allocation fails.
 ghost use Rattle.std.specs.Prelude.{◌≡◌, map, OnOk};
 ghost use Rattle.ucd.specs.Properties.{properties_of};
 
 use crate::files::{FILES, read};
 use breaks::{Mark, Tailoring, marks, marks_into};
-use plain::marks::plain_marks;
+use reference::marks::reference_marks;
 use std::alloc::{AllocError, Global};
 use std::process::Abort;
 use std::test::Fail;
@@ -220,7 +220,7 @@ struct Kept {
     text: Vec<char>,
     properties: Vec<Properties>,
     classes: Vec<LineClass>,
-    plain: Vec<Mark>,
+    expected: Vec<Mark>,
     marks: Vec<Mark>,
 }
 
@@ -230,7 +230,7 @@ impl Kept {
             text: Vec::new(alloc),
             properties: Vec::new(alloc),
             classes: Vec::new(alloc),
-            plain: Vec::new(alloc),
+            expected: Vec::new(alloc),
             marks: Vec::new(alloc),
         }
     }
@@ -250,7 +250,7 @@ fn read_all(
     Ok(())
 }
 
-// Whether the walk finds the marks of the text that the plain body finds, without whole numbers and with
+// Whether the marks of the text equal those of the reference implementation, without whole numbers and with
 // them.
 fn agrees(tables: &Tables, kept: &mut Kept) -> Result<bool, AllocError> {
     read_all(tables, &kept.text, &mut kept.properties)?;
@@ -261,12 +261,12 @@ fn agrees_where(tables: &Tables, tailoring: Tailoring, kept: &mut Kept) -> Resul
     requires { kept.old.properties.items ≡ map (properties_of tables.now) kept.old.text.items }
     ensures { OnOk result (kept.new.properties.items ≡ map (properties_of tables.now) kept.new.text.items) }
 {
-    plain_marks(
+    reference_marks(
         tables,
         &kept.text,
         tailoring,
         &mut kept.classes,
-        &mut kept.plain,
+        &mut kept.expected,
     )?;
     marks_into(
         tables,
@@ -275,7 +275,7 @@ fn agrees_where(tables: &Tables, tailoring: Tailoring, kept: &mut Kept) -> Resul
         tailoring,
         &mut kept.marks,
     )?;
-    Ok(kept.marks.as_slice() == kept.plain.as_slice())
+    Ok(kept.marks.as_slice() == kept.expected.as_slice())
 }
 
 // Two characters of each line breaking class, U+0100 the first of BK: of some classes the second is

@@ -1,4 +1,4 @@
-//! What the first lines of `ucd`, `bidi`, `breaks` and `store` show: `docs/run` looks whether their lines
+//! What the first lines of `ucd`, `bidi`, `breaks` and `store` show: `tests/docs/run` looks whether their lines
 //! stand here.
 use crate::files::{FILES, read};
 use bidi::{Base, resolve};

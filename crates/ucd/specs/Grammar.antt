@@ -1,4 +1,4 @@
--- The grammar of a table file of the Unicode Character Database (UAX #44, section 4.2), as docs/PROFILE.md has it.
+-- The grammar of a table file of the Unicode Character Database (UAX #44, section 4.2), as docs/reference.md has it.
 use Rattle.std.specs.Prelude.{ℕ, ◌+◌, ◌*◌, ◌-◌, nat_lt, nat_le, ◌==◌, ◌&&◌, not, Bool, true, List, [], ◌∷◌, length, map, fold, take, drop, Option, Some, None, Result, Ok, Err, if◌then◌else◌}
 use Rattle.std.specs.List.{slice_split, before_first, after_first, prefix_len, suffix_len, list_all, list_any}
 use Rattle.std.specs.Char.{is_ascii, is_ascii_hexdigit, digit_value}

@@ -205,7 +205,7 @@ impl Tables {
     ghost use Rattle.ucd.specs.Said.{contents_of};
 
     /// Reads the files. The first line at fault, in the order of the files and of their lines, is
-    /// answered, with the first cause that holds (docs/PROFILE.md).
+    /// answered, with the first cause that holds (docs/reference.md).
     pub fn read(alloc: Global, files: &UcdFiles<'_>) -> Result<Tables, TableFault>
         ensures ok { IfOk result (AreTablesOf files.now) }
         ensures err { IfErr result (IsFaultOf files.now) }

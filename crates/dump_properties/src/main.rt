@@ -1,0 +1,82 @@
+//! Prints the properties of characters by the table files of a folder: `dump_properties FOLDER`.
+//!
+//! One line per property: a bidi class other than L, a bracket with whether it opens a pair, or a mirror.
+//! `tests/fribidi/run` compares the tables of FriBidi's interface with it.
+#![tactic(auto)]
+
+use anyhow::{Result, bail};
+use std::alloc::Global;
+use std::io::{BufWriter, Write};
+use std::{env, io};
+use tables::in_folder;
+use ucd::{BidiClass, Tables};
+
+fn main(rt: HostRuntime) -> Result<()> {
+    let words: Vec<String> = env::args(&rt)?.collect(rt.alloc())?;
+    let Some(folder) = words.get(1) else {
+        bail!("usage: dump_properties FOLDER");
+    };
+    let tables = in_folder(&rt, folder.as_str())?;
+    write_buffered(&rt, &tables)
+}
+
+fn write_buffered(rt: &HostRuntime, tables: &Tables) -> Result<()> {
+    let mut output = BufWriter::new(rt.alloc(), io::writer(rt))?;
+    write_all(tables, &mut output)
+}
+
+fn write_all<W: Write>(tables: &Tables, output: &mut W) -> Result<()> {
+    for number in 0..1_114_112_u32 {
+        if let Some(c) = char::from_u32(number) {
+            write_properties(tables, c, output)?;
+        }
+    }
+    Ok(output.flush()?)
+}
+
+fn write_point<W: Write>(tables: &Tables, c: char, output: &mut W) -> Result<()> {
+    let class = tables.bidi_class(c);
+    if class != BidiClass::L {
+        writeln!(output, "{:x} class {}", c as u32, name_of(class))?;
+    }
+    if let Some(bracket) = tables.bracket(c) {
+        writeln!(
+            output,
+            "{:x} bracket {:x} {}",
+            c as u32, bracket.pair as u32, bracket.opens
+        )?;
+    }
+    if let Some(mirror) = tables.mirror(c) {
+        writeln!(output, "{:x} mirror {:x}", c as u32, mirror as u32)?;
+    }
+    Ok(())
+}
+
+// The name that FriBidi has for a class.
+fn name_of(class: BidiClass) -> &'static str {
+    match class {
+        BidiClass::L => "LTR",
+        BidiClass::R => "RTL",
+        BidiClass::AL => "AL",
+        BidiClass::EN => "EN",
+        BidiClass::ES => "ES",
+        BidiClass::ET => "ET",
+        BidiClass::AN => "AN",
+        BidiClass::CS => "CS",
+        BidiClass::NSM => "NSM",
+        BidiClass::BN => "BN",
+        BidiClass::B => "BS",
+        BidiClass::S => "SS",
+        BidiClass::WS => "WS",
+        BidiClass::ON => "ON",
+        BidiClass::LRE => "LRE",
+        BidiClass::LRO => "LRO",
+        BidiClass::RLE => "RLE",
+        BidiClass::RLO => "RLO",
+        BidiClass::PDF => "PDF",
+        BidiClass::LRI => "LRI",
+        BidiClass::RLI => "RLI",
+        BidiClass::FSI => "FSI",
+        BidiClass::PDI => "PDI",
+    }
+}

@@ -1,0 +1,12 @@
+use Rattle.std.proofs.Common.{arith}
+use Rattle.oom_calls.specs.declared.stores.Item.{Item}
+use Rattle.oom_calls.proofs.StoreLemmas.{sum_of_splice}
+use Rattle.oom_calls.proofs.stores.replace.Goals as goal
+
+pub replace-requires-clause-chars_fit : goal.replace-requires-clause-chars_fit
+replace-requires-clause-chars_fit g c =
+    omega (arith, sum_of_splice {P = Item} (g.S.ParagraphStore.items c.args.store.now) c.args.range.start c.args.range.end c.args.new_items.items c.if-range.false, c.args.new_items.ok.0)
+
+pub replace-requires-clause-lines_fit : goal.replace-requires-clause-lines_fit
+replace-requires-clause-lines_fit g c =
+    omega (arith, sum_of_splice {P = Item} (g.S.ParagraphStore.items c.args.store.now) c.args.range.start c.args.range.end c.args.new_items.items c.if-range.false, c.args.new_items.ok.0)

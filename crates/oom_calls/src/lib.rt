@@ -1,0 +1,14 @@
+//! Every library call that can fail with out of memory. A failed call must leave everything as it was, or
+//! return what it was given; it is then made again. The program `oom_driver` makes these calls.
+#![tactic(auto)]
+
+mod page;
+pub mod paragraphs;
+pub mod sessions;
+pub mod stores;
+pub mod tables;
+
+pub use page::{Printed, Writer};
+
+/// What is wrong with an answer.
+pub type Wrong = &'static str;

@@ -1,0 +1,83 @@
+//! Runs an edit script over a text whose paragraphs are kept in a list, where the command keeps them in a
+//! tree, by the test tables and at 80 columns.
+use device::{FromRead, ToWrite};
+use lines::{Engine, Options, Print};
+use oom_calls::tables::FILES;
+use session::{Kept, Session};
+use std::alloc::Global;
+use std::fs::File;
+use std::{env, fs};
+use store::VecStore;
+use text_run::RunFault;
+use tool::{ProgramFault, ScriptOptions, open_text, run_script};
+use ucd::Tables;
+
+// The lines alone, as the command prints them where no option asks for more.
+const LINES: ScriptOptions = ScriptOptions {
+    print: Print {
+        visual: true,
+        basedir: false,
+        ltov: false,
+        vtol: false,
+        levels: false,
+        padded: true,
+        mirrored: true,
+    },
+    queries: false,
+};
+
+const UNREAD: ProgramFault = ProgramFault::Run(RunFault::Read);
+
+/// The text's file and the script's, where the program was given two words.
+pub fn files(rt: &HostRuntime) -> Option<(String, String)> {
+    let Ok(mut words) = env::args(rt) else {
+        return None;
+    };
+    let _ = words.next();
+    let Some(text) = words.next() else {
+        return None;
+    };
+    let Some(script) = words.next() else {
+        return None;
+    };
+    Some((text, script))
+}
+
+/// Runs the script of one file over the text of another.
+pub fn run(rt: &HostRuntime, text: &str, script: &str) -> Result<(), ProgramFault> {
+    let Ok(text) = fs::read(rt, text) else {
+        return Err(UNREAD);
+    };
+    let Ok(script) = File::open(rt, script) else {
+        return Err(UNREAD);
+    };
+    run_script_over(rt, &text, script)
+}
+
+fn run_script_over(rt: &HostRuntime, text: &[u8], script: File) -> Result<(), ProgramFault> {
+    match open_text(rt.alloc(), engine(rt.alloc())?, text, 80) {
+        Ok(session) => obey_lines(rt, script, session),
+        Err(fault) => Err(ProgramFault::Run(fault)),
+    }
+}
+
+fn engine(alloc: Global) -> Result<Engine, ProgramFault> {
+    match Tables::read(alloc, &FILES) {
+        Ok(tables) => Ok(Engine::new(tables, Options::default())),
+        Err(fault) => Err(ProgramFault::Table(fault)),
+    }
+}
+
+fn obey_lines(
+    rt: &HostRuntime,
+    script: File,
+    session: Session<VecStore<Kept>>,
+) -> Result<(), ProgramFault> {
+    let mut session = session;
+    let mut reader = FromRead::new(script);
+    let mut writer = ToWrite::new(rt.stdout());
+    match run_script(rt.alloc(), &mut reader, &mut writer, &mut session, &LINES) {
+        Ok(()) => Ok(()),
+        Err(fault) => Err(ProgramFault::Run(fault)),
+    }
+}

@@ -1,0 +1,94 @@
+//! Drives the libraries under allocation failures, and edit scripts over a list of paragraphs.
+//!
+//! `oom_driver` makes every library call that can fail with out of memory, and prints how each went. A failed
+//! call must leave everything as it was, or return what it was given; it is then made again. So the output is
+//! the same whichever single allocation fails: `tests/fault_injection/run` fails each in turn.
+//!
+//! `oom_driver TEXT SCRIPT` runs an edit script over a text whose paragraphs are kept in a list.
+//! `tests/cli/run` runs scripts over both stores this way.
+#![tactic(auto)]
+
+mod list_script;
+mod runs;
+
+use oom_calls::{Wrong, paragraphs, sessions, stores, tables};
+use session::Kept;
+use std::alloc::Global;
+use std::io;
+use std::process::ExitCode;
+use store::{ParagraphStore, TreeStore, VecStore};
+
+// Where something is wrong the status is the same and what is printed is not. A refusal of what isn't
+// tried here, as of a line's printing, may end the program with another status.
+fn main(rt: HostRuntime) -> ExitCode {
+    if let Some((text, script)) = list_script::files(&rt) {
+        return obey(&rt, &text, &script);
+    }
+    match print_all(&rt) {
+        Ok(()) => ExitCode::SUCCESS,
+        Err(_) => ExitCode::FAILURE,
+    }
+}
+
+fn obey(rt: &HostRuntime, text: &str, script: &str) -> ExitCode {
+    let Err(fault) = list_script::run(rt, text, script) else {
+        return ExitCode::SUCCESS;
+    };
+    let _ = eprintln!(rt; "{fault}");
+    ExitCode::from(fault.status())
+}
+
+// What is tried.
+#[derive(Clone, Copy)]
+enum Trial {
+    Tables,
+    Paragraph,
+    List,
+    Tree,
+    ListSession,
+    TreeSession,
+    Text,
+    ListScript,
+    TreeScript,
+}
+
+const TRIALS: [(&str, Trial); 9] = [
+    ("the tables", Trial::Tables),
+    ("a paragraph", Trial::Paragraph),
+    ("a list", Trial::List),
+    ("a tree", Trial::Tree),
+    ("a session over a list", Trial::ListSession),
+    ("a session over a tree", Trial::TreeSession),
+    ("a text", Trial::Text),
+    ("a script over a list", Trial::ListScript),
+    ("a script over a tree", Trial::TreeScript),
+];
+
+fn print_all(rt: &HostRuntime) -> io::Result<()> {
+    for (subject, trial) in &TRIALS {
+        print(rt, *subject, answer(rt.alloc(), *trial))?;
+    }
+    Ok(())
+}
+
+fn answer(alloc: Global, trial: Trial) -> Result<(), Wrong> {
+    match trial {
+        Trial::Tables => tables::try_read(alloc),
+        Trial::Paragraph => paragraphs::try_calls(alloc),
+        Trial::List => stores::try_replace(&mut VecStore::new(alloc), alloc),
+        Trial::Tree => stores::try_replace(&mut TreeStore::new(alloc), alloc),
+        Trial::ListSession => sessions::try_calls::<VecStore<Kept>>(alloc),
+        Trial::TreeSession => sessions::try_calls::<TreeStore<Kept>>(alloc),
+        Trial::Text => runs::try_text(alloc),
+        Trial::ListScript => runs::try_script::<VecStore<Kept>>(alloc),
+        Trial::TreeScript => runs::try_script::<TreeStore<Kept>>(alloc),
+    }
+}
+
+fn print(rt: &HostRuntime, subject: &str, answer: Result<(), Wrong>) -> io::Result<()> {
+    let words = match answer {
+        Ok(()) => "as it should be",
+        Err(wrong) => wrong,
+    };
+    println!(rt; "{subject}: {words}")
+}

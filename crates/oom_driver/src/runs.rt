@@ -1,0 +1,104 @@
+//! The runs of the command: what is written before memory was wanting is the output of whole paragraphs, or
+//! of whole lines of a script.
+use device::{FromRead, ToWrite};
+use lines::{Engine, Print};
+use oom_calls::sessions::{ALL, open};
+use oom_calls::tables::{engine, let_go};
+use oom_calls::{Printed, Writer, Wrong};
+use session::{Kept, Session};
+use std::alloc::Global;
+use store::ParagraphStore;
+use text_run::{RunFault, run_text};
+use tool::{ScriptOptions, run_script};
+
+const LINES: Print = Print {
+    basedir: false,
+    ltov: false,
+    vtol: false,
+    levels: false,
+    ..ALL
+};
+
+/// Writes the lines of a text of two paragraphs.
+pub fn try_text(alloc: Global) -> Result<(), Wrong> {
+    let mut engine = engine(alloc)?;
+    let answer = try_text_by(alloc, &mut engine);
+    let_go(engine);
+    answer
+}
+
+fn try_text_by(alloc: Global, engine: &mut Engine) -> Result<(), Wrong> {
+    let mut page = Printed::new();
+    if is_refused(write_text(alloc, engine, &mut page)) {
+        if !page.is_one_of(&[b"", b"a\n"]) {
+            return Err("written in part");
+        }
+        page = Printed::new();
+        if write_text(alloc, engine, &mut page).is_err() {
+            return Err("refused twice");
+        }
+    }
+    if !page.is_one_of(&[b"a\nb\n"]) {
+        return Err("another text");
+    }
+    Ok(())
+}
+
+fn is_refused(answer: Result<(), RunFault>) -> bool {
+    answer == Err(RunFault::Memory)
+}
+
+fn write_text(alloc: Global, engine: &mut Engine, page: &mut Printed) -> Result<(), RunFault> {
+    let mut reader = FromRead::new(b"a\nb".as_slice());
+    let mut writer = ToWrite::new(Writer { page });
+    run_text(alloc, &mut reader, &mut writer, engine, 80, &LINES)
+}
+
+const SCRIPT: &[u8] = b"insert 4 x\\ny\ndelete 2 4\nwidth 1\nshow\n";
+
+// What is written for it.
+const ANSWERS: &[u8] = b"@ 1 1 2\n@ 0 3 1\n@ 0 2 6\na\nb\ny\nd\ne\nf\n";
+
+// What is written before each of its lines that may want memory.
+const UNFINISHED: [&[u8]; 3] = [b"", b"@ 1 1 2\n", b"@ 1 1 2\n@ 0 3 1\n"];
+
+/// Obeys a script.
+pub fn try_script<S: ParagraphStore<Kept> + Drop>(alloc: Global) -> Result<(), Wrong> {
+    let mut page = Printed::new();
+    if is_refused(obey::<S>(alloc, &mut page)?) {
+        if !page.is_one_of(&UNFINISHED) {
+            return Err("answered in part");
+        }
+        page = Printed::new();
+        if obey::<S>(alloc, &mut page)?.is_err() {
+            return Err("refused twice");
+        }
+    }
+    if !page.is_one_of(&[ANSWERS]) {
+        return Err("other answers");
+    }
+    Ok(())
+}
+
+fn obey<S: ParagraphStore<Kept> + Drop>(
+    alloc: Global,
+    page: &mut Printed,
+) -> Result<Result<(), RunFault>, Wrong> {
+    let session: Session<S> = open(alloc)?;
+    Ok(obey_in(alloc, session, page))
+}
+
+fn obey_in<S: ParagraphStore<Kept> + Drop>(
+    alloc: Global,
+    session: Session<S>,
+    page: &mut Printed,
+) -> Result<(), RunFault> {
+    let mut session = session;
+    let mut reader = FromRead::new(SCRIPT);
+    let mut writer = ToWrite::new(Writer { page });
+    let options = ScriptOptions {
+        print: LINES,
+        queries: false,
+    };
+    run_script(alloc, &mut reader, &mut writer, &mut session, &options)
+}

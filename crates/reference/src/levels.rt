@@ -1,0 +1,62 @@
+//! The levels of a list that is one isolating run sequence as it stands (UAX #9, W1 to I2), each rule a
+//! pass of its own over the types.
+mod brackets;
+mod neutral;
+mod weak;
+
+use crate::levels::brackets::resolve_brackets;
+use crate::levels::neutral::resolve_neutral;
+use crate::levels::weak::resolve_weak;
+use bidi::{Base, base_level};
+use std::alloc::{AllocError, Global};
+use ucd::{BidiClass, Tables};
+
+/// The level of each character of a list that has no explicit formatting character, no isolate, and no
+/// character that X9 takes out.
+pub fn reference_levels(
+    alloc: Global,
+    tables: &Tables,
+    text: &[char],
+    base: Base,
+) -> Result<Vec<u8>, AllocError> {
+    let level = base_level(tables, text, base);
+    let side = direction(level);
+    let classes = classes_of(alloc, tables, text)?;
+    let mut types = classes_of(alloc, tables, text)?;
+    resolve_weak(&mut types, side);
+    resolve_brackets(alloc, tables, text, &classes, &mut types, side)?;
+    resolve_neutral(&mut types, side);
+    levels_of(alloc, level, &types)
+}
+
+fn classes_of(alloc: Global, tables: &Tables, text: &[char]) -> Result<Vec<BidiClass>, AllocError> {
+    text.iter().map(|c| tables.bidi_class(*c)).collect(alloc)
+}
+
+fn levels_of(alloc: Global, level: u8, types: &[BidiClass]) -> Result<Vec<u8>, AllocError> {
+    types
+        .iter()
+        .map(|class| implicit_level(level, *class))
+        .collect(alloc)
+}
+
+// The direction of a level, which is also the type on both sides of a list that is one sequence.
+fn direction(level: u8) -> BidiClass {
+    if level % 2 == 1 {
+        BidiClass::R
+    } else {
+        BidiClass::L
+    }
+}
+
+// I1 and I2: the level of a character, by the type that is left of it.
+fn implicit_level(level: u8, class: BidiClass) -> u8 {
+    let more = match (level % 2, class) {
+        (0, BidiClass::R) => 1,
+        (0, BidiClass::AN | BidiClass::EN) => 2,
+        (0, _) => 0,
+        (_, BidiClass::L | BidiClass::AN | BidiClass::EN) => 1,
+        _ => 0,
+    };
+    level.saturating_add(more)
+}

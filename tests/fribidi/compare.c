@@ -1,0 +1,216 @@
+/* FriBidi's calls beside ours, on lists of types at random: compare OURS COUNT [SEED]. Each list is 1 to 200 long, has types of all
+ * 23 kinds and brackets, and is asked for in one of the five base directions; half of the lists have no type that X9 takes out.
+ * Where none of the predicates of docs/fribidi-compat.md holds the two agree, call by call. Each predicate is a function below of the
+ * name that it has there. Of the inputs that meet one alone at least half differ. */
+#include "both.h"
+
+#define MOST 200
+
+typedef struct input {
+    int length;
+    FriBidiCharType types[MOST];
+    FriBidiBracketType brackets[MOST];
+    FriBidiParType base;
+    int off, part; /* a line of it, of these levels and in this direction */
+    FriBidiFlags flags;
+    FriBidiLevel levels[MOST];
+    FriBidiParType resolved;
+} input;
+
+/* What is compared. */
+enum { DIRECTION, RESOLVED, LEVELS, TOP, LINE, CALLS };
+static const char *const call_names[CALLS] = {"direction", "base written", "levels", "greatest level", "line"};
+
+static calls theirs, ours;
+
+/* ---- Predicates ---- */
+
+#include "predicates.h"
+
+/* ---- What each answers ---- */
+
+typedef struct answer {
+    FriBidiParType direction, resolved;
+    FriBidiLevel top, plain_top, line_top;
+    FriBidiLevel levels[MOST], plain[MOST], line[MOST];
+    FriBidiChar string[MOST];
+    FriBidiStrIndex map[MOST];
+} answer;
+
+static void ask(const calls *of, const input *one, answer *found) {
+    FriBidiParType plain_base = one->base;
+    memset(found, 0, sizeof *found);
+    found->direction = of->get_par_direction(one->types, one->length);
+    found->resolved = one->base;
+    found->top = of->get_par_embedding_levels_ex(one->types, one->brackets, one->length, &found->resolved, found->levels);
+    found->plain_top = of->get_par_embedding_levels(one->types, one->length, &plain_base, found->plain);
+    memcpy(found->line, one->levels, sizeof found->line);
+    for (int k = 0; k < MOST; k++) {
+        found->string[k] = (FriBidiChar)(0x61 + k);
+        found->map[k] = k;
+    }
+    found->line_top = of->reorder_line(one->flags, one->types, one->part, one->off, one->resolved, found->line, found->string, found->map);
+}
+
+static int differs(int call, const input *one) {
+    answer a, b;
+    ask(&ours, one, &b);
+    ask(&theirs, one, &a);
+    switch (call) {
+    case DIRECTION: return a.direction != b.direction;
+    case RESOLVED: return a.resolved != b.resolved;
+    case LEVELS: return memcmp(a.levels, b.levels, sizeof a.levels) != 0 || memcmp(a.plain, b.plain, sizeof a.plain) != 0;
+    case TOP: return a.top != b.top || a.plain_top != b.plain_top;
+    default:
+        return a.line_top != b.line_top || memcmp(a.line, b.line, sizeof a.line) != 0 || memcmp(a.string, b.string, sizeof a.string) != 0
+            || memcmp(a.map, b.map, sizeof a.map) != 0;
+    }
+}
+
+static unsigned met(int call, const input *one) {
+    unsigned bits = 0;
+    for (int k = 0; k < PREDICATES; k++)
+        if (predicates[k].call == call && predicates[k].holds(one)) bits |= 1u << k;
+    return bits;
+}
+
+/* ---- Lists at random ---- */
+
+/* The first separator at which an isolate is open, or -1. FriBidi writes into memory there that it has given back, and may end the
+ * program, as where embeddings and isolates are nested too deep, so it is asked for no such list. */
+static int open_at_separator(const input *one) {
+    for (int k = 0, open = 0; k < one->length; k++) {
+        if (one->types[k] == FRIBIDI_TYPE_BS && open > 0) return k;
+        if (is_initiator(one->types[k])) open++;
+        else if (one->types[k] == FRIBIDI_TYPE_PDI && open > 0) open--;
+    }
+    return -1;
+}
+
+/* The levels of a line's paragraph are those of ours, so that both order the same. */
+static void prepare(input *one) {
+    one->resolved = one->base;
+    memset(one->levels, 0, sizeof one->levels);
+    if (ours.get_par_embedding_levels_ex(one->types, one->brackets, one->length, &one->resolved, one->levels) == 0) exit(2);
+}
+
+static void draw(input *one) {
+    static const FriBidiChar pairs[][2] = {{'(', ')'}, {'[', ']'}, {0x2329, 0x232A}, {0x3008, 0x3009}};
+    uint32_t kinds = below(2) ? 23 : STAYING, few = below(3);
+    one->length = 1 + (int)below(few == 0 ? 8 : few == 1 ? 40 : MOST);
+    one->base = all_bases[below(5)];
+    one->flags = below(2) ? FRIBIDI_FLAG_REORDER_NSM : 0;
+    FriBidiCharType common[6];
+    for (int k = 0; k < 6; k++) common[k] = all_types[below(kinds)];
+    int mixed = (int)below(2);
+    for (int k = 0; k < one->length; k++) {
+        one->types[k] = mixed ? all_types[below(kinds)] : common[below(6)];
+        one->brackets[k] = FRIBIDI_NO_BRACKET;
+        if (one->types[k] == FRIBIDI_TYPE_BS && below(4) != 0) one->types[k] = FRIBIDI_TYPE_ON;
+        if (one->types[k] == FRIBIDI_TYPE_ON && below(2)) one->brackets[k] = ours.get_bracket(pairs[below(4)][below(2)]);
+    }
+    for (int at; (at = open_at_separator(one)) >= 0;) one->types[at] = FRIBIDI_TYPE_SS;
+    while (too_deep(one)) one->length--;
+    one->off = (int)below((uint32_t)one->length);
+    one->part = 1 + (int)below((uint32_t)(one->length - one->off));
+    if (below(2)) one->off = 0, one->part = one->length;
+    prepare(one);
+}
+
+/* ---- An input that differs, made shorter ---- */
+
+static void drop(input *one, int at) {
+    memmove(one->types + at, one->types + at + 1, sizeof *one->types * (size_t)(one->length - at - 1));
+    memmove(one->brackets + at, one->brackets + at + 1, sizeof *one->brackets * (size_t)(one->length - at - 1));
+    one->length--;
+    if (at < one->off) one->off--;
+    else if (at < one->off + one->part) one->part--;
+}
+
+static void shorten(int call, input *one) {
+    for (int again = 1; again;) {
+        again = 0;
+        for (int at = 0; at < one->length && one->length > 1; at++) {
+            input other = *one;
+            drop(&other, at);
+            prepare(&other);
+            if (open_at_separator(&other) < 0 && !too_deep(&other) && other.part > 0 && differs(call, &other) && met(call, &other) == 0) {
+                *one = other;
+                again = 1;
+                at--;
+            }
+        }
+    }
+}
+
+static void show(int call, const input *one) {
+    answer a, b;
+    ask(&ours, one, &b);
+    ask(&theirs, one, &a);
+    printf("%s: base %s, line %d+%d, flags %u:", call_names[call], theirs.get_bidi_type_name((FriBidiCharType)one->base), one->off, one->part, (unsigned)one->flags);
+    for (int k = 0; k < one->length; k++) {
+        printf(" %s", theirs.get_bidi_type_name(one->types[k]));
+        if (one->brackets[k]) printf("(%x)", (unsigned)one->brackets[k]);
+    }
+    for (int k = 0; k < 2; k++) {
+        const answer *f = k == 0 ? &a : &b;
+        printf("\n  %s direction %s, base %s, answer %d %d %d, levels", k == 0 ? "FriBidi:" : "ours:   ", theirs.get_bidi_type_name((FriBidiCharType)f->direction),
+               theirs.get_bidi_type_name((FriBidiCharType)f->resolved), f->top, f->plain_top, f->line_top);
+        for (int i = 0; i < one->length; i++) printf(" %d", f->levels[i]);
+        printf(", plain");
+        for (int i = 0; i < one->length; i++) printf(" %d", f->plain[i]);
+        printf(", line");
+        for (int i = 0; i < one->length; i++) printf(" %d", f->line[i]);
+        printf(", map");
+        for (int i = 0; i < one->length; i++) printf(" %d", f->map[i]);
+    }
+    printf("\n");
+}
+
+int main(int argc, char **argv) {
+    long count = argc > 2 ? atol(argv[2]) : 0, wrong = 0, agree = 0, alone[32] = {0}, alone_differ[32] = {0}, all[32] = {0}, compared[CALLS] = {0};
+    long shown[CALLS] = {0};
+    if (count <= 0) return 2;
+    theirs = calls_of("libfribidi.so.0");
+    ours = calls_of(argv[1]);
+    state = argc > 3 ? (uint64_t)atoll(argv[3]) : UINT64_C(88172645463325252);
+    for (long n = 0; n < count; n++) {
+        input one;
+        memset(&one, 0, sizeof one);
+        draw(&one);
+        if (!separator_inside(&one)) { /* the predicates' own levels are the annex's */
+            int annex[MOST], same = 1;
+            plain_levels(&one, 0, annex);
+            for (int k = 0; k < one.length; k++) same = same && annex[k] == one.levels[k];
+            agree += same, wrong += !same;
+            if (!same && shown[0]++ < 3) printf("the plain levels differ: "), show(LEVELS, &one);
+        }
+        for (int call = 0; call < CALLS; call++) {
+            unsigned bits = met(call, &one);
+            int differ = differs(call, &one);
+            compared[call]++;
+            for (int k = 0; k < PREDICATES; k++) {
+                if (bits >> k & 1) all[k]++;
+                if (bits == 1u << k) alone[k]++, alone_differ[k] += differ;
+            }
+            if (bits == 0 && differ) {
+                wrong++;
+                if (shown[call]++ < 5) {
+                    input shorter = one;
+                    shorten(call, &shorter);
+                    show(call, &shorter);
+                }
+            } else {
+                agree += bits == 0;
+            }
+        }
+    }
+    for (int k = 0; k < PREDICATES; k++) {
+        int cloak = 2 * alone_differ[k] < alone[k];
+        printf("%s: %s: met by %ld of %ld lists (%.2f%%), alone by %ld, of which %ld differ\n", call_names[predicates[k].call], predicates[k].name, all[k], count,
+               100.0 * (double)all[k] / (double)count, alone[k], alone_differ[k]);
+        if (cloak) printf("%s: too few of them differ\n", predicates[k].name), wrong++;
+    }
+    printf("%ld passed, %ld failed\n", agree, wrong);
+    return wrong != 0;
+}

@@ -1,0 +1,156 @@
+/* The lines of the table of docs/fribidi-compat.md, each a predicate on the input alone: the types, the brackets and the base direction that
+ * is asked for, and of a line the levels and the direction that are handed in. */
+typedef struct predicate {
+    const char *name;
+    int call;
+    int (*holds)(const input *);
+} predicate;
+
+static int is_strong(FriBidiCharType type) { return type == FRIBIDI_TYPE_LTR || type == FRIBIDI_TYPE_RTL || type == FRIBIDI_TYPE_AL; }
+static int is_initiator(FriBidiCharType type) { return type == FRIBIDI_TYPE_LRI || type == FRIBIDI_TYPE_RLI || type == FRIBIDI_TYPE_FSI; }
+static int is_isolate(FriBidiCharType type) { return is_initiator(type) || type == FRIBIDI_TYPE_PDI; }
+static int is_removed(FriBidiCharType type) {
+    return type == FRIBIDI_TYPE_BN || type == FRIBIDI_TYPE_LRE || type == FRIBIDI_TYPE_RLE || type == FRIBIDI_TYPE_LRO || type == FRIBIDI_TYPE_RLO
+        || type == FRIBIDI_TYPE_PDF;
+}
+
+/* The direction of the first strong type, of all or of those that stand outside of all isolates; 0 where there is none. */
+static unsigned first_direction(const input *one, int outside) {
+    int depth = 0;
+    for (int k = 0; k < one->length; k++) {
+        FriBidiCharType type = one->types[k];
+        if (is_strong(type) && !(outside && depth > 0)) return type == FRIBIDI_TYPE_LTR ? FRIBIDI_PAR_LTR : FRIBIDI_PAR_RTL;
+        if (is_initiator(type)) depth++;
+        else if (type == FRIBIDI_TYPE_PDI && depth > 0) depth--;
+    }
+    return 0;
+}
+
+/* P2 passes over isolates; FriBidi's fribidi_get_par_direction does not, and an isolate gives another direction. */
+static int first_strong_in_isolate(const input *one) { return first_direction(one, 0) != first_direction(one, 1); }
+
+/* P3 gives a paragraph without strong characters a level; FriBidi leaves the weak direction as it was asked for. */
+static int no_strong(const input *one) { return one->base != FRIBIDI_PAR_LTR && one->base != FRIBIDI_PAR_RTL && first_direction(one, 1) == 0; }
+
+/* P1: a separator ends a paragraph; ours takes all as one, FriBidi goes on at level 0 after it, with nothing open. */
+static int separator_inside(const input *one) {
+    for (int k = 0; k + 1 < one->length; k++)
+        if (one->types[k] == FRIBIDI_TYPE_BS) return 1;
+    return 0;
+}
+
+#include "reference.h"
+
+/* Whether one of the ways of reference.h changes a level, alone or beside the others, or the greatest level. */
+static int changes(const input *one, int way, int greatest) {
+    input plain = *one; /* the call that takes no brackets */
+    memset(plain.brackets, 0, sizeof plain.brackets);
+    for (int k = 0; k < 4; k++) {
+        int with[MOST], without[MOST], others = k & 1 ? ALL & ~way : 0;
+        const input *asked = k & 2 ? &plain : one;
+        int a = plain_levels(asked, others | way, with), b = plain_levels(asked, others, without);
+        if (greatest ? a != b : memcmp(with, without, sizeof *with * (size_t)one->length) != 0) return 1;
+    }
+    return 0;
+}
+
+/* A bracket that is opened in one isolate, and one of its number that closes it in a later isolate of the depth, where not all that stands
+ * in this depth from the one to the other is at one level, or where what stands between the isolates is not all neutral; at a level at
+ * least. */
+static int pair_over_isolates(const input *one, int least) {
+    static plain p;
+    int isolate[MOST];
+    find_matches(one, &p);
+    find_explicit(one, (int)one->resolved & 1, 0, &p);
+    find_isolates(one, &p, 0, isolate);
+    for (int i = 0; i < one->length; i++)
+        for (int k = i + 1, other = 0; FRIBIDI_IS_BRACKET_OPEN(one->brackets[i]) && k < one->length; k++) {
+            if (p.depth[k] > p.depth[i] || is_removed(one->types[k])) continue;
+            other |= p.depth[k] < p.depth[i] ? !is_neutral(p.type[k]) : p.level[k] != p.level[i];
+            if (other && p.depth[k] == p.depth[i] && isolate[k] != isolate[i] && one->brackets[k] != 0
+                && one->brackets[k] == FRIBIDI_BRACKET_ID(one->brackets[i]) && (p.level[k] >= least || p.level[i] >= least)) return 1;
+        }
+    return 0;
+}
+
+/* BD13: each isolate is a sequence of its own, and P2 looks for the direction of an FSI in its own isolate; FriBidi takes all isolates of
+ * a depth as one sequence. */
+static int joined(const input *one, int greatest) {
+    return changes(one, AS_ONE, greatest) || changes(one, LATER, greatest) || changes(one, AS_ONE | LATER, greatest);
+}
+static int isolates_as_one(const input *one) { return joined(one, 0) || pair_over_isolates(one, 0); }
+static int isolates_as_one_top(const input *one) {
+    int annex[MOST], greatest = plain_levels(one, 0, annex);
+    return joined(one, 1) || pair_over_isolates(one, greatest);
+}
+
+/* X1 to X8: whether an embedding, override or isolate is one too many, at base level 1 or 0. */
+static int too_deep(const input *one) {
+    static plain p;
+    for (int base = 0; base < 2; base++) {
+        find_matches(one, &p);
+        find_explicit(one, base, 0, &p);
+        if (p.too_deep) return 1;
+    }
+    return 0;
+}
+
+/* N0: what stands before a pair is sought in its sequence, and is sos where there is nothing; FriBidi looks on before it. */
+static int context_before_run(const input *one) { return changes(one, CONTEXT, 0); }
+static int context_before_run_top(const input *one) { return changes(one, CONTEXT, 1); }
+
+/* BD14: FriBidi takes no bracket that stands right after a mark of a neutral character as one. */
+static int bracket_after_mark(const input *one) { return changes(one, MERGED, 0); }
+static int bracket_after_mark_top(const input *one) { return changes(one, MERGED, 1); }
+
+/* X6a: an override changes the type of each PDI; FriBidi leaves that of one that closes nothing, which then has the direction of the runs
+ * beside it. */
+static int pdi_between_runs(const input *one) { return changes(one, BARE, 0); }
+static int pdi_between_runs_top(const input *one) { return changes(one, BARE, 1); }
+
+/* L1: isolate initiators and PDI at a line's end have the paragraph level too; FriBidi's fribidi_reorder_line leaves these, and what
+ * stands before them. */
+static int isolate_at_end(const input *one) {
+    int level = (int)one->resolved & 1, seen = 0;
+    for (int k = one->off + one->part - 1; k >= one->off; k--) {
+        FriBidiCharType type = one->types[k];
+        if (!is_isolate(type) && !is_removed(type) && type != FRIBIDI_TYPE_WS) return 0;
+        seen |= is_isolate(type);
+        if (seen && one->levels[k] != level) return 1;
+    }
+    return 0;
+}
+
+/* L3 speaks of marks and their base: FriBidi puts marks that have none in reading order too. */
+static int has_base(const input *one, const FriBidiLevel *levels, int k) {
+    for (; k > one->off && levels[k] == levels[k - 1] && (levels[k] & 1); k--)
+        if (one->types[k - 1] != FRIBIDI_TYPE_NSM) return 1;
+    return 0;
+}
+
+static int marks_without_base(const input *one) {
+    if (!(one->flags & FRIBIDI_FLAG_REORDER_NSM)) return 0;
+    for (int k = one->off; k + 1 < one->off + one->part; k++)
+        if (one->types[k] == FRIBIDI_TYPE_NSM && one->types[k + 1] == FRIBIDI_TYPE_NSM && (one->levels[k] & 1) && one->levels[k] == one->levels[k + 1]
+            && !has_base(one, one->levels, k)) return 1;
+    return 0;
+}
+
+/* L3: a mark's base stands before it; FriBidi passes over characters that X9 takes out. */
+static int mark_after_removed(const input *one) {
+    if (!(one->flags & FRIBIDI_FLAG_REORDER_NSM)) return 0;
+    for (int k = one->off; k + 1 < one->off + one->part; k++)
+        if (is_removed(one->types[k]) && one->types[k + 1] == FRIBIDI_TYPE_NSM && (one->levels[k] & 1) && one->levels[k] == one->levels[k + 1]) return 1;
+    return 0;
+}
+
+static const predicate predicates[] = {
+    {"first_strong_in_isolate", DIRECTION, first_strong_in_isolate}, {"no_strong", RESOLVED, no_strong},
+    {"separator_inside", LEVELS, separator_inside}, {"separator_inside", TOP, separator_inside},
+    {"isolates_as_one", LEVELS, isolates_as_one}, {"isolates_as_one", TOP, isolates_as_one_top},
+    {"context_before_run", LEVELS, context_before_run}, {"context_before_run", TOP, context_before_run_top},
+    {"bracket_after_mark", LEVELS, bracket_after_mark}, {"bracket_after_mark", TOP, bracket_after_mark_top},
+    {"pdi_between_runs", LEVELS, pdi_between_runs}, {"pdi_between_runs", TOP, pdi_between_runs_top},
+    {"isolate_at_end", LINE, isolate_at_end}, {"marks_without_base", LINE, marks_without_base}, {"mark_after_removed", LINE, mark_after_removed},
+};
+#define PREDICATES ((int)(sizeof predicates / sizeof *predicates))
