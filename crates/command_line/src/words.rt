@@ -26,12 +26,17 @@ fn command<'a>(alloc: Global) -> Result<Command<'a>, AllocError>
     let command = Command::new(alloc, "fribidi")
         .no_binary_name(true)
         .version(VERSION)
-        .about("Prints text as visual lines")
+        .about("Wrap bidirectional text and print its lines in visual order")
         .after_help(UNICODE_VERSION);
     let command = with_layout(alloc, command)?;
     let command = with_print(alloc, command)?;
     let command = command.arg(script(alloc))?;
-    let command = with_flag(alloc, command, "queries", "questions in the script too")?;
+    let command = with_flag(
+        alloc,
+        command,
+        "queries",
+        "Allow queries in the edit script",
+    )?;
     command.arg(files(alloc))
 }
 
@@ -44,19 +49,25 @@ fn with_layout<'a>(alloc: Global, command: Command<'a>) -> Result<Command<'a>, A
         alloc,
         command,
         &[
-            ("rtl", "from right to left"),
-            ("ltr", "from left to right"),
-            ("wrtl", "from right to left where no character is strong"),
+            ("rtl", "Lay out every paragraph right-to-left"),
+            ("ltr", "Lay out every paragraph left-to-right"),
+            (
+                "wrtl",
+                "Lay out paragraphs without a strong character right-to-left",
+            ),
             (
                 "wltr",
-                "from left to right where no character is strong, which is the default",
+                "Lay out paragraphs without a strong character left-to-right (default)",
             ),
-            ("nobreak", "end lines at mandatory breaks only"),
+            ("nobreak", "Break lines at mandatory breaks only"),
             (
                 "reordernsm",
-                "marks after their letters from right to left too",
+                "Reorder nonspacing marks to follow their base in right-to-left text",
             ),
-            ("whole-numbers", "end no line inside a number"),
+            (
+                "whole-numbers",
+                "Do not break lines inside numbers such as $1,234.56",
+            ),
         ],
     )
 }
@@ -69,13 +80,28 @@ fn with_print<'a>(alloc: Global, command: Command<'a>) -> Result<Command<'a>, Al
         alloc,
         command,
         &[
-            ("nopad", "no spaces left of lines from right to left"),
-            ("nomirror", "characters as they are, not their mirrors"),
-            ("novisual", "no visual lines"),
-            ("basedir", "print the direction of each paragraph"),
-            ("ltov", "print the visual position of each character"),
-            ("vtol", "print the logical position of each visual one"),
-            ("levels", "print the level of each character"),
+            (
+                "nopad",
+                "Do not right-align lines of right-to-left paragraphs",
+            ),
+            (
+                "nomirror",
+                "Do not mirror brackets and other paired characters",
+            ),
+            ("novisual", "Do not print the visual lines"),
+            (
+                "basedir",
+                "Print LTR or RTL after the first line of each paragraph",
+            ),
+            (
+                "ltov",
+                "Print the logical-to-visual position map of each line",
+            ),
+            (
+                "vtol",
+                "Print the visual-to-logical position map of each line",
+            ),
+            ("levels", "Print the embedding level of each character"),
         ],
     )
 }
@@ -118,7 +144,7 @@ fn ucd<'a>(alloc: Global) -> Arg<'a>
         .value_name("DIR")
         .required(true)
         .action(ArgAction::Set)
-        .help("the folder of the Unicode table files; an installed command has its own")
+        .help("Read the Unicode table files from DIR [default: the installed files, if any]")
 }
 
 // How many columns a line may take.
@@ -132,7 +158,7 @@ fn width<'a>(alloc: Global) -> Arg<'a>
         .action(ArgAction::Set)
         .value_parser(value_parser!(u16).range(1..))
         .default_value("80")
-        .help("the columns of a line, 1 to 65535")
+        .help("Wrap lines at N columns, from 1 to 65535")
 }
 
 // The edit script.
@@ -144,7 +170,7 @@ fn script<'a>(alloc: Global) -> Arg<'a>
         .long("script")
         .value_name("FILE")
         .action(ArgAction::Set)
-        .help("an edit script to run over the one text")
+        .help("Run an edit script on one text file")
 }
 
 // The texts.
@@ -155,7 +181,7 @@ fn files<'a>(alloc: Global) -> Arg<'a>
     Arg::new(alloc, "files")
         .value_name("FILE")
         .action(ArgAction::Append)
-        .help("the texts; standard input where there is none")
+        .help("Files to lay out, each as a separate text [default: standard input]")
 }
 
 // An option without a value.
