@@ -128,7 +128,7 @@ PUBLIC hordguli_status hordguli_replace(hordguli_session *session, size_t pos, s
 PUBLIC hordguli_status hordguli_set_width(hordguli_session *session, uint32_t width, hordguli_damage *damage) {
     if (session == NULL || damage == NULL) return HORDGULI_NULL;
     if (OVERLAP(AT(session), AT(damage))) return HORDGULI_OVERLAP;
-    if (width > UINT16_MAX) return HORDGULI_WIDTH_OUT_OF_RANGE;
+    if (width == 0 || width > UINT16_MAX) return HORDGULI_WIDTH_OUT_OF_RANGE;
     return (hordguli_status)hordguli_core_set_width(session, (uint16_t)width, damage);
 }
 

@@ -1,4 +1,4 @@
-/* hordguli: bidirectional text layout in lines
+/* hordguli: lay out bidirectional text in lines
  *
  * Lays out bidirectional text in lines of a given width (UAX #9, UAX #14). A session holds a text and its layout, and
  * keeps the layout up to date when the text is edited or the width changes. Each edit reports which lines it replaced.
@@ -30,7 +30,7 @@
  *
  * ERRORS
  *
- * A function that can fail returns a status. HORDGULI_OK is 0. After any other status nothing has changed, including
+ * A function that can fail returns a status. HORDGULI_OK is 0. On any other status, nothing has changed, not even
  * output parameters, unless the function says otherwise.
  *
  * `Errors` lists the other statuses of a function, without `HORDGULI_`, in the order in which they are checked. The
@@ -66,7 +66,8 @@
  *     back, which the proof of the library depends on. This is why handles are not `const`.
  *   - Different handles may be used in different threads at the same time. A session shares nothing with other sessions
  *     or with the tables it was opened with.
- *   - Tables may be used in several threads if a lock, or the start or end of a thread, orders the calls.
+ *   - Several threads may use the same tables if their calls are serialized, by a lock or by creating or joining a
+ *     thread.
  *   - Use and close a session in the thread that opened it. Nothing in it is known to depend on the thread, but the
  *     proof does not cover other threads.
  *   - Do not call the library in a signal handler that can interrupt the library or malloc.
@@ -113,11 +114,11 @@ typedef int32_t hordguli_status;
 #define HORDGULI_CLOSED 9
 /* The handle to open is already open. */
 #define HORDGULI_ALREADY_OPEN 10
-/* The options or print flags have an unknown bit. */
+/* The options or print flags have a bit that is unknown, or that the function does not take. */
 #define HORDGULI_UNKNOWN_OPTION 11
 /* The capacity is too small. */
 #define HORDGULI_NO_ROOM 12
-/* A pointer is NULL that must not be. */
+/* A required pointer is NULL. */
 #define HORDGULI_NULL 13
 /* Arrays, output parameters or handles overlap. */
 #define HORDGULI_OVERLAP 14
@@ -142,7 +143,7 @@ const char *hordguli_unicode_version(void);
 
 /* ---- Session options ----
  *
- * One base direction, combined by `|` with any of the others. */
+ * One base direction, combined with any of the other options by bitwise OR (`|`). */
 
 /* The direction of a paragraph's first strong character, or LTR if there is none. */
 #define HORDGULI_WEAK_LTR UINT32_C(0)
@@ -164,7 +165,7 @@ const char *hordguli_unicode_version(void);
 
 /* ---- Print flags ----
  *
- * What `hordguli_lines_utf8` writes for each line, combined by `|`. */
+ * Flags for what `hordguli_lines_utf8` writes for each line. Combine them with `|`. */
 
 /* The shown part in visual order. */
 #define HORDGULI_PRINT_VISUAL UINT32_C(1)
@@ -204,7 +205,7 @@ typedef struct hordguli_session {
     void *at;
 } hordguli_session;
 
-/* Initial values of handles: closed. */
+/* Initializers for handles. An initialized handle is closed. */
 #define HORDGULI_TABLES_INIT { NULL }
 #define HORDGULI_SESSION_INIT { NULL }
 
@@ -251,8 +252,8 @@ typedef struct hordguli_table_fault {
 hordguli_status hordguli_tables_read(hordguli_tables *tables, const hordguli_bytes files[HORDGULI_TABLE_FILES],
                                      hordguli_table_fault *fault);
 
-/* Opens tables from the files in a folder, whose path ends in a NUL. `fault` may be NULL, and is set only with
- * UNREAD_FILE and TABLE_FAULT.
+/* Opens tables from the files in a folder. `folder` is a NUL-terminated path. `fault` may be NULL, and is set only on
+ * UNREAD_FILE or TABLE_FAULT.
  * Errors: NULL, OVERLAP, ALREADY_OPEN, UNREAD_FILE, TABLE_FAULT, NO_MEMORY.
  * Cost: as `hordguli_tables_read`. */
 hordguli_status hordguli_tables_open_folder(hordguli_tables *tables, const char *folder, hordguli_table_fault *fault);
@@ -303,7 +304,7 @@ hordguli_status hordguli_replace(hordguli_session *session, size_t pos, size_t c
 
 /* Sets the width, in columns, and rewraps all paragraphs. The damage covers all lines, even if the width is the same.
  * Errors: NULL, OVERLAP, WIDTH_OUT_OF_RANGE, CLOSED, NO_MEMORY.
- * Cost: O(n), plus wrapping each paragraph that is not one line within the new width. */
+ * Cost: O(n), plus wrapping each paragraph, except those that are one line and fit the new width. */
 hordguli_status hordguli_set_width(hordguli_session *session, uint32_t width, hordguli_damage *damage);
 
 typedef struct hordguli_counts {
@@ -377,8 +378,8 @@ typedef struct hordguli_hit {
 
 /* Stores in `*hit` the character at a column of a line. Column 0 is the left edge of the shown part, right of padding.
  *   - In the shown part: the character that covers the column, with `trailing` 0.
- *   - Right of it: the rightmost character that has columns. `trailing` is 1 if its level is even, else 0.
- *   - In a line without columns: the first character, with `trailing` 0.
+ *   - Right of it: the rightmost character of nonzero width, with `trailing` 1 if its level is even, else 0.
+ *   - In a line of width 0: the first character, with `trailing` 0.
  *
  * So `trailing` is 0 everywhere but right of the text. To place the caret at screen column `x` of a padded line:
  *
@@ -386,7 +387,7 @@ typedef struct hordguli_hit {
  *     if (!status) status = hordguli_cluster_at(&session, hit.pos, &cluster);
  *     if (!status) pos = hit.trailing ? cluster.end : cluster.start;
  *
- * If `x` is in the padding, use column 0. Then, if the line has columns and the character's level (see
+ * If `x` is in the padding, use column 0. Then, if the width of the line is not 0 and the level of the character (see
  * `hordguli_caret_at`) is odd, set `trailing` to 1. `cluster.end` can be the start of the next line.
  *
  * Errors: NULL, OVERLAP, CLOSED, OUT_OF_RANGE.
@@ -399,7 +400,8 @@ typedef struct hordguli_cluster {
     size_t end;
 } hordguli_cluster;
 
-/* Stores in `*cluster` the grapheme cluster of the character at `pos`. The end of the text is OUT_OF_RANGE.
+/* Stores in `*cluster` the grapheme cluster of the character at `pos`. Fails with OUT_OF_RANGE if `pos` is the end of
+ * the text.
  * Errors: NULL, OVERLAP, CLOSED, OUT_OF_RANGE, NO_MEMORY.
  * Cost: O(log n), plus time and memory proportional to the whole paragraph. */
 hordguli_status hordguli_cluster_at(hordguli_session *session, size_t pos, hordguli_cluster *cluster);
@@ -416,8 +418,8 @@ typedef struct hordguli_line_info {
     uint32_t first;    /* 1 for the first line of a paragraph, else 0 */
 } hordguli_line_info;
 
-/* Stores a line in `*info`, and `info->shown` elements in each array. Arrays have `capacity` elements each. NULL arrays
- * are skipped. Positions count from the start of the line.
+/* Stores information about a line in `*info`, and `info->shown` elements in each array. Each array has `capacity`
+ * elements. NULL arrays are skipped. Positions count from the start of the line.
  *   characters  characters in visual order, mirrored
  *   levels      level of each character after L1, in logical order
  *   ltov        visual position of each logical position
@@ -431,9 +433,9 @@ hordguli_status hordguli_line(hordguli_session *session, size_t line, hordguli_l
                               uint32_t *characters, uint8_t *levels, uint32_t *ltov, uint32_t *vtol,
                               size_t *columns);
 
-/* Writes `count` lines from `first` on to a buffer (see BUFFERS), as UTF-8. `print` selects what is written for each
- * line, in the order VISUAL, BASEDIR, LTOV, VTOL, LEVELS. Each of these ends in U+000A. Numbers are decimal, separated
- * by spaces. For example, the lines that an edit changed:
+/* Writes `count` lines, starting with line `first`, to a buffer (see BUFFERS), as UTF-8. `print` selects what is
+ * written for each line, in the order VISUAL, BASEDIR, LTOV, VTOL, LEVELS. Each of these ends in U+000A. Numbers are
+ * decimal, separated by spaces. For example, the lines that an edit changed:
  *
  *     status = hordguli_lines_utf8(&session, damage.first_line, damage.new_lines,
  *                                  HORDGULI_PRINT_DEFAULT, capacity, buffer, &length);
@@ -443,7 +445,7 @@ hordguli_status hordguli_line(hordguli_session *session, size_t line, hordguli_l
 hordguli_status hordguli_lines_utf8(hordguli_session *session, size_t first, size_t count, uint32_t print,
                                     size_t capacity, char *buffer, size_t *length);
 
-/* Writes `count` characters from `pos` on to a buffer (see BUFFERS), as UTF-8.
+/* Writes `count` characters, starting at `pos`, to a buffer (see BUFFERS), as UTF-8.
  * Errors: NULL, OVERLAP, CLOSED, OUT_OF_RANGE, NO_MEMORY, NO_ROOM.
  * Cost: as `hordguli_lines_utf8`. */
 hordguli_status hordguli_text(hordguli_session *session, size_t pos, size_t count, size_t capacity, char *buffer,
@@ -466,8 +468,8 @@ typedef struct hordguli_paragraph_info {
     uint32_t zero;  /* always 0 */
 } hordguli_paragraph_info;
 
-/* Stores a paragraph in `*info`, and `info->length` elements in each array, in logical order. Arrays have `capacity`
- * elements each. NULL arrays are skipped.
+/* Stores information about a paragraph in `*info`, and `info->length` elements in each array, in logical order. Each
+ * array has `capacity` elements. NULL arrays are skipped.
  *   levels      level of each character before L1
  *   marks       break mark after each character
  *

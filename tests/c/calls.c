@@ -212,6 +212,7 @@ static void changed(void) {
     IS(hordguli_set_width(&session, 80, (hordguli_damage *)&session), OVERLAP);
     IS(hordguli_set_width(&no_session, 80, &damage), CLOSED);
     IS(hordguli_set_width(&session, 0, &damage), WIDTH_OUT_OF_RANGE);
+    IS(hordguli_set_width(&no_session, 0, &damage), WIDTH_OUT_OF_RANGE);
     IS(hordguli_set_width(&session, 65536, &damage), WIDTH_OUT_OF_RANGE);
     IS(hordguli_set_width(&session, UINT32_MAX, &damage), WIDTH_OUT_OF_RANGE);
     damaged(&damage, 7, 7, 7, 7, 7, 7);
