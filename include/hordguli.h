@@ -35,14 +35,14 @@
  *
  * `Errors` lists the other statuses of a function, without `HORDGULI_`, in the order in which they are checked. The
  * first that applies is returned. Only NO_MEMORY can come before its turn: it is returned as soon as an allocation
- * fails. A function that does not list it allocates nothing. `Cost` is the running time; n is the number of paragraphs
- * in the session.
+ * fails. A function that does not list it allocates nothing. `Cost` is the running time, and the memory if it says so;
+ * n is the number of paragraphs in the session.
  *
  * POINTERS
  *
  * A pointer may be NULL if the function says so, or if the length or capacity of its array is 0. The arrays, output
- * parameters and handles of a call must not overlap. An array of more than PTRDIFF_MAX bytes counts as overlapping. The
- * library cannot check the following:
+ * parameters and handles of a call must not overlap, but input arrays may overlap each other. An array of more than
+ * PTRDIFF_MAX bytes counts as overlapping. The library cannot check the following:
  *   - A pointer other than NULL must point to as many elements as the call says.
  *   - A handle must be initialized with `HORDGULI_TABLES_INIT` or `HORDGULI_SESSION_INIT`, and must not be copied.
  *
@@ -245,7 +245,7 @@ typedef struct hordguli_table_fault {
     size_t cause;  /* 1 to 6; 0 if the file cannot be read */
 } hordguli_table_fault;
 
-/* Opens tables from the contents of the files. `fault` may be NULL, and is set only with TABLE_FAULT. NULL and OVERLAP
+/* Opens tables from the contents of the files. `fault` may be NULL, and is set only on TABLE_FAULT. NULL and OVERLAP
  * are checked for the parameters first, then for each file in turn.
  * Errors: NULL, OVERLAP, ALREADY_OPEN, TABLE_FAULT, NO_MEMORY.
  * Cost: O(size of the files), plus passes over all code points. */
@@ -302,7 +302,7 @@ hordguli_status hordguli_delete(hordguli_session *session, size_t pos, size_t co
 hordguli_status hordguli_replace(hordguli_session *session, size_t pos, size_t count, const char *text, size_t length,
                                  hordguli_damage *damage);
 
-/* Sets the width, in columns, and rewraps all paragraphs. The damage covers all lines, even if the width is the same.
+/* Sets the width, in columns, and rewraps the paragraphs. The damage covers all lines, even if the width is the same.
  * Errors: NULL, OVERLAP, WIDTH_OUT_OF_RANGE, CLOSED, NO_MEMORY.
  * Cost: O(n), plus wrapping each paragraph, except those that are one line and fit the new width. */
 hordguli_status hordguli_set_width(hordguli_session *session, uint32_t width, hordguli_damage *damage);
@@ -319,8 +319,8 @@ typedef struct hordguli_counts {
  * Cost: O(1). */
 hordguli_status hordguli_session_counts(hordguli_session *session, hordguli_counts *counts);
 
-/* Work counters, for checking that edits stay incremental. They count characters from the opening of the session on,
- * and stop at UINT64_MAX. */
+/* Work counters, for checking that edits stay incremental. They count characters since the session was opened, and
+ * saturate at UINT64_MAX. */
 typedef struct hordguli_work {
     uint64_t analysed;  /* levels and break marks computed */
     uint64_t filled;    /* line starts computed */
