@@ -60,14 +60,23 @@ static hordguli_status read_file(const char *folder, const char *name, content *
     return status;
 }
 
+/* Whether two arrays overlap. */
+static int overlaps(const void *one, size_t size, const void *other, size_t other_size) {
+    uintptr_t a = (uintptr_t)one, b = (uintptr_t)other;
+    return a < b ? b - a < size : a - b < other_size;
+}
+
 PUBLIC hordguli_status hordguli_tables_open_folder(hordguli_tables *tables, const char *folder,
                                                    hordguli_table_fault *fault) {
     content contents[HORDGULI_TABLE_FILES] = {{NULL, 0}};
     hordguli_bytes files[HORDGULI_TABLE_FILES];
     hordguli_status status = HORDGULI_OK;
-    uintptr_t a = (uintptr_t)tables, b = (uintptr_t)fault;
+    size_t size;
     if (tables == NULL || folder == NULL) return HORDGULI_NULL;
-    if (fault != NULL && (a < b ? b - a < sizeof *tables : a - b < sizeof *fault)) return HORDGULI_OVERLAP;
+    size = strlen(folder) + 1;
+    if (overlaps(tables, sizeof *tables, folder, size)) return HORDGULI_OVERLAP;
+    if (fault != NULL && overlaps(fault, sizeof *fault, tables, sizeof *tables)) return HORDGULI_OVERLAP;
+    if (fault != NULL && overlaps(fault, sizeof *fault, folder, size)) return HORDGULI_OVERLAP;
     if (tables->at != NULL) return HORDGULI_ALREADY_OPEN;
     for (uint32_t k = 0; k < HORDGULI_TABLE_FILES && status == HORDGULI_OK; k++) {
         status = read_file(folder, names[k], &contents[k]);

@@ -1,0 +1,1155 @@
+/* Numbers, fields, parameters and statuses of hordguli.h: statuses FOLDER HEADER. FOLDER has the table files, HEADER is
+ * hordguli.h.
+ *
+ * - Each status, option, flag and other constant has its number.
+ * - Each field of each struct has its place, and gets the value that belongs to it. Parameters of one type are not
+ *   exchanged.
+ * - If two errors of a call apply, it returns the one that the header lists first, and changes nothing. NO_MEMORY is
+ * left out: tests/c/refuse.c makes allocations fail. */
+#include "test.h"
+
+#include <stddef.h>
+#include <sys/stat.h>
+#include <unistd.h>
+
+#define OK(call) HOLDS((call) == 0)
+
+static hordguli_tables tables = HORDGULI_TABLES_INIT;
+
+/* ---- Numbers ---- */
+
+/* The index is the number. */
+#define STATUS(name) {#name, HORDGULI_##name}
+static const struct {
+    const char *name;
+    hordguli_status status;
+} statuses[] = {
+    STATUS(OK), STATUS(OUT_OF_RANGE), STATUS(WIDTH_OUT_OF_RANGE), STATUS(TEXT_TOO_LONG), STATUS(PARAGRAPH_TOO_LONG),
+    STATUS(NO_MEMORY), STATUS(TABLE_FAULT), STATUS(NOT_UTF8), STATUS(NOT_A_CHARACTER), STATUS(CLOSED),
+    STATUS(ALREADY_OPEN), STATUS(UNKNOWN_OPTION), STATUS(NO_ROOM), STATUS(NULL), STATUS(OVERLAP), STATUS(UNREAD_FILE),
+};
+
+enum { STATUSES = 16 };
+
+static void statuses_have_their_numbers_and_texts(void) {
+    HOLDS(sizeof statuses / sizeof *statuses == STATUSES);
+    for (hordguli_status a = 0; a < STATUSES; a++) {
+        const char *text = hordguli_status_text(a);
+        HOLDS(statuses[a].status == a);
+        HOLDS(text[0] != '\0' && strcmp(text, "unknown status") != 0);
+        for (hordguli_status b = 0; b < a; b++) HOLDS(strcmp(text, hordguli_status_text(b)) != 0);
+    }
+    HOLDS(strcmp(hordguli_status_text(-1), "unknown status") == 0);
+    HOLDS(strcmp(hordguli_status_text(16), "unknown status") == 0);
+}
+
+static void constants_have_their_numbers(void) {
+#define NUMBER(name, number) HOLDS(HORDGULI_##name == (number))
+    NUMBER(WEAK_LTR, 0), NUMBER(WEAK_RTL, 1), NUMBER(LTR, 2), NUMBER(RTL, 3);
+    NUMBER(NOBREAK, 4), NUMBER(REORDER_NSM, 8), NUMBER(WHOLE_NUMBERS, 16);
+    NUMBER(PRINT_VISUAL, 1), NUMBER(PRINT_BASEDIR, 2), NUMBER(PRINT_LTOV, 4), NUMBER(PRINT_VTOL, 8);
+    NUMBER(PRINT_LEVELS, 16), NUMBER(PRINT_PADDED, 32), NUMBER(PRINT_MIRRORED, 64), NUMBER(PRINT_DEFAULT, 97);
+    NUMBER(BREAK_NEVER, 0), NUMBER(BREAK_MAY, 1), NUMBER(BREAK_MUST, 2);
+    NUMBER(TABLE_FILES, 7);
+    NUMBER(BIDI_CLASS, 0), NUMBER(BIDI_BRACKETS, 1), NUMBER(BIDI_MIRRORING, 2), NUMBER(LINE_BREAK, 3);
+    NUMBER(GENERAL_CATEGORY, 4), NUMBER(EAST_ASIAN_WIDTH, 5), NUMBER(EMOJI_DATA, 6);
+    NUMBER(CAUSE_NOT_ASCII, 1), NUMBER(CAUSE_CODE_POINT, 2), NUMBER(CAUSE_REVERSED, 3);
+    NUMBER(CAUSE_FIELD_COUNT, 4), NUMBER(CAUSE_VALUE, 5), NUMBER(CAUSE_NAMED_BEFORE, 6);
+}
+
+/* ---- Fields ---- */
+
+#define WORDS(count) ((count) * sizeof(size_t))
+#define FIELD(type, field, offset, of)                                                                                 \
+    _Static_assert(offsetof(hordguli_##type, field) == (offset)                                                        \
+                       && sizeof(((hordguli_##type *)0)->field) == sizeof(of),                                         \
+                   "place of " #type "." #field)
+#define SIZE(type, size) _Static_assert(sizeof(hordguli_##type) == (size), "size of " #type)
+
+_Static_assert(sizeof(hordguli_status) == 4 && (hordguli_status)-1 < 0, "a status has 32 bits and a sign");
+FIELD(tables, at, 0, void *);
+SIZE(tables, sizeof(void *));
+FIELD(session, at, 0, void *);
+SIZE(session, sizeof(void *));
+FIELD(bytes, bytes, 0, void *);
+FIELD(bytes, length, sizeof(void *), size_t);
+SIZE(bytes, sizeof(void *) + sizeof(size_t));
+FIELD(table_fault, file, WORDS(0), size_t);
+FIELD(table_fault, line, WORDS(1), size_t);
+FIELD(table_fault, cause, WORDS(2), size_t);
+SIZE(table_fault, WORDS(3));
+FIELD(damage, first_line, WORDS(0), size_t);
+FIELD(damage, old_lines, WORDS(1), size_t);
+FIELD(damage, new_lines, WORDS(2), size_t);
+FIELD(damage, first_paragraph, WORDS(3), size_t);
+FIELD(damage, old_paragraphs, WORDS(4), size_t);
+FIELD(damage, new_paragraphs, WORDS(5), size_t);
+SIZE(damage, WORDS(6));
+FIELD(counts, characters, WORDS(0), size_t);
+FIELD(counts, lines, WORDS(1), size_t);
+FIELD(counts, paragraphs, WORDS(2), size_t);
+FIELD(counts, width, WORDS(3), size_t);
+SIZE(counts, WORDS(4));
+FIELD(work, analysed, 0, uint64_t);
+FIELD(work, filled, 8, uint64_t);
+FIELD(work, written, 16, uint64_t);
+SIZE(work, 24);
+FIELD(place, paragraph, WORDS(0), size_t);
+FIELD(place, line, WORDS(1), size_t);
+FIELD(place, offset, WORDS(2), size_t);
+SIZE(place, WORDS(3));
+FIELD(caret, line, WORDS(0), size_t);
+FIELD(caret, column, WORDS(1), size_t);
+FIELD(caret, level, WORDS(2), uint32_t);
+FIELD(caret, zero, WORDS(2) + 4, uint32_t);
+SIZE(caret, WORDS(2) + 8);
+FIELD(hit, pos, WORDS(0), size_t);
+FIELD(hit, trailing, WORDS(1), uint32_t);
+FIELD(hit, zero, WORDS(1) + 4, uint32_t);
+SIZE(hit, WORDS(1) + 8);
+FIELD(cluster, start, WORDS(0), size_t);
+FIELD(cluster, end, WORDS(1), size_t);
+SIZE(cluster, WORDS(2));
+FIELD(line_info, start, WORDS(0), size_t);
+FIELD(line_info, length, WORDS(1), size_t);
+FIELD(line_info, shown, WORDS(2), size_t);
+FIELD(line_info, columns, WORDS(3), size_t);
+FIELD(line_info, padding, WORDS(4), size_t);
+FIELD(line_info, base, WORDS(5), uint32_t);
+FIELD(line_info, first, WORDS(5) + 4, uint32_t);
+SIZE(line_info, WORDS(5) + 8);
+FIELD(paragraph_info, length, WORDS(0), size_t);
+FIELD(paragraph_info, lines, WORDS(1), size_t);
+FIELD(paragraph_info, base, WORDS(2), uint32_t);
+FIELD(paragraph_info, zero, WORDS(2) + 4, uint32_t);
+SIZE(paragraph_info, WORDS(2) + 8);
+
+/* Two lines, two right-to-left lines, of which the second has two marks of width 0 and a number, and one line. */
+static const char mixed[] =
+    "one two three\n\u05d0\u05d1\u05d2\u05d3\u05d4\u05d5 \u05d3\u05b0\u05d4\u05b0\u05d5 12\nlast";
+
+/* Paragraphs of 3, 2, 3, 2, 2 and 1 lines of at most 4 columns. They start at 0, 12, 20, 32, 40 and 48. */
+static const char words[] = "aaa bbb ccc\naaa bbb\naaa bbb ccc\naaa bbb\naaa bbb\naaa";
+
+/* Opens a session that is closed, or closes it before. */
+static void reopen(hordguli_session *session, const char *text, uint32_t width) {
+    hordguli_session_close(session);
+    OK(hordguli_session_open(session, &tables, 0, width, text, strlen(text)));
+}
+
+static void table_fault_has_each_value_in_its_field(void) {
+    hordguli_bytes files[7] = {{NULL, 0}};
+    hordguli_tables none = HORDGULI_TABLES_INIT;
+    hordguli_table_fault fault = {77, 77, 77};
+    static const char wrong[] = "0041;AL\n\n\n\n0042\n";
+    files[3].bytes = wrong;
+    files[3].length = sizeof wrong - 1;
+    HOLDS(hordguli_tables_read(&none, files, &fault) == 6);
+    HOLDS(fault.file == 3), HOLDS(fault.line == 5), HOLDS(fault.cause == 4);
+}
+
+static hordguli_status read_files(hordguli_tables *none, const char *const lines[7], hordguli_table_fault *fault) {
+    hordguli_bytes files[7];
+    for (size_t k = 0; k < 7; k++) {
+        files[k].bytes = lines[k];
+        files[k].length = lines[k] == NULL ? 0 : strlen(lines[k]);
+    }
+    return hordguli_tables_read(none, files, fault);
+}
+
+/* Of the first four files, a line of one is malformed in the others. The last three change one break mark each. */
+static void files_have_their_indexes(void) {
+    static const char *const own_lines[7] = {
+        "0041;EN\n",
+        "0028;0029;o\n",
+        "0028;0029\n",
+        "0041;NU\n",
+        "0E31;Mn\n",
+        "0028;W\n",
+        "1F000;Extended_Pictographic\n",
+    };
+    static const uint32_t characters[6] = {0x4E00, 0xE31, 'A', '(', 0x1F000, 0x1F3FB};
+    for (size_t k = 0; k < 7; k++) {
+        for (size_t j = k < 4 ? 0 : 4; j < (k < 4 ? 4 : 7); j++) {
+            const char *lines[7] = {NULL};
+            hordguli_tables none = HORDGULI_TABLES_INIT;
+            hordguli_table_fault fault = {77, 77, 77};
+            hordguli_status status;
+            uint8_t marks[6] = {77, 77, 77, 77, 77, 77};
+            if (k >= 4) lines[3] = "0041;AL\n0028;OP\n4E00;ID\n1F000;XX\n1F3FB;EM\n0E31;SA\n";
+            lines[j] = own_lines[k];
+            status = read_files(&none, lines, &fault);
+            HOLDS(status == (k >= 4 || j == k ? 0 : 6) && fault.file == (k >= 4 || j == k ? 77 : j));
+            if (k >= 4) {
+                OK(hordguli_marks(&none, 0, characters, 6, 6, marks));
+                HOLDS(marks[0] == (k == 4 && j == 4 ? 0 : 1)); /* LB1 and LB9: 0E31 is a mark */
+                HOLDS(marks[2] == (k == 5 && j == 5 ? 1 : 0)); /* LB30: the parenthesis is wide */
+                HOLDS(marks[4] == (k == 6 && j == 6 ? 0 : 1)); /* LB30b: 1F000 is an unassigned pictograph */
+            }
+            hordguli_tables_close(&none);
+        }
+    }
+}
+
+static void is_damage(const hordguli_damage *damage, const size_t wanted[6]) {
+    HOLDS(damage->first_line == wanted[0]);
+    HOLDS(damage->old_lines == wanted[1]);
+    HOLDS(damage->new_lines == wanted[2]);
+    HOLDS(damage->first_paragraph == wanted[3]);
+    HOLDS(damage->old_paragraphs == wanted[4]);
+    HOLDS(damage->new_paragraphs == wanted[5]);
+}
+
+static void has_text(hordguli_session *session, const char *wanted) {
+    char bytes[200];
+    size_t length = 0;
+    hordguli_counts counts = {0, 0, 0, 0};
+    OK(hordguli_session_counts(session, &counts));
+    OK(hordguli_text(session, 0, counts.characters, sizeof bytes, bytes, &length));
+    HOLDS(length == strlen(wanted) && memcmp(bytes, wanted, length) == 0);
+}
+
+static void damage_has_each_value_in_its_field(void) {
+    hordguli_session session = HORDGULI_SESSION_INIT;
+    hordguli_damage damage = {77, 77, 77, 77, 77, 77};
+    reopen(&session, words, 4);
+    OK(hordguli_insert(&session, 24, "d\ne\nf\ng", 7, &damage));
+    is_damage(&damage, (const size_t[]){5, 3, 6, 2, 1, 4});
+    has_text(&session, "aaa bbb ccc\naaa bbb\naaa d\ne\nf\ngbbb ccc\naaa bbb\naaa bbb\naaa");
+    reopen(&session, words, 4);
+    OK(hordguli_delete(&session, 31, 12, &damage));
+    is_damage(&damage, (const size_t[]){5, 7, 4, 2, 3, 1});
+    has_text(&session, "aaa bbb ccc\naaa bbb\naaa bbb ccc bbb\naaa");
+    reopen(&session, words, 4);
+    OK(hordguli_replace(&session, 24, 20, "ddd ddd ", 8, &damage));
+    is_damage(&damage, (const size_t[]){5, 7, 4, 2, 3, 1});
+    has_text(&session, "aaa bbb ccc\naaa bbb\naaa ddd ddd bbb\naaa");
+    reopen(&session, words, 4);
+    OK(hordguli_set_width(&session, 8, &damage));
+    is_damage(&damage, (const size_t[]){0, 13, 8, 0, 6, 6});
+    hordguli_session_close(&session);
+}
+
+#ifdef WRAPPED
+void *__real_malloc(size_t size);
+void *__real_realloc(void *block, size_t size);
+void *__wrap_malloc(size_t size);
+void *__wrap_realloc(void *block, size_t size);
+
+static long allocations, last, refused = -1;
+
+void *__wrap_malloc(size_t size) { return allocations++ == refused ? NULL : __real_malloc(size); }
+void *__wrap_realloc(void *block, size_t size) { return allocations++ == refused ? NULL : __real_realloc(block, size); }
+#endif
+
+static void counts_and_work_have_each_value_in_their_field(void) {
+    hordguli_session session = HORDGULI_SESSION_INIT;
+    hordguli_counts counts = {77, 77, 77, 77};
+    hordguli_work work = {77, 77, 77};
+    hordguli_damage damage;
+    reopen(&session, mixed, 8);
+    OK(hordguli_session_counts(&session, &counts));
+    HOLDS(counts.characters == 34), HOLDS(counts.lines == 5), HOLDS(counts.paragraphs == 3), HOLDS(counts.width == 8);
+    /* Another width fills and writes the first 30 characters again. The last paragraph is one line and fits. */
+    OK(hordguli_set_width(&session, 6, &damage));
+    OK(hordguli_session_work(&session, &work));
+    HOLDS(work.analysed == 34), HOLDS(work.filled == 64), HOLDS(work.written == 64);
+#ifdef WRAPPED
+    /* Filled and written differ only after a call that failed: the last allocation is made after filling, before
+     * writing. */
+    reopen(&session, mixed, 8);
+    allocations = 0;
+    OK(hordguli_set_width(&session, 6, &damage));
+    last = allocations - 1;
+    reopen(&session, mixed, 8);
+    allocations = 0;
+    refused = last;
+    HOLDS(hordguli_set_width(&session, 6, &damage) == 5);
+    refused = -1;
+    OK(hordguli_set_width(&session, 6, &damage));
+    OK(hordguli_session_work(&session, &work));
+    HOLDS(work.analysed == 34), HOLDS(work.filled == 94), HOLDS(work.written == 64);
+#endif
+    hordguli_session_close(&session);
+}
+
+static void places_have_each_value_in_its_field(void) {
+    hordguli_session session = HORDGULI_SESSION_INIT;
+    hordguli_place place = {77, 77, 77};
+    hordguli_caret caret = {77, 77, 77, 77};
+    hordguli_hit hit = {77, 77, 77};
+    hordguli_cluster cluster = {77, 77};
+    size_t start = 77;
+    reopen(&session, mixed, 8);
+    OK(hordguli_line_start(&session, 3, &start));
+    HOLDS(start == 21);
+    OK(hordguli_place_of(&session, 25, &place));
+    HOLDS(place.paragraph == 1), HOLDS(place.line == 3), HOLDS(place.offset == 4);
+    OK(hordguli_caret_at(&session, 21, &caret));
+    HOLDS(caret.line == 3), HOLDS(caret.column == 6), HOLDS(caret.level == 1), HOLDS(caret.zero == 0);
+    OK(hordguli_hit_at(&session, 1, 7, &hit));
+    HOLDS(hit.pos == 12), HOLDS(hit.trailing == 1), HOLDS(hit.zero == 0);
+    OK(hordguli_hit_at(&session, 3, 2,
+                       &hit)); /* the space before the number; line 2 has another character at column 3 */
+    HOLDS(hit.pos == 26), HOLDS(hit.trailing == 0), HOLDS(hit.zero == 0);
+    OK(hordguli_cluster_at(&session, 22, &cluster));
+    HOLDS(cluster.start == 21), HOLDS(cluster.end == 23);
+    hordguli_session_close(&session);
+}
+
+static void lines_have_each_value_in_its_field(void) {
+    hordguli_session session = HORDGULI_SESSION_INIT;
+    hordguli_line_info info = {77, 77, 77, 77, 77, 77, 77};
+    uint32_t characters[9] = {0}, ltov[9] = {0}, vtol[9] = {0};
+    uint8_t levels[9] = {0};
+    size_t columns[9] = {0};
+    static const uint32_t visual[8] = {'1', '2', ' ', 0x5D5, 0x5B0, 0x5D4, 0x5B0, 0x5D3};
+    static const uint8_t in_order[8] = {1, 1, 1, 1, 1, 1, 2, 2};
+    static const uint32_t to_visual[8] = {7, 6, 5, 4, 3, 2, 0, 1}, to_logical[8] = {6, 7, 5, 4, 3, 2, 1, 0};
+    static const size_t widths[8] = {1, 1, 1, 1, 0, 1, 0, 1};
+    reopen(&session, mixed, 8);
+    OK(hordguli_line(&session, 3, &info, 9, characters, levels, ltov, vtol, columns));
+    HOLDS(info.start == 21), HOLDS(info.length == 9), HOLDS(info.shown == 8), HOLDS(info.columns == 6);
+    HOLDS(info.padding == 2), HOLDS(info.base == 1), HOLDS(info.first == 0);
+    HOLDS(memcmp(characters, visual, sizeof visual) == 0);
+    HOLDS(memcmp(levels, in_order, sizeof in_order) == 0);
+    HOLDS(memcmp(ltov, to_visual, sizeof to_visual) == 0);
+    HOLDS(memcmp(vtol, to_logical, sizeof to_logical) == 0);
+    HOLDS(memcmp(columns, widths, sizeof widths) == 0);
+    OK(hordguli_line(&session, 4, &info, 0, NULL, NULL, NULL, NULL, NULL));
+    HOLDS(info.start == 30), HOLDS(info.length == 4), HOLDS(info.shown == 4), HOLDS(info.columns == 4);
+    HOLDS(info.padding == 0), HOLDS(info.base == 0), HOLDS(info.first == 1);
+    hordguli_session_close(&session);
+}
+
+static void paragraphs_have_each_value_in_its_field(void) {
+    hordguli_session session = HORDGULI_SESSION_INIT;
+    hordguli_paragraph_info info = {77, 77, 77, 77};
+    uint8_t levels[17] = {0}, marks[17] = {0};
+    static const uint8_t all_levels[16] = {1, 1, 1, 1, 1, 1, 1, 1, 1, 1, 1, 1, 1, 2, 2, 1};
+    static const uint8_t all_marks[16] = {0, 0, 0, 0, 0, 0, 1, 0, 0, 0, 0, 0, 1, 0, 0, 2};
+    reopen(&session, mixed, 8);
+    OK(hordguli_paragraph(&session, 1, &info, 17, levels, marks));
+    HOLDS(info.length == 16), HOLDS(info.lines == 2), HOLDS(info.base == 1), HOLDS(info.zero == 0);
+    HOLDS(memcmp(levels, all_levels, sizeof all_levels) == 0);
+    HOLDS(memcmp(marks, all_marks, sizeof all_marks) == 0);
+    hordguli_session_close(&session);
+}
+
+/* In each call, parameters of one type have different values, with which an exchange gives another result. */
+static void parameters_are_not_exchanged(void) {
+    hordguli_session session = HORDGULI_SESSION_INIT;
+    char bytes[64];
+    size_t length = 77;
+    uint32_t base = 77;
+    uint8_t found[4] = {77, 77, 77, 77};
+    static const uint32_t characters[] = {'a', ' ', 0x5D0, 'b'};
+    static const char printed[] = "12 \u05d5\u05b0\u05d4\u05b0\u05d3\nlast\n";
+    reopen(&session, mixed, 8);
+    OK(hordguli_lines_utf8(&session, 3, 2, 1, sizeof bytes, bytes, &length));
+    HOLDS(length == sizeof printed - 1 && memcmp(bytes, printed, length) == 0);
+    OK(hordguli_text(&session, 8, 6, sizeof bytes, bytes, &length));
+    HOLDS(length == 6 && memcmp(bytes, "three\n", 6) == 0);
+    OK(hordguli_utf8_length(&session, 12, 3, &length));
+    HOLDS(length == 4);
+    OK(hordguli_count_utf8("\u05d0a\u05d1", 5, &length));
+    HOLDS(length == 3);
+    OK(hordguli_base(&tables, 0, characters + 1, 2, &base));
+    HOLDS(base == 1);
+    OK(hordguli_levels(&tables, 3, characters, 3, 4, found));
+    HOLDS(found[0] == 2 && found[1] == 1 && found[2] == 1 && found[3] == 77);
+    OK(hordguli_marks(&tables, 16, characters, 3, 4, found));
+    HOLDS(found[0] == 0 && found[1] == 1 && found[2] == 2 && found[3] == 77);
+    hordguli_session_close(&session);
+    /* options 2 and width 3 */
+    OK(hordguli_session_open(&session, &tables, 2, 3, "\u05d0 \u05d1 \u05d2 \u05d3", 11));
+    OK(hordguli_lines_utf8(&session, 0, 1, 3, sizeof bytes, bytes, &length));
+    HOLDS(length == 10 && memcmp(bytes, "\u05d1 \u05d0\nLTR\n", 10) == 0);
+    hordguli_session_close(&session);
+}
+
+/* ---- Two errors at the same time ---- */
+
+enum { UNUSED = 0xA5, ELEMENTS = 16, LETTERS = 1048576, CHARACTERS = 16777216, HALF = 600000 };
+
+/* All memory that a call may change. A refused call leaves it as it was. */
+typedef struct memory {
+    hordguli_tables tables, no_tables;
+    hordguli_session session, no_session, long_session;
+    hordguli_bytes files[7];
+    hordguli_table_fault fault;
+    uint64_t out[8];
+    uint64_t arrays[5][ELEMENTS];
+    uint32_t characters[ELEMENTS];
+} memory;
+
+static memory own, before;
+
+/* Arguments of all calls. Each call uses those that it has. */
+typedef struct arguments {
+    hordguli_tables *tables;
+    hordguli_session *session;
+    const hordguli_bytes *files;
+    hordguli_table_fault *fault;
+    const char *folder;
+    uint32_t flags; /* options, print flags or a direction */
+    uint32_t width;
+    const char *text;
+    size_t length;
+    size_t at; /* a position, line or paragraph */
+    size_t count;
+    size_t column;
+    size_t capacity;
+    const uint32_t *characters;
+    void *out;       /* the output parameter */
+    void *arrays[5]; /* the arrays that are written */
+} arguments;
+
+/* What an error sets. Two errors apply at the same time if they have nothing in common. X_IS means that the pointer X
+ * is not NULL. */
+enum {
+    TABLES = 1 << 0,
+    TABLES_IS = 1 << 1,
+    SESSION = 1 << 2,
+    SESSION_IS = 1 << 3,
+    OUT = 1 << 4, /* also the parameter `fault` */
+    OUT_IS = 1 << 5,
+    TEXT = 1 << 6,
+    AT = 1 << 7,
+    COUNT = 1 << 8,
+    WIDTH = 1 << 9,
+    FLAGS = 1 << 10,
+    CAPACITY = 1 << 11,
+    ARRAYS = 1 << 12,
+    NUMBERS = 1 << 13,
+    FOLDER = 1 << 14,
+    FILES_IS = 1 << 15,
+    FILE_0 = 1 << 16,
+    FILES = 127 << 16
+};
+
+typedef struct call call;
+
+/* A way to make errors apply, for each `which` from `first` to `last`. `errors` are items of the call's list. */
+typedef struct way {
+    const char *errors;
+    uint32_t sets;
+    void (*apply)(arguments *a, const call *c, size_t which);
+    size_t first, last;
+} way;
+
+struct call {
+    const char *name;
+    hordguli_status (*make)(const arguments *a);
+    const char *errors; /* as in the header */
+    const char *order;  /* the same with what else the header says about their order, or NULL */
+    const char *never;  /* pairs that cannot apply at the same time, or NULL */
+    const way *ways[4];
+    size_t out_size;       /* of the output parameter */
+    size_t at, count, end; /* arguments that are in range; the first that is not, if the count is 0 */
+    size_t needed;         /* capacity */
+    uint32_t flags;
+};
+
+static char *newlines, *letters, *paragraph; /* texts that are too long */
+static char folder[] = "/tmp/hordguli-statuses-XXXXXX";
+static size_t missing, malformed; /* indexes of files */
+static const char malformed_line[] = "\n\nx\n";
+
+static const char *path_of(size_t file) {
+    static const char *const names[7] = {
+        "DerivedBidiClass",       "BidiBrackets",   "BidiMirroring", "LineBreak",
+        "DerivedGeneralCategory", "EastAsianWidth", "emoji-data",
+    };
+    static char path[200];
+    snprintf(path, sizeof path, "%s/%s.txt", folder, names[file]);
+    return path;
+}
+
+static void write_file(size_t file, const char *content) {
+    FILE *to = sure(fopen(path_of(file), "wb"));
+    fputs(content, to);
+    fclose(to);
+}
+
+#define WAY(name, ...)                                                                                                 \
+    static void name(arguments *a, const call *c, size_t which) {                                                      \
+        (void)a, (void)c, (void)which;                                                                                 \
+        __VA_ARGS__;                                                                                                   \
+    }
+
+/* NULL, and closed or open handles */
+WAY(null_tables, a->tables = NULL)
+WAY(null_session, a->session = NULL)
+WAY(null_out, a->out = NULL)
+WAY(null_files, a->files = NULL)
+WAY(null_folder, a->folder = NULL)
+WAY(null_text, a->text = NULL; a->length = which)
+WAY(null_characters, a->characters = NULL)
+WAY(null_array, a->arrays[which] = NULL)
+WAY(closed_tables, a->tables = &own.no_tables)
+WAY(closed_session, a->session = &own.no_session)
+WAY(open_tables, a->tables = &own.tables)
+WAY(open_session, a->session = &own.session)
+
+/* overlaps */
+WAY(out_at_session, a->out = a->session)
+WAY(out_at_tables, a->out = a->tables)
+WAY(session_in_out, a->session = (hordguli_session *)((char *)a->out + c->out_size - sizeof *a->session))
+WAY(session_at_tables, a->session = (hordguli_session *)a->tables)
+WAY(text_in_session, a->text = (const char *)a->session + which; a->length = 1)
+WAY(text_in_tables, a->text = (const char *)a->tables + which; a->length = 1)
+WAY(text_in_out, a->text = (const char *)a->out + (which == 0 ? 0 : c->out_size - 1); a->length = 1)
+WAY(long_text, a->length = which == 0 ? (size_t)PTRDIFF_MAX + 1 : SIZE_MAX)
+WAY(long_null_text, a->text = NULL; a->length = SIZE_MAX)
+WAY(characters_at_out, a->characters = a->out)
+WAY(characters_at_tables, a->characters = (const uint32_t *)a->tables)
+WAY(many_characters, a->count = which == 0 ? (size_t)PTRDIFF_MAX / 4 + 1 : which == 1 ? SIZE_MAX / 4 + 2 : SIZE_MAX)
+WAY(many_null_characters, a->characters = NULL; a->count = SIZE_MAX)
+WAY(array_at_session, a->arrays[which] = a->session)
+WAY(array_at_tables, a->arrays[which] = a->tables)
+WAY(array_at_out, a->arrays[which] = a->out)
+WAY(array_at_characters, a->arrays[which] = (void *)(uintptr_t)a->characters)
+WAY(array_at_other, a->arrays[which / 5] = a->arrays[which % 5 == which / 5 ? (which + 1) % 5 : which % 5])
+WAY(array_at_first, a->arrays[1] = (char *)a->arrays[0] + a->capacity - 1)
+WAY(long_arrays, a->capacity = which == 0 ? (size_t)PTRDIFF_MAX + 1 : SIZE_MAX)
+/* the size in bytes of one array is more than SIZE_MAX, and 4 or 8 modulo SIZE_MAX + 1 */
+WAY(wrapping_array, {
+    a->capacity = SIZE_MAX / (which == 4 ? sizeof(size_t) : 4) + 2;
+    for (size_t k = 0; k < 5; k++) a->arrays[k] = k == which ? a->arrays[k] : NULL;
+})
+WAY(long_null_array, a->arrays[0] = NULL; a->capacity = SIZE_MAX)
+WAY(fault_at_tables, a->fault = (hordguli_table_fault *)a->tables)
+WAY(folder_in_tables, a->folder = (const char *)a->tables)
+WAY(folder_in_fault, a->folder = memcpy(a->fault, "no such", 8))
+WAY(fault_in_files, a->fault = (hordguli_table_fault *)(uintptr_t)(a->files + which))
+WAY(tables_in_files, a->tables = (hordguli_tables *)(uintptr_t)(a->files + which))
+
+/* values */
+WAY(unknown_option, a->flags |= UINT32_C(1) << which)
+WAY(width_0, a->width = 0)
+WAY(width_above, a->width = which == 0 ? 65536 : which == 1 ? 65536 + 80 : UINT32_MAX)
+WAY(at_past_end, a->at = which == 0 ? c->end : SIZE_MAX; a->count = 0)
+WAY(at_past_end_alone, a->at = which == 0 ? c->end : SIZE_MAX)
+WAY(count_past_end, a->count = which == 0 ? c->end - a->at : SIZE_MAX - which + 1)
+WAY(not_utf8,
+    static const char *const wrong[] = {"\xFF", "a\x80", "\xED\xA0\x80", "\xC0\x80", "\xF4\x90\x80\x80", "\u05d0\xD7"};
+    a->text = wrong[which]; a->length = strlen(wrong[which]))
+WAY(many_newlines, a->text = newlines; a->length = CHARACTERS + 1)
+WAY(one_newline_too_many, a->text = newlines; a->length = CHARACTERS - 18 + a->count + 1)
+WAY(many_newlines_not_utf8, a->text = newlines; a->length = CHARACTERS + 2)
+WAY(long_paragraph, a->text = paragraph; a->length = LETTERS + 1)
+WAY(long_by_one, a->text = paragraph; a->length = LETTERS - 8 + a->count + 1)
+WAY(long_paragraph_not_utf8, a->text = paragraph; a->length = LETTERS + 2)
+WAY(many_letters, a->text = letters; a->length = CHARACTERS + 1)
+WAY(many_letters_not_utf8, a->text = letters; a->length = CHARACTERS + 2)
+WAY(joined_paragraph, a->session = &own.long_session; a->at = HALF; a->count = 1)
+WAY(not_a_character, static const uint32_t wrong[] = {0xD800, 0xDFFF, 0x110000, UINT32_MAX};
+    own.characters[which % 2 == 0 ? 0 : c->count - 1] = wrong[which / 2])
+WAY(one_too_few, a->capacity = c->needed - 1)
+WAY(no_elements, a->capacity = 0)
+WAY(no_elements_null, a->capacity = 0; a->arrays[0] = NULL)
+WAY(one_too_few_in_one_array, a->capacity = c->needed - 1;
+    for (size_t k = 0; k < 5; k++) a->arrays[k] = k == which ? a->arrays[k] : NULL)
+
+/* files */
+WAY(null_file, own.files[which] = (hordguli_bytes){NULL, 1})
+WAY(long_null_file, own.files[which] = (hordguli_bytes){NULL, SIZE_MAX})
+WAY(long_file, own.files[which] = (hordguli_bytes){"", SIZE_MAX})
+WAY(file_in_tables, own.files[which] = (hordguli_bytes){(const char *)a->tables + sizeof *a->tables - 1, 1})
+WAY(file_in_fault, own.files[which] = (hordguli_bytes){(const char *)a->fault + sizeof *a->fault - 1, 1})
+WAY(malformed_file, malformed = which; own.files[which] = (hordguli_bytes){malformed_line, sizeof malformed_line - 1})
+WAY(malformed_in_folder, malformed = which; write_file(which, malformed_line))
+WAY(missing_in_folder, missing = which; unlink(path_of(which)))
+WAY(no_folder, missing = 0; a->folder = which == 0 ? "no such folder" : "")
+
+#define END {NULL, 0, NULL, 0, 0}
+
+/* A session and an output parameter */
+static const way of_session[] = {
+    {"NULL", SESSION | SESSION_IS, null_session, 0, 0},
+    {"NULL", OUT | OUT_IS, null_out, 0, 0},
+    {"OVERLAP", OUT | SESSION_IS, out_at_session, 0, 0},
+    {"OVERLAP", SESSION | OUT_IS, session_in_out, 0, 0},
+    {"CLOSED", SESSION, closed_session, 0, 0},
+    END,
+};
+
+static const way of_at[] = {{"OUT_OF_RANGE", AT, at_past_end_alone, 0, 1},
+    END};
+
+static const way of_range[] = {
+    {"OUT_OF_RANGE", AT | COUNT, at_past_end, 0, 1},
+    {"OUT_OF_RANGE", COUNT, count_past_end, 0, 2},
+    END,
+};
+
+static const way of_inserted_text[] = {
+    {"NULL", TEXT, null_text, 1, 2},
+    {"NULL, OVERLAP", TEXT, long_null_text, 0, 0},
+    {"OVERLAP", TEXT, long_text, 0, 1},
+    {"OVERLAP", TEXT | SESSION_IS, text_in_session, 0, sizeof(hordguli_session) - 1},
+    {"OVERLAP, NOT_UTF8", TEXT | OUT_IS, text_in_out, 0, 1},
+    {"NOT_UTF8", TEXT, not_utf8, 0, 5},
+    {"TEXT_TOO_LONG", TEXT, many_newlines, 0, 0},
+    {"TEXT_TOO_LONG", TEXT | SESSION | AT | COUNT, one_newline_too_many, 0, 0},
+    {"PARAGRAPH_TOO_LONG", TEXT, long_paragraph, 0, 0},
+    {"PARAGRAPH_TOO_LONG", TEXT | SESSION | AT | COUNT, long_by_one, 0, 0},
+    {"TEXT_TOO_LONG, PARAGRAPH_TOO_LONG", TEXT, many_letters, 0, 0},
+    {"NOT_UTF8, TEXT_TOO_LONG", TEXT, many_newlines_not_utf8, 0, 0},
+    {"NOT_UTF8, PARAGRAPH_TOO_LONG", TEXT, long_paragraph_not_utf8, 0, 0},
+    {"NOT_UTF8, TEXT_TOO_LONG, PARAGRAPH_TOO_LONG", TEXT, many_letters_not_utf8, 0, 0},
+    END,
+};
+
+static const way of_delete[] = {{"PARAGRAPH_TOO_LONG", SESSION | AT | COUNT, joined_paragraph, 0, 0},
+    END};
+
+static const way of_set_width[] = {
+    {"WIDTH_OUT_OF_RANGE", WIDTH, width_0, 0, 0},
+    {"WIDTH_OUT_OF_RANGE", WIDTH, width_above, 0, 2},
+    END,
+};
+
+static const way of_open[] = {
+    {"NULL", SESSION | SESSION_IS, null_session, 0, 0},
+    {"NULL", TABLES | TABLES_IS, null_tables, 0, 0},
+    {"NULL", TEXT, null_text, 1, 2},
+    {"NULL, OVERLAP", TEXT, long_null_text, 0, 0},
+    {"OVERLAP", TEXT, long_text, 0, 1},
+    {"OVERLAP", TEXT | SESSION_IS, text_in_session, 0, sizeof(hordguli_session) - 1},
+    {"OVERLAP", TEXT | TABLES_IS, text_in_tables, 0, sizeof(hordguli_tables) - 1},
+    {"OVERLAP", SESSION | TABLES_IS, session_at_tables, 0, 0},
+    {"WIDTH_OUT_OF_RANGE (above 65,535)", WIDTH, width_above, 0, 2},
+    {"UNKNOWN_OPTION", FLAGS, unknown_option, 5, 31},
+    {"NOT_UTF8", TEXT, not_utf8, 0, 5},
+    {"ALREADY_OPEN (the session)", SESSION, open_session, 0, 0},
+    {"CLOSED (the tables)", TABLES, closed_tables, 0, 0},
+    {"WIDTH_OUT_OF_RANGE (0)", WIDTH, width_0, 0, 0},
+    {"TEXT_TOO_LONG", TEXT, many_newlines, 0, 0},
+    {"PARAGRAPH_TOO_LONG", TEXT, long_paragraph, 0, 0},
+    {"TEXT_TOO_LONG, PARAGRAPH_TOO_LONG", TEXT, many_letters, 0, 0},
+    {"NOT_UTF8, TEXT_TOO_LONG", TEXT, many_newlines_not_utf8, 0, 0},
+    {"NOT_UTF8, PARAGRAPH_TOO_LONG", TEXT, long_paragraph_not_utf8, 0, 0},
+    {"NOT_UTF8, TEXT_TOO_LONG, PARAGRAPH_TOO_LONG", TEXT, many_letters_not_utf8, 0, 0},
+    END,
+};
+
+static const way of_line[] = {
+    {"OVERLAP", ARRAYS | OUT_IS, array_at_out, 0, 4},
+    {"OVERLAP", ARRAYS | SESSION_IS, array_at_session, 0, 4},
+    {"OVERLAP", ARRAYS, array_at_other, 0, 24},
+    {"OVERLAP", CAPACITY, long_arrays, 0, 1},
+    {"OVERLAP", CAPACITY | ARRAYS, wrapping_array, 0, 0},
+    {"OVERLAP", CAPACITY | ARRAYS, wrapping_array, 2, 4},
+    {"NO_ROOM", CAPACITY, one_too_few, 0, 0},
+    {"NO_ROOM", CAPACITY | ARRAYS, one_too_few_in_one_array, 0, 4},
+    {"NO_ROOM", CAPACITY | ARRAYS, no_elements, 0, 0},
+    END,
+};
+
+static const way of_buffer[] = {
+    {"NULL", ARRAYS, null_array, 0, 0},
+    {"NULL, OVERLAP", ARRAYS | CAPACITY, long_null_array, 0, 0},
+    {"OVERLAP", ARRAYS | OUT_IS, array_at_out, 0, 0},
+    {"OVERLAP", ARRAYS | SESSION_IS, array_at_session, 0, 0},
+    {"OVERLAP", CAPACITY, long_arrays, 0, 1},
+    {"NO_ROOM", CAPACITY, one_too_few, 0, 0},
+    {"NO_ROOM", CAPACITY | ARRAYS, no_elements, 0, 0},
+    {"NO_ROOM", CAPACITY | ARRAYS, no_elements_null, 0, 0},
+    END,
+};
+
+static const way of_print_flags[] = {{"UNKNOWN_OPTION", FLAGS, unknown_option, 7, 31},
+    END};
+
+static const way of_paragraph[] = {
+    {"OVERLAP", ARRAYS | OUT_IS, array_at_out, 0, 1},
+    {"OVERLAP", ARRAYS | SESSION_IS, array_at_session, 0, 1},
+    {"OVERLAP", ARRAYS, array_at_first, 0, 0},
+    {"OVERLAP", CAPACITY, long_arrays, 0, 1},
+    {"NO_ROOM", CAPACITY, one_too_few, 0, 0},
+    {"NO_ROOM", CAPACITY | ARRAYS, one_too_few_in_one_array, 0, 1},
+    {"NO_ROOM", CAPACITY | ARRAYS, no_elements, 0, 0},
+    END,
+};
+
+static const way of_count_utf8[] = {
+    {"NULL", OUT | OUT_IS, null_out, 0, 0},
+    {"NULL", TEXT, null_text, 1, 2},
+    {"NULL, OVERLAP", TEXT, long_null_text, 0, 0},
+    {"OVERLAP", TEXT, long_text, 0, 1},
+    {"OVERLAP, NOT_UTF8", TEXT | OUT_IS, text_in_out, 0, 1},
+    {"NOT_UTF8", TEXT, not_utf8, 0, 5},
+    END,
+};
+
+/* Tables and characters */
+static const way of_characters[] = {
+    {"NULL", TABLES | TABLES_IS, null_tables, 0, 0},
+    {"NULL", NUMBERS, null_characters, 0, 0},
+    {"NULL, OVERLAP", NUMBERS | COUNT, many_null_characters, 0, 0},
+    {"OVERLAP", NUMBERS | TABLES_IS, characters_at_tables, 0, 0},
+    {"OVERLAP", COUNT, many_characters, 0, 2},
+    {"CLOSED", TABLES, closed_tables, 0, 0},
+    {"NOT_A_CHARACTER", NUMBERS | COUNT, not_a_character, 0, 7},
+    END,
+};
+
+static const way of_base[] = {
+    {"NULL", OUT | OUT_IS, null_out, 0, 0},
+    {"OVERLAP", OUT | TABLES_IS, out_at_tables, 0, 0},
+    {"OVERLAP", NUMBERS | OUT_IS, characters_at_out, 0, 0},
+    END,
+};
+
+static const way of_elements[] = {
+    {"NULL", ARRAYS, null_array, 0, 0},
+    {"NULL, OVERLAP", ARRAYS | CAPACITY, long_null_array, 0, 0},
+    {"OVERLAP", ARRAYS | TABLES_IS, array_at_tables, 0, 0},
+    {"OVERLAP", ARRAYS | NUMBERS | COUNT, array_at_characters, 0, 0},
+    {"OVERLAP", CAPACITY, long_arrays, 0, 1},
+    {"NO_ROOM", CAPACITY, one_too_few, 0, 0},
+    {"NO_ROOM", CAPACITY | ARRAYS, no_elements, 0, 0},
+    {"NO_ROOM", CAPACITY | ARRAYS, no_elements_null, 0, 0},
+    END,
+};
+
+static const way of_direction[] = {{"UNKNOWN_OPTION", FLAGS, unknown_option, 2, 31},
+    END};
+
+static const way of_marks[] = {
+    {"UNKNOWN_OPTION", FLAGS, unknown_option, 0, 3},
+    {"UNKNOWN_OPTION", FLAGS, unknown_option, 5, 31},
+    END,
+};
+
+#define OF_FILE(k)                                                                    \
+    {"NULL (file " #k ")", FILE_0 << k, null_file, k, k},                             \
+    {"NULL (file " #k "), OVERLAP (file " #k ")", FILE_0 << k, long_null_file, k, k}, \
+    {"OVERLAP (file " #k ")", FILE_0 << k, long_file, k, k},                          \
+    {"OVERLAP (file " #k ")", FILE_0 << k | TABLES_IS, file_in_tables, k, k},         \
+    {"OVERLAP (file " #k ")", FILE_0 << k | OUT_IS, file_in_fault, k, k},             \
+    {"TABLE_FAULT", FILE_0 << k, malformed_file, k, k}
+
+static const way of_files[] = {
+    {"NULL", TABLES | TABLES_IS, null_tables, 0, 0},
+    {"NULL", FILES | FILES_IS, null_files, 0, 0},
+    {"OVERLAP", OUT | TABLES_IS, fault_at_tables, 0, 0},
+    {"OVERLAP", OUT | FILES_IS, fault_in_files, 0, 6},
+    {"OVERLAP", TABLES | FILES_IS, tables_in_files, 0, 6},
+    {"ALREADY_OPEN", TABLES, open_tables, 0, 0},
+    OF_FILE(0),
+    OF_FILE(1),
+    OF_FILE(2),
+    OF_FILE(3),
+    OF_FILE(4),
+    OF_FILE(5),
+    OF_FILE(6),
+    END,
+};
+
+#define IN_FOLDER(k)                                                \
+    {"UNREAD_FILE", FILE_0 << k | FOLDER, missing_in_folder, k, k}, \
+    {"TABLE_FAULT", FILE_0 << k, malformed_in_folder, k, k}
+
+static const way of_folder[] = {
+    {"NULL", TABLES | TABLES_IS, null_tables, 0, 0},
+    {"NULL", FILES | FOLDER, null_folder, 0, 0},
+    {"OVERLAP", OUT | TABLES_IS, fault_at_tables, 0, 0},
+    {"OVERLAP", FOLDER | TABLES_IS, folder_in_tables, 0, 0},
+    {"OVERLAP", FOLDER | OUT_IS, folder_in_fault, 0, 0},
+    {"ALREADY_OPEN", TABLES, open_tables, 0, 0},
+    {"UNREAD_FILE", FILES | FOLDER, no_folder, 0, 1},
+    IN_FOLDER(0),
+    IN_FOLDER(1),
+    IN_FOLDER(2),
+    IN_FOLDER(3),
+    IN_FOLDER(4),
+    IN_FOLDER(5),
+    IN_FOLDER(6),
+    END,
+};
+
+#define MAKE(name, ...)                                                                                                \
+    static hordguli_status make_##name(const arguments *a) { return hordguli_##name(__VA_ARGS__); }
+MAKE(tables_read, a->tables, a->files, a->fault)
+MAKE(tables_open_folder, a->tables, a->folder, a->fault)
+MAKE(session_open, a->session, a->tables, a->flags, a->width, a->text, a->length)
+MAKE(insert, a->session, a->at, a->text, a->length, a->out)
+MAKE(delete, a->session, a->at, a->count, a->out)
+MAKE(replace, a->session, a->at, a->count, a->text, a->length, a->out)
+MAKE(set_width, a->session, a->width, a->out)
+MAKE(session_counts, a->session, a->out)
+MAKE(session_work, a->session, a->out)
+MAKE(line_start, a->session, a->at, a->out)
+MAKE(place_of, a->session, a->at, a->out)
+MAKE(caret_at, a->session, a->at, a->out)
+MAKE(hit_at, a->session, a->at, a->column, a->out)
+MAKE(cluster_at, a->session, a->at, a->out)
+MAKE(line, a->session, a->at, a->out, a->capacity, a->arrays[0], a->arrays[1], a->arrays[2], a->arrays[3], a->arrays[4])
+MAKE(lines_utf8, a->session, a->at, a->count, a->flags, a->capacity, a->arrays[0], a->out)
+MAKE(text, a->session, a->at, a->count, a->capacity, a->arrays[0], a->out)
+MAKE(utf8_length, a->session, a->at, a->count, a->out)
+MAKE(count_utf8, a->text, a->length, a->out)
+MAKE(paragraph, a->session, a->at, a->out, a->capacity, a->arrays[0], a->arrays[1])
+MAKE(base, a->tables, a->flags, a->characters, a->count, a->out)
+MAKE(levels, a->tables, a->flags, a->characters, a->count, a->capacity, a->arrays[0])
+MAKE(marks, a->tables, a->flags, a->characters, a->count, a->capacity, a->arrays[0])
+
+/* An overlap of a handle and an output parameter needs both, so neither is NULL. */
+#define NOT_BOTH "NULL + OVERLAP"
+#define ORDER_OF_FILE(k) "NULL (file " #k "), OVERLAP (file " #k "), "
+
+#define CALL(name, ...) {#name, make_##name, __VA_ARGS__}
+#define INSERTING "NULL, OVERLAP, NOT_UTF8, CLOSED, OUT_OF_RANGE, TEXT_TOO_LONG, PARAGRAPH_TOO_LONG, NO_MEMORY"
+#define READING "NULL, OVERLAP, CLOSED, OUT_OF_RANGE"
+#define COMPUTING "NULL, OVERLAP, UNKNOWN_OPTION, CLOSED, NO_ROOM, NOT_A_CHARACTER, NO_MEMORY"
+
+/* The session has 18 characters, 3 lines and 3 paragraphs. */
+static const call calls[] = {
+    CALL(tables_read, "NULL, OVERLAP, ALREADY_OPEN, TABLE_FAULT, NO_MEMORY", .ways = {of_files},
+         .order = "NULL, OVERLAP, " ORDER_OF_FILE(0) ORDER_OF_FILE(1) ORDER_OF_FILE(2) ORDER_OF_FILE(3) ORDER_OF_FILE(4)
+             ORDER_OF_FILE(5) ORDER_OF_FILE(6) "ALREADY_OPEN, TABLE_FAULT, NO_MEMORY"),
+    CALL(tables_open_folder, "NULL, OVERLAP, ALREADY_OPEN, UNREAD_FILE, TABLE_FAULT, NO_MEMORY", .ways = {of_folder}),
+    CALL(session_open,
+         "NULL, OVERLAP, WIDTH_OUT_OF_RANGE (above 65,535), UNKNOWN_OPTION, NOT_UTF8, ALREADY_OPEN (the session), "
+         "CLOSED (the tables), WIDTH_OUT_OF_RANGE (0), TEXT_TOO_LONG, PARAGRAPH_TOO_LONG, NO_MEMORY",
+         .ways = {of_open}, .never = "WIDTH_OUT_OF_RANGE (above 65,535) + WIDTH_OUT_OF_RANGE (0)"),
+    CALL(insert, INSERTING, .ways = {of_session, of_inserted_text, of_at}, .out_size = sizeof(hordguli_damage), .at = 2,
+         .end = 19),
+    /* A closed session has no paragraphs to join, and a range past the end is not deleted. */
+    CALL(delete, "NULL, OVERLAP, CLOSED, OUT_OF_RANGE, PARAGRAPH_TOO_LONG, NO_MEMORY",
+         .ways = {of_session, of_range, of_delete}, .out_size = sizeof(hordguli_damage), .at = 2, .count = 3, .end = 19,
+         .never = NOT_BOTH ", CLOSED + PARAGRAPH_TOO_LONG, OUT_OF_RANGE + PARAGRAPH_TOO_LONG"),
+    CALL(replace, INSERTING, .ways = {of_session, of_inserted_text, of_range}, .out_size = sizeof(hordguli_damage),
+         .at = 2, .count = 3, .end = 19),
+    CALL(set_width, "NULL, OVERLAP, WIDTH_OUT_OF_RANGE, CLOSED, NO_MEMORY", .never = NOT_BOTH,
+         .ways = {of_session, of_set_width}, .out_size = sizeof(hordguli_damage)),
+    CALL(session_counts, "NULL, OVERLAP, CLOSED", .never = NOT_BOTH, .ways = {of_session},
+         .out_size = sizeof(hordguli_counts)),
+    CALL(session_work, "NULL, OVERLAP, CLOSED", .never = NOT_BOTH, .ways = {of_session},
+         .out_size = sizeof(hordguli_work)),
+    CALL(line_start, READING, .never = NOT_BOTH, .ways = {of_session, of_at}, .out_size = sizeof(size_t), .at = 2,
+         .end = 3),
+    CALL(place_of, READING, .never = NOT_BOTH, .ways = {of_session, of_at}, .out_size = sizeof(hordguli_place),
+         .at = 18, .end = 19),
+    CALL(caret_at, READING, .never = NOT_BOTH, .ways = {of_session, of_at}, .out_size = sizeof(hordguli_caret),
+         .at = 18, .end = 19),
+    CALL(hit_at, READING, .never = NOT_BOTH, .ways = {of_session, of_at}, .out_size = sizeof(hordguli_hit), .at = 2,
+         .end = 3),
+    CALL(cluster_at, READING ", NO_MEMORY", .never = NOT_BOTH, .ways = {of_session, of_at},
+         .out_size = sizeof(hordguli_cluster), .at = 17, .end = 18),
+    CALL(line, READING ", NO_ROOM", .ways = {of_session, of_at, of_line}, .out_size = sizeof(hordguli_line_info),
+         .at = 1, .end = 3, .needed = 6),
+    CALL(lines_utf8, "NULL, OVERLAP, UNKNOWN_OPTION, CLOSED, OUT_OF_RANGE, NO_MEMORY, NO_ROOM",
+         .ways = {of_session, of_range, of_buffer, of_print_flags}, .out_size = sizeof(size_t), .at = 1, .count = 2,
+         .end = 4, .needed = 12, .flags = 65),
+    CALL(text, READING ", NO_MEMORY, NO_ROOM", .ways = {of_session, of_range, of_buffer}, .out_size = sizeof(size_t),
+         .at = 3, .count = 4, .end = 19, .needed = 7),
+    CALL(utf8_length, READING, .never = NOT_BOTH, .ways = {of_session, of_range}, .out_size = sizeof(size_t), .at = 3,
+         .count = 4, .end = 19),
+    CALL(count_utf8, "NULL, OVERLAP, NOT_UTF8", .ways = {of_count_utf8}, .out_size = sizeof(size_t)),
+    CALL(paragraph, READING ", NO_ROOM", .ways = {of_session, of_at, of_paragraph},
+         .out_size = sizeof(hordguli_paragraph_info), .at = 1, .end = 3, .needed = 7),
+    CALL(base, "NULL, OVERLAP, UNKNOWN_OPTION, CLOSED, NOT_A_CHARACTER, NO_MEMORY",
+         .ways = {of_characters, of_base, of_direction}, .out_size = sizeof(uint32_t), .count = 5),
+    CALL(levels, COMPUTING, .ways = {of_characters, of_elements, of_direction}, .count = 5, .needed = 5),
+    CALL(marks, COMPUTING, .ways = {of_characters, of_elements, of_marks}, .count = 5, .needed = 5),
+};
+
+enum { CALLS = sizeof calls / sizeof *calls, MOST = 24 };
+
+/* The items of a list, which may be NULL. */
+typedef struct items {
+    char words[MOST][64];
+    size_t count;
+} items;
+
+static items items_of(const char *list) {
+    items found;
+    found.count = 0;
+    while (list != NULL && *list != '\0') {
+        const char *end = strstr(list, ", ");
+        size_t length = end == NULL ? strlen(list) : (size_t)(end - list);
+        if (found.count == MOST || length >= sizeof found.words[0]) exit(2);
+        memcpy(found.words[found.count], list, length);
+        found.words[found.count++][length] = '\0';
+        list += end == NULL ? length : length + 2;
+    }
+    return found;
+}
+
+/* The bits of some errors in a list. */
+static uint32_t bits_of(const char *errors, const items *order) {
+    items some = items_of(errors);
+    uint32_t bits = 0;
+    for (size_t k = 0; k < some.count; k++) {
+        size_t at = 0;
+        while (at < order->count && strcmp(order->words[at], some.words[k]) != 0) at++;
+        if (at == order->count) {
+            fprintf(stderr, "not an error of the call: %s\n", some.words[k]);
+            exit(2);
+        }
+        bits |= UINT32_C(1) << at;
+    }
+    return bits;
+}
+
+/* The status of an item, which is its first word. */
+static hordguli_status status_of(const char *item) {
+    size_t length = strcspn(item, " ");
+    for (hordguli_status status = 0; status < STATUSES; status++)
+        if (strlen(statuses[status].name) == length && memcmp(statuses[status].name, item, length) == 0) return status;
+    return -1;
+}
+
+static const char session_text[] = "abc \u05d0\u05d1\u05d2\n(\u05d0) 12\nx y";
+
+/* What the session has: its text, lines, counts and work. Of the long one, counts and work. */
+typedef struct content {
+    char bytes[200];
+    hordguli_counts counts, long_counts;
+    hordguli_work work, long_work;
+} content;
+
+static content kept;
+
+static content content_now(void) {
+    hordguli_session *session = &own.session;
+    content found;
+    size_t text = 0, lines = 0;
+    memset(&found, 0, sizeof found);
+    hordguli_session_counts(session, &found.counts);
+    hordguli_session_work(session, &found.work);
+    hordguli_session_counts(&own.long_session, &found.long_counts);
+    hordguli_session_work(&own.long_session, &found.long_work);
+    hordguli_text(session, 0, found.counts.characters, 100, found.bytes, &text);
+    hordguli_lines_utf8(session, 0, found.counts.lines, 65, 100, found.bytes + 100, &lines);
+    return found;
+}
+
+/* Opens the handles and makes arguments with which the call succeeds. */
+static arguments good_arguments(const call *c, int is_new) {
+    arguments a;
+    int opens_tables = strncmp(c->name, "tables_", 7) == 0, opens_session = strcmp(c->name, "session_open") == 0;
+    static const uint32_t characters[ELEMENTS] = {'a', ' ', 0x5D0, '1', ')', 'b'};
+    if (is_new) {
+        hordguli_tables_close(&own.no_tables);
+        hordguli_session_close(&own.no_session);
+        reopen(&own.session, session_text, 80);
+        kept = content_now();
+    }
+    if (strcmp(c->name, "tables_open_folder") == 0)
+        for (size_t k = 0; k < 7; k++) write_file(k, "");
+    memset(own.files, 0, sizeof own.files);
+    memset(&own.fault, UNUSED, sizeof own.fault);
+    memset(own.out, UNUSED, sizeof own.out);
+    memset(own.arrays, UNUSED, sizeof own.arrays);
+    memcpy(own.characters, characters, sizeof own.characters);
+    memset(&a, 0, sizeof a);
+    a.tables = opens_tables ? &own.no_tables : &own.tables;
+    a.session = opens_session ? &own.no_session : &own.session;
+    a.files = own.files;
+    a.fault = &own.fault;
+    a.folder = folder;
+    a.flags = c->flags;
+    a.width = 7;
+    a.text = "d\u05d3";
+    a.length = 3;
+    a.at = c->at;
+    a.count = c->count;
+    a.column = 1;
+    a.capacity = ELEMENTS;
+    a.characters = own.characters;
+    a.out = own.out;
+    for (size_t k = 0; k < 5; k++) a.arrays[k] = own.arrays[k];
+    return a;
+}
+
+/* Checks what belongs to a status, and restores it. All other memory is as it was before the call. */
+static int is_set_as_promised(const call *c, hordguli_status status) {
+    int is_set = 1;
+    if (status == HORDGULI_NO_ROOM && c->out_size != 0) { /* the required capacity */
+        const void *out = own.out;
+        is_set = (c->make == make_line ? ((const hordguli_line_info *)out)->shown : *(const size_t *)out) == c->needed;
+        memcpy(own.out, before.out, sizeof own.out);
+    } else if (status == HORDGULI_UNREAD_FILE) {
+        is_set = own.fault.file == missing && own.fault.line == 0 && own.fault.cause == 0;
+        own.fault = before.fault;
+    } else if (status == HORDGULI_TABLE_FAULT) {
+        is_set = own.fault.file == malformed && own.fault.line == 3 && own.fault.cause == HORDGULI_CAUSE_FIELD_COUNT;
+        own.fault = before.fault;
+    }
+    return is_set;
+}
+
+/* Makes a call in which the errors of one or two ways apply. */
+static void is_refused(const call *c, const items *order, uint32_t bits, const way *x, size_t i, const way *y,
+                       size_t j) {
+    static int is_new = 1;
+    arguments a = good_arguments(c, is_new);
+    int is_x_last = strstr(x->errors, "OVERLAP") != NULL; /* an overlap depends on the other pointers */
+    hordguli_status status, wanted;
+    content now;
+    size_t first = 0;
+    char text[400];
+    if (!is_x_last) x->apply(&a, c, i);
+    if (y != NULL) y->apply(&a, c, j);
+    if (is_x_last) x->apply(&a, c, i);
+    while ((bits >> first & 1) == 0) first++;
+    wanted = status_of(order->words[first]);
+    memcpy(&before, &own, sizeof own);
+    status = c->make(&a);
+#define EXPECT(condition, ...)                                                                                         \
+    (snprintf(text, sizeof text, "hordguli_%s, %s (%zu)%s%s (%zu): ", c->name, x->errors, i, y == NULL ? "" : " and ", \
+              y == NULL ? "" : y->errors, j),                                                                          \
+     snprintf(text + strlen(text), sizeof text - strlen(text), __VA_ARGS__),                                           \
+     is_new |= !holds((condition), __FILE__, __LINE__, text))
+    is_new = 0;
+    EXPECT(status == wanted, "returns %d, not %d", (int)wanted, (int)status);
+    EXPECT(is_set_as_promised(c, status), "sets what the header says");
+    EXPECT(memcmp(&own, &before, sizeof own) == 0, "changes no memory");
+    now = content_now();
+    EXPECT(memcmp(&now, &kept, sizeof now) == 0, "changes no session");
+}
+
+/* Notes which error, or which two, applied in a call. */
+static void cover(uint32_t covered[MOST], size_t count, uint32_t bits) {
+    for (size_t at = 0; at < count; at++)
+        for (size_t to = at; to < count; to++)
+            if (bits == (UINT32_C(1) << at | UINT32_C(1) << to)) covered[at] |= UINT32_C(1) << to;
+}
+
+/* Makes a call with each of its errors, and with each pair that can apply at the same time. */
+static void first_listed_error_is_returned(const call *c) {
+    items order = items_of(c->order != NULL ? c->order : c->errors), never = items_of(c->never);
+    uint32_t covered[MOST] = {0};
+    const way *ways[MOST * 4];
+    size_t count = 0;
+    arguments a = good_arguments(c, 1);
+    HOLDS(c->make(&a) == HORDGULI_OK);
+    good_arguments(c, 1);
+    for (size_t k = 0; k < 4 && c->ways[k] != NULL; k++)
+        for (const way *w = c->ways[k]; w->errors != NULL; w++) ways[count++] = w;
+    for (size_t k = 0; k < count; k++) {
+        uint32_t bits = bits_of(ways[k]->errors, &order);
+        for (size_t i = ways[k]->first; i <= ways[k]->last; i++) is_refused(c, &order, bits, ways[k], i, NULL, 0);
+        cover(covered, order.count, bits);
+        for (size_t m = k + 1; m < count; m++) {
+            uint32_t both = bits | bits_of(ways[m]->errors, &order);
+            const way *x = ways[k], *y = ways[m];
+            if ((x->sets & y->sets) != 0 || (both & (both - 1)) == 0) continue;
+            if (strstr(y->errors, "OVERLAP") != NULL) x = ways[m], y = ways[k];
+            for (size_t i = x->first; i <= x->last; i++)
+                for (size_t j = y->first; j <= y->last; j++) is_refused(c, &order, both, x, i, y, j);
+            cover(covered, order.count, both);
+        }
+    }
+    for (size_t at = 0; at < order.count; at++) {
+        for (size_t to = at; to < order.count; to++) {
+            char pair[160];
+            int is_never = 0;
+            if (strcmp(order.words[at], "NO_MEMORY") == 0 || strcmp(order.words[to], "NO_MEMORY") == 0) continue;
+            snprintf(pair, sizeof pair, "%s + %s", order.words[at], order.words[to]);
+            for (size_t k = 0; k < never.count; k++) is_never |= strcmp(never.words[k], pair) == 0;
+            if ((covered[at] >> to & 1) == (uint32_t)is_never) fprintf(stderr, "hordguli_%s: %s\n", c->name, pair);
+            HOLDS((covered[at] >> to & 1) != (uint32_t)is_never);
+        }
+    }
+}
+
+/* Input arrays may overlap each other. */
+WAY(two_files_at_one_place, own.files[3] = own.files[4] = (hordguli_bytes){"0041;AL", 7})
+WAY(file_in_files, own.files[3] = (hordguli_bytes){own.files, sizeof own.files})
+
+static void input_arrays_may_overlap(void) {
+    static void (*const ways[])(arguments *, const call *, size_t) = {two_files_at_one_place, file_in_files};
+    for (size_t k = 0; k < sizeof ways / sizeof *ways; k++) {
+        const call *c = calls;
+        arguments a;
+        while (strcmp(c->name, "tables_read") != 0) c++;
+        a = good_arguments(c, 1);
+        ways[k](&a, c, 0);
+        HOLDS(c->make(&a) != HORDGULI_OVERLAP);
+    }
+}
+
+/* The lists of errors above are those of the header. */
+static void errors_are_those_of_the_header(const char *path) {
+    static char header[1 << 17];
+    FILE *from = sure(fopen(path, "rb"));
+    size_t length = fread(header, 1, sizeof header - 1, from), lists = 0;
+    fclose(from);
+    header[length] = '\0';
+    for (const char *at = header; (at = strstr(at, " * Errors: ")) != NULL; at++) lists++;
+    HOLDS(lists == CALLS);
+    for (size_t k = 0; k < CALLS; k++) {
+        char declared[100], list[400];
+        const char *at, *next, *call;
+        size_t count = 0;
+        snprintf(declared, sizeof declared, "\nhordguli_status hordguli_%s(", calls[k].name);
+        call = strstr(header, declared);
+        if (!HOLDS(call != NULL)) continue;
+        for (at = header; (next = strstr(at + 1, " * Errors: ")) != NULL && next < call;) at = next;
+        for (at += strlen(" * Errors: "); !(at[0] == '.' && at[1] == '\n') && count + 1 < sizeof list; at++) {
+            list[count++] = *at == '\n' ? ' ' : *at;
+            if (*at == '\n') at += strlen(" * ");
+        }
+        list[count] = '\0';
+        holds(strcmp(list, calls[k].errors) == 0, __FILE__, __LINE__, list);
+    }
+}
+
+static void make_texts(void) {
+    static const char *const end = "\xFF";
+    newlines = sure(malloc(CHARACTERS + 2));
+    letters = sure(malloc(CHARACTERS + 2));
+    paragraph = sure(malloc(LETTERS + 2));
+    memset(newlines, '\n', CHARACTERS + 1);
+    memset(letters, 'a', CHARACTERS + 1);
+    memset(paragraph, 'a', LETTERS + 1);
+    newlines[CHARACTERS + 1] = letters[CHARACTERS + 1] = paragraph[LETTERS + 1] = *end;
+}
+
+static void pairs(const char *table_folder) {
+    make_texts();
+    sure(mkdtemp(folder));
+    for (size_t k = 0; k < 7; k++) write_file(k, "");
+    OK(hordguli_tables_open_folder(&own.tables, table_folder, NULL));
+    /* two paragraphs that are too long together */
+    letters[HALF] = '\n';
+    OK(hordguli_session_open(&own.long_session, &own.tables, 0, 65535, letters, 2 * HALF + 1));
+    letters[HALF] = 'a';
+    for (size_t k = 0; k < CALLS; k++) first_listed_error_is_returned(&calls[k]);
+    input_arrays_may_overlap();
+    for (size_t k = 0; k < 7; k++) unlink(path_of(k));
+    rmdir(folder);
+    hordguli_session_close(&own.session);
+    hordguli_session_close(&own.no_session);
+    hordguli_session_close(&own.long_session);
+    hordguli_tables_close(&own.tables);
+    hordguli_tables_close(&own.no_tables);
+    free(newlines);
+    free(letters);
+    free(paragraph);
+}
+
+int main(int count, char **arguments) {
+    if (count != 3) return 2;
+    statuses_have_their_numbers_and_texts();
+    constants_have_their_numbers();
+    OK(hordguli_tables_open_folder(&tables, arguments[1], NULL));
+    table_fault_has_each_value_in_its_field();
+    files_have_their_indexes();
+    damage_has_each_value_in_its_field();
+    counts_and_work_have_each_value_in_their_field();
+    places_have_each_value_in_its_field();
+    lines_have_each_value_in_its_field();
+    paragraphs_have_each_value_in_its_field();
+    parameters_are_not_exchanged();
+    errors_are_those_of_the_header(arguments[2]);
+    pairs(arguments[1]);
+    hordguli_tables_close(&tables);
+    return finish("statuses");
+}
