@@ -9,3 +9,5 @@ mod layouts;
 mod sessions;
 #[cfg(test)]
 mod snippets;
+#[cfg(test)]
+mod surface;

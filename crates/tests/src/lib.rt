@@ -12,4 +12,6 @@ mod snippets;
 #[cfg(test)]
 mod stores;
 #[cfg(test)]
+mod surface;
+#[cfg(test)]
 mod tables;
