@@ -29,7 +29,7 @@ OPTIONS = --width 44 --basedir
 .PHONY: all program ucd demo check tmux parallel test attack bench-program conformance-program conformance bench c fribidi fribidi-compare \
 	callers install uninstall
 
-all: programs = fribidi conformance oom_driver
+all: programs = fribidi conformance oom_driver no_allocation
 program: programs = fribidi
 bench-program: programs = fribidi bench
 conformance-program: programs = conformance
@@ -50,7 +50,7 @@ lib-oom_calls: lib-test_tables
 lib-hordguli_fribidi: lib-lines
 run-dump_properties: lib-ucd lib-tables
 run-fribidi run-oom_driver: lib-tool
-run-oom_driver: lib-oom_calls
+run-oom_driver run-no_allocation: lib-oom_calls
 lib-tables: lib-ucd
 run-bench: lib-session lib-tables
 run-conformance: lib-lines lib-tables
@@ -60,6 +60,7 @@ run-conformance: $(if $(filter run-fribidi,$(MAKECMDGOALS)),lib-session)
 run-fribidi: words = -- --help
 run-bench: words = -- edits tree 1 1
 run-dump_properties: words = -- data
+run-no_allocation: words = -- 1
 
 lib-%:
 	tools/prove $* lib

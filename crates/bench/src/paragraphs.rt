@@ -7,7 +7,7 @@ use crate::numbers::Numbers;
 use crate::rows::{show, since};
 use anyhow::{Result, bail};
 use bidi::{Base, resolve};
-use breaks::{Mark, Tailoring, marks};
+use breaks::{Mark, marks};
 use lines::{Engine, Laid, Options, PARAGRAPH_LIMIT};
 use std::alloc::{AllocError, Global};
 use std::time::Instant;
@@ -149,7 +149,7 @@ fn highest_level(alloc: Global, tables: &Tables, text: &[char]) -> Result<usize,
 }
 
 fn ends(alloc: Global, tables: &Tables, text: &[char]) -> Result<usize, AllocError> {
-    let marks = marks(alloc, tables, text, Tailoring::default())?;
+    let marks = marks(alloc, tables, text, false)?;
     let mut count: usize = 0;
     for mark in &marks {
         if *mark != Mark::Never {

@@ -7,9 +7,9 @@ ghost use Rattle.breaks.specs.Symbols.{character_by};
 ghost use Rattle.breaks.specs.Walk.{is_before_digit, mark_of};
 ghost use Rattle.breaks.specs.declared.mark.Mark.TheVariants.{Must};
 
+use crate::characters::{Characters, Known, LookedUp};
 use crate::symbol::{ATTACHED, DIGIT, symbol_of};
 use crate::table::WAITS;
-use crate::tailoring::Tailoring;
 use crate::walk::{Walk, mark_alone};
 use std::alloc::{AllocError, Global};
 use ucd::{Properties, Tables};
@@ -25,110 +25,103 @@ pub enum Mark {
     Must,
 }
 
-/// The mark of the position after each character of a paragraph (UAX #14, LB1 to LB31, as
-/// docs/reference.md has them). After the last one it is `Must`.
+/// Returns the mark of the position after each character of a paragraph (UAX #14, LB1 to LB31, as
+/// docs/reference.md has them). The last one is `Must`. With `whole_numbers`, no line ends inside a number,
+/// in place of LB25 (section 8.2, example 7).
+///
+/// Allocates the list of marks and nothing else.
 pub fn marks(
     alloc: Global,
     tables: &Tables,
     text: &[char],
-    tailoring: Tailoring,
+    whole_numbers: bool,
 ) -> Result<Vec<Mark>, AllocError>
-    ensures marks { IfOk result (λ marks. marks.items
-        ≡ marks_of tables.now tailoring.whole_numbers text.now) }
+    ensures marks { IfOk result (λ marks. marks.items ≡ marks_of tables.now whole_numbers text.now) }
     ensures len { IfOk result (λ marks. length marks.items ≡ length text.now) }
     ensures memory { OnErr result (0 < length text.now) }
 {
     let mut marks = Vec::new(alloc);
-    if text.is_empty() {
-        return Ok(marks);
-    }
-    let properties = properties_of(alloc, tables, text)?;
-    marks_into(tables, text, &properties, tailoring, &mut marks)?;
+    marks.resize(text.len(), Mark::Must)?;
+    mark_all(
+        tables,
+        text,
+        LookedUp { tables, text },
+        whole_numbers,
+        &mut marks,
+    );
     Ok(marks)
 }
 
-// What the tables say of the characters of a text.
-fn properties_of(
-    alloc: Global,
-    tables: &Tables,
-    text: &[char],
-) -> Result<Vec<Properties>, AllocError>
-    ensures { IfOk result (λ properties. properties.items ≡ map (properties_of tables.now) text.now) }
-{
-    text.iter().map(|c| tables.properties(*c)).collect(alloc)
-}
-
-/// The same marks in place of those that a list holds, from what the tables say of each character.
+/// Writes the same marks over those that a list holds, from properties that were looked up before.
+///
+/// Allocates only if the list's capacity is less than the number of characters.
 pub fn marks_into(
     tables: &Tables,
     text: &[char],
     properties: &[Properties],
-    tailoring: Tailoring,
+    whole_numbers: bool,
     marks: &mut Vec<Mark>,
 ) -> Result<(), AllocError>
     requires { properties.now ≡ map (properties_of tables.now) text.now }
-    ensures marks { OnOk result (marks.new.items
-        ≡ marks_of tables.now tailoring.whole_numbers text.now) }
+    ensures marks { OnOk result (marks.new.items ≡ marks_of tables.now whole_numbers text.now) }
     ensures len { OnOk result (length marks.new.items ≡ length text.now) }
     ensures full { OnErr result (vec_capacity marks.old < length text.now) }
 {
     marks.resize(properties.len(), Mark::Must)?;
-    mark_properties(tables, text, properties, tailoring.whole_numbers, marks);
+    mark_all(tables, text, Known { properties }, whole_numbers, marks);
     Ok(())
 }
 
-fn mark_properties(
+fn mark_all<C: Characters>(
     tables: &Tables,
     text: &[char],
-    properties: &[Properties],
+    characters: C,
     whole_numbers: bool,
     marks: &mut [Mark],
 )
     requires len { length marks.old ≡ length text.now }
-    requires properties { properties.now ≡ map (properties_of tables.now) text.now }
+    requires characters { C.all characters ≡ map (properties_of tables.now) text.now }
     ensures { marks.new ≡ marks_of tables.now whole_numbers text.now }
 {
-    let Some((first, rest)) = properties.split_first() else {
+    let Some((first, rest)) = characters.split_first() else {
         return;
     };
-    let mut walk = Walk::start(*first);
+    let mut walk = Walk::start(first);
     let last = rest.len();
     for i in 0..last {
-        let decided = walk.pass(read(rest, i));
-        marks[i] = mark_before(rest, i, decided, whole_numbers);
+        let decided = walk.pass(rest.get(i));
+        marks[i] = mark_before(rest, i + 1, decided, whole_numbers);
     }
     marks[last] = Mark::Must;
 }
 
-fn read(properties: &[Properties], i: usize) -> Properties
-    requires { i < length properties.now }
-    ensures { result ≡ slice_index_or properties.now i result }
-{
-    properties[i]
-}
-
-// The mark before a character, by what is decided there and, where that waits, by what stands after it.
-fn mark_before(properties: &[Properties], i: usize, decided: u16, whole_numbers: bool) -> Mark
-    requires place { i < length properties.now }
+// The mark before a character, by what is decided there and, if that waits, by the characters after it.
+fn mark_before<C: Characters>(
+    characters: C,
+    after: usize,
+    decided: u16,
+    whole_numbers: bool,
+) -> Mark
+    requires place { after ≤ length (C.all characters) }
     requires below { decided < 8 }
     ensures { result ≡ mark_of whole_numbers decided
-        (is_before_digit (map character_by (drop (i + 1) properties.now))) }
+        (is_before_digit (map character_by (drop after (C.all characters)))) }
 {
-    if whole_numbers && decided == WAITS && is_before_digit(properties, i + 1) {
+    if whole_numbers && decided == WAITS && is_before_digit(characters, after) {
         Mark::Never
     } else {
         mark_alone(decided, whole_numbers)
     }
 }
 
-// Whether the base after one is NU, by the characters from a place on: those attached to the one before
-// them are read once more, and no others.
-fn is_before_digit(properties: &[Properties], from: usize) -> bool
-    requires { from ≤ length properties.now }
-    ensures { result ≡ is_before_digit (map character_by (drop from properties.now)) }
+// Whether the base after one is NU, by the characters from a place on. Only those attached to the base before
+// them are read again.
+fn is_before_digit<C: Characters>(characters: C, from: usize) -> bool
+    requires { from ≤ length (C.all characters) }
+    ensures { result ≡ is_before_digit (map character_by (drop from (C.all characters))) }
 {
-    for i in from..properties.len() {
-        let symbol = symbol_of(read(properties, i));
+    for i in from..characters.len() {
+        let symbol = symbol_of(characters.get(i));
         if symbol < ATTACHED {
             return symbol == DIGIT;
         }
@@ -136,13 +129,12 @@ fn is_before_digit(properties: &[Properties], from: usize) -> bool
     false
 }
 
-/// A paragraph has as many marks as characters: a law, which takes no time.
-pub fn marks_are_as_many(tables: &Tables, text: &[char], tailoring: Tailoring)
-    ensures { length (marks_of tables.now tailoring.whole_numbers text.now) ≡ length text.now }
+/// A theorem: a paragraph has as many marks as characters.
+pub fn marks_are_as_many(tables: &Tables, text: &[char], whole_numbers: bool)
+    ensures { length (marks_of tables.now whole_numbers text.now) ≡ length text.now }
 {}
 
-/// LB3: a paragraph ends at a position of the mark `Must`, by whatever tables, and whether numbers stay
-/// whole or not: a law, which takes no time.
+/// A theorem (LB3): the last mark of a paragraph is `Must`, for any tables, with whole numbers or without.
 pub fn paragraphs_end_at_must()
     ensures { (tables : Tables) (whole_numbers : Bool) (text : List ℕ) → 0 < length text
         → slice_get (marks_of tables whole_numbers text) (length text - 1) ≡ Some Must }

@@ -9,8 +9,8 @@ use Rattle.clap.specs.Takes.{is_given}
 use Rattle.clap.specs.declared.builder.action.ArgAction.TheVariants.{Append, Set, SetTrue}
 use Rattle.clap.specs.declared.builder.value_parser.ValueParser.TheVariants.{Signed}
 use Rattle.clap.specs.declared.parser.matches.ArgMatches.{ArgMatches}
-use Rattle.command_line.specs.declared.options.SettingsFault.{SettingsFault}
-use Rattle.command_line.specs.declared.options.SettingsFault.TheVariants.{Words, Directions, ScriptFiles, Queries, NoMemory}
+use Rattle.command_line.specs.declared.options.LineFault.{LineFault}
+use Rattle.command_line.specs.declared.options.LineFault.TheVariants.{Words, Directions, ScriptFiles, Queries, NoMemory}
 use Rattle.command_line.specs.declared.options.Settings.{Settings}
 
 -- an option without a value, named by its long name
@@ -107,13 +107,13 @@ pub record AreSettings (words : List Text) (settings : Settings) : Type 0 where
   pub nobreak : settings.options.nobreak ≡ is_given (codes "nobreak") (matches_of program words)
   pub reordernsm : settings.options.reordernsm ≡ is_given (codes "reordernsm") (matches_of program words)
   pub whole_numbers : settings.options.whole_numbers ≡ is_given (codes "whole-numbers") (matches_of program words)
-  pub visual : settings.print.visual ≡ not (is_given (codes "novisual") (matches_of program words))
+  pub novisual : settings.print.novisual ≡ is_given (codes "novisual") (matches_of program words)
   pub basedir : settings.print.basedir ≡ is_given (codes "basedir") (matches_of program words)
   pub ltov : settings.print.ltov ≡ is_given (codes "ltov") (matches_of program words)
   pub vtol : settings.print.vtol ≡ is_given (codes "vtol") (matches_of program words)
   pub levels : settings.print.levels ≡ is_given (codes "levels") (matches_of program words)
-  pub padded : settings.print.padded ≡ not (is_given (codes "nopad") (matches_of program words))
-  pub mirrored : settings.print.mirrored ≡ not (is_given (codes "nomirror") (matches_of program words))
+  pub nopad : settings.print.nopad ≡ is_given (codes "nopad") (matches_of program words)
+  pub nomirror : settings.print.nomirror ≡ is_given (codes "nomirror") (matches_of program words)
   pub script : option_map (λ script. script.now) settings.script ≡ first_of (codes "script") (matches_of program words)
   pub queries : settings.queries ≡ is_given (codes "queries") (matches_of program words)
   pub files : map (λ file. file.now) settings.files.items ≡ texts_of (matches_of program words)
@@ -136,17 +136,17 @@ pub record AreMatches (words : List Text) (matches : ArgMatches) : Type 0 where
 
 -- `clap` refuses the words, for this kind of error; or it takes them, and more than one direction is set, or else a script beside another
 -- number of texts than one, or else questions without a script
-abbrev pub IsSettingsFault : List Text → SettingsFault → Type 0
-IsSettingsFault words (Words error) = IsAmong (kind_of error) (fault_of program words)
-IsSettingsFault words Directions = (fault_of program words ≡ []) × (base_of (matches_of program words) ≡ None)
-IsSettingsFault words ScriptFiles =
+abbrev pub IsLineFault : List Text → LineFault → Type 0
+IsLineFault words (Words error) = IsAmong (kind_of error) (fault_of program words)
+IsLineFault words Directions = (fault_of program words ≡ []) × (base_of (matches_of program words) ≡ None)
+IsLineFault words ScriptFiles =
     (fault_of program words ≡ []) × (is_some (base_of (matches_of program words)) ≡ true) × (script_fits (matches_of program words) ≡ false)
-IsSettingsFault words Queries =
+IsLineFault words Queries =
     (fault_of program words ≡ []) × (is_some (base_of (matches_of program words)) ≡ true) × (script_fits (matches_of program words) ≡ true)
     × (queries_fit (matches_of program words) ≡ false)
-IsSettingsFault words NoMemory = Unit {0}
+IsLineFault words NoMemory = Unit {0}
 
 -- want of memory hides nothing that is wrong with words that `clap` takes
-abbrev pub HidesNothing : List Row → SettingsFault → Type 0
+abbrev pub HidesNothing : List Row → LineFault → Type 0
 HidesNothing rows NoMemory = (is_some (base_of rows) ≡ true) × (script_fits rows ≡ true) × (queries_fit rows ≡ true)
 HidesNothing rows fault = Unit {0}

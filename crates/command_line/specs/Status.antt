@@ -3,8 +3,8 @@ use Rattle.std.specs.Prelude.{Bool, true, false, ℕ}
 use Rattle.clap.specs.Words.{kind_of}
 use Rattle.clap.specs.declared.error.kind.ErrorKind.{ErrorKind}
 use Rattle.clap.specs.declared.error.kind.ErrorKind.TheVariants.{DisplayHelp, DisplayVersion, MissingRequiredArgument}
-use Rattle.command_line.specs.declared.options.SettingsFault.{SettingsFault}
-use Rattle.command_line.specs.declared.options.SettingsFault.TheVariants.{Words, NoMemory}
+use Rattle.command_line.specs.declared.options.LineFault.{LineFault}
+use Rattle.command_line.specs.declared.options.LineFault.TheVariants.{Words, NoMemory}
 
 -- help and the version are no faults
 abbrev pub status_of_words : ErrorKind → ℕ
@@ -12,7 +12,7 @@ status_of_words DisplayHelp = 0
 status_of_words DisplayVersion = 0
 status_of_words kind = 2
 
-abbrev pub status_of_line : SettingsFault → ℕ
+abbrev pub status_of_line : LineFault → ℕ
 status_of_line (Words error) = status_of_words (kind_of error)
 status_of_line NoMemory = 1
 status_of_line fault = 2
@@ -22,6 +22,6 @@ abbrev pub is_missing : ErrorKind → Bool
 is_missing MissingRequiredArgument = true
 is_missing kind = false
 
-abbrev pub lacks_folder : SettingsFault → Bool
+abbrev pub lacks_folder : LineFault → Bool
 lacks_folder (Words error) = is_missing (kind_of error)
 lacks_folder fault = false

@@ -1,7 +1,8 @@
-//! The words of the command line, read with `clap`: what they ask for, and why they are refused.
+//! The arguments of the command, read with `clap`: what they ask for, and why they are refused.
 //!
-//! `settings` is what the words hold, once nothing is wrong with them; a `SettingsFault` has the exit status
-//! and shows as its message, help and the version among them. The program asks so:
+//! `settings` returns what the arguments ask for, in two steps that can be called alone: `parse` and
+//! `settings_of`. A `LineFault` has the exit status and displays as its message; help and the version are
+//! among them. The program asks so:
 //!
 //! ```rust
 //! match settings(rt.alloc(), words) {
@@ -16,5 +17,5 @@ mod options;
 mod version;
 mod words;
 
-pub use options::{Settings, SettingsFault};
-pub use words::settings;
+pub use options::{LineFault, Settings};
+pub use words::{parse, settings, settings_of};

@@ -26,7 +26,7 @@ pub struct Settings<'a> {
 
 /// Why a command line is refused.
 #[derive(Debug, Drop, Error)]
-pub enum SettingsFault {
+pub enum LineFault {
     /// The words are no use of the program, or ask for help or for the version, which is the error's text.
     #[error("{0}")]
     Words(clap::Error),
@@ -40,7 +40,7 @@ pub enum SettingsFault {
     NoMemory,
 }
 
-impl SettingsFault {
+impl LineFault {
     ghost use Rattle.command_line.specs.Status.{lacks_folder, status_of_line};
 
     /// The exit status: 0 for help and for the version, 1 where memory ran out, and else 2.
@@ -48,11 +48,11 @@ impl SettingsFault {
         ensures { result ≡ status_of_line self.now }
     {
         match self {
-            SettingsFault::Words(error) => { if error.use_stderr() { 2 } else { 0 } }
-            SettingsFault::NoMemory => 1,
-            SettingsFault::Directions => 2,
-            SettingsFault::ScriptFiles => 2,
-            SettingsFault::Queries => 2,
+            LineFault::Words(error) => { if error.use_stderr() { 2 } else { 0 } }
+            LineFault::NoMemory => 1,
+            LineFault::Directions => 2,
+            LineFault::ScriptFiles => 2,
+            LineFault::Queries => 2,
         }
     }
 
@@ -61,7 +61,7 @@ impl SettingsFault {
         ensures { result ≡ lacks_folder self.now }
     {
         match self {
-            SettingsFault::Words(error) => error.kind() == ErrorKind::MissingRequiredArgument,
+            LineFault::Words(error) => error.kind() == ErrorKind::MissingRequiredArgument,
             _ => false,
         }
     }

@@ -5,11 +5,11 @@ ghost use Rattle.clap.specs.Words.{Text, app_of, found_of, rows_of, rule_of, wit
 ghost use Rattle.clap.specs.Takes.{is_given};
 ghost use Rattle.command_line.specs.CommandLine.{program, ucd_rule, width_rule, script_rule};
 ghost use Rattle.command_line.specs.CommandLine.{files_rule, flag_rule};
-ghost use Rattle.command_line.specs.CommandLine.{AreMatches, AreSettings, HidesNothing, IsSettingsFault};
+ghost use Rattle.command_line.specs.CommandLine.{AreMatches, AreSettings, HidesNothing, IsLineFault};
 ghost use Rattle.command_line.specs.CommandLine.{base_by, base_of, fits_queries, fits_script};
 ghost use Rattle.command_line.specs.CommandLine.{layout_rules, print_rules};
 
-use crate::options::{Settings, SettingsFault};
+use crate::options::{LineFault, Settings};
 use crate::version::VERSION;
 use bidi::Base;
 use clap::error::ErrorKind;
@@ -229,39 +229,45 @@ fn fits_queries(queries: bool, script: Option<&str>) -> bool
     !queries || script.is_some()
 }
 
-// The matches of the words.
-fn parse<'a>(alloc: Global, words: &'a [&'a str]) -> Result<ArgMatches<'a>, SettingsFault>
+/// Parses the arguments after the program's name with `clap`.
+///
+/// Fails with `Words` if `clap` refuses them or is asked for help or the version, and with `NoMemory` if
+/// `clap` runs out of memory before it knows.
+pub fn parse<'a>(alloc: Global, words: &'a [&'a str]) -> Result<ArgMatches<'a>, LineFault>
     ensures ok { IfOk result (AreMatches (map (λ word. word.now) words.entry.now)) }
-    ensures err { IfErr result (IsSettingsFault (map (λ word. word.now) words.entry.now)) }
+    ensures err { IfErr result (IsLineFault (map (λ word. word.now) words.entry.now)) }
 {
     let Ok(command) = command(alloc) else {
-        return Err(SettingsFault::NoMemory);
+        return Err(LineFault::NoMemory);
     };
     match command.try_get_matches_from(words) {
         Ok(matches) => Ok(matches),
-        Err(error) if error.kind() == ErrorKind::OutOfMemory => Err(SettingsFault::NoMemory),
-        Err(error) => Err(SettingsFault::Words(error)),
+        Err(error) if error.kind() == ErrorKind::OutOfMemory => Err(LineFault::NoMemory),
+        Err(error) => Err(LineFault::Words(error)),
     }
 }
 
-/// Reads the words after the program's name.
-pub fn settings<'a>(alloc: Global, words: &'a [&'a str]) -> Result<Settings<'a>, SettingsFault>
+/// Reads the arguments after the program's name: [`parse`], and then [`settings_of`].
+pub fn settings<'a>(alloc: Global, words: &'a [&'a str]) -> Result<Settings<'a>, LineFault>
     ensures ok { IfOk result (AreSettings (map (λ word. word.now) words.entry.now)) }
-    ensures err { IfErr result (IsSettingsFault (map (λ word. word.now) words.entry.now)) }
+    ensures err { IfErr result (IsLineFault (map (λ word. word.now) words.entry.now)) }
 {
     let matches = parse(alloc, words)?;
     settings_of(alloc, &matches)
 }
 
-// What words ask for that have these matches.
-fn settings_of<'a>(alloc: Global, matches: &ArgMatches<'a>) -> Result<Settings<'a>, SettingsFault>
+/// The settings that parsed arguments ask for.
+///
+/// Fails with the first of `Directions`, `ScriptFiles` and `Queries` that applies, and with `NoMemory` only
+/// if none of them does.
+pub fn settings_of<'a>(alloc: Global, matches: &ArgMatches<'a>) -> Result<Settings<'a>, LineFault>
     requires { (words : List Text) × AreMatches words matches.now }
     ensures ok { (words : List Text) → AreMatches words matches.now → IfOk result (AreSettings words) }
-    ensures err { (words : List Text) → AreMatches words matches.now → IfErr result (IsSettingsFault words) }
+    ensures err { (words : List Text) → AreMatches words matches.now → IfErr result (IsLineFault words) }
     ensures memory { IfErr result (HidesNothing (rows_of (found_of matches.now))) }
 {
     let Some(options) = options_of(matches) else {
-        return Err(SettingsFault::Directions);
+        return Err(LineFault::Directions);
     };
     let Some(ucd) = matches.get_str("ucd") else {
         unreachable!()
@@ -272,14 +278,14 @@ fn settings_of<'a>(alloc: Global, matches: &ArgMatches<'a>) -> Result<Settings<'
     let texts = matches.get_strs("files").unwrap_or(&[]);
     let script = matches.get_str("script");
     if !fits_script(script, texts.len()) {
-        return Err(SettingsFault::ScriptFiles);
+        return Err(LineFault::ScriptFiles);
     }
     let queries = is_set(matches, "queries");
     if !fits_queries(queries, script) {
-        return Err(SettingsFault::Queries);
+        return Err(LineFault::Queries);
     }
     let Ok(files) = Vec::from_slice(alloc, texts) else {
-        return Err(SettingsFault::NoMemory);
+        return Err(LineFault::NoMemory);
     };
     Ok(Settings {
         ucd,
@@ -318,21 +324,21 @@ fn options_of(matches: &ArgMatches<'_>) -> Option<Options>
 
 // What is printed of lines: all that the options without a value take away or add.
 fn print_of(matches: &ArgMatches<'_>) -> Print
-    ensures visual { result.visual ≡ not (is_given (codes "novisual") (rows_of (found_of matches.now))) }
+    ensures novisual { result.novisual ≡ is_given (codes "novisual") (rows_of (found_of matches.now)) }
     ensures basedir { result.basedir ≡ is_given (codes "basedir") (rows_of (found_of matches.now)) }
     ensures ltov { result.ltov ≡ is_given (codes "ltov") (rows_of (found_of matches.now)) }
     ensures vtol { result.vtol ≡ is_given (codes "vtol") (rows_of (found_of matches.now)) }
     ensures levels { result.levels ≡ is_given (codes "levels") (rows_of (found_of matches.now)) }
-    ensures padded { result.padded ≡ not (is_given (codes "nopad") (rows_of (found_of matches.now))) }
-    ensures mirrored { result.mirrored ≡ not (is_given (codes "nomirror") (rows_of (found_of matches.now))) }
+    ensures nopad { result.nopad ≡ is_given (codes "nopad") (rows_of (found_of matches.now)) }
+    ensures nomirror { result.nomirror ≡ is_given (codes "nomirror") (rows_of (found_of matches.now)) }
 {
     Print {
-        visual: !is_set(matches, "novisual"),
+        novisual: is_set(matches, "novisual"),
         basedir: is_set(matches, "basedir"),
         ltov: is_set(matches, "ltov"),
         vtol: is_set(matches, "vtol"),
         levels: is_set(matches, "levels"),
-        padded: !is_set(matches, "nopad"),
-        mirrored: !is_set(matches, "nomirror"),
+        nopad: is_set(matches, "nopad"),
+        nomirror: is_set(matches, "nomirror"),
     }
 }

@@ -7,9 +7,9 @@
 //! - `conformance levels-of UCD DIRECTION` prints the levels of each before L1.
 //! - `conformance starts-of UCD WIDTH` prints where the lines of each start, filled again at a width.
 //!
-//! Without words it says this. The first two are for Unicode's conformance tests (`tests/conformance/run`); the
-//! others call what the command calls nowhere, so that `tests/resources/run` sees what these calls take. Marks and
-//! levels are told by a copy of the tables, for the same reason.
+//! Without words it says this. The first two are for Unicode's conformance tests (`tests/conformance/run`);
+//! the others call what the command calls nowhere, so that `tests/resources/run` sees what these calls take.
+//! Marks and levels are told by a copy of the tables, for the same reason.
 #![tactic(auto)]
 
 ghost use Rattle.std.specs.Prelude.{◌<◌, IfOk};
@@ -18,7 +18,7 @@ ghost use Rattle.lines.specs.Layouts.{IsLaidOut};
 
 use anyhow::{Result, bail};
 use bidi::{Base, resolve};
-use breaks::{Mark, Tailoring, marks};
+use breaks::{Mark, marks};
 use lines::{Engine, Laid, Options, PARAGRAPH_LIMIT};
 use std::alloc::Global;
 use std::io::{BufRead, BufReader, BufWriter, Write};
@@ -140,10 +140,7 @@ fn write_marks<W: Write>(
     text: &[char],
     output: &mut W,
 ) -> Result<()> {
-    let tailoring = Tailoring {
-        whole_numbers: true,
-    };
-    for mark in &marks(alloc, tables, text, tailoring)? {
+    for mark in &marks(alloc, tables, text, true)? {
         write!(output, "{}", sign(*mark))?;
     }
     Ok(writeln!(output)?)

@@ -5,7 +5,7 @@ ghost use Rattle.std.specs.Prelude.{◌<◌};
 
 mod installed;
 
-use command_line::{Settings, SettingsFault, settings};
+use command_line::{LineFault, Settings, settings};
 use device::{FromRead, ToWrite};
 use installed::{installed_folder, with_folder};
 use lines::Engine;
@@ -17,7 +17,7 @@ use std::process::ExitCode;
 use std::{env, fs, io};
 use store::TreeStore;
 use text_run::{RunFault, run_text};
-use tool::{ProgramFault, ScriptOptions, open_text, run_script};
+use tool::{ProgramFault, ScriptOptions, open_text, run_script_in};
 use ucd::{FILE_NAMES, Tables, UcdFiles};
 
 fn main(rt: HostRuntime) -> ExitCode {
@@ -37,7 +37,7 @@ fn main(rt: HostRuntime) -> ExitCode {
 // Help and the version go to standard output, and each other message to standard error.
 fn report(rt: &HostRuntime, fault: &ProgramFault) -> io::Result<()> {
     match fault {
-        ProgramFault::Line(SettingsFault::Words(error)) => error.print(rt),
+        ProgramFault::Line(LineFault::Words(error)) => error.print(rt),
         _ => eprintln!(rt; "{fault}"),
     }
 }
@@ -45,7 +45,7 @@ fn report(rt: &HostRuntime, fault: &ProgramFault) -> io::Result<()> {
 fn run(rt: &HostRuntime) -> Result<(), ProgramFault> {
     let words = words(rt).map_err(word_fault)?;
     let Ok(words) = texts(rt.alloc(), &words) else {
-        return Err(ProgramFault::Line(SettingsFault::NoMemory));
+        return Err(ProgramFault::Line(LineFault::NoMemory));
     };
     run_words(rt, &words)
 }
@@ -61,11 +61,7 @@ fn run_words(rt: &HostRuntime, words: &[&str]) -> Result<(), ProgramFault> {
 }
 
 // Words that name no folder ask for what they ask for with the installed one before them, where there is one.
-fn run_installed(
-    rt: &HostRuntime,
-    words: &[&str],
-    fault: SettingsFault,
-) -> Result<(), ProgramFault> {
+fn run_installed(rt: &HostRuntime, words: &[&str], fault: LineFault) -> Result<(), ProgramFault> {
     match installed_folder(rt)? {
         Some(folder) => run_over(rt, folder.as_str(), words),
         None => Err(ProgramFault::Line(fault)),
@@ -74,7 +70,7 @@ fn run_installed(
 
 fn run_over(rt: &HostRuntime, folder: &str, words: &[&str]) -> Result<(), ProgramFault> {
     let Ok(words) = with_folder(rt.alloc(), folder, words) else {
-        return Err(ProgramFault::Line(SettingsFault::NoMemory));
+        return Err(ProgramFault::Line(LineFault::NoMemory));
     };
     let settings = settings(rt.alloc(), &words).map_err(ProgramFault::Line)?;
     run_settings(rt, &settings)
@@ -102,7 +98,7 @@ fn words(rt: &HostRuntime) -> io::Result<Vec<String>> {
 // Words that are no text can't be read.
 fn word_fault(error: io::Error) -> ProgramFault {
     if error.kind() == ErrorKind::OutOfMemory {
-        ProgramFault::Line(SettingsFault::NoMemory)
+        ProgramFault::Line(LineFault::NoMemory)
     } else {
         ProgramFault::Run(RunFault::Read)
     }
@@ -253,7 +249,7 @@ fn obey_file(
 // The bytes of the text that a script begins with.
 fn script_text(rt: &HostRuntime, path: Option<&str>) -> Result<Vec<u8>, ProgramFault> {
     let Some(path) = path else {
-        return Err(ProgramFault::Line(SettingsFault::ScriptFiles));
+        return Err(ProgramFault::Line(LineFault::ScriptFiles));
     };
     match fs::read(rt, path) {
         Ok(bytes) => Ok(bytes),
@@ -273,7 +269,7 @@ fn obey_lines(
 ) -> Result<(), ProgramFault> {
     let mut session = session;
     let mut reader = FromRead::new(script);
-    run_script(alloc, &mut reader, output, &mut session, options).map_err(ProgramFault::Run)
+    run_script_in(alloc, &mut reader, output, &mut session, options).map_err(ProgramFault::Run)
 }
 
 // What the run of the script goes by.

@@ -1,5 +1,5 @@
 -- What the bits of options and of print flags mean.
-use Rattle.std.specs.Prelude.{ℕ, ◌/◌, ◌%◌, ◌==◌, nat_lt, Bool, false, true, Option, Some, None, if◌then◌else◌}
+use Rattle.std.specs.Prelude.{not, ℕ, ◌/◌, ◌%◌, ◌==◌, nat_lt, Bool, false, true, Option, Some, None, if◌then◌else◌}
 use Rattle.bidi.specs.declared.base.Base.{Base}
 use Rattle.bidi.specs.declared.base.Base.TheVariants.{Rtl, Ltr, WeakRtl, WeakLtr}
 use Rattle.lines.specs.declared.options.Options.{Options}
@@ -35,11 +35,11 @@ options_of bits =
 abbrev pub print_of : ℕ → Option Print
 print_of bits =
     if nat_lt bits 128 then Some (record {
-      visual = has_bit bits 1;
+      novisual = not (has_bit bits 1);
       basedir = has_bit bits 2;
       ltov = has_bit bits 4;
       vtol = has_bit bits 8;
       levels = has_bit bits 16;
-      padded = has_bit bits 32;
-      mirrored = has_bit bits 64;
+      nopad = not (has_bit bits 32);
+      nomirror = not (has_bit bits 64);
     }) else None

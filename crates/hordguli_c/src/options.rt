@@ -76,13 +76,13 @@ pub fn print_of(bits: u32) -> Option<Print>
 {
     if bits < 128 {
         Some(Print {
-            visual: has_bit(bits, 1),
+            novisual: !has_bit(bits, 1),
             basedir: has_bit(bits, 2),
             ltov: has_bit(bits, 4),
             vtol: has_bit(bits, 8),
             levels: has_bit(bits, 16),
-            padded: has_bit(bits, 32),
-            mirrored: has_bit(bits, 64),
+            nopad: !has_bit(bits, 32),
+            nomirror: !has_bit(bits, 64),
         })
     } else {
         None

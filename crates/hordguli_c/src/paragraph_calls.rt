@@ -9,7 +9,7 @@ use crate::options::{direction_of, tailoring_of};
 use crate::status::{CLOSED, NO_MEMORY, NO_ROOM, NOT_A_CHARACTER, OK, UNKNOWN_OPTION};
 use crate::tables_handle::TablesHandle;
 use bidi::{Base, base_level, resolve};
-use breaks::{Tailoring, marks};
+use breaks::marks;
 use std::alloc::{AllocError, Global};
 use ucd::Tables;
 
@@ -134,7 +134,7 @@ fn find_marks(
         Ok(None) => return NOT_A_CHARACTER,
         Err(_) => return NO_MEMORY,
     };
-    match marks(alloc, tables, &text, Tailoring { whole_numbers }) {
+    match marks(alloc, tables, &text, whole_numbers) {
         Ok(found) => {
             put_marks(&found, array);
             OK

@@ -1,6 +1,6 @@
 //! The levels of a paragraph and its direction, by the numbers of its types and brackets.
 ghost use Rattle.std.specs.Prelude.{◌≡◌, ◌≢◌, ◌+◌, ◌-◌, ◌<◌, suc, if◌then◌else◌, length, map, replicate};
-ghost use Rattle.std.specs.Prelude.{IfOk, OnOk};
+ghost use Rattle.std.specs.Prelude.{IfOk, OnErr, OnOk};
 ghost use Rattle.bidi.specs.Base.{first_strong_level, strong_level};
 ghost use Rattle.bidi.specs.BracketTypes.{bracket_types};
 ghost use Rattle.bidi.specs.declared.bracket_type.BracketType.TheVariants.{Other};
@@ -18,14 +18,22 @@ use std::alloc::{AllocError, Global};
 use ucd::BidiClass;
 
 fn classes_of(alloc: Global, types: &[u32]) -> Result<Vec<BidiClass>, AllocError>
-    ensures { IfOk result (λ classes. classes.items ≡ map class_of types.now) }
+    ensures classes { IfOk result (λ classes. classes.items ≡ map class_of types.now) }
+    ensures memory { OnErr result (0 < length types.now) }
 {
+    if types.is_empty() {
+        return Ok(Vec::new(alloc));
+    }
     types.iter().map(|number| class_of(*number)).collect(alloc)
 }
 
 fn brackets_by(alloc: Global, numbers: &[u32]) -> Result<Vec<BracketType>, AllocError>
-    ensures { IfOk result (λ brackets. brackets.items ≡ bracket_types bracket_by numbers.now) }
+    ensures brackets { IfOk result (λ brackets. brackets.items ≡ bracket_types bracket_by numbers.now) }
+    ensures memory { OnErr result (0 < length numbers.now) }
 {
+    if numbers.is_empty() {
+        return Ok(Vec::new(alloc));
+    }
     numbers
         .iter()
         .map(|number| bracket_of(*number))
@@ -34,7 +42,8 @@ fn brackets_by(alloc: Global, numbers: &[u32]) -> Result<Vec<BracketType>, Alloc
 
 // No brackets.
 fn no_brackets(alloc: Global, len: usize) -> Result<Vec<BracketType>, AllocError>
-    ensures { IfOk result (λ brackets. brackets.items ≡ replicate len Other) }
+    ensures brackets { IfOk result (λ brackets. brackets.items ≡ replicate len Other) }
+    ensures memory { OnErr result (0 < len) }
 {
     let mut brackets = Vec::new(alloc);
     brackets.resize(len, BracketType::Other)?;
@@ -47,6 +56,7 @@ fn brackets_of(alloc: Global, len: usize, numbers: &[u32]) -> Result<Vec<Bracket
     ensures brackets { IfOk result (λ brackets. brackets.items
         ≡ bracket_types bracket_by (brackets_of len numbers.now)) }
     ensures len { IfOk result (λ brackets. length brackets.items ≡ len) }
+    ensures memory { OnErr result (0 < len) }
 {
     if numbers.len() == len {
         brackets_by(alloc, numbers)
@@ -66,6 +76,7 @@ fn find_levels(
     ensures base { IfOk result (λ base. base ≡ base_in types.now asked) }
     ensures levels { OnOk result (levels.new.items ≡ levels_before types.now brackets.now asked) }
     ensures len { OnOk result (length levels.new.items ≡ length types.now) }
+    ensures memory { OnErr result (0 < length types.now) }
 {
     let classes = classes_of(alloc, types)?;
     let brackets = brackets_of(alloc, types.len(), brackets)?;
@@ -92,8 +103,10 @@ fn put_levels(types: &[u32], base: u8, found: &[u8], levels: &mut [u8])
     reset_levels(types, base, levels);
 }
 
-/// The levels of a paragraph, its direction where one was asked for, and its greatest level and one. After
-/// want of memory, and where an array has another length, the answer is 0 and nothing has changed.
+/// Writes the levels of a paragraph after L1, and its direction. Returns its greatest level plus one.
+///
+/// Returns 0, and changes nothing, if the arrays differ in length, or if an allocation fails. An empty list
+/// allocates nothing.
 #[unsafe(no_mangle)]
 pub extern "C" fn hordguli_fribidi_core_levels(
     alloc: Global,
@@ -103,6 +116,8 @@ pub extern "C" fn hordguli_fribidi_core_levels(
     levels: &mut [u8],
 ) -> u32
     ensures none { result ≡ 0 → (direction.new ≡ direction.old) × (levels.new ≡ levels.old) }
+    ensures differ { length levels.old ≢ length types.now → result ≡ 0 }
+    ensures memory { length levels.old ≡ length types.now → result ≡ 0 → 0 < length types.now }
     ensures some { result ≢ 0
         → AreLevels types.now brackets.now direction.old result direction.new levels.new }
 {

@@ -7,7 +7,6 @@ ghost use Rattle.hordguli_fribidi.specs.Types.{class_of};
 
 use crate::order::{arrange, highest_and_lowest_odd};
 use crate::spaces::reset_levels;
-use std::alloc::Global;
 
 fn asks_marks(flags: u32) -> bool
     ensures { result ≡ asks_marks flags }
@@ -41,13 +40,14 @@ fn arrange_if(
     }
 }
 
-/// Reorders a line: its levels after L1, and the items of a string and of a map at its places, each of which
-/// may be missing. The arrays are those of the paragraph up to the line's end. The answer is the line's
-/// greatest level and one; where an array that is needed has another length it is 0, and nothing has changed.
-/// Nothing is allocated.
+/// Reorders a line in place: its levels after L1, and the items of a string and of a map at its positions,
+/// each of which may be missing. The arrays are those of the paragraph up to the line's end. Returns the
+/// line's greatest level plus one.
+///
+/// Returns 0, and changes nothing, exactly if `levels` and `types` differ in length, or `off` is past their
+/// end.
 #[unsafe(no_mangle)]
 pub extern "C" fn hordguli_fribidi_core_reorder(
-    _alloc: Global,
     flags: u32,
     types: &[u32],
     off: usize,
@@ -58,6 +58,9 @@ pub extern "C" fn hordguli_fribidi_core_reorder(
 ) -> u32
     ensures none { result ≡ 0 → (levels.new ≡ levels.old) × (string.new ≡ string.old)
         × (map.new ≡ map.old) }
+    ensures fit { length levels.old ≡ length types.now → off ≤ length types.now → result ≢ 0 }
+    ensures differ { length levels.old ≢ length types.now → result ≡ 0 }
+    ensures past { length types.now < off → result ≡ 0 }
     ensures some { result ≢ 0 → IsReordered flags types.now off direction levels.old result levels.new
         string.old string.new map.old map.new }
 {

@@ -101,3 +101,11 @@ length_ends_after before (c ∷ text) = ap suc (length_ends_after (c ∷ before)
 pub length-cluster_ends : (text : List ℕ) → length (cluster_ends text) ≡ length text
 unfolding cluster_ends
 length-cluster_ends text = length_ends_after [] text
+
+-- a text without characters has no ends
+pub no_ends : (text : List ℕ) → length text ≡ 0 → cluster_ends text ≡ []
+no_ends text none = empty (cluster_ends text) (length-cluster_ends text ∙ none)
+  where
+    empty : (ends : List Bool) → length ends ≡ 0 → ends ≡ []
+    empty [] none = refl
+    empty (e ∷ ends) none = absurd (omega arith)

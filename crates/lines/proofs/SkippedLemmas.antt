@@ -22,13 +22,13 @@ use Rattle.lines.proofs.ClusterLemmas.{length-cluster_ends}
 
 -- ---- the bytes of a line
 
-direction_alone : (a b c d : Bool) (xs ys zs us vs : List ℕ) → (not a && (not b && (not c && not d))) ≡ true
-    → (if a then xs else []) ++ ys ++ (if b then zs else []) ++ (if c then us else []) ++ (if d then vs else []) ≡ ys
-direction_alone true b c d xs ys zs us vs skips = cc
-direction_alone false true c d xs ys zs us vs skips = cc
-direction_alone false false true d xs ys zs us vs skips = cc
-direction_alone false false false true xs ys zs us vs skips = cc
-direction_alone false false false false xs ys zs us vs skips = append-nil ((ys ++ []) ++ []) ∙ append-nil (ys ++ []) ∙ append-nil ys
+direction_alone : (a b c d : Bool) (xs ys zs us vs : List ℕ) → (a && (not b && (not c && not d))) ≡ true
+    → (if a then [] else xs) ++ ys ++ (if b then zs else []) ++ (if c then us else []) ++ (if d then vs else []) ≡ ys
+direction_alone false b c d xs ys zs us vs skips = cc
+direction_alone true true c d xs ys zs us vs skips = cc
+direction_alone true false true d xs ys zs us vs skips = cc
+direction_alone true false false true xs ys zs us vs skips = cc
+direction_alone true false false false xs ys zs us vs skips = append-nil ((ys ++ []) ++ []) ∙ append-nil (ys ++ []) ∙ append-nil ys
 
 on_first : (asked : Bool) (xs : List ℕ) → (if asked && true then xs else []) ≡ (if asked then xs else [])
 on_first true xs = refl
@@ -41,7 +41,7 @@ on_others false xs = refl
 module _ (width : ℕ) (print : Print) (skips : skips_lines print ≡ true) where
   line_is : (visual : Visual) → line_bytes width print visual ≡ (if print.basedir && visual.is_first then direction_line visual.base else [])
   line_is visual =
-      direction_alone print.visual print.ltov print.vtol print.levels (visual_line width print visual)
+      direction_alone print.novisual print.ltov print.vtol print.levels (visual_line width print visual)
       (if print.basedir && visual.is_first then direction_line visual.base else [])
       (numbers_line visual.ltov) (numbers_line visual.vtol) (numbers_line visual.levels) skips
 

@@ -244,19 +244,19 @@ shown_is t text marks ends len size is =
     length-take-le (length all - suffix_len (λ (p : Place). p.is_trailing) all) all (omega arith) ∙ omega (arith, tail, is.within, size) in
     sym (ap (λ (ps : List Place). length (shown ps)) (whole_range all (length text) (sym size)) ∙ whole)
 
-unseen : (width : ℕ) (print : Print) (a b : Visual) → print.visual ≡ false → a.is_first ≡ b.is_first → a.base ≡ b.base → a.ltov ≡ b.ltov → a.vtol ≡ b.vtol
+unseen : (width : ℕ) (print : Print) (a b : Visual) → print.novisual ≡ true → a.is_first ≡ b.is_first → a.base ≡ b.base → a.ltov ≡ b.ltov → a.vtol ≡ b.vtol
     → a.levels ≡ b.levels → line_bytes width print a ≡ line_bytes width print b
 unseen width print a b off first base ltov vtol levels =
     ap₂ ◌++◌
     (ap₂ ◌++◌
     (ap₂ ◌++◌
-    (ap₂ ◌++◌ (cond-false print.visual (visual_line width print a) [] off ∙ sym (cond-false print.visual (visual_line width print b) [] off))
+    (ap₂ ◌++◌ (cond-true print.novisual [] (visual_line width print a) off ∙ sym (cond-true print.novisual [] (visual_line width print b) off))
     (ap₂ (λ (f : Bool) (x : ℕ). if print.basedir && f then direction_line x else []) first base))
     (ap (λ (xs : List ℕ). if print.ltov then numbers_line xs else []) ltov))
     (ap (λ (xs : List ℕ). if print.vtol then numbers_line xs else []) vtol))
     (ap (λ (xs : List ℕ). if print.levels then numbers_line xs else []) levels)
 
-pub whole_bytes : (t : Tables) (options : Options) (base width : ℕ) (print : Print) (text levels : List ℕ) (len : ℕ) → print.visual ≡ false → options.nobreak ≡ true
+pub whole_bytes : (t : Tables) (options : Options) (base width : ℕ) (print : Print) (text levels : List ℕ) (len : ℕ) → print.novisual ≡ true → options.nobreak ≡ true
     → 0 < length text → length levels ≡ length text → length (marks_of t options.whole_numbers text) ≡ length text → IsWhole t text → IsShownLen t text len
     → line_bytes width print (visual_shown t options base true text levels (record { len = len; columns = 0 }))
     ≡ lines_bytes width print base text (lines_from t options base text levels (places_of t options.whole_numbers text)

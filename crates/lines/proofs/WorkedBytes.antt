@@ -21,10 +21,10 @@ hebrew = record {
 }
 
 abbrev plain : Print
-plain = record { visual = true; basedir = false; ltov = false; vtol = false; levels = false; padded = true; mirrored = true }
+plain = record { novisual = false; basedir = false; ltov = false; vtol = false; levels = false; nopad = false; nomirror = false }
 
 abbrev all : Print
-all = record { visual = true; basedir = true; ltov = true; vtol = true; levels = true; padded = false; mirrored = true }
+all = record { novisual = false; basedir = true; ltov = true; vtol = true; levels = true; nopad = true; nomirror = false }
 
 all_lines : line_bytes 80 all hebrew ≡ codes "12 " ++ (0xD7 ∷ 0x90 ∷ []) ++ codes "\nRTL\n3 2 0 1\n2 3 1 0\n1 1 2 2\n"
 unfolding encode_utf8 digits
@@ -41,13 +41,13 @@ unfolding encode_utf8
 too_narrow = refl
 
 -- no padding from left to right, and another direction
-left_to_right : line_bytes 80 (record all { padded = true }) (record hebrew { base = 0 })
+left_to_right : line_bytes 80 (record all { nopad = false }) (record hebrew { base = 0 })
     ≡ codes "12 " ++ (0xD7 ∷ 0x90 ∷ []) ++ codes "\nLTR\n3 2 0 1\n2 3 1 0\n1 1 2 2\n"
 unfolding encode_utf8 digits
 left_to_right = refl
 
 -- the direction on the first line only
-later : line_bytes 80 (record plain { visual = false; basedir = true; vtol = true }) (record hebrew { is_first = false }) ≡ codes "2 3 1 0\n"
+later : line_bytes 80 (record plain { novisual = true; basedir = true; vtol = true }) (record hebrew { is_first = false }) ≡ codes "2 3 1 0\n"
 unfolding digits
 later = refl
 
@@ -80,11 +80,11 @@ mirrored : line_bytes 1 plain brackets ≡ 40 ∷ 0xD7 ∷ 0x90 ∷ 41 ∷ 10 �
 unfolding encode_utf8
 mirrored = refl
 
-not_mirrored : line_bytes 1 (record plain { mirrored = false }) brackets ≡ 41 ∷ 0xD7 ∷ 0x90 ∷ 40 ∷ 10 ∷ []
+not_mirrored : line_bytes 1 (record plain { nomirror = true }) brackets ≡ 41 ∷ 0xD7 ∷ 0x90 ∷ 40 ∷ 10 ∷ []
 unfolding encode_utf8
 not_mirrored = refl
 
 -- a number of two digits, and nothing else
-long_number : line_bytes 80 (record plain { visual = false; levels = true }) (record blank { levels = 10 ∷ 0 ∷ 125 ∷ [] }) ≡ codes "10 0 125\n"
+long_number : line_bytes 80 (record plain { novisual = true; levels = true }) (record blank { levels = 10 ∷ 0 ∷ 125 ∷ [] }) ≡ codes "10 0 125\n"
 unfolding digits
 long_number = refl

@@ -35,4 +35,4 @@ module _ (tables : Tables) (options : Options) (base : ℕ) (is_first : Bool) (l
 
 -- a print in which places stand, or characters as they are
 abbrev pub asks_places : Print → Bool
-asks_places print = print.ltov || (print.vtol || (print.visual && not print.mirrored))
+asks_places print = print.ltov || (print.vtol || (not print.novisual && print.nomirror))

@@ -1,5 +1,5 @@
 -- What is printed of a line.
-use Rattle.std.specs.Prelude.{ℕ, ◌-◌, ◌&&◌, List, [], ◌++◌, codes, map, replicate, slice_index, encode_utf8_all, if◌then◌else◌}
+use Rattle.std.specs.Prelude.{ℕ, ◌-◌, ◌&&◌, not, List, [], ◌++◌, codes, map, replicate, slice_index, encode_utf8_all, if◌then◌else◌}
 use Rattle.std.specs.Fmt.{decimal}
 use Rattle.std.specs.List.{join_with_byte}
 use Rattle.lines.specs.Order.{is_odd}
@@ -17,18 +17,18 @@ numbers_line numbers = join_with_byte 32 (map decimal numbers) ++ codes "\n"
 -- the spaces before a line that is shorter than the width, where the paragraph is from right to left
 abbrev pub padding : ℕ → Print → Visual → List ℕ
 padding width print visual =
-    if is_odd visual.base && print.padded then replicate (width - visual.columns) 32 else []
+    if is_odd visual.base && not print.nopad then replicate (width - visual.columns) 32 else []
 
 -- the characters in visual order, mirrored or as they are
 abbrev pub shown_chars : Print → Visual → List ℕ
-shown_chars print visual = if print.mirrored then visual.chars else map (slice_index visual.text) visual.vtol
+shown_chars print visual = if print.nomirror then map (slice_index visual.text) visual.vtol else visual.chars
 
 abbrev pub visual_line : ℕ → Print → Visual → List ℕ
 visual_line width print visual = padding width print visual ++ encode_utf8_all (shown_chars print visual) ++ codes "\n"
 
 abbrev pub line_bytes : ℕ → Print → Visual → List ℕ
 line_bytes width print visual =
-    (if print.visual then visual_line width print visual else [])
+    (if print.novisual then [] else visual_line width print visual)
     ++ (if print.basedir && visual.is_first then direction_line visual.base else [])
     ++ (if print.ltov then numbers_line visual.ltov else [])
     ++ (if print.vtol then numbers_line visual.vtol else [])

@@ -7,7 +7,7 @@ use Rattle.lines.specs.declared.print.PrintFault.TheVariants.{Memory, Write}
 
 -- nothing is printed of a line but the direction
 abbrev pub skips_lines : Print → Bool
-skips_lines print = not print.visual && (not print.ltov && (not print.vtol && not print.levels))
+skips_lines print = print.novisual && (not print.ltov && (not print.vtol && not print.levels))
 
 -- where there is no memory nothing is written, and else the sink failed within these bytes
 abbrev pub FailedAs : PrintFault → List ℕ → Device → Device → Type 0

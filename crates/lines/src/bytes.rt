@@ -280,14 +280,14 @@ pub(crate) fn write_shown<W: Sink>(
 ) -> Result<u64, WriteFault>
     requires { done ≤ (W.state writer.old).passed }
     ensures ok { IfOk result (λ n.
-        PassedOn (if print.now.visual then visual_line width print.now line.now else []) done
+        PassedOn (if print.now.novisual then [] else visual_line width print.now line.now) done
         (W.state writer.old) (W.state writer.new) n) }
     ensures err { IfErr result (λ fault.
-        StoppedIn (if print.now.visual then visual_line width print.now line.now else []) done
+        StoppedIn (if print.now.novisual then [] else visual_line width print.now line.now) done
         (W.state writer.old) (W.state writer.new) fault.written) }
     ensures counted { IfOk result (λ n. n ≤ (W.state writer.new).passed) }
 {
-    if !print.visual {
+    if print.novisual {
         return Ok(done);
     }
     let padded = write_spaces(writer, done, padding(line, width, print))?;
@@ -311,10 +311,10 @@ fn write_shown_chars<W: Sink>(
         (W.state writer.old) (W.state writer.new) fault.written) }
     ensures counted { IfOk result (λ n. n ≤ (W.state writer.new).passed) }
 {
-    if print.mirrored {
-        write_chars(writer, done, line.chars)
-    } else {
+    if print.nomirror {
         write_places(writer, done, line.text, line.vtol)
+    } else {
+        write_chars(writer, done, line.chars)
     }
 }
 
@@ -322,7 +322,7 @@ fn write_shown_chars<W: Sink>(
 fn padding(line: &VisualLine<'_>, width: u16, print: &Print) -> usize
     ensures { replicate result 32 ≡ padding width print.now line.now }
 {
-    if line.base % 2 == 1 && print.padded {
+    if line.base % 2 == 1 && !print.nopad {
         (width as usize).saturating_sub(line.columns as usize)
     } else {
         0

@@ -1,6 +1,6 @@
 //! Where the grapheme clusters of a paragraph end (UAX #29), as the crate `unicode_segmentation` has
 //! them.
-ghost use Rattle.std.specs.Prelude.{◌≡◌, ◌++◌, length, IfOk, OnOk};
+ghost use Rattle.std.specs.Prelude.{◌≡◌, ◌<◌, ◌++◌, length, IfOk, OnErr, OnOk};
 ghost use Rattle.std.specs.List.{list_all};
 ghost use Rattle.lines.specs.Bare.{with_ends};
 ghost use Rattle.lines.specs.Clusters.{cluster_ends, ends_of, is_alone};
@@ -13,7 +13,11 @@ use unicode_segmentation::UnicodeSegmentation;
 pub fn cluster_ends(alloc: Global, text: &[char]) -> Result<Vec<bool>, AllocError>
     ensures ends { IfOk result (λ ends. ends.items ≡ cluster_ends text.now) }
     ensures len { IfOk result (λ ends. length ends.items ≡ length text.now) }
+    ensures memory { OnErr result (0 < length text.now) }
 {
+    if text.is_empty() {
+        return Ok(Vec::new(alloc));
+    }
     if are_alone(text) {
         return vec![in alloc; true; text.len()];
     }

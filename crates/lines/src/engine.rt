@@ -23,7 +23,7 @@ use crate::print::{Print, PrintFault};
 use crate::work::{LayoutLists, Parts, Workspace};
 use crate::writing::Form;
 use bidi::{base_level, first_cut, is_cut};
-use breaks::{Mark, Tailoring, marks_are_as_many};
+use breaks::{Mark, marks_are_as_many};
 use device::Sink;
 use std::alloc::{AllocError, Global};
 use std::marker::Model;
@@ -239,7 +239,7 @@ impl Engine {
     {
         if print.skips_lines() {
             let whole_numbers = self.options.whole_numbers;
-            marks_are_as_many(&self.tables, text, Tailoring { whole_numbers });
+            marks_are_as_many(&self.tables, text, whole_numbers);
             return self.write_base(text, print, writer);
         }
         self.write_lines(alloc, text, width, print, writer)

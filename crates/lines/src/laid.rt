@@ -1,6 +1,6 @@
 //! A paragraph that is laid out, and the lines that it has at another width.
-ghost use Rattle.std.specs.Prelude.{◌≡◌, ◌≤◌, ℕ, length, map, option_map, slice_get};
-ghost use Rattle.std.specs.Prelude.{IfErr, IfOk, IsTrue, OnOk};
+ghost use Rattle.std.specs.Prelude.{◌≡◌, ◌<◌, ◌≤◌, ℕ, length, map, option_map, slice_get};
+ghost use Rattle.std.specs.Prelude.{IfErr, IfOk, IsTrue, OnErr, OnOk};
 ghost use Rattle.device.specs.Device.{StoppedAt, Wrote};
 
 use crate::bytes::WriteFault;
@@ -233,6 +233,7 @@ impl Laid {
     ) -> Result<Vec<bool>, std::alloc::AllocError>
         ensures ends { IfOk result (λ ends. ends.items ≡ cluster_ends self.now.text) }
         ensures len { IfOk result (λ ends. length ends.items ≡ length self.now.text) }
+        ensures memory { OnErr result (0 < length self.now.text) }
     {
         crate::clusters::cluster_ends(alloc, &self.text)
     }

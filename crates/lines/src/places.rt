@@ -11,7 +11,7 @@ ghost use Rattle.lines.specs.BarePlaces.{bare_places};
 ghost use Rattle.lines.specs.Clusters.{cluster_ends};
 ghost use Rattle.lines.specs.Places.{columns_of, place, places_of};
 
-use breaks::{Mark, Tailoring, marks_are_as_many};
+use breaks::{Mark, marks_are_as_many};
 use std::alloc::AllocError;
 use ucd::{LineClass, Properties, Tables};
 use unicode_width::UnicodeWidthChar;
@@ -97,7 +97,7 @@ pub fn take_places(
         (with_ends places.new.items (cluster_ends text.now) ≡ places_of tables.now whole_numbers text.now) }
     ensures len { OnOk result (length places.new.items ≡ length text.now) }
 {
-    marks_are_as_many(tables, text, Tailoring { whole_numbers });
+    marks_are_as_many(tables, text, whole_numbers);
     places.resize(text.len(), NOTHING)?;
     put_places(tables, text, properties, marks, places);
     Ok(())

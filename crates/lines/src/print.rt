@@ -1,49 +1,48 @@
-//! Which lines are printed of each line of a paragraph, and how printing fails.
-ghost use Rattle.std.specs.Prelude.{◌≡◌, false, true};
+//! What is printed of each line of a paragraph, and how printing fails.
+ghost use Rattle.std.specs.Prelude.{◌≡◌, false};
 
 use crate::bytes::WriteFault;
 use thiserror::Error;
 
-/// What is printed of a line.
+/// What is printed of a line. The default, with no field set, is its visual form alone, padded and mirrored.
 #[derive(Clone, Copy, Debug, PartialEq, Eq)]
 pub struct Print {
-    /// The line itself, in visual order.
-    pub visual: bool,
-    /// `LTR` or `RTL`, by the base level, after the first line of each paragraph.
+    /// Omits the line in visual order.
+    pub novisual: bool,
+    /// Prints `LTR` or `RTL` after the first line of each paragraph.
     pub basedir: bool,
-    /// Of each logical position the visual one.
+    /// Prints the visual position of each logical position.
     pub ltov: bool,
-    /// Of each visual position the logical one.
+    /// Prints the logical position of each visual position.
     pub vtol: bool,
-    /// The level of each character.
+    /// Prints the level of each character.
     pub levels: bool,
-    /// Lines of paragraphs from right to left with spaces to the left of them, up to the width.
-    pub padded: bool,
-    /// Characters at odd levels as their mirrors, and not as they are.
-    pub mirrored: bool,
+    /// Prints no spaces to the left of lines of right-to-left paragraphs.
+    pub nopad: bool,
+    /// Prints characters at odd levels unchanged, not mirrored.
+    pub nomirror: bool,
 }
 
 impl Default for Print {
-    // What a command line prints that has none of these options: lines alone, padded and mirrored.
     ghost is_default = { λ print. print ≡ record {
-      visual = true;
+      novisual = false;
       basedir = false;
       ltov = false;
       vtol = false;
       levels = false;
-      padded = true;
-      mirrored = true;
+      nopad = false;
+      nomirror = false;
     } };
 
     fn default() -> Print {
         Print {
-            visual: true,
+            novisual: false,
             basedir: false,
             ltov: false,
             vtol: false,
             levels: false,
-            padded: true,
-            mirrored: true,
+            nopad: false,
+            nomirror: false,
         }
     }
 }
@@ -56,14 +55,14 @@ impl Print {
     pub(crate) fn skips_lines(&self) -> bool
         ensures { result ≡ skips_lines self.now }
     {
-        !self.visual && !self.ltov && !self.vtol && !self.levels
+        self.novisual && !self.ltov && !self.vtol && !self.levels
     }
 
     // Whether places are printed, or characters as they are, which are found by their places.
     pub(crate) fn asks_places(&self) -> bool
         ensures { result ≡ asks_places self.now }
     {
-        self.ltov || self.vtol || (self.visual && !self.mirrored)
+        self.ltov || self.vtol || (!self.novisual && self.nomirror)
     }
 }
 

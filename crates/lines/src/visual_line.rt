@@ -1,5 +1,5 @@
 //! One line of a paragraph as it is shown, which borrows from the paragraph.
-ghost use Rattle.std.specs.Prelude.{◌≡◌, ◌^◌, ◌<◌, ◌≤◌, true, length, slice_index, OnOk, IfOk, IfErr};
+ghost use Rattle.std.specs.Prelude.{◌≡◌, false, ◌^◌, ◌<◌, ◌≤◌, true, length, slice_index, OnOk, IfOk, IfErr};
 ghost use Rattle.device.specs.Device.{Wrote, StoppedAt};
 ghost use Rattle.bidi.specs.Runs.{AreWithin};
 ghost use Rattle.lines.specs.Bytes.{line_bytes, padding};
@@ -155,7 +155,7 @@ impl<'a> VisualLine<'a> {
     /// that it doesn't take, where the paragraph is from right to left.
     pub fn padding(&self, width: u16) -> u32
         ensures value { result ≡ padding_of width self.now }
-        ensures spaces { (print : Print) → print.padded ≡ true
+        ensures spaces { (print : Print) → print.nopad ≡ false
             → result ≡ length (padding width print self.now) }
     {
         if self.base % 2 == 1 {

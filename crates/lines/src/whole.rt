@@ -15,7 +15,7 @@ use crate::fill::Shown;
 use crate::paragraph::Text;
 use crate::places::is_trailing;
 use crate::writing::{Form, write_line};
-use breaks::{Tailoring, marks_are_as_many};
+use breaks::marks_are_as_many;
 use device::Sink;
 use ucd::LineClass;
 
@@ -83,7 +83,7 @@ pub(crate) fn write_whole<W: Sink>(
     requires some { 0 < length text.now.characters.now }
     requires whole { IsWhole text.now.rules.tables.now text.now.characters.now }
     requires nobreak { text.now.rules.options.nobreak ≡ true }
-    requires unseen { form.now.print.now.visual ≡ false }
+    requires unseen { form.now.print.now.novisual ≡ true }
     requires levels { length levels.now ≡ length text.now.characters.now }
     requires row { length text.now.characters.now ≤ length row.old }
     requires ltov { length text.now.characters.now ≤ length ltov.old }
@@ -100,11 +100,7 @@ pub(crate) fn write_whole<W: Sink>(
 {
     written.raise(text.characters.len());
     let whole_numbers = text.rules.options.whole_numbers;
-    marks_are_as_many(
-        text.rules.tables,
-        text.characters,
-        Tailoring { whole_numbers },
-    );
+    marks_are_as_many(text.rules.tables, text.characters, whole_numbers);
     let shown = Shown {
         len: shown_len(text) as u32,
         columns: 0,

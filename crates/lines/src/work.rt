@@ -37,7 +37,7 @@ use crate::showing::{show_lines, take_shown};
 use crate::whole::{is_whole, write_whole};
 use crate::writing::{Form, write_each};
 use bidi::Resolver;
-use breaks::{Mark, Tailoring, marks_into};
+use breaks::{Mark, marks_into};
 use device::Sink;
 use std::alloc::{AllocError, Global};
 use ucd::{Properties, Tables};
@@ -393,22 +393,21 @@ fn take_marks(
 {
     reserve(marks, text.len())?;
     let whole_numbers = rules.options.whole_numbers;
-    let tailoring = Tailoring { whole_numbers };
-    marks_into(rules.tables, text, properties, tailoring, marks)
+    marks_into(rules.tables, text, properties, whole_numbers, marks)
 }
 
 // Whether a paragraph is one line of which no characters are printed.
 fn is_one_line(form: &Form<'_>, text: &Text<'_>) -> bool
     requires { IsLookedUp text.now }
     ensures nobreak { result ≡ true → text.now.rules.options.nobreak ≡ true }
-    ensures unseen { result ≡ true → form.now.print.now.visual ≡ false }
+    ensures unseen { result ≡ true → form.now.print.now.novisual ≡ true }
     ensures some { result ≡ true → 0 < length text.now.characters.now }
     ensures whole { result ≡ true → IsWhole text.now.rules.tables.now text.now.characters.now }
-    ensures no { result ≡ false → text.now.rules.options.nobreak ≡ true → form.now.print.now.visual ≡ false
+    ensures no { result ≡ false → text.now.rules.options.nobreak ≡ true → form.now.print.now.novisual ≡ true
         → 0 < length text.now.characters.now
         → ¬ (IsWhole text.now.rules.tables.now text.now.characters.now) }
 {
-    if !text.rules.options.nobreak || form.print.visual || text.characters.is_empty() {
+    if !text.rules.options.nobreak || !form.print.novisual || text.characters.is_empty() {
         return false;
     }
     is_whole(text)
@@ -430,7 +429,7 @@ fn write_one_line<W: Sink>(
     requires some { 0 < length text.now.characters.now }
     requires whole { IsWhole text.now.rules.tables.now text.now.characters.now }
     requires nobreak { text.now.rules.options.nobreak ≡ true }
-    requires unseen { form.now.print.now.visual ≡ false }
+    requires unseen { form.now.print.now.novisual ≡ true }
     requires base { text.now.base ≡ base_of (rules_in text.now.rules) text.now.characters.now }
     requires levels { levels.now ≡ levels_of text.now.rules.tables.now text.now.characters.now
         text.now.rules.options.base }

@@ -202,7 +202,7 @@ fn write_part<W: Sink>(
         };
         return view.write_after(writer, done, form.width, form.print);
     }
-    if !form.print.visual || is_plain(levels, is_flat) {
+    if form.print.novisual || is_plain(levels, is_flat) {
         return write_ordered(writer, done, form, line, is_first, columns, levels, part);
     }
     show_chars(line, levels, vtol, chars);
@@ -223,7 +223,7 @@ fn write_ordered<W: Sink>(
     requires done { done ≤ (W.state writer.old).passed }
     requires levels { length levels.now ≤ length line.now.characters.now }
     requires places { asks_places form.now.print.now ≡ false }
-    requires chars { form.now.print.now.visual ≡ true
+    requires chars { form.now.print.now.novisual ≡ false
         → chars.now ≡ (visual_part line.now.rules.tables.now line.now.rules.options line.now.base is_first
         line.now.characters.now columns levels.now).chars }
     ensures ok { IfOk result (λ n. PassedOn (line_bytes form.now.width form.now.print.now

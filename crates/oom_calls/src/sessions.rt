@@ -233,13 +233,13 @@ fn is_same_visual(left: &VisualLine<'_>, right: &VisualLine<'_>) -> bool {
 
 /// All that can be printed of a line.
 pub const ALL: Print = Print {
-    visual: true,
+    novisual: false,
     basedir: true,
     ltov: true,
     vtol: true,
     levels: true,
-    padded: true,
-    mirrored: true,
+    nopad: false,
+    nomirror: false,
 };
 
 fn is_same_page<S: ParagraphStore<Kept>>(left: &Session<S>, right: &Session<S>) -> bool {

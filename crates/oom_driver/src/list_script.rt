@@ -9,22 +9,8 @@ use std::fs::File;
 use std::{env, fs};
 use store::VecStore;
 use text_run::RunFault;
-use tool::{ProgramFault, ScriptOptions, open_text, run_script};
+use tool::{ProgramFault, open_text, run_script};
 use ucd::Tables;
-
-// The lines alone, as the command prints them where no option asks for more.
-const LINES: ScriptOptions = ScriptOptions {
-    print: Print {
-        visual: true,
-        basedir: false,
-        ltov: false,
-        vtol: false,
-        levels: false,
-        padded: true,
-        mirrored: true,
-    },
-    queries: false,
-};
 
 const UNREAD: ProgramFault = ProgramFault::Run(RunFault::Read);
 
@@ -73,10 +59,15 @@ fn obey_lines(
     script: File,
     session: Session<VecStore<Kept>>,
 ) -> Result<(), ProgramFault> {
-    let mut session = session;
     let mut reader = FromRead::new(script);
     let mut writer = ToWrite::new(rt.stdout());
-    match run_script(rt.alloc(), &mut reader, &mut writer, &mut session, &LINES) {
+    match run_script(
+        rt.alloc(),
+        &mut reader,
+        &mut writer,
+        session,
+        &Print::default(),
+    ) {
         Ok(()) => Ok(()),
         Err(fault) => Err(ProgramFault::Run(fault)),
     }

@@ -9,7 +9,7 @@ use session::{Kept, Session};
 use std::alloc::Global;
 use store::ParagraphStore;
 use text_run::{RunFault, run_text};
-use tool::{ScriptOptions, run_script};
+use tool::{ScriptOptions, run_script_in};
 
 const LINES: Print = Print {
     basedir: false,
@@ -100,5 +100,5 @@ fn obey_in<S: ParagraphStore<Kept> + Drop>(
         print: LINES,
         queries: false,
     };
-    run_script(alloc, &mut reader, &mut writer, &mut session, &options)
+    run_script_in(alloc, &mut reader, &mut writer, &mut session, &options)
 }

@@ -9,7 +9,7 @@ use crate::marks::before::Before;
 use crate::marks::character::Character;
 use crate::marks::numbers::is_in_number;
 use crate::marks::rules::Numbers;
-use breaks::{Mark, Tailoring};
+use breaks::Mark;
 use std::alloc::AllocError;
 use ucd::{LineClass, Tables};
 
@@ -18,7 +18,7 @@ use ucd::{LineClass, Tables};
 pub fn reference_marks(
     tables: &Tables,
     text: &[char],
-    tailoring: Tailoring,
+    whole_numbers: bool,
     classes: &mut Vec<LineClass>,
     marks: &mut Vec<Mark>,
 ) -> Result<(), AllocError> {
@@ -34,7 +34,7 @@ pub fn reference_marks(
     for c in rest {
         let next = Character::of(tables, *c);
         let begins = !before.keeps(&next);
-        let numbers = if !tailoring.whole_numbers {
+        let numbers = if !whole_numbers {
             Numbers::Pairs
         } else if begins && is_in_number(classes, base) {
             Numbers::Inside

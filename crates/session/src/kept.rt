@@ -4,10 +4,10 @@ ghost use Rattle.lines.specs.Engine.{counted, rules_of};
 ghost use Rattle.lines.specs.Extents.{extents_in, extents_of, reflowed};
 ghost use Rattle.lines.specs.Layouts.{IsLaidOut};
 
-use lines::{Engine, Extents, Laid, Room};
+use lines::{Engine, Extents, Fill, Laid, Room};
 use std::alloc::{AllocError, Global};
 use std::marker::Model;
-use store::{Exchanger, Measured};
+use store::{Exchange, Exchanger, Measured};
 
 /// A paragraph that is laid out, as an item of a store. It is two numbers and a place of the paragraph's
 /// own, so that a store that looks for another one doesn't read it.
@@ -89,6 +89,29 @@ impl Measured for Kept {
     fn lines(&self) -> usize {
         self.lines
     }
+}
+
+/// The part of a paragraph is its lines at some width.
+impl Exchange for Kept {
+    type Part = Fill;
+
+    ghost use Rattle.std.specs.Prelude.{length, refl};
+    ghost use Rattle.lines.specs.Layouts.{AreLinesOf, IsLaidOut, Rules};
+
+    // Lines of this paragraph, by the rules by which it is laid out.
+    ghost fits = { λ kept fill.
+        (rules : Rules) × IsLaidOut rules kept × AreLinesOf rules kept.text fill };
+
+    ghost exchanged = { λ kept fill. record kept { lines = fill.lines } };
+
+    ghost handed_out = { λ kept fill. record { lines = kept.lines; len = length kept.text } };
+
+    fn exchange(&mut self, part: &mut Fill) {
+        self.laid.exchange(part);
+        self.lines = self.laid.line_count();
+    }
+
+    ghost keeps_chars = { λ kept fill fits. refl };
 }
 
 /// Writes the lines of paragraphs at another width over those that they have, by an engine's tables and

@@ -142,7 +142,7 @@ fn reflow_all<S: ParagraphStore<Kept>>(
         engine.old engine.new }
 {
     let mut reflow = Reflow { engine, room };
-    store.exchange_all(&mut reflow, parts);
+    store.exchange_all_by(&mut reflow, parts);
     let Reflow { engine: _, room } = reflow;
     engine.take_back(room);
 }

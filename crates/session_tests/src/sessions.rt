@@ -162,13 +162,13 @@ fn same_lines<S: ParagraphStore<Kept>, T: ParagraphStore<Kept>>(
 
 // All lines of a line's output.
 const ALL: Print = Print {
-    visual: true,
+    novisual: false,
     basedir: true,
     ltov: true,
     vtol: true,
     levels: true,
-    padded: true,
-    mirrored: true,
+    nopad: false,
+    nomirror: false,
 };
 
 // A writer into a slice, which tells how much it took.

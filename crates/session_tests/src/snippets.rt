@@ -1,5 +1,5 @@
-//! What the first lines of `device`, `lines` and `session` show: `tests/docs/run` looks whether their lines stand
-//! here.
+//! What the first lines of `device`, `lines` and `session` show: `tests/docs/run` looks whether their lines
+//! stand here.
 use crate::files::{FILES, engine};
 use device::{ToWrite, write_all};
 use lines::{Engine, Laid, Options, PARAGRAPH_LIMIT};

@@ -30,7 +30,7 @@ mod tree_store;
 mod vec_store;
 
 pub use found::Found;
-pub use measured::{Exchanger, Measured};
+pub use measured::{Exchange, Exchanger, Measured};
 pub use paragraph_store::ParagraphStore;
 pub use tree_store::TreeStore;
 pub use vec_store::VecStore;

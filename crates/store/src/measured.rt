@@ -1,5 +1,5 @@
 //! What a store asks of its items.
-ghost use Rattle.std.specs.Prelude.{◌≡◌, ℕ};
+ghost use Rattle.std.specs.Prelude.{◌≡◌, ℕ, refl};
 ghost use Rattle.store.specs.Exchanging.{raised};
 
 /// An item with so many characters and lines.
@@ -17,7 +17,31 @@ pub trait Measured {
         ensures { result ≡ lines self.now };
 }
 
-/// What exchanges parts of items for others.
+/// An item that exchanges a part of itself.
+pub trait Exchange: Measured {
+    /// What is put in, and what comes out.
+    type Part;
+
+    // Whether a part may be put in.
+    ghost fits: { Self → Self.Part → Type 0 };
+
+    // The item with the part in it, and the part that comes out.
+    ghost exchanged: { Self → Self.Part → Self };
+
+    ghost handed_out: { Self → Self.Part → Self.Part };
+
+    /// Puts in a part that fits, and takes the old one out.
+    fn exchange(&mut self, part: &mut Self::Part)
+        requires { fits self.old part.old }
+        ensures item { self.new ≡ exchanged self.old part.old }
+        ensures part { part.new ≡ handed_out self.old part.old };
+
+    // The number of characters stays.
+    ghost keeps_chars: { (item : Self) (part : Self.Part) → fits item part
+        → Self.chars (exchanged item part) ≡ Self.chars item };
+}
+
+/// Exchanges parts of items for others. It may count its work.
 pub trait Exchanger<P: Measured> {
     /// What is put in, and what is handed out.
     type Part;
@@ -52,4 +76,32 @@ pub trait Exchanger<P: Measured> {
     // The number of characters stays.
     ghost keeps_chars: { (by : Kind) (item : P) (part : Self.Part) → fits by item part
         → P.chars (exchanged by item part) ≡ P.chars item };
+}
+
+/// Lets each item exchange its part by itself.
+#[derive(Drop)]
+pub(crate) struct ByItem;
+
+impl<P: Exchange> Exchanger<P> for ByItem {
+    type Part = P::Part;
+
+    ghost Kind = { Unit {0} };
+
+    ghost kind = { λ by. tt };
+
+    ghost fits = { λ kind. P.fits };
+
+    ghost exchanged = { λ kind. P.exchanged };
+
+    ghost handed_out = { λ kind. P.handed_out };
+
+    ghost worked = { λ by. 0 };
+
+    ghost cost = { λ item part. 0 };
+
+    fn exchange(&mut self, item: &mut P, part: &mut P::Part) {
+        item.exchange(part);
+    }
+
+    ghost keeps_chars = { λ kind. P.keeps_chars };
 }

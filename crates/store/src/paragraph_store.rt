@@ -7,7 +7,7 @@ ghost use Rattle.store.specs.Exchanging.{pairwise, raised, total_cost};
 ghost use Rattle.store.specs.Finding.{Finds};
 
 use crate::found::Found;
-use crate::measured::{Exchanger, Measured};
+use crate::measured::{ByItem, Exchange, Exchanger, Measured};
 use std::alloc::{AllocError, Global};
 use std::ops::Range;
 
@@ -72,9 +72,9 @@ pub trait ParagraphStore<P: Measured> {
         ensures back { IfErr result (λ e. e.0.items ≡ new_items.items) }
         ensures memory { OnErr result (0 < range.end - range.start + length new_items.items) };
 
-    /// Each item exchanges with its part, in order. There are as many parts as items, each fits its
-    /// item, and the new sum of lines fits a `usize`. It takes no memory.
-    fn exchange_all<E: Exchanger<P>>(&mut self, by: &mut E, parts: &mut Vec<E::Part>)
+    /// Exchanges a part of each item, by an exchanger, which may count its work. There are as many parts as
+    /// items, each fits its item, and the new sum of lines fits a `usize`. Allocates nothing.
+    fn exchange_all_by<E: Exchanger<P>>(&mut self, by: &mut E, parts: &mut Vec<E::Part>)
         requires fit { AllZip (E.fits (E.kind by.old)) (items self.old) parts.old.items }
         requires lines_fit { sum_by P.lines
             (pairwise (E.exchanged (E.kind by.old)) (items self.old) parts.old.items) < 2 ^ 64 }
@@ -86,4 +86,19 @@ pub trait ParagraphStore<P: Measured> {
         ensures worked { E.worked by.new
             ≡ raised (E.worked by.old) (total_cost E.cost (items self.old) parts.old.items) }
         ensures chars { sum_by P.chars (items self.new) ≡ sum_by P.chars (items self.old) };
+
+    /// Exchanges a part of each item, in order: item `i` with `parts[i]`. There are as many parts as items,
+    /// each fits its item, and the new sum of lines fits a `usize`. Allocates nothing.
+    fn exchange_all(&mut self, parts: &mut Vec<P::Part>)
+    where
+        P: Exchange,
+        requires fit { AllZip P.fits (items self.old) parts.old.items }
+        requires lines_fit { sum_by P.lines
+            (pairwise P.exchanged (items self.old) parts.old.items) < 2 ^ 64 }
+        ensures items { items self.new ≡ pairwise P.exchanged (items self.old) parts.old.items }
+        ensures parts { parts.new.items ≡ pairwise P.handed_out (items self.old) parts.old.items }
+        ensures chars { sum_by P.chars (items self.new) ≡ sum_by P.chars (items self.old) }
+    {
+        self.exchange_all_by(&mut ByItem, parts);
+    }
 }

@@ -204,7 +204,7 @@ impl<P: Measured> ParagraphStore<P> for TreeStore<P> {
         Ok(old)
     }
 
-    fn exchange_all<E: Exchanger<P>>(&mut self, by: &mut E, parts: &mut Vec<E::Part>) {
+    fn exchange_all_by<E: Exchanger<P>>(&mut self, by: &mut E, parts: &mut Vec<E::Part>) {
         self.root.exchange_all(by, parts);
     }
 }

@@ -252,7 +252,7 @@ impl<P: Measured> ParagraphStore<P> for VecStore<P> {
         Ok(old)
     }
 
-    fn exchange_all<E: Exchanger<P>>(&mut self, by: &mut E, parts: &mut Vec<E::Part>) {
+    fn exchange_all_by<E: Exchanger<P>>(&mut self, by: &mut E, parts: &mut Vec<E::Part>) {
         exchange_each(by, &mut self.items, parts);
         let (_, lines) = sums(&self.items);
         self.lines = lines;

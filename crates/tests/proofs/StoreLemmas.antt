@@ -14,6 +14,16 @@ all_fit more limit (x ∷ xs) (p ∷ ps) h s =
     let e = sum_by-cons (λ (n : ℕ). n + more) p ps in
     (omega (arith, e), all_fit more limit xs ps (omega arith) (omega (arith, e)))
 
+-- and by itself
+pub all_small : {P : Type 0} (limit : ℕ) (xs : List P) (ps : List ℕ) → length ps ≡ length xs → sum_by (λ n. n + 0) ps < limit
+    → AllZip (λ _ n. n < limit) xs ps
+all_small limit [] [] h s = tt
+all_small limit [] (p ∷ ps) h s = absurd (omega arith)
+all_small limit (x ∷ xs) [] h s = absurd (omega arith)
+all_small limit (x ∷ xs) (p ∷ ps) h s =
+    let e = sum_by-cons (λ (n : ℕ). n + 0) p ps in
+    (omega (arith, e), all_small limit xs ps (omega arith) (omega (arith, e)))
+
 -- the new sum of lines is that of the parts with some more for each
 pub sum_of_parts : {P : Type 0} (lines : P → ℕ) (more : ℕ) (put : P → ℕ → P) → ((x : P) (n : ℕ) → lines (put x n) ≡ n + more)
     → (xs : List P) (ps : List ℕ) → sum_by lines (pairwise put xs ps) ≤ sum_by (λ n. n + more) ps

@@ -4,27 +4,23 @@ ghost use Rattle.std.specs.Prelude.{◌≡◌, map, OnOk};
 ghost use Rattle.ucd.specs.Properties.{properties_of};
 
 use crate::files::{FILES, read};
-use breaks::{Mark, Tailoring, marks, marks_into};
+use breaks::{Mark, marks, marks_into};
 use reference::marks::reference_marks;
 use std::alloc::{AllocError, Global};
 use std::process::Abort;
 use std::test::Fail;
 use ucd::{LineClass, Properties, Tables, UcdFiles};
 
-const WHOLE: Tailoring = Tailoring {
-    whole_numbers: true,
-};
-
 // The marks of a text, asked for twice.
 fn marks_of(
     alloc: Global,
     tables: &Tables,
     text: &[char],
-    tailoring: Tailoring,
+    whole_numbers: bool,
 ) -> Result<Vec<Mark>, AllocError> {
-    match marks(alloc, tables, text, tailoring) {
+    match marks(alloc, tables, text, whole_numbers) {
         Ok(marks) => Ok(marks),
-        Err(_) => marks(alloc, tables, text, tailoring),
+        Err(_) => marks(alloc, tables, text, whole_numbers),
     }
 }
 
@@ -46,10 +42,10 @@ fn has_marks(
     alloc: Global,
     tables: &Tables,
     text: &[char],
-    tailoring: Tailoring,
+    whole_numbers: bool,
     signs: &str,
 ) -> Result<bool, AllocError> {
-    let marks = marks_of(alloc, tables, text, tailoring)?;
+    let marks = marks_of(alloc, tables, text, whole_numbers)?;
     Ok(are_signs(&marks, signs))
 }
 
@@ -122,8 +118,8 @@ fn check(
     [want, want_whole]: [&str; 2],
 ) -> Result<(), AllocError> {
     let chars: Vec<char> = text.chars().collect(alloc)?;
-    let has = has_marks(alloc, tables, &chars, Tailoring::default(), want);
-    let has_whole = has_marks(alloc, tables, &chars, WHOLE, want_whole);
+    let has = has_marks(alloc, tables, &chars, false, want);
+    let has_whole = has_marks(alloc, tables, &chars, true, want_whole);
     drop(chars);
     let are_right = has? & has_whole?;
     assert!(rt; are_right, "{text:?}");
@@ -254,17 +250,17 @@ fn read_all(
 // them.
 fn agrees(tables: &Tables, kept: &mut Kept) -> Result<bool, AllocError> {
     read_all(tables, &kept.text, &mut kept.properties)?;
-    Ok(agrees_where(tables, Tailoring::default(), kept)? && agrees_where(tables, WHOLE, kept)?)
+    Ok(agrees_where(tables, false, kept)? && agrees_where(tables, true, kept)?)
 }
 
-fn agrees_where(tables: &Tables, tailoring: Tailoring, kept: &mut Kept) -> Result<bool, AllocError>
+fn agrees_where(tables: &Tables, whole_numbers: bool, kept: &mut Kept) -> Result<bool, AllocError>
     requires { kept.old.properties.items ≡ map (properties_of tables.now) kept.old.text.items }
     ensures { OnOk result (kept.new.properties.items ≡ map (properties_of tables.now) kept.new.text.items) }
 {
     reference_marks(
         tables,
         &kept.text,
-        tailoring,
+        whole_numbers,
         &mut kept.classes,
         &mut kept.expected,
     )?;
@@ -272,7 +268,7 @@ fn agrees_where(tables: &Tables, tailoring: Tailoring, kept: &mut Kept) -> Resul
         tables,
         &kept.text,
         &kept.properties,
-        tailoring,
+        whole_numbers,
         &mut kept.marks,
     )?;
     Ok(kept.marks.as_slice() == kept.expected.as_slice())

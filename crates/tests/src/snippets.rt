@@ -1,8 +1,8 @@
-//! What the first lines of `ucd`, `bidi`, `breaks` and `store` show: `tests/docs/run` looks whether their lines
-//! stand here.
+//! What the first lines of `ucd`, `bidi`, `breaks` and `store` show: `tests/docs/run` looks whether their
+//! lines stand here.
 use crate::files::{FILES, read};
 use bidi::{Base, resolve};
-use breaks::{Mark, Tailoring, marks};
+use breaks::{Mark, marks};
 use std::alloc::{AllocError, Global};
 use std::process::Abort;
 use std::test::Fail;
@@ -40,7 +40,7 @@ fn levels(rt: HostRuntime) -> Result<(), Fail> {
 
 fn find_marks(rt: &impl Abort, alloc: Global, tables: &Tables) -> Result<(), AllocError> {
     let text: Vec<char> = "to go".chars().collect(alloc)?;
-    let marks = marks(alloc, tables, &text, Tailoring::default())?;
+    let marks = marks(alloc, tables, &text, false)?;
     let wanted = [Mark::Never, Mark::Never, Mark::May, Mark::Never, Mark::Must];
     assert!(rt; marks.as_slice() == wanted.as_slice());
     Ok(())

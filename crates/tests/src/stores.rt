@@ -6,7 +6,7 @@ use std::alloc::{AllocError, Global};
 use std::ops::Range;
 use std::process::Abort;
 use std::test::Fail;
-use store::{Exchanger, Found, Measured, ParagraphStore, TreeStore, VecStore};
+use store::{Exchange, Exchanger, Found, Measured, ParagraphStore, TreeStore, VecStore};
 
 // An item that is told by its name.
 #[derive(Clone, Copy, Debug, PartialEq, Eq)]
@@ -28,6 +28,25 @@ impl Measured for Item {
     fn lines(&self) -> usize {
         self.lines
     }
+}
+
+// Its number of lines is exchanged.
+impl Exchange for Item {
+    type Part = usize;
+
+    ghost use Rattle.std.specs.Prelude.{refl};
+
+    ghost fits = { λ item lines. lines < 2 ^ 64 };
+
+    ghost exchanged = { λ item lines. record item { lines = lines } };
+
+    ghost handed_out = { λ item _. item.lines };
+
+    fn exchange(&mut self, part: &mut usize) {
+        std::mem::swap(&mut self.lines, part);
+    }
+
+    ghost keeps_chars = { λ item lines fits. refl };
 }
 
 // What gives an item a number of lines and some more.
@@ -115,7 +134,13 @@ fn exchange_all<S: ParagraphStore<Item>>(
     parts: &mut Vec<usize>,
 ) {
     assert!(rt; sum(parts, by.more) < LIMIT && parts.len() == store.count());
-    store.exchange_all(by, parts);
+    store.exchange_all_by(by, parts);
+}
+
+// The exchange of each item by itself, on the same conditions.
+fn exchange_lines<S: ParagraphStore<Item>>(rt: &impl Abort, store: &mut S, parts: &mut Vec<usize>) {
+    assert!(rt; sum(parts, 0) < LIMIT && parts.len() == store.count());
+    store.exchange_all(parts);
 }
 
 // A list with room, asked for twice.
@@ -423,6 +448,15 @@ fn numbers(alloc: Global) -> Result<Vec<usize>, AllocError> {
     Ok(numbers)
 }
 
+// Whether the numbers that come out are those that went in first.
+fn are_back(parts: &[usize]) -> bool {
+    let mut all_right = true;
+    for (index, lines) in parts.iter().enumerate() {
+        all_right &= *lines == index.wrapping_add(7);
+    }
+    all_right
+}
+
 fn exchange_both<S: ParagraphStore<Item>, T: ParagraphStore<Item>>(
     rt: &impl Abort,
     alloc: Global,
@@ -433,12 +467,16 @@ fn exchange_both<S: ParagraphStore<Item>, T: ParagraphStore<Item>>(
     let mut parts = numbers(alloc)?;
     exchange_all(rt, &mut both.tree, &mut by, &mut parts);
     let is_tree_right = are_exchanged(&both.tree, &parts);
+    exchange_lines(rt, &mut both.tree, &mut parts);
+    let is_tree_back = are_back(&parts);
     drop(parts);
     let mut others = numbers(alloc)?;
     exchange_all(rt, &mut both.list, &mut by, &mut others);
     let is_list_right = are_exchanged(&both.list, &others);
+    exchange_lines(rt, &mut both.list, &mut others);
+    let is_list_back = are_back(&others);
     drop(others);
-    assert!(rt; is_tree_right && is_list_right);
+    assert!(rt; is_tree_right && is_list_right && is_tree_back && is_list_back);
     check_both(rt, alloc, both)
 }
 

@@ -15,23 +15,23 @@ use Rattle.lines.specs.declared.print.PrintFault.TheVariants.{Memory, Write}
 use Rattle.text_run.specs.Pages.{prints_some}
 
 -- each part is left out
-record AreOff (basedir visual ltov vtol levels : Bool) : Type 0 where
+record AreOff (basedir novisual ltov vtol levels : Bool) : Type 0 where
   pub basedir_off : basedir ≡ false
-  pub visual_off : visual ≡ false
+  pub novisual_on : novisual ≡ true
   pub ltov_off : ltov ≡ false
   pub vtol_off : vtol ≡ false
   pub levels_off : levels ≡ false
 
-are_off : (b v l t e : Bool) → (b || not (not v && (not l && (not t && not e)))) ≡ false → AreOff b v l t e
+are_off : (b v l t e : Bool) → (b || not (v && (not l && (not t && not e)))) ≡ false → AreOff b v l t e
 are_off true v l t e is = absurd (true≢false is)
-are_off false true l t e is = absurd (true≢false is)
-are_off false false true t e is = absurd (true≢false is)
-are_off false false false true e is = absurd (true≢false is)
-are_off false false false false true is = absurd (true≢false is)
-are_off false false false false false is = record { basedir_off = refl; visual_off = refl; ltov_off = refl; vtol_off = refl; levels_off = refl }
+are_off false false l t e is = absurd (true≢false is)
+are_off false true true t e is = absurd (true≢false is)
+are_off false true false true e is = absurd (true≢false is)
+are_off false true false false true is = absurd (true≢false is)
+are_off false true false false false is = record { basedir_off = refl; novisual_on = refl; ltov_off = refl; vtol_off = refl; levels_off = refl }
 
-line_none : (width : ℕ) (print : Print) (visual : Visual) → AreOff print.basedir print.visual print.ltov print.vtol print.levels → line_bytes width print visual ≡ []
-line_none width print visual off = rw (off.basedir_off, off.visual_off, off.ltov_off, off.vtol_off, off.levels_off) refl
+line_none : (width : ℕ) (print : Print) (visual : Visual) → AreOff print.basedir print.novisual print.ltov print.vtol print.levels → line_bytes width print visual ≡ []
+line_none width print visual off = rw (off.basedir_off, off.novisual_on, off.ltov_off, off.vtol_off, off.levels_off) refl
 
 flat_none : {A : Type 0} (f : A → List ℕ) (xs : List A) → ((x : A) → f x ≡ []) → flat_map f xs ≡ []
 flat_none f [] none = refl
@@ -39,7 +39,7 @@ flat_none f (x ∷ xs) none = ap (λ t. t ++ flat_map f xs) (none x) ∙ flat_no
 
 pub nothing_printed : (rules : Rules) (width : ℕ) (print : Print) (text : List ℕ) → prints_some print ≡ false → paragraph_bytes rules width print text ≡ []
 nothing_printed rules width print text none =
-    let off = are_off print.basedir print.visual print.ltov print.vtol print.levels none in
+    let off = are_off print.basedir print.novisual print.ltov print.vtol print.levels none in
     let layout = layout_of rules width text in
     flat_none (λ nth. line_bytes width print (visual_of layout.base layout.text layout.lines nth.0 nth.1)) (enumerate_from 0 layout.lines)
     (λ nth. line_none width print (visual_of layout.base layout.text layout.lines nth.0 nth.1) off)

@@ -93,7 +93,7 @@ pub fn push_paragraph(
 pub fn prints_some(print: &Print) -> bool
     ensures { result ≡ prints_some print.now }
 {
-    print.basedir || print.visual || print.ltov || print.vtol || print.levels
+    print.basedir || !print.novisual || print.ltov || print.vtol || print.levels
 }
 
 /// What an engine counts are numbers of 64 bits: so its counts are as they were where nothing is printed.

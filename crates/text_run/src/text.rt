@@ -3,7 +3,7 @@
 //! one function of what the source gives.
 ghost use Rattle.std.specs.Prelude.{◌≡◌, ◌+◌, ◌-◌, ◌++◌, ◌<◌, ◌≤◌, ◌^◌, ◌⊎◌, ℕ, [], false, true};
 ghost use Rattle.std.specs.Prelude.{None, Some, Ok};
-ghost use Rattle.std.specs.Prelude.{take, drop, length, vec_len};
+ghost use Rattle.std.specs.Prelude.{take, drop, length, replicate, vec_len};
 ghost use Rattle.std.specs.Prelude.{IfOk, IfErr, IsErrOf, OnOk, OnErr, if◌then◌else◌};
 ghost use Rattle.std.specs.Str.Lossy.{utf8_valid_len};
 ghost use Rattle.bidi.specs.Cuts.{paragraphs, SplitsAt};
@@ -60,9 +60,10 @@ impl Drop for Held {
     }
 }
 
-/// Room for so many bytes.
+/// A buffer of `len` zeros.
 pub fn zeroed(alloc: Global, len: usize) -> Result<Vec<u8>, AllocError>
-    ensures { IfOk result (λ piece. vec_len piece ≡ len) }
+    ensures len { IfOk result (λ buffer. vec_len buffer ≡ len) }
+    ensures zeros { IfOk result (λ buffer. buffer.items ≡ replicate len 0) }
 {
     vec![in alloc; 0; len]
 }

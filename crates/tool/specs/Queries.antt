@@ -1,5 +1,5 @@
 -- What is answered to a question about a text at a width.
-use Rattle.std.specs.Prelude.{◌≡◌, ℕ, ◌+◌, ◌-◌, ◌<◌, nat_lt, ◌&&◌, Bool, false, List, [], ◌∷◌, ◌++◌, length, codes, slice_get, slice_index, Option, Some, None, option_map, if◌then◌else◌}
+use Rattle.std.specs.Prelude.{not, ◌≡◌, ℕ, ◌+◌, ◌-◌, ◌<◌, nat_lt, ◌&&◌, Bool, false, List, [], ◌∷◌, ◌++◌, length, codes, slice_get, slice_index, Option, Some, None, option_map, if◌then◌else◌}
 use Rattle.std.specs.Fmt.{decimal}
 use Rattle.std.specs.List.{flat_map, slice_range}
 use Rattle.device.specs.Device.{Device}
@@ -36,10 +36,10 @@ told_of None = out_of_range
 
 -- how many columns of the screen are left of a line's shown part; and where no line is, of one that would come, whose level is told
 abbrev pub screen_left : Print → ℕ → Visual → ℕ
-screen_left print width line = if print.padded then padding_of width line else 0
+screen_left print width line = if print.nopad then 0 else padding_of width line
 
 abbrev pub empty_left : Print → ℕ → ℕ → ℕ
-empty_left print width level = if print.padded && is_odd level then width else 0
+empty_left print width level = if not print.nopad && is_odd level then width else 0
 
 abbrev pub left_of : Print → ℕ → Option Visual → ℕ → ℕ
 left_of print width (Some line) level = screen_left print width line

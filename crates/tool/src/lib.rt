@@ -1,12 +1,13 @@
-//! The command: an edit script in, answers and lines out; and why the program ends.
+//! The command: its arguments, the run of a text and of an edit script, and why the program ends.
 //!
-//! `open_text` opens a session on the bytes of a text, and `run_script` obeys the lines of a script in it,
-//! each answered before the next is read; with `ScriptOptions` they may be questions. The program does so:
+//! `settings` reads the arguments, and `run_text` prints a text. `open_text` opens a session on the bytes of
+//! a text, and `run_script` executes a script in it. `run_script_in` does the same in a session that it
+//! borrows, with `ScriptOptions`, by which lines may be queries. The program uses it:
 //!
 //! ```rust
 //! let mut session = session;
 //! let mut reader = FromRead::new(script);
-//! run_script(alloc, &mut reader, output, &mut session, options).map_err(ProgramFault::Run)
+//! run_script_in(alloc, &mut reader, output, &mut session, options).map_err(ProgramFault::Run)
 //! ```
 #![tactic(auto)]
 
@@ -17,7 +18,9 @@ mod requests;
 mod script;
 mod start;
 
+pub use command_line::{LineFault, Settings, settings};
 pub use program::ProgramFault;
 pub use queries::Question;
-pub use script::{LINE_LIMIT, ScriptOptions, run_script};
+pub use script::{LINE_LIMIT, ScriptOptions, run_script, run_script_in};
 pub use start::open_text;
+pub use text_run::{RunFault, run_text};

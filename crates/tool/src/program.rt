@@ -1,7 +1,7 @@
 //! Why the program ends before its work is done: what it then says, and its exit status.
 ghost use Rattle.std.specs.Prelude.{◌≡◌};
 
-use command_line::SettingsFault;
+use command_line::LineFault;
 use text_run::RunFault;
 use thiserror::Error;
 use ucd::TableFault;
@@ -11,7 +11,7 @@ use ucd::TableFault;
 #[derive(Debug, Drop, Error)]
 pub enum ProgramFault {
     #[error("{0}")]
-    Line(SettingsFault),
+    Line(LineFault),
     /// The table file of this name can't be read.
     #[error("fribidi: cannot read {0}")]
     TableFile(&'static str),

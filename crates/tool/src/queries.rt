@@ -40,10 +40,10 @@ fn screen_left(line: &VisualLine<'_>, width: u16, print: &Print) -> usize
     ensures value { result ≡ screen_left print.now width line.now }
     ensures fits { result < 2 ^ 32 }
 {
-    if print.padded {
-        line.padding(width) as usize
-    } else {
+    if print.nopad {
         0
+    } else {
+        line.padding(width) as usize
     }
 }
 
@@ -52,7 +52,7 @@ fn empty_left(level: u8, width: u16, print: &Print) -> usize
     ensures value { result ≡ empty_left print.now width level }
     ensures fits { result < 2 ^ 32 }
 {
-    if print.padded && level % 2 == 1 {
+    if !print.nopad && level % 2 == 1 {
         width as usize
     } else {
         0

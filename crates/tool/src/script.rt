@@ -491,12 +491,35 @@ fn step<R: Source, W: Sink, S: ParagraphStore<Kept>>(
     }
 }
 
-/// Obeys the lines of a script over a session. Each line is obeyed as soon as its end was read, and its
-/// answer is written before more is read: of the script, no more is held than a line and one piece.
-/// However the run ends, the session has made the edits of the lines that were answered, and worked no
-/// more than these ask for; where a write failed, also that of the line whose answer it was. Memory runs
-/// out only while a line is read or its edit is made, and that line changes nothing then.
-pub fn run_script<R: Source, W: Sink, S: ParagraphStore<Kept>>(
+/// Runs an edit script over a session, and gives the session up, however the run ends. All lines of the
+/// script must be commands. [`run_script_in`] borrows the session, and accepts queries.
+pub fn run_script<R: Source, W: Sink, S: ParagraphStore<Kept> + Drop>(
+    alloc: Global,
+    reader: &mut R,
+    writer: &mut W,
+    session: Session<S>,
+    print: &Print,
+) -> Result<(), RunFault>
+    ensures run { (after : SessionState) × IsScriptRun (rules_of session.engine)
+        (record { print = print.now; queries = false }) session after
+        (R.state reader.old) (R.state reader.new) (W.state writer.old) (W.state writer.new) result }
+    ensures reads { TellsReads result (R.state reader.old) (R.state reader.new) }
+{
+    let mut session = session;
+    let options = ScriptOptions {
+        print: *print,
+        queries: false,
+    };
+    run_script_in(alloc, reader, writer, &mut session, &options)
+}
+
+/// Runs an edit script over a session. Each line is executed as soon as its end was read, and its reply is
+/// written before more is read. No more of the script is held than one line and one chunk.
+///
+/// However the run ends, the session has made the edits of the lines that were replied to, and of the line
+/// whose reply failed to be written. It has worked no more than these lines require. Out of memory is
+/// reported only while a line is read or its edit is made, and then that line changes nothing.
+pub fn run_script_in<R: Source, W: Sink, S: ParagraphStore<Kept>>(
     alloc: Global,
     reader: &mut R,
     writer: &mut W,

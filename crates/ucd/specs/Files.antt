@@ -6,7 +6,7 @@ use Rattle.ucd.specs.declared.fault.Cause.{Cause}
 use Rattle.ucd.specs.declared.fault.Cause.TheVariants as cause
 use Rattle.ucd.specs.declared.grammar.Entry.{Entry}
 use Rattle.ucd.specs.Grammar.{Form, reading_of}
-use Rattle.ucd.specs.declared.file.LineFault.{LineFault}
+use Rattle.ucd.specs.declared.file.FileFault.{FileFault}
 use Rattle.ucd.specs.Entries.{covers, value_at, AddsCharacters, IsTaken, NamesSome}
 
 module _ {V : Type 0} (form : Form V) where
@@ -86,5 +86,5 @@ module _ {V : Type 0} (form : Form V) where
   IsFaultFor lines line cause.Memory = (0 < line) × WantsMemoryAt lines (line - 1)
   IsFaultFor lines line why = (0 < line) × IsFirstFault lines (line - 1) why
 
-  abbrev pub IsLineFault : List (List ℕ) → LineFault → Type 0
-  IsLineFault lines fault = IsFaultFor lines fault.line fault.cause
+  abbrev pub IsFaultInFile : List (List ℕ) → FileFault → Type 0
+  IsFaultInFile lines fault = IsFaultFor lines fault.line fault.cause

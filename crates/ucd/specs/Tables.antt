@@ -10,7 +10,7 @@ use Rattle.ucd.specs.declared.category.Category.TheVariants.{Mark, Unassigned}
 use Rattle.ucd.specs.declared.fault.Cause.{Cause}
 use Rattle.ucd.specs.declared.fault.Cause.TheVariants as cause
 use Rattle.ucd.specs.declared.fault.TableFault.{TableFault}
-use Rattle.ucd.specs.declared.file.LineFault.{LineFault}
+use Rattle.ucd.specs.declared.file.FileFault.{FileFault}
 use Rattle.ucd.specs.declared.line_class.LineClass.{LineClass}
 use Rattle.ucd.specs.declared.line_class.LineClass.TheVariants.{XX}
 use Rattle.ucd.specs.declared.tables.Tables.{Tables}
@@ -138,5 +138,5 @@ abbrev pub fault_by : ℕ → ℕ → Cause → TableFault
 fault_by file line cause.Memory = record { file = 0; line = 0; cause = cause.Memory }
 fault_by file line why = record { file = file; line = line; cause = why }
 
-abbrev pub fault_in : ℕ → LineFault → TableFault
+abbrev pub fault_in : ℕ → FileFault → TableFault
 fault_in file fault = fault_by file fault.line fault.cause

@@ -1,7 +1,7 @@
 //! Why a table file is refused.
 ghost use Rattle.std.specs.Prelude.{◌≡◌};
 
-use crate::file::LineFault;
+use crate::file::FileFault;
 use std::fmt;
 use thiserror::Error;
 
@@ -63,7 +63,7 @@ impl TableFault {
     }
 
     // A fault in a line of a file, or want of memory, which is in none.
-    pub(crate) fn in_file(file: usize, fault: LineFault) -> TableFault
+    pub(crate) fn in_file(file: usize, fault: FileFault) -> TableFault
         ensures { result ≡ fault_in file fault }
     {
         if fault.cause == Cause::Memory {

@@ -1,7 +1,7 @@
 //! A table file, read line by line.
 ghost use Rattle.std.specs.Prelude.{◌≡◌, [], IfOk, IfErr, OnOk};
 ghost use Rattle.ucd.specs.Grammar.{lines_of};
-ghost use Rattle.ucd.specs.Files.{AddsLine, IsLineCause, HoldsFile, IsLineFault};
+ghost use Rattle.ucd.specs.Files.{AddsLine, IsLineCause, HoldsFile, IsFaultInFile};
 
 use crate::fault::Cause;
 use crate::grammar::{Property, cut, read_line};
@@ -9,7 +9,7 @@ use crate::range_table::RangeTable;
 
 /// A line at fault, counted from 1, and why; or the line at which memory ran out.
 #[derive(Clone, Copy)]
-pub struct LineFault {
+pub struct FileFault {
     pub line: usize,
     pub cause: Cause,
 }
@@ -26,10 +26,10 @@ fn add_line<V: Property>(table: &mut RangeTable<V>, line: &[u8]) -> Result<(), C
 }
 
 /// What a file says, if no line of it is at fault, put into a table that names nothing yet.
-pub fn read_file<V: Property>(table: RangeTable<V>, file: &[u8]) -> Result<RangeTable<V>, LineFault>
+pub fn read_file<V: Property>(table: RangeTable<V>, file: &[u8]) -> Result<RangeTable<V>, FileFault>
     requires { table ≡ [] }
     ensures ok { IfOk result (HoldsFile V.form (lines_of file.now)) }
-    ensures err { IfErr result (IsLineFault V.form (lines_of file.now)) }
+    ensures err { IfErr result (IsFaultInFile V.form (lines_of file.now)) }
 {
     let mut table = table;
     let mut line = 0;
@@ -38,7 +38,7 @@ pub fn read_file<V: Property>(table: RangeTable<V>, file: &[u8]) -> Result<Range
         let (front, after) = cut(text, b'\n');
         line += 1;
         if let Err(cause) = add_line(&mut table, front) {
-            return Err(LineFault { line, cause });
+            return Err(FileFault { line, cause });
         }
         rest = after;
     }

@@ -20,7 +20,7 @@ use crate::bracket::{Bracket, Mirror};
 use crate::category::Category;
 use crate::emoji::Pictograph;
 use crate::fault::TableFault;
-use crate::file::{LineFault, read_file};
+use crate::file::{FileFault, read_file};
 use crate::grammar::Property;
 use crate::line_class::LineClass;
 use crate::pages::{Pages, pages_of, put_entries, unnamed_points};

@@ -6,13 +6,13 @@ use std::alloc::Global;
 use std::test::Fail;
 
 pub(super) const PLAIN: Print = Print {
-    visual: true,
+    novisual: false,
     basedir: false,
     ltov: false,
     vtol: false,
     levels: false,
-    padded: true,
-    mirrored: true,
+    nopad: false,
+    nomirror: false,
 };
 
 pub(super) const ALL: Print = Print {
@@ -24,19 +24,19 @@ pub(super) const ALL: Print = Print {
 };
 
 pub(super) const UNMIRRORED: Print = Print {
-    mirrored: false,
-    padded: false,
+    nomirror: true,
+    nopad: true,
     ..PLAIN
 };
 
 pub(super) const LEVELS: Print = Print {
-    visual: false,
+    novisual: true,
     levels: true,
     ..PLAIN
 };
 
 const NOTHING: Print = Print {
-    visual: false,
+    novisual: true,
     ..PLAIN
 };
 

@@ -11,13 +11,13 @@ const TEXT: &str = "abc def\n\u{5d0}\u{5d1}\nx";
 
 // Lines as they are shown, with the direction after the first of each paragraph.
 const SHOWN: Print = Print {
-    visual: true,
+    novisual: false,
     basedir: true,
     ltov: false,
     vtol: false,
     levels: false,
-    padded: true,
-    mirrored: true,
+    nopad: false,
+    nomirror: false,
 };
 
 // The first line and how many, and what is printed of them where there are so many.

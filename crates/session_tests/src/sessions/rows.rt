@@ -214,13 +214,13 @@ type Step<'a> = (Edit<'a>, Result<[usize; 3], EditFault>, &'a str);
 
 // Lines as they are shown, with their levels or without.
 const LEVELS: Print = Print {
-    visual: true,
+    novisual: false,
     basedir: false,
     ltov: false,
     vtol: false,
     levels: true,
-    padded: true,
-    mirrored: true,
+    nopad: false,
+    nomirror: false,
 };
 
 const SHOWN: Print = Print {

@@ -1,16 +1,16 @@
-use Rattle.std.proofs.Common.{sym, ◌∙◌}
+use Rattle.std.proofs.Common.{sym, ◌∙◌, arith}
 use Rattle.breaks.specs.Symbols.{character_by}
 use Rattle.breaks.proofs.WalkLemmas.{finds, looks_on}
 use Rattle.breaks.proofs.mark.is_before_digit.Goals as goal
 
 -- a base begins
 pub returns-then-symbol-lt-ATTACHED : goal.returns-then-symbol-lt-ATTACHED
-returns-then-symbol-lt-ATTACHED c =
-    finds character_by c.args.properties.now c.loop-i.i _ _ c.loop-i-test.true c.read.ensures c.symbol_of-symbol.ensures.below c.symbol_of-symbol.ensures.shown c.if-symbol-lt-ATTACHED.true
+returns-then-symbol-lt-ATTACHED g c =
+    finds character_by (g.C.Characters.all c.args.characters) c.loop-i.i _ _ (omega arith) c.get.ensures c.symbol_of-symbol.ensures.below c.symbol_of-symbol.ensures.shown c.if-symbol-lt-ATTACHED.true
     ∙ c.loop-i.invariant
 
 -- one more is attached
 pub loop-i-preserved : goal.loop-i-preserved
-loop-i-preserved c =
-    sym (looks_on character_by c.args.properties.now c.loop-i.i _ _ c.loop-i-test.true c.read.ensures c.symbol_of-symbol.ensures.below c.symbol_of-symbol.ensures.shown c.if-symbol-lt-ATTACHED.false)
+loop-i-preserved g c =
+    sym (looks_on character_by (g.C.Characters.all c.args.characters) c.loop-i.i _ _ (omega arith) c.get.ensures c.symbol_of-symbol.ensures.below c.symbol_of-symbol.ensures.shown c.if-symbol-lt-ATTACHED.false)
     ∙ c.loop-i.invariant

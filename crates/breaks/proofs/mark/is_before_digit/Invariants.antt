@@ -5,4 +5,4 @@ use Rattle.breaks.proofs.mark.is_before_digit.Given as goal
 
 -- what is read so far is attached to what stands before
 abbrev pub invariant-loop-i : goal.invariant-loop-i
-invariant-loop-i l = is_before_digit (map character_by (drop l.i l.properties)) ≡ is_before_digit (map character_by (drop l.fn.from l.properties))
+invariant-loop-i g l = is_before_digit (map character_by (drop l.i (g.C.Characters.all l.characters))) ≡ is_before_digit (map character_by (drop l.fn.from (g.C.Characters.all l.characters)))

@@ -1,11 +1,18 @@
-use Rattle.std.proofs.Common.{rules, ◌≡◌, replicate, true, ◌++◌, length, append-nil, sym, ap, ap₂, ◌∙◌}
+use Rattle.std.proofs.Common.{rules, ◌≡◌, replicate, true, ◌++◌, length, append-nil, sym, ap, ap₂, ◌∙◌, arith}
+use Rattle.std.proofs.lemmas.Bool.Decides.{nat_tests}
 use Rattle.std.proofs.lemmas.Iterator.{YieldsList-from_slice, items_from_drains}
 use Rattle.std.specs.List.{flat_map}
 use Rattle.unicode_segmentation.specs.Iter.{graphemes_left}
 use Rattle.lines.proofs.AloneLemmas.{ends_alone}
-use Rattle.lines.proofs.ClusterLemmas.{ends_of_graphemes, length-cluster_ends, spelled}
+use Rattle.lines.proofs.ClusterLemmas.{ends_of_graphemes, length-cluster_ends, no_ends, spelled}
 use Rattle.lines.specs.Clusters.{cluster_ends, ends_of}
 use Rattle.lines.proofs.clusters.cluster_ends.Goals as goal
+
+-- a text without characters
+pub returns-then-is_empty-clause-ends : goal.returns-then-is_empty-clause-ends
+returns-then-is_empty-clause-ends c =
+    let none : length c.args.text.now ≡ 0 = grind (arith, nat_tests, c.is_empty.ensures, c.if-is_empty.true) in
+    c.new.ensures.items ∙ sym (no_ends c.args.text.now none)
 
 pub returns-then-are_alone-clause-ends : goal.returns-then-are_alone-clause-ends
 returns-then-are_alone-clause-ends c =
@@ -25,4 +32,4 @@ pub returns : goal.returns
 returns c =
     let ends = c.loop-cluster.ends.items in
     let all = sym (append-nil ends) ∙ ap (λ pieces. ends ++ flat_map ends_of pieces) (sym c.in-None.ensures.steps.0) ∙ c.loop-cluster.invariant in
-    record { ends = all; len = ap length all ∙ length-cluster_ends c.args.text.now }
+    record { ends = all; len = ap length all ∙ length-cluster_ends c.args.text.now; memory = tt }

@@ -11,7 +11,7 @@ use Rattle.lines.specs.Writing.{PassedOn, StoppedIn}
 use Rattle.lines.proofs.PlainLemmas.{classes_are, plain_chars}
 use Rattle.lines.proofs.WrittenLemmas.{is_part}
 use Rattle.lines.proofs.writing.write_part.Goals as goal
-use Rattle.lines.proofs.writing.write_part.Goals.{then-not-form-via-then-not-form, then-not-form-via-else-not-form+then-is_plain}
+use Rattle.lines.proofs.writing.write_part.Goals.{then-form-via-then-form, then-form-via-else-form+then-is_plain}
 
 pub returns-then-asks_places-clause-ok : goal.returns-then-asks_places-clause-ok
 returns-then-asks_places-clause-ok g c =
@@ -41,9 +41,9 @@ write_ordered-requires-clause-chars g c =
     let part = take (length levels) line.characters.now in
     let len = length-take-le (length levels) line.characters.now c.requires.levels in
     λ on.
-    elim c.then-not-form.branch [
-      | then-not-form-via-then-not-form w ↦ absurd (both_ways c.args.form.now.print.now.visual w.if-not-form.true on)
-      | then-not-form-via-else-not-form+then-is_plain w ↦
+    elim c.then-form.branch [
+      | then-form-via-then-form w ↦ absurd (both_ways c.args.form.now.print.now.novisual on w.if-form.true)
+      | then-form-via-else-form+then-is_plain w ↦
           plain_chars tables line.rules.options.reordernsm (map (class_of tables) line.characters.now) levels part (sym len) (w.is_plain.ensures w.if-is_plain.true)
     ]
 

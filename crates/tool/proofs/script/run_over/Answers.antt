@@ -1,5 +1,6 @@
-use Rattle.std.proofs.Common.{◌∙◌, Bool, false, Ok, Err, ap, refl, rules}
+use Rattle.std.proofs.Common.{◌∙◌, Bool, false, Ok, Err, [], ap, refl, rules, subst, sym}
 use Rattle.lines.specs.Engine.{rules_of}
+use Rattle.tool.specs.Reading.{IsAt}
 use Rattle.tool.proofs.ScriptStepLemmas.{at_start, ends_at_once, script_stepped}
 use Rattle.tool.proofs.script.run_over.Goals as goal
 
@@ -38,3 +39,14 @@ returns-in-Ok-false-clause-reads g c = λ other.
 pub returns-in-Err-clause-reads : goal.returns-in-Err-clause-reads
 returns-in-Err-clause-reads g c = λ other.
     c.step.ensures.reads (λ e. other (cc (e, c.in-Err.is))) ∙ c.loop-reading.invariant.stands.failures
+
+-- each step goes on from where the run began
+pub step-requires-clause-stands : goal.step-requires-clause-stands
+step-requires-clause-stands g c = (
+  c.args.session.now,
+  g.R.Source.state c.args.reader.now,
+  g.W.Sink.state c.args.writer.now,
+  subst (λ rules. IsAt rules c.args.options.now c.args.session.now (g.R.Source.state c.args.reader.now) (g.R.Source.state c.loop-reading.reader)
+      (g.W.Sink.state c.args.writer.now) (g.W.Sink.state c.loop-reading.writer) c.loop-reading.session c.loop-reading.reading [])
+      (sym c.loop-reading.invariant.kept) c.loop-reading.invariant.stands,
+)

@@ -2,13 +2,13 @@ use Rattle.std.proofs.Common.{◌≡◌, ◌+◌, ◌≤◌, length, map, take, 
 use Rattle.breaks.specs.Marks.{marks_of}
 use Rattle.breaks.specs.Symbols.{character_by}
 use Rattle.breaks.proofs.WalkLemmas.{Walks}
-use Rattle.breaks.proofs.mark.mark_properties.Given as goal
+use Rattle.breaks.proofs.mark.mark_all.Given as goal
 use Rattle.breaks.specs.declared.table.TheConstants.{LAST_ROW}
 
 -- the marks so far, and those that the walk will find, are the marks of the text
 abbrev pub invariant-loop-i : goal.invariant-loop-i
-invariant-loop-i l = record {
-  walks : Walks l.whole_numbers l.walk (take l.i l.marks) (map character_by (drop l.i l.rest)) (marks_of l.tables l.whole_numbers l.text);
-  len : length l.marks ≡ length l.rest + 1;
+invariant-loop-i g l = record {
+  walks : Walks l.whole_numbers l.walk (take l.i l.marks) (map character_by (drop l.i (g.C.Characters.all l.rest))) (marks_of l.tables l.whole_numbers l.text);
+  len : length l.marks ≡ length (g.C.Characters.all l.rest) + 1;
   within : l.walk.row ≤ LAST_ROW;
 }

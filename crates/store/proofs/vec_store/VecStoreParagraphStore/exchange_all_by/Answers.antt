@@ -1,7 +1,7 @@
 use Rattle.std.proofs.Common.{◌≡◌, ◌++◌, length, take, drop, sum_by, ◌∙◌, arith}
 use Rattle.std.proofs.lemmas.Grind.{common_steps}
 use Rattle.store.proofs.ListLemmas.{overwritten}
-use Rattle.store.proofs.vec_store.VecStoreParagraphStore.exchange_all.Goals as goal
+use Rattle.store.proofs.vec_store.VecStoreParagraphStore.exchange_all_by.Goals as goal
 
 pub sums-lines-requires-clause-chars_fit : goal.sums-lines-requires-clause-chars_fit
 sums-lines-requires-clause-chars_fit g c =
