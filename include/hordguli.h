@@ -24,8 +24,8 @@
  *
  * COLUMNS
  *
- * A column is a terminal cell. The columns of a line are the sum of the widths of its shown characters. Widths are
- * those of the Unicode version that `fribidi --version` prints last. Tabs and other control characters have width 0 and
+ * A column is a terminal cell. The width of a line, in columns, is the sum of the widths of its shown characters.
+ * Widths are those of the Unicode version that `fribidi --version` prints last. Tabs and other control characters have width 0 and
  * are written unchanged. A program that writes to a terminal has to remove or replace them.
  *
  * ERRORS
@@ -43,7 +43,7 @@
  * A pointer may be NULL if the function says so, or if the length or capacity of its array is 0. The arrays, output
  * parameters and handles of a call must not overlap, but input arrays may overlap each other. An array of more than
  * PTRDIFF_MAX bytes counts as overlapping. The library cannot check the following:
- *   - A pointer other than NULL must point to as many elements as the call says.
+ *   - A non-NULL pointer must point to as many elements as the call says.
  *   - A handle must be initialized with `HORDGULI_TABLES_INIT` or `HORDGULI_SESSION_INIT`, and must not be copied.
  *
  * BUFFERS
@@ -76,7 +76,8 @@
  * MEMORY
  *
  * Memory comes from malloc, realloc and free. The library keeps no pointers from the caller after a call, writes to no
- * stream, calls no callbacks, and has no state outside its handles. The strings it returns are constants. */
+ * stream, calls no callbacks, and has no state outside its handles. The strings it returns are
+ * static; do not free them. */
 #ifndef HORDGULI_H
 #define HORDGULI_H
 
@@ -156,8 +157,8 @@ const char *hordguli_unicode_version(void);
 /* Ends lines at mandatory breaks only. */
 #define HORDGULI_NOBREAK UINT32_C(4)
 /* Puts nonspacing marks at odd levels after their base in visual order (UAX #9, L3). Use it if the terminal draws a
- * mark onto the cell to its left. For RTL text A, mark, B the default order is B, mark, A, so such a terminal draws the
- * mark onto B. With this option the order is B, A, mark. */
+ * mark onto the cell to its left. For example, RTL text `A mark B` is written as `B mark A` by default, so such a
+ * terminal draws the mark on B. With this option, it is written as `B A mark`. */
 #define HORDGULI_REORDER_NSM UINT32_C(8)
 /* Does not break inside a number, such as `$(1,200)`. Instead of LB25 (UAX #14), there is no break inside a match of
  * `(PR|PO)? (OP|HY)? NU (NU|SY|IS)* (CL|CP)? (PR|PO)?`. */
@@ -264,7 +265,7 @@ void hordguli_tables_close(hordguli_tables *tables);
 /* ---- Sessions and edits ---- */
 
 /* What an edit replaced: `old_lines` lines from `first_line` on became `new_lines` lines, and likewise for paragraphs.
- * All other lines are unchanged, except for the numbers of the lines after. An edit replaces all paragraphs that
+ * All other lines are unchanged, except that the lines that follow are renumbered. An edit replaces all paragraphs that
  * contain or touch its range, even if it inserts and deletes nothing. */
 typedef struct hordguli_damage {
     size_t first_line;
@@ -285,7 +286,7 @@ hordguli_status hordguli_session_open(hordguli_session *session, hordguli_tables
 /* Frees the session and closes the handle. Safe on a closed handle or NULL. */
 void hordguli_session_close(hordguli_session *session);
 
-/* Inserts text before the character at `pos`, or at the end of the text. Stores in `*damage` what it replaced.
+/* Inserts text before the character at `pos`, or at the end of the text. Stores in `*damage` which lines it replaced.
  * Errors: NULL, OVERLAP, NOT_UTF8, CLOSED, OUT_OF_RANGE, TEXT_TOO_LONG, PARAGRAPH_TOO_LONG, NO_MEMORY.
  * Cost: O(log n), plus O(1) per replaced paragraph, plus the layout of the new ones. */
 hordguli_status hordguli_insert(hordguli_session *session, size_t pos, const char *text, size_t length,
@@ -426,7 +427,7 @@ typedef struct hordguli_line_info {
  *   vtol        logical position of each visual position
  *   columns     columns at each visual position
  *
- * With NO_ROOM, `*info` is set and the arrays are unchanged.
+ * On NO_ROOM, `*info` is set and the arrays are unchanged.
  * Errors: NULL, OVERLAP, CLOSED, OUT_OF_RANGE, NO_ROOM.
  * Cost: O(log n), plus the elements written. */
 hordguli_status hordguli_line(hordguli_session *session, size_t line, hordguli_line_info *info, size_t capacity,
@@ -473,7 +474,7 @@ typedef struct hordguli_paragraph_info {
  *   levels      level of each character before L1
  *   marks       break mark after each character
  *
- * With NO_ROOM, `*info` is set and the arrays are unchanged.
+ * On NO_ROOM, `*info` is set and the arrays are unchanged.
  * Errors: NULL, OVERLAP, CLOSED, OUT_OF_RANGE, NO_ROOM.
  * Cost: O(log n), plus the elements written. */
 hordguli_status hordguli_paragraph(hordguli_session *session, size_t paragraph, hordguli_paragraph_info *info,
