@@ -25,8 +25,8 @@
  * COLUMNS
  *
  * A column is a terminal cell. The width of a line, in columns, is the sum of the widths of its shown characters.
- * Widths are those of the Unicode version that `fribidi --version` prints last. Tabs and other control characters have width 0 and
- * are written unchanged. A program that writes to a terminal has to remove or replace them.
+ * Widths are those of the Unicode version that `fribidi --version` prints last. Tabs and other control characters have
+ * width 0 and are written unchanged. A program that writes to a terminal has to remove or replace them.
  *
  * ERRORS
  *
