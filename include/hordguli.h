@@ -15,9 +15,9 @@
  * A paragraph ends after a separator: U+000A, U+000D, U+001C to U+001E, U+0085 or U+2029. The pair U+000D U+000A is one
  * separator. A separator at the end of the text starts no new paragraph. An empty text has no paragraphs and no lines.
  *
- * A line ends with its paragraph, after U+000B, U+000C or U+2028, or at a break opportunity (UAX #14). If none of these
- * fits the width, the line ends inside a word, at the last grapheme cluster boundary that fits. If none of those fits
- * either, the line is wider than the width.
+ * A line ends at the end of its paragraph, after U+000B, U+000C or U+2028, or at a break opportunity (UAX #14). If none
+ * of these fits the width, the line ends inside a word, at the last grapheme cluster boundary that fits. If none of
+ * those fits either, the line is wider than the width.
  *
  * The tail of a line is not shown: all U+0020, U+000A to U+000D, U+0085, U+2028 and U+2029 at its end. The rest of the
  * line is its shown part.
@@ -68,8 +68,8 @@
  *     or with the tables it was opened with.
  *   - Several threads may use the same tables if their calls are serialized, by a lock or by creating or joining a
  *     thread.
- *   - Use and close a session in the thread that opened it. Nothing in it is known to depend on the thread, but the
- *     proof does not cover other threads.
+ *   - Use and close a session in the thread that opened it. Nothing in a session is known to depend on the thread, but
+ *     the proof does not cover other threads.
  *   - Do not call the library in a signal handler that can interrupt the library or malloc.
  *   - After `fork`, the child has its own handles. It must not use one that was in a call of another thread.
  *
@@ -115,7 +115,7 @@ typedef int32_t hordguli_status;
 #define HORDGULI_CLOSED 9
 /* The handle to open is already open. */
 #define HORDGULI_ALREADY_OPEN 10
-/* The options or print flags have a bit that is unknown, or that the function does not take. */
+/* The options or print flags have a bit that is unknown, or that the function does not accept. */
 #define HORDGULI_UNKNOWN_OPTION 11
 /* The capacity is too small. */
 #define HORDGULI_NO_ROOM 12
@@ -292,12 +292,12 @@ void hordguli_session_close(hordguli_session *session);
 hordguli_status hordguli_insert(hordguli_session *session, size_t pos, const char *text, size_t length,
                                 hordguli_damage *damage);
 
-/* Deletes `count` characters from `pos` on. This can join paragraphs.
+/* Deletes `count` characters, starting at `pos`. This can join paragraphs.
  * Errors: NULL, OVERLAP, CLOSED, OUT_OF_RANGE, PARAGRAPH_TOO_LONG, NO_MEMORY.
  * Cost: as `hordguli_insert`. */
 hordguli_status hordguli_delete(hordguli_session *session, size_t pos, size_t count, hordguli_damage *damage);
 
-/* Replaces `count` characters from `pos` on with text, in one edit.
+/* Replaces the `count` characters that start at `pos` with text, in one edit.
  * Errors: NULL, OVERLAP, NOT_UTF8, CLOSED, OUT_OF_RANGE, TEXT_TOO_LONG, PARAGRAPH_TOO_LONG, NO_MEMORY.
  * Cost: as `hordguli_insert`. */
 hordguli_status hordguli_replace(hordguli_session *session, size_t pos, size_t count, const char *text, size_t length,
@@ -452,7 +452,7 @@ hordguli_status hordguli_lines_utf8(hordguli_session *session, size_t first, siz
 hordguli_status hordguli_text(hordguli_session *session, size_t pos, size_t count, size_t capacity, char *buffer,
                               size_t *length);
 
-/* Stores in `*length` the size in bytes of `count` characters from `pos` on, as UTF-8.
+/* Stores in `*length` the size in bytes of the `count` characters that start at `pos`, as UTF-8.
  * Errors: NULL, OVERLAP, CLOSED, OUT_OF_RANGE.
  * Cost: O(log n) per paragraph, plus O(count). */
 hordguli_status hordguli_utf8_length(hordguli_session *session, size_t pos, size_t count, size_t *length);
