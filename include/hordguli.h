@@ -75,9 +75,9 @@
  *
  * MEMORY
  *
- * Memory comes from malloc, realloc and free. The library keeps no pointers from the caller after a call, writes to no
- * stream, calls no callbacks, and has no state outside its handles. The strings it returns are
- * static; do not free them. */
+ * Memory is managed with malloc, realloc and free. The library keeps no pointers from the caller after a call, writes
+ * to no stream, calls no callbacks, and has no state outside its handles. The strings it returns are static; do not
+ * free them. */
 #ifndef HORDGULI_H
 #define HORDGULI_H
 
@@ -166,7 +166,7 @@ const char *hordguli_unicode_version(void);
 
 /* ---- Print flags ----
  *
- * Flags for what `hordguli_lines_utf8` writes for each line. Combine them with `|`. */
+ * Flags that select what `hordguli_lines_utf8` writes for each line. Combine them with `|`. */
 
 /* The shown part in visual order. */
 #define HORDGULI_PRINT_VISUAL UINT32_C(1)
@@ -379,7 +379,8 @@ typedef struct hordguli_hit {
 
 /* Stores in `*hit` the character at a column of a line. Column 0 is the left edge of the shown part, right of padding.
  *   - In the shown part: the character that covers the column, with `trailing` 0.
- *   - Right of it: the rightmost character of nonzero width, with `trailing` 1 if its level is even, else 0.
+ *   - Right of the shown part: the rightmost character of nonzero width, with `trailing` 1 if its level is even, else
+ *     0.
  *   - In a line of width 0: the first character, with `trailing` 0.
  *
  * So `trailing` is 0 everywhere but right of the text. To place the caret at screen column `x` of a padded line:
