@@ -4,7 +4,7 @@ use Rattle.ucd.specs.Answers.{PropertyAnswers, unnamed}
 use Rattle.ucd.specs.Contents.{TableContents}
 use Rattle.ucd.specs.Entries.{value_at}
 use Rattle.ucd.specs.Puts.{put_by, put_bidi_class, put_bracket, put_mirror, put_line_class, put_width, put_category, put_pictograph}
-use Rattle.ucd.specs.declared.tables.Entries.{Entries}
+use Rattle.ucd.specs.declared.entries.Entries.{Entries}
 
 abbrev pub contents_of : Entries → TableContents
 contents_of e = record {

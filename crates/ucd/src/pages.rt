@@ -42,22 +42,6 @@ impl Pages {
         let point = c as usize;
         self.entries[self.index[point / PAGE] as usize * PAGE + point % PAGE]
     }
-
-    /// Other pages that say the same.
-    pub fn copy(&self, alloc: Global) -> Result<Pages, AllocError>
-        ensures index { IfOk result (λ pages. pages.index.items ≡ self.now.index.items) }
-        ensures entries { IfOk result (λ pages. pages.entries.items ≡ self.now.entries.items) }
-    {
-        let mut index = Vec::with_capacity(alloc, self.index.len())?;
-        index.extend_from_slice(&self.index)?;
-        let mut entries = Vec::with_capacity(alloc, self.entries.len())?;
-        entries.extend_from_slice(&self.entries)?;
-        Ok(Pages {
-            index,
-            entries,
-            has_usual_separators: self.has_usual_separators,
-        })
-    }
 }
 
 /// What is said of so many code points that nothing names.

@@ -1,7 +1,7 @@
 use Rattle.std.proofs.Common.{◌∙◌, sym, ap}
 use Rattle.ucd.specs.Tables.{class_of}
 use Rattle.ucd.proofs.PagedLemmas.{class_is}
-use Rattle.ucd.proofs.tables.Tables.has_usual_separators.Goals as goal
+use Rattle.ucd.proofs.paged.PagedTables.has_usual_separators.Goals as goal
 
 -- what the pages say of all code points
 pub returns-clause-yes : goal.returns-clause-yes

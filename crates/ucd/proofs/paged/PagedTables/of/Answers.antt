@@ -5,7 +5,7 @@ use Rattle.ucd.specs.Said.{contents_of, said}
 use Rattle.ucd.specs.Tables.{mirror_by, class_of, bracket_of, mirror_of, line_class_of, is_wide_in, is_mark_in, is_future_pictograph_in}
 use Rattle.ucd.proofs.PagedLemmas.{class_is, bracket_is, mirror_is, line_class_is, wide_is, mark_is, future_is, below_limit}
 use Rattle.ucd.proofs.SaidLemmas.{said_class, said_bracket, said_mirror, said_line_class, said_wide, said_mark, said_future, said_apart}
-use Rattle.ucd.proofs.tables.Tables.paged.Goals as goal
+use Rattle.ucd.proofs.paged.PagedTables.of.Goals as goal
 
 pub invariant_of-result : goal.invariant_of-result
 invariant_of-result c =

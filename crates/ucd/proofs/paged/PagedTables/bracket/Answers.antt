@@ -2,7 +2,7 @@ use Rattle.std.proofs.Common.{◌≡◌, ◌∙◌, ap, sym, None, arith}
 use Rattle.std.specs.BTreeMap.{get}
 use Rattle.std.specs.Ordering.{nat_cmp}
 use Rattle.ucd.proofs.PagedLemmas.{bracket_is, none_there}
-use Rattle.ucd.proofs.tables.Tables.bracket.Goals as goal
+use Rattle.ucd.proofs.paged.PagedTables.bracket.Goals as goal
 
 pub returns-then-has_bracket : goal.returns-then-has_bracket
 returns-then-has_bracket c =

@@ -3,7 +3,7 @@ use Rattle.std.specs.BTreeMap.{get}
 use Rattle.std.specs.Ordering.{nat_cmp}
 use Rattle.ucd.specs.Tables.{mirror_by}
 use Rattle.ucd.proofs.PagedLemmas.{mirror_is, none_there}
-use Rattle.ucd.proofs.tables.Tables.mirror.Goals as goal
+use Rattle.ucd.proofs.paged.PagedTables.mirror.Goals as goal
 
 pub returns-in-Some : goal.returns-in-Some
 returns-in-Some c =

@@ -1,0 +1,151 @@
+//! What the files say, by entries, before it is put into pages.
+ghost use Rattle.std.specs.Prelude.{◌≡◌, IfOk, IfErr};
+ghost use Rattle.ucd.specs.Grammar.{lines_of};
+ghost use Rattle.ucd.specs.Files.{HoldsFile};
+ghost use Rattle.ucd.specs.BidiClasses.{bidi_class_form};
+ghost use Rattle.ucd.specs.Brackets.{bracket_form, mirror_form};
+ghost use Rattle.ucd.specs.Categories.{category_form};
+ghost use Rattle.ucd.specs.Emoji.{emoji_form};
+ghost use Rattle.ucd.specs.LineClasses.{line_class_form};
+ghost use Rattle.ucd.specs.Widths.{width_form};
+ghost use Rattle.ucd.specs.Tables.{IsBidiFaultOf, IsBreakFaultOf, IsFaultIn, IsFaultOf};
+
+use crate::bidi_class::BidiClass;
+use crate::bracket::{Bracket, Mirror};
+use crate::category::Category;
+use crate::emoji::Pictograph;
+use crate::fault::TableFault;
+use crate::file::{FileFault, read_file};
+use crate::grammar::Property;
+use crate::line_class::LineClass;
+use crate::pages::{put_entries, unnamed_points};
+use crate::properties::Properties;
+use crate::range_table::{ApartEntries, CODE_POINTS, RangeTable};
+use crate::tables::UcdFiles;
+use crate::width::Width;
+use std::alloc::{AllocError, Global};
+
+// What one file says, if no line of it is at fault. Files are counted from 1.
+fn read_table<V: Property>(
+    alloc: Global,
+    number: usize,
+    file: &[u8],
+) -> Result<ApartEntries<V>, TableFault>
+    ensures ok { IfOk result (HoldsFile V.form (lines_of file.now)) }
+    ensures err { IfErr result (IsFaultIn number V.form (lines_of file.now)) }
+{
+    let Ok(table) = RangeTable::new(alloc) else {
+        return Err(TableFault::memory());
+    };
+    match read_file(table, file) {
+        Ok(table) => Ok(table.into_entries()),
+        Err(fault) => Err(TableFault::in_file(number, fault)),
+    }
+}
+
+/// What the files on bidirectional text say.
+#[derive(Drop)]
+pub struct BidiEntries {
+    classes: ApartEntries<BidiClass>,
+    pub(crate) brackets: ApartEntries<Bracket>,
+    pub(crate) mirrors: ApartEntries<Mirror>,
+}
+
+/// What the files on line breaking say.
+#[derive(Drop)]
+pub struct BreakEntries {
+    classes: ApartEntries<LineClass>,
+    categories: ApartEntries<Category>,
+    widths: ApartEntries<Width>,
+    pictographs: ApartEntries<Pictograph>,
+}
+
+// Reads the first three files.
+fn read_bidi(alloc: Global, files: &UcdFiles<'_>) -> Result<BidiEntries, TableFault>
+    ensures classes { IfOk result (λ e.
+        HoldsFile bidi_class_form (lines_of files.now.bidi_class.now) e.classes) }
+    ensures brackets { IfOk result (λ e.
+        HoldsFile bracket_form (lines_of files.now.bidi_brackets.now) e.brackets) }
+    ensures mirrors { IfOk result (λ e.
+        HoldsFile mirror_form (lines_of files.now.bidi_mirroring.now) e.mirrors) }
+    ensures err { IfErr result (IsBidiFaultOf files.now) }
+{
+    Ok(BidiEntries {
+        classes: read_table(alloc, 1, files.bidi_class)?,
+        brackets: read_table(alloc, 2, files.bidi_brackets)?,
+        mirrors: read_table(alloc, 3, files.bidi_mirroring)?,
+    })
+}
+
+// Reads the others.
+fn read_breaks(alloc: Global, files: &UcdFiles<'_>) -> Result<BreakEntries, TableFault>
+    ensures classes { IfOk result (λ e.
+        HoldsFile line_class_form (lines_of files.now.line_break.now) e.classes) }
+    ensures categories { IfOk result (λ e.
+        HoldsFile category_form (lines_of files.now.general_category.now) e.categories) }
+    ensures widths { IfOk result (λ e.
+        HoldsFile width_form (lines_of files.now.east_asian_width.now) e.widths) }
+    ensures pictographs { IfOk result (λ e.
+        HoldsFile emoji_form (lines_of files.now.emoji_data.now) e.pictographs) }
+    ensures err { IfErr result (IsBreakFaultOf files.now) }
+{
+    Ok(BreakEntries {
+        classes: read_table(alloc, 4, files.line_break)?,
+        categories: read_table(alloc, 5, files.general_category)?,
+        widths: read_table(alloc, 6, files.east_asian_width)?,
+        pictographs: read_table(alloc, 7, files.emoji_data)?,
+    })
+}
+
+/// What the files say.
+#[derive(Drop)]
+pub struct Entries {
+    pub(crate) bidi: BidiEntries,
+    pub(crate) breaks: BreakEntries,
+}
+
+/// Drops the entries here, so that callers do not have to list what is dropped.
+pub fn drop_entries(_entries: Entries) {}
+
+impl Entries {
+    ghost use Rattle.ucd.specs.Said.{AreSaid, contents_of};
+
+    /// Reads the files.
+    pub fn read(alloc: Global, files: &UcdFiles<'_>) -> Result<Entries, TableFault>
+        ensures bidi_classes { IfOk result (λ e.
+            HoldsFile bidi_class_form (lines_of files.now.bidi_class.now) e.bidi.classes) }
+        ensures brackets { IfOk result (λ e.
+            HoldsFile bracket_form (lines_of files.now.bidi_brackets.now) e.bidi.brackets) }
+        ensures mirrors { IfOk result (λ e.
+            HoldsFile mirror_form (lines_of files.now.bidi_mirroring.now) e.bidi.mirrors) }
+        ensures line_classes { IfOk result (λ e.
+            HoldsFile line_class_form (lines_of files.now.line_break.now) e.breaks.classes) }
+        ensures categories { IfOk result (λ e.
+            HoldsFile category_form (lines_of files.now.general_category.now) e.breaks.categories) }
+        ensures widths { IfOk result (λ e.
+            HoldsFile width_form (lines_of files.now.east_asian_width.now) e.breaks.widths) }
+        ensures pictographs { IfOk result (λ e.
+            HoldsFile emoji_form (lines_of files.now.emoji_data.now) e.breaks.pictographs) }
+        ensures err { IfErr result (IsFaultOf files.now) }
+    {
+        let bidi = read_bidi(alloc, files)?;
+        let breaks = read_breaks(alloc, files)?;
+        Ok(Entries { bidi, breaks })
+    }
+
+    /// What they say of all code points.
+    pub fn points(&self, alloc: Global) -> Result<Vec<Properties>, AllocError>
+        ensures { IfOk result (λ points. AreSaid (contents_of self.now) points.items) }
+    {
+        let mut points = unnamed_points(alloc, CODE_POINTS)?;
+        put_entries(&mut points, self.bidi.classes.as_slice());
+        put_entries(&mut points, self.bidi.brackets.as_slice());
+        put_entries(&mut points, self.bidi.mirrors.as_slice());
+        put_entries(&mut points, self.breaks.classes.as_slice());
+        put_entries(&mut points, self.breaks.widths.as_slice());
+        // A pictograph is one to come until its category says that it is assigned.
+        put_entries(&mut points, self.breaks.pictographs.as_slice());
+        put_entries(&mut points, self.breaks.categories.as_slice());
+        Ok(points)
+    }
+}

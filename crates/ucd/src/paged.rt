@@ -1,0 +1,106 @@
+//! The properties of all characters, as they are looked up.
+ghost use Rattle.std.specs.Prelude.{◌≡◌, ◌≢◌, ◌<◌, ℕ, true, false, IfOk};
+ghost use Rattle.ucd.specs.Separators.{may_separate};
+ghost use Rattle.ucd.specs.declared.bidi_class.BidiClass.TheVariants.{B};
+ghost use Rattle.ucd.specs.Tables.{class_of, bracket_of, mirror_of};
+
+use crate::bracket::{Bracket, Mirror};
+use crate::entries::Entries;
+use crate::pages::{Pages, pages_of};
+use crate::points::points_of;
+use crate::properties::Properties;
+use std::alloc::{AllocError, Global};
+use std::collections::BTreeMap;
+use std::marker::Model;
+
+/// The properties of each character, in pages, and the brackets and mirrors of those that have one.
+#[derive(Debug)]
+pub struct PagedTables {
+    pages: Pages,
+    brackets: BTreeMap<u32, Bracket>,
+    mirrors: BTreeMap<u32, Mirror>,
+}
+
+impl Drop for PagedTables {
+    fn drop(self) {
+        let PagedTables {
+            pages: _,
+            brackets: _,
+            mirrors: _,
+        } = self;
+    }
+}
+
+impl Model for PagedTables {
+    ghost use Rattle.ucd.specs.Contents.{TableContents};
+    ghost use Rattle.ucd.specs.Paged.{contents_in, AreSound};
+
+    ghost Value = { TableContents };
+
+    ghost view = { λ t. contents_in t.pages.index.items t.pages.entries.items t.brackets t.mirrors };
+
+    ghost invariant = { λ t. AreSound t.pages.index.items t.pages.entries.items t.brackets t.mirrors };
+}
+
+impl PagedTables {
+    ghost use Rattle.ucd.specs.Agreeing.{SayAlike};
+    ghost use Rattle.ucd.specs.Properties.{properties_of};
+    ghost use Rattle.ucd.specs.Said.{contents_of};
+
+    /// Puts what the files say into pages.
+    pub fn of(alloc: Global, entries: &Entries) -> Result<PagedTables, AllocError>
+        ensures { IfOk result (λ tables. SayAlike tables (contents_of entries.now)) }
+    {
+        let points = entries.points(alloc)?;
+        let pages = pages_of(alloc, &points)?;
+        let brackets = points_of(alloc, entries.bidi.brackets.as_slice())?;
+        let mirrors = points_of(alloc, entries.bidi.mirrors.as_slice())?;
+        Ok(PagedTables {
+            pages,
+            brackets,
+            mirrors,
+        })
+    }
+
+    /// Whether class B has no characters but U+0085, U+2029 and some of those below U+0020.
+    pub fn has_usual_separators(&self) -> bool
+        ensures yes { result ≡ true
+            → (c : ℕ) → c < 1114112 → may_separate c ≡ false → class_of self.now c ≢ B }
+        ensures no { result ≡ false
+            → ¬ ((c : ℕ) → c < 1114112 → may_separate c ≡ false → class_of self.now c ≢ B) }
+    {
+        self.pages.has_usual_separators
+    }
+
+    /// The character as a bracket, or `None`.
+    pub fn bracket(&self, c: char) -> Option<Bracket>
+        ensures { result ≡ bracket_of self.now c }
+    {
+        if self.pages.get(c).has_bracket() {
+            self.brackets.get(&u32::from(c)).copied()
+        } else {
+            None
+        }
+    }
+
+    /// The mirror of the character, or `None`.
+    pub fn mirror(&self, c: char) -> Option<char>
+        ensures { result ≡ mirror_of self.now c }
+    {
+        if self.pages.get(c).has_mirror() {
+            match self.mirrors.get(&u32::from(c)).copied() {
+                Some(mirror) => Some(mirror.0),
+                None => None,
+            }
+        } else {
+            None
+        }
+    }
+
+    /// All properties of the character except which bracket and which mirror it has.
+    pub fn properties(&self, c: char) -> Properties
+        ensures { result ≡ properties_of self.now c }
+    {
+        self.pages.get(c)
+    }
+}
