@@ -34,9 +34,9 @@
  * output parameters, unless the function says otherwise.
  *
  * `Errors` lists the other statuses of a function, without `HORDGULI_`, in the order in which they are checked. The
- * first that applies is returned. Only NO_MEMORY can come before its turn: it is returned as soon as an allocation
- * fails. A function that does not list it allocates nothing. `Cost` is the running time, and the memory if it says so;
- * n is the number of paragraphs in the session.
+ * first that applies is returned. NO_MEMORY is the last one, unless the function says otherwise. A function that does
+ * not list it allocates nothing. `Cost` is the running time, and the memory if it says so; n is the number of
+ * paragraphs in the session.
  *
  * POINTERS
  *
@@ -64,8 +64,8 @@
  *
  *   - Use a handle in one call at a time, even if the calls only read. A call moves the object out of its handle and
  *     back, which the proof of the library depends on. This is why handles are not `const`.
- *   - Different handles may be used in different threads at the same time. A session shares nothing with other sessions
- *     or with the tables it was opened with.
+ *   - Different handles may be used in different threads at the same time. Sessions and tables share only memory that
+ *     is never written, and a count of its owners, which is atomic.
  *   - Several threads may use the same tables if their calls are serialized, by a lock or by creating or joining a
  *     thread.
  *   - Use and close a session in the thread that opened it. Nothing in a session is known to depend on the thread, but
@@ -247,19 +247,20 @@ typedef struct hordguli_table_fault {
 } hordguli_table_fault;
 
 /* Opens tables from the contents of the files. `fault` may be NULL, and is set only on TABLE_FAULT. NULL and OVERLAP
- * are checked for the parameters first, then for each file in turn.
+ * are checked for the parameters first, then for each file in turn. If memory runs out before the first malformed line
+ * is found, NO_MEMORY is returned.
  * Errors: NULL, OVERLAP, ALREADY_OPEN, TABLE_FAULT, NO_MEMORY.
  * Cost: O(size of the files), plus passes over all code points. */
 hordguli_status hordguli_tables_read(hordguli_tables *tables, const hordguli_bytes files[HORDGULI_TABLE_FILES],
                                      hordguli_table_fault *fault);
 
 /* Opens tables from the files in a folder. `folder` is a NUL-terminated path. `fault` may be NULL, and is set only on
- * UNREAD_FILE or TABLE_FAULT.
+ * UNREAD_FILE or TABLE_FAULT. If memory runs out before either is found, NO_MEMORY is returned.
  * Errors: NULL, OVERLAP, ALREADY_OPEN, UNREAD_FILE, TABLE_FAULT, NO_MEMORY.
  * Cost: as `hordguli_tables_read`. */
 hordguli_status hordguli_tables_open_folder(hordguli_tables *tables, const char *folder, hordguli_table_fault *fault);
 
-/* Frees the tables and closes the handle. Safe on a closed handle or NULL. Open sessions keep working. */
+/* Closes the handle. Safe on a closed handle or NULL. The tables are freed once no open session uses them. */
 void hordguli_tables_close(hordguli_tables *tables);
 
 /* ---- Sessions and edits ---- */
@@ -276,7 +277,8 @@ typedef struct hordguli_damage {
     size_t new_paragraphs;
 } hordguli_damage;
 
-/* Opens a session on a text, with a copy of the tables (about 140 KB). `width` is in columns.
+/* Opens a session on a text. `width` is in columns. The session shares the tables, so their handle may be closed
+ * before it. NO_MEMORY comes directly after CLOSED if 2^63 sessions share the tables.
  * Errors: NULL, OVERLAP, WIDTH_OUT_OF_RANGE (above 65,535), UNKNOWN_OPTION, NOT_UTF8, ALREADY_OPEN (the session),
  * CLOSED (the tables), WIDTH_OUT_OF_RANGE (0), TEXT_TOO_LONG, PARAGRAPH_TOO_LONG, NO_MEMORY.
  * Cost: time and memory proportional to `length`. */
@@ -442,12 +444,14 @@ hordguli_status hordguli_line(hordguli_session *session, size_t line, hordguli_l
  *     status = hordguli_lines_utf8(&session, damage.first_line, damage.new_lines,
  *                                  HORDGULI_PRINT_DEFAULT, capacity, buffer, &length);
  *
+ * NO_MEMORY comes before NO_ROOM, because the output is gathered before its size is known.
  * Errors: NULL, OVERLAP, UNKNOWN_OPTION, CLOSED, OUT_OF_RANGE, NO_MEMORY, NO_ROOM.
  * Cost: O(log n) per paragraph, plus time and memory proportional to the output, even with capacity 0. */
 hordguli_status hordguli_lines_utf8(hordguli_session *session, size_t first, size_t count, uint32_t print,
                                     size_t capacity, char *buffer, size_t *length);
 
-/* Writes `count` characters, starting at `pos`, to a buffer (see BUFFERS), as UTF-8.
+/* Writes `count` characters, starting at `pos`, to a buffer (see BUFFERS), as UTF-8. NO_MEMORY comes before NO_ROOM, as
+ * in `hordguli_lines_utf8`.
  * Errors: NULL, OVERLAP, CLOSED, OUT_OF_RANGE, NO_MEMORY, NO_ROOM.
  * Cost: as `hordguli_lines_utf8`. */
 hordguli_status hordguli_text(hordguli_session *session, size_t pos, size_t count, size_t capacity, char *buffer,

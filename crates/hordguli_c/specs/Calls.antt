@@ -1,6 +1,16 @@
 -- What calls say of a handle, by what it held before and holds after, and of a place that they write to.
+--
+-- The statuses of a call are a chain: each definition checks one condition and returns its status, or passes on to the next.
 use Rattle.std.specs.Prelude.{◌≡◌, ℕ, ◌⊎◌, List, Option, Some, None, IsUtf8, chars}
-use Rattle.hordguli_c.specs.declared.status.TheConstants.{OK, OUT_OF_RANGE, NOT_UTF8, CLOSED, UNKNOWN_OPTION}
+use Rattle.hordguli_c.specs.declared.status.TheConstants.{OK, OUT_OF_RANGE, NOT_UTF8, CLOSED, UNKNOWN_OPTION, NO_MEMORY}
+
+-- if a condition holds, the chain goes on; if not, the call returns a status and changes nothing
+abbrev pub Given : Type 0 → ℕ → ℕ → Type 0 → Type 0 → Type 0
+Given holds refused status unchanged rest = ((¬ holds) × (status ≡ refused) × unchanged) ⊎ (holds × rest)
+
+-- the end of the chain of a call that allocates on a condition: it does its work, or there is no memory and nothing is changed
+abbrev pub OrNoMemory : Type 0 → ℕ → Type 0 → Type 0 → Type 0
+OrNoMemory allocates status unchanged done = done ⊎ ((status ≡ NO_MEMORY) × allocates × unchanged)
 
 -- what a call answers by what a handle holds, which writes to one place; by a closed one nothing is written
 abbrev pub Asks : {A O : Type 0} → (ℕ → A → O → O → Type 0) → ℕ → Option A → O → O → Type 0
@@ -25,5 +35,4 @@ Gives (Some x) status old new = (status ≡ OK) × (new ≡ x)
 
 -- a text comes as bytes, and where these are no UTF-8 nothing is changed
 abbrev pub OfText : List ℕ → ℕ → Type 0 → (List ℕ → Type 0) → Type 0
-OfText bytes status unchanged does =
-    ((¬ IsUtf8 bytes) × (status ≡ NOT_UTF8) × unchanged) ⊎ (IsUtf8 bytes × does (chars bytes))
+OfText bytes status unchanged does = Given (IsUtf8 bytes) NOT_UTF8 status unchanged (does (chars bytes))

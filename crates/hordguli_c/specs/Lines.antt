@@ -1,6 +1,5 @@
 -- What goes out of a line and of a paragraph: numbers, and lists into arrays each of which may not be wanted.
 use Rattle.std.specs.Prelude.{◌≡◌, ℕ, ◌&&◌, Bool, List, length, map, slice_index, Option, Some, None, MatchBool}
-use Rattle.breaks.specs.declared.mark.Mark.{Mark}
 use Rattle.lines.specs.Columns.{padding_of}
 use Rattle.lines.specs.Layouts.{Layout}
 use Rattle.lines.specs.Places.{columns_of}

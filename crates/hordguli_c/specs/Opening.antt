@@ -1,10 +1,11 @@
 -- What opening a session says.
-use Rattle.std.specs.Prelude.{◌≡◌, ℕ, ◌<◌, ◌⊎◌, List, length, Option, Some, None}
+use Rattle.std.specs.Prelude.{◌≡◌, ℕ, ◌⊎◌, List, Option, Some, None}
 use Rattle.ucd.specs.declared.tables.Tables.{Tables}
 use Rattle.lines.specs.Engine.{analysed_of, filled_of, rules_of, written_of}
+use Rattle.lines.specs.Layouts.{cut_by}
 use Rattle.lines.specs.declared.engine.Engine.{Engine}
 use Rattle.lines.specs.declared.options.Options.{Options}
-use Rattle.session.specs.Sessions.{SessionState, Opens, OpensNot}
+use Rattle.session.specs.Sessions.{SessionState, IsAnswerFor, Opens, opening_refusal}
 use Rattle.session.specs.declared.edits.EditFault.{EditFault}
 use Rattle.hordguli_c.specs.Calls.{OfText}
 use Rattle.hordguli_c.specs.Edits.{edit_status}
@@ -17,20 +18,19 @@ pub record IsFresh (tables : Tables) (options : Options) (engine : Engine) : Typ
   pub filled : filled_of engine ≡ 0
   pub written : written_of engine ≡ 0
 
--- by a fresh engine a session opens on a text at a width, or it is refused for a fault, or there is no memory for the copy of the
--- tables or for the session itself
+-- by a fresh engine a session opens on a text at a width
 pub record IsOpened (tables : Tables) (options : Options) (text : List ℕ) (width : ℕ) (state : SessionState) : Type 0 where
   pub engine : Engine
   pub fresh : IsFresh tables options engine
   pub opens : Opens engine text width state
 
+-- or it is refused for the first reason that there is, and for no memory only if there is none
 pub record IsRefused (tables : Tables) (options : Options) (text : List ℕ) (width : ℕ) (status : ℕ) : Type 0 where
-  pub engine : Engine
-  pub back : Engine × EditFault
-  pub fresh : IsFresh tables options engine
-  pub refused : OpensNot engine text width back
-  pub status_is : status ≡ edit_status back.1
+  pub fault : EditFault
+  pub reason : IsAnswerFor (opening_refusal (cut_by (record { tables = tables; options = options })) text width) fault
+  pub status_is : status ≡ edit_status fault
 
+-- Tables with more owners than can be counted are refused before the text is looked at.
 abbrev pub OpensOn : Options → List ℕ → ℕ → ℕ → Option Tables → Option SessionState → Option SessionState → Type 0
 OpensOn options text width status tables (Some state) after = (status ≡ ALREADY_OPEN) × (after ≡ Some state)
 OpensOn options text width status None None after = (status ≡ CLOSED) × (after ≡ None)

@@ -1,5 +1,5 @@
 -- What the calls on one paragraph of characters answer, by tables alone.
-use Rattle.std.specs.Prelude.{◌≡◌, ℕ, ◌<◌, ◌⊎◌, Bool, List, length, map, All}
+use Rattle.std.specs.Prelude.{◌≡◌, ℕ, ◌<◌, ◌≤◌, ◌⊎◌, Bool, List, length, map, All}
 use Rattle.std.specs.Char.{IsScalar}
 use Rattle.ucd.specs.Tables.{class_of}
 use Rattle.ucd.specs.declared.tables.Tables.{Tables}
@@ -10,6 +10,7 @@ use Rattle.breaks.specs.Marks.{marks_of}
 use Rattle.breaks.specs.declared.mark.Mark.{Mark}
 use Rattle.breaks.specs.declared.mark.Mark.TheVariants.{Never, May, Must}
 use Rattle.hordguli_c.specs.Arrays.{put}
+use Rattle.hordguli_c.specs.Calls.{Given, OrNoMemory}
 use Rattle.hordguli_c.specs.declared.status.TheConstants.{OK, NO_MEMORY, NOT_A_CHARACTER, NO_ROOM}
 
 abbrev pub mark_number : Mark → ℕ
@@ -17,13 +18,23 @@ mark_number Never = 0
 mark_number May = 1
 mark_number Must = 2
 
--- the array gets a number for each of the characters, where these are characters and it has room
+-- why numbers are not taken as characters
+abbrev pub CharactersNot : List ℕ → ℕ → Type 0
+CharactersNot numbers status =
+    ((¬ All IsScalar numbers) × (status ≡ NOT_A_CHARACTER))
+    ⊎ (All IsScalar numbers × (status ≡ NO_MEMORY) × (0 < length numbers))
+
+-- a call on characters does its work if all are characters, and allocates if there are some
+abbrev pub OfCharacters : List ℕ → ℕ → Type 0 → Type 0 → Type 0
+OfCharacters characters status unchanged done =
+    Given (All IsScalar characters) NOT_A_CHARACTER status unchanged
+    (OrNoMemory (0 < length characters) status unchanged done)
+
+-- the array gets a number for each of the characters, if it has room
 abbrev pub PutsEach : (List ℕ → List ℕ) → List ℕ → ℕ → List ℕ → List ℕ → Type 0
 PutsEach numbers characters status old new =
-    ((status ≡ OK) × All IsScalar characters × (new ≡ put (numbers characters) old))
-    ⊎ ((status ≡ NO_ROOM) × (length old < length characters) × (new ≡ old))
-    ⊎ ((status ≡ NOT_A_CHARACTER) × (¬ All IsScalar characters) × (new ≡ old))
-    ⊎ ((status ≡ NO_MEMORY) × (new ≡ old))
+    Given (length characters ≤ length old) NO_ROOM status (new ≡ old)
+    (OfCharacters characters status (new ≡ old) ((status ≡ OK) × (new ≡ put (numbers characters) old)))
 
 -- the levels before L1 (UAX #9, X1 to I2), which a search for a proof leaves closed
 unfoldable pub levels_by : Tables → Base → List ℕ → List ℕ
@@ -37,6 +48,5 @@ PutsMarks whole_numbers characters status tables = PutsEach (λ text. map mark_n
 
 abbrev pub PutsBase : Base → List ℕ → ℕ → Tables → ℕ → ℕ → Type 0
 PutsBase base characters status tables old new =
-    ((status ≡ OK) × All IsScalar characters × (new ≡ base_level_of (map (class_of tables) characters) base))
-    ⊎ ((status ≡ NOT_A_CHARACTER) × (¬ All IsScalar characters) × (new ≡ old))
-    ⊎ ((status ≡ NO_MEMORY) × (new ≡ old))
+    OfCharacters characters status (new ≡ old)
+    ((status ≡ OK) × (new ≡ base_level_of (map (class_of tables) characters) base))

@@ -1,17 +1,16 @@
 -- What goes out to a question about a place of a text.
-use Rattle.std.specs.Prelude.{◌≡◌, ℕ, ◌<◌, ◌⊎◌, Bool, length, option_map, if◌then◌else◌}
+use Rattle.std.specs.Prelude.{◌≡◌, ℕ, ◌<◌, Bool, length, option_map, if◌then◌else◌}
 use Rattle.session.specs.Clusters.{cluster_at}
 use Rattle.session.specs.Sessions.{SessionState, text_at}
 use Rattle.session.specs.declared.carets.Caret.{Caret}
 use Rattle.session.specs.declared.clusters.Cluster.{Cluster}
 use Rattle.session.specs.declared.hits.Hit.{Hit}
 use Rattle.session.specs.declared.places.Place.{Place}
-use Rattle.hordguli_c.specs.Calls.{Gives}
+use Rattle.hordguli_c.specs.Calls.{Gives, OrNoMemory}
 use Rattle.hordguli_c.specs.declared.place_calls.CaretOut.{CaretOut}
 use Rattle.hordguli_c.specs.declared.place_calls.ClusterOut.{ClusterOut}
 use Rattle.hordguli_c.specs.declared.place_calls.HitOut.{HitOut}
 use Rattle.hordguli_c.specs.declared.place_calls.PlaceOut.{PlaceOut}
-use Rattle.hordguli_c.specs.declared.status.TheConstants.{NO_MEMORY}
 
 -- a truth value as a number
 abbrev pub flag : Bool → ℕ
@@ -29,8 +28,8 @@ hit_out hit = record { pos = hit.pos; trailing = flag hit.trailing; zero = 0 }
 abbrev pub cluster_out : Cluster → ClusterOut
 cluster_out cluster = record { start = cluster.start; end = cluster.end }
 
--- a cluster is given, unless memory is wanting, which it is for a character alone
+-- the cluster of a character is given
 abbrev pub GivesCluster : ℕ → ℕ → SessionState → ClusterOut → ClusterOut → Type 0
 GivesCluster pos status state old new =
-    Gives (option_map cluster_out (cluster_at state.kept pos)) status old new
-    ⊎ ((status ≡ NO_MEMORY) × (pos < length (text_at state)) × (new ≡ old))
+    OrNoMemory (pos < length (text_at state)) status (new ≡ old)
+    (Gives (option_map cluster_out (cluster_at state.kept pos)) status old new)

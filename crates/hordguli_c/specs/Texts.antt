@@ -4,11 +4,14 @@ use Rattle.device.specs.Device.{Device}
 use Rattle.lines.specs.declared.print.Print.{Print}
 use Rattle.session.specs.Kept.{lines_in}
 use Rattle.session.specs.Printing.{lines_page}
+use Rattle.session.specs.declared.printing.RangeFault.{RangeFault}
+use Rattle.session.specs.declared.printing.RangeFault.TheVariants.{OutOfRange, Write}
 use Rattle.session.specs.Reading.{utf8_part}
 use Rattle.session.specs.Sessions.{SessionState, text_at}
 use Rattle.hordguli_c.specs.Arrays.{put}
+use Rattle.hordguli_c.specs.Calls.{Given, OrNoMemory}
 use Rattle.hordguli_c.specs.declared.page.Page.{Page}
-use Rattle.hordguli_c.specs.declared.status.TheConstants.{OK, OUT_OF_RANGE, NO_MEMORY, NO_ROOM}
+use Rattle.hordguli_c.specs.declared.status.TheConstants.{OK, OUT_OF_RANGE, NO_ROOM}
 
 -- a page tells its bytes, all of which passed
 abbrev pub page_state : Page → Device
@@ -25,12 +28,16 @@ PutsBytes bytes status old new =
     ((status ≡ OK) × (length bytes ≤ length old.0) × (new ≡ (put bytes old.0, length bytes)))
     ⊎ ((status ≡ NO_ROOM) × (length old.0 < length bytes) × (new ≡ (old.0, length bytes)))
 
--- the bytes of a range of so many things
+-- the bytes of a range of so many things; they are gathered before they are put, and so memory may run out before their number is known
 abbrev pub PutsRange : ℕ → ℕ → ℕ → List ℕ → ℕ → List ℕ × ℕ → List ℕ × ℕ → Type 0
 PutsRange size first count bytes status old new =
-    ((first + count ≤ size) × PutsBytes bytes status old new)
-    ⊎ ((status ≡ OUT_OF_RANGE) × (size < first + count) × (new ≡ old))
-    ⊎ ((status ≡ NO_MEMORY) × (new ≡ old))
+    Given (first + count ≤ size) OUT_OF_RANGE status (new ≡ old)
+    (OrNoMemory (0 < length bytes) status (new ≡ old) (PutsBytes bytes status old new))
+
+-- why a range is not gathered: it reaches past the end, or memory ran out before all of its bytes
+abbrev pub RangeNot : ℕ → ℕ → ℕ → List ℕ → RangeFault → Type 0
+RangeNot size first count bytes OutOfRange = size < first + count
+RangeNot size first count bytes (Write fault) = (first + count ≤ size) × (0 < length bytes)
 
 -- lines as they are printed
 abbrev pub PutsLines : ℕ → ℕ → Print → ℕ → SessionState → List ℕ × ℕ → List ℕ × ℕ → Type 0

@@ -1,27 +1,58 @@
 //! Arrays of C's.
-ghost use Rattle.std.specs.Prelude.{◌≡◌, ◌≤◌, All, length, map, true, IfOk, MatchOption};
+ghost use Rattle.std.specs.Prelude.{◌≡◌, ◌<◌, ◌≤◌, All, length, map, true};
+ghost use Rattle.std.specs.Prelude.{IfErr, IfOk, IsFalse, IsTrue, OnErr};
 ghost use Rattle.std.specs.Char.{IsScalar};
 ghost use Rattle.hordguli_c.specs.Arrays.{has_room, put, put_if};
 ghost use Rattle.hordguli_c.specs.Lines.{columns_in};
-ghost use Rattle.hordguli_c.specs.Paragraphs.{mark_number};
+ghost use Rattle.hordguli_c.specs.Paragraphs.{CharactersNot, mark_number};
 
+use crate::status::{NO_MEMORY, NOT_A_CHARACTER};
 use breaks::Mark;
 use lines::VisualLine;
 use std::alloc::{AllocError, Global};
 
-/// Numbers as characters, if they all are some.
-pub fn characters_of(alloc: Global, numbers: &[u32]) -> Result<Option<Vec<char>>, AllocError>
-    ensures { IfOk result (λ text. MatchOption text (¬ All IsScalar numbers.now)
-        (λ text. All IsScalar numbers.now × (text.items ≡ numbers.now))) }
+// Whether all numbers are Unicode scalar values.
+fn are_characters(numbers: &[u32]) -> bool
+    ensures yes { IsTrue result → All IsScalar numbers.now }
+    ensures no { IsFalse result → ¬ All IsScalar numbers.now }
 {
-    let mut text = Vec::with_capacity(alloc, numbers.len())?;
     for k in 0..numbers.len() {
-        match char::from_u32(numbers[k]) {
-            Some(c) => text.push(c)?,
-            None => return Ok(None),
+        if char::from_u32(numbers[k]).is_none() {
+            return false;
         }
     }
-    Ok(Some(text))
+    true
+}
+
+// Numbers as characters.
+fn collect_characters(alloc: Global, numbers: &[u32]) -> Result<Vec<char>, AllocError>
+    requires { All IsScalar numbers.now }
+    ensures text { IfOk result (λ text. text.items ≡ numbers.now) }
+    ensures memory { OnErr result (0 < length numbers.now) }
+{
+    let mut text = Vec::new(alloc);
+    text.reserve(numbers.len())?;
+    for k in 0..numbers.len() {
+        if let Some(c) = char::from_u32(numbers[k]) {
+            text.push(c)?;
+        }
+    }
+    Ok(text)
+}
+
+/// Numbers as characters. Fails with NOT_A_CHARACTER if one is not a Unicode scalar value, and only then
+/// with NO_MEMORY.
+pub fn characters_of(alloc: Global, numbers: &[u32]) -> Result<Vec<char>, u32>
+    ensures ok { IfOk result (λ text. All IsScalar numbers.now × (text.items ≡ numbers.now)) }
+    ensures err { IfErr result (CharactersNot numbers.now) }
+{
+    if !are_characters(numbers) {
+        return Err(NOT_A_CHARACTER);
+    }
+    match collect_characters(alloc, numbers) {
+        Ok(text) => Ok(text),
+        Err(_) => Err(NO_MEMORY),
+    }
 }
 
 /// Puts a list at the front of an array.

@@ -1,12 +1,12 @@
 //! The calls on one paragraph of characters, by tables alone.
-ghost use Rattle.std.specs.Prelude.{◌≡◌, length, IfOk};
+ghost use Rattle.std.specs.Prelude.{◌≡◌, ◌<◌, length, IfOk, OnErr};
 ghost use Rattle.hordguli_c.specs.Calls.{AsksBy};
 ghost use Rattle.hordguli_c.specs.Options.{direction_of, tailoring_of};
 ghost use Rattle.hordguli_c.specs.Paragraphs.{levels_by, PutsBase, PutsLevels, PutsMarks};
 
 use crate::arrays::{characters_of, put_levels, put_marks};
 use crate::options::{direction_of, tailoring_of};
-use crate::status::{CLOSED, NO_MEMORY, NO_ROOM, NOT_A_CHARACTER, OK, UNKNOWN_OPTION};
+use crate::status::{CLOSED, NO_MEMORY, NO_ROOM, OK, UNKNOWN_OPTION};
 use crate::tables_handle::TablesHandle;
 use bidi::{Base, base_level, resolve};
 use breaks::marks;
@@ -17,12 +17,11 @@ fn find_base(alloc: Global, tables: &Tables, base: Base, characters: &[u32], lev
     ensures { PutsBase base characters.now result tables.now level.old level.new }
 {
     match characters_of(alloc, characters) {
-        Ok(Some(text)) => {
+        Ok(text) => {
             *level = u32::from(base_level(tables, &text, base));
             OK
         }
-        Ok(None) => NOT_A_CHARACTER,
-        Err(_) => NO_MEMORY,
+        Err(status) => status,
     }
 }
 
@@ -61,6 +60,7 @@ fn levels_by(
 ) -> Result<Vec<u8>, AllocError>
     ensures levels { IfOk result (λ levels. levels.items ≡ levels_by tables.now base text.now) }
     ensures len { IfOk result (λ levels. length levels.items ≡ length text.now) }
+    ensures memory { OnErr result (0 < length text.now) }
 {
     resolve(alloc, tables, text, base)
 }
@@ -78,9 +78,8 @@ fn find_levels(
         return NO_ROOM;
     }
     let text = match characters_of(alloc, characters) {
-        Ok(Some(text)) => text,
-        Ok(None) => return NOT_A_CHARACTER,
-        Err(_) => return NO_MEMORY,
+        Ok(text) => text,
+        Err(status) => return status,
     };
     match levels_by(alloc, tables, base, &text) {
         Ok(found) => {
@@ -130,9 +129,8 @@ fn find_marks(
         return NO_ROOM;
     }
     let text = match characters_of(alloc, characters) {
-        Ok(Some(text)) => text,
-        Ok(None) => return NOT_A_CHARACTER,
-        Err(_) => return NO_MEMORY,
+        Ok(text) => text,
+        Err(status) => return status,
     };
     match marks(alloc, tables, &text, whole_numbers) {
         Ok(found) => {

@@ -1,13 +1,12 @@
 //! The calls that give lines and characters as bytes.
-ghost use Rattle.std.specs.Prelude.{◌≡◌, ◌+◌, ◌<◌, ◌≤◌, chars, length, IfErr, IfOk};
+ghost use Rattle.std.specs.Prelude.{◌≡◌, ◌+◌, ◌≤◌, chars, length, IfErr, IfOk};
 ghost use Rattle.session.specs.Kept.{lines_in};
 ghost use Rattle.session.specs.Printing.{lines_page};
 ghost use Rattle.session.specs.Reading.{utf8_len, utf8_part};
 ghost use Rattle.session.specs.Sessions.{text_at};
-ghost use Rattle.session.specs.declared.printing.RangeFault.TheVariants.{OutOfRange};
 ghost use Rattle.hordguli_c.specs.Calls.{Asks, AsksBy, Gives, OfText};
 ghost use Rattle.hordguli_c.specs.Options.{print_of};
-ghost use Rattle.hordguli_c.specs.Texts.{PutsBytes, PutsLines, PutsText};
+ghost use Rattle.hordguli_c.specs.Texts.{PutsBytes, PutsLines, PutsText, RangeNot};
 ghost use Rattle.hordguli_c.specs.declared.status.TheConstants.{OK};
 
 use crate::options::print_of;
@@ -41,8 +40,8 @@ fn printed(
 ) -> Result<Page, RangeFault>
     ensures within { IfOk result (λ page. first + count ≤ length (lines_in session.now.kept)) }
     ensures ok { IfOk result (λ page. page.bytes.items ≡ lines_page session.now first count print.now) }
-    ensures err { IfErr result (λ fault. fault ≡ OutOfRange
-        → length (lines_in session.now.kept) < first + count) }
+    ensures err { IfErr result (RangeNot (length (lines_in session.now.kept)) first count
+        (lines_page session.now first count print.now)) }
 {
     let mut page = Page::new(alloc);
     match session.print_lines(&mut page, first, count, print) {
@@ -106,8 +105,8 @@ fn encoded(
 ) -> Result<Page, RangeFault>
     ensures within { IfOk result (λ page. pos + count ≤ length (text_at session.now)) }
     ensures ok { IfOk result (λ page. page.bytes.items ≡ utf8_part session.now.kept pos count) }
-    ensures err { IfErr result (λ fault. fault ≡ OutOfRange
-        → length (text_at session.now) < pos + count) }
+    ensures err { IfErr result (RangeNot (length (text_at session.now)) pos count
+        (utf8_part session.now.kept pos count)) }
 {
     let mut page = Page::new(alloc);
     match session.write_text(&mut page, pos, count) {
