@@ -4,8 +4,9 @@
  * - Each status, option, flag and other constant has its number.
  * - Each field of each struct has its place, and gets the value that belongs to it. Parameters of one type are not
  *   exchanged.
- * - If two errors of a call apply, it returns the one that the header lists first, and changes nothing. NO_MEMORY is
- * left out: tests/c/refuse.c makes allocations fail. */
+ * - If two errors of a call apply, it returns the one that the header lists first, and changes nothing. It returns the
+ *   same if every allocation fails, unless the header says that NO_MEMORY comes first. (tests/c/refuse.c lets each
+ *   allocation of a call without other errors fail.) */
 #include "test.h"
 
 #include <stddef.h>
@@ -237,9 +238,12 @@ void *__wrap_malloc(size_t size);
 void *__wrap_realloc(void *block, size_t size);
 
 static long allocations, last, refused = -1;
+static int refuses_all;
 
-void *__wrap_malloc(size_t size) { return allocations++ == refused ? NULL : __real_malloc(size); }
-void *__wrap_realloc(void *block, size_t size) { return allocations++ == refused ? NULL : __real_realloc(block, size); }
+static int is_allocation_refused(void) { return allocations++ == refused || refuses_all; }
+
+void *__wrap_malloc(size_t size) { return is_allocation_refused() ? NULL : __real_malloc(size); }
+void *__wrap_realloc(void *block, size_t size) { return is_allocation_refused() ? NULL : __real_realloc(block, size); }
 #endif
 
 static void counts_and_work_have_each_value_in_their_field(void) {
@@ -984,6 +988,14 @@ static int is_set_as_promised(const call *c, hordguli_status status) {
     return is_set;
 }
 
+#ifdef WRAPPED
+/* Whether an error is found only after allocating. */
+static int allocates_first(const call *c, hordguli_status error) {
+    if (error == HORDGULI_NO_ROOM) return c->make == make_lines_utf8 || c->make == make_text;
+    return error == HORDGULI_TABLE_FAULT || error == HORDGULI_UNREAD_FILE;
+}
+#endif
+
 /* Makes a call in which the errors of one or two ways apply. */
 static void is_refused(const call *c, const items *order, uint32_t bits, const way *x, size_t i, const way *y,
                        size_t j) {
@@ -1010,6 +1022,15 @@ static void is_refused(const call *c, const items *order, uint32_t bits, const w
     EXPECT(status == wanted, "returns %d, not %d", (int)wanted, (int)status);
     EXPECT(is_set_as_promised(c, status), "sets what the header says");
     EXPECT(memcmp(&own, &before, sizeof own) == 0, "changes no memory");
+#ifdef WRAPPED
+    refuses_all = 1;
+    status = c->make(&a);
+    refuses_all = 0;
+    if (allocates_first(c, wanted)) wanted = HORDGULI_NO_MEMORY;
+    EXPECT(status == wanted, "returns %d, not %d, if no allocation succeeds", (int)wanted, (int)status);
+    EXPECT(is_set_as_promised(c, status), "sets what the header says, if no allocation succeeds");
+    EXPECT(memcmp(&own, &before, sizeof own) == 0, "changes no memory, if no allocation succeeds");
+#endif
     now = content_now();
     EXPECT(memcmp(&now, &kept, sizeof now) == 0, "changes no session");
 }
