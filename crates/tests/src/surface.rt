@@ -1,5 +1,5 @@
-//! The public calls of `device`, `ucd`, `bidi`, `breaks` and `store`: one test for each, which calls it by its
-//! path, with its types, and checks one example.
+//! The public calls of `device`, `ucd`, `bidi`, `breaks` and `store`: one test for each, which calls it by
+//! its path, with its types, and checks one example.
 ghost use Rattle.std.specs.Prelude.{◌<◌, ◌^◌};
 
 use crate::files::{FILES, read};
