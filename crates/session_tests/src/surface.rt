@@ -1,124 +1,737 @@
-//! One call of each public item of `device`, `lines` and `session`, by its path and with its types.
+//! The public calls of `lines` and `session`: one test for each, which calls it by its path, with its types,
+//! and checks one example.
+ghost use Rattle.std.specs.Prelude.{◌<◌, IfSome};
+ghost use Rattle.lines.specs.Engine.{rules_of, SameRules};
+ghost use Rattle.lines.specs.Layouts.{AreLinesOf, IsLaidOut};
+
 use crate::files::{FILES, engine};
-use device::{Sink, Source};
-use std::alloc::Global;
-use std::io::ErrorKind;
-use std::test::Fail;
+use std::alloc::{AllocError, Global};
 
-// Three bytes through a buffer of two.
-fn pass_bytes(room: &mut [u8]) -> bool {
-    let mut reader = device::FromRead::new(b"abc".as_slice());
-    let mut writer = device::ToWrite::new(room);
-    let mut buffer: [u8; 2] = [0; 2];
-    let read: Result<usize, ErrorKind> = reader.read(&mut buffer);
-    let written: Result<usize, ErrorKind> = writer.write(&buffer);
-    read == Ok(2) && written == Ok(2)
-}
+// lines
 
-#[test]
-fn devices_pass_bytes(rt: HostRuntime) {
-    let mut room: [u8; 4] = [0; 4];
-    let is_right = pass_bytes(&mut room);
-    assert!(rt; is_right && room == *b"ab\0\0");
-}
-
-fn is_shown(laid: &lines::Laid) -> bool {
-    let text: &[char] = laid.text();
-    let base: u8 = laid.base();
-    let levels: &[u8] = laid.levels();
-    let starts: &[u32] = laid.line_starts();
-    let is_first = match laid.line(0) {
-        Some(line) => is_first_line(&line),
-        None => false,
+// Whether a check holds of an engine that has not worked yet. False if its tables cannot be read.
+fn of_engine<F: FnOnce(&mut lines::Engine) -> bool>(alloc: Global, check: F) -> bool
+    requires { F.IsAlwaysCallable check }
+{
+    let Ok(mut engine) = engine(alloc, &FILES, lines::Options::default()) else {
+        return false;
     };
-    text.len() == 4 && base == 0 && levels.len() == 4 && starts == [0].as_slice() && is_first
+    let is_right = check(&mut engine);
+    drop(engine);
+    is_right
 }
 
-fn is_first_line(line: &lines::VisualLine<'_>) -> bool {
-    let chars: &[char] = line.chars();
-    let levels: &[u8] = line.levels();
-    let maps: [&[u32]; 2] = [line.ltov(), line.vtol()];
-    let columns: u32 = line.columns();
-    line.is_first()
-        && line.base() == 0
-        && chars == ['a', ' ', 'ב', 'א'].as_slice()
-        && levels == [0, 0, 1, 1].as_slice()
-        && maps[0] == [0, 1, 3, 2].as_slice()
-        && maps[1] == [0, 1, 3, 2].as_slice()
-        && columns == 4
-}
-
-fn lay_out(alloc: Global, engine: &mut lines::Engine) -> Result<bool, Fail> {
-    let text: Vec<char> = "a אב".chars().collect(alloc)?;
+// The layout of a paragraph of an allowed length, unless memory runs out.
+fn lay_out(alloc: Global, engine: &mut lines::Engine, text: &str, width: u16) -> Option<lines::Laid>
+    requires { 0 < width }
+    ensures laid { IfSome result (IsLaidOut (rules_of engine.new)) }
+    ensures rules { SameRules engine.old engine.new }
+{
+    let Ok(text) = text.chars().collect::<Vec<char>>(alloc) else {
+        return None;
+    };
     if text.is_empty() || text.len() > lines::PARAGRAPH_LIMIT || engine.first_cut(&text).is_some() {
-        return Err(Fail::new("no paragraph"));
+        return None;
     }
-    match engine.lay_out(alloc, text, 80) {
-        Ok(laid) => Ok(is_shown(&laid) && engine.analysed() == 4 && engine.filled() == 4),
-        Err((_, fault)) => Err(Fail::from(fault)),
+    let laid: Result<lines::Laid, (Vec<char>, AllocError)> = engine.lay_out(alloc, text, width);
+    match laid {
+        Ok(laid) => Some(laid),
+        Err(_) => None,
+    }
+}
+
+// Whether a check holds of the layout of `a`, a space, alef and bet, which is one line: `a`, a space, bet and
+// alef.
+fn of_laid<F: FnOnce(&lines::Laid) -> bool>(alloc: Global, check: F) -> bool
+    requires { F.IsAlwaysCallable check }
+{
+    let Ok(mut engine) = engine(alloc, &FILES, lines::Options::default()) else {
+        return false;
+    };
+    let laid = lay_out(alloc, &mut engine, "a אב", 80);
+    drop(engine);
+    match laid {
+        Some(laid) => check(&laid),
+        None => false,
+    }
+}
+
+// Whether a check holds of its line.
+fn of_line<F: FnOnce(&lines::VisualLine<'_>) -> bool>(alloc: Global, check: F) -> bool
+    requires { F.IsAlwaysCallable check }
+{
+    of_laid(alloc, |laid| match laid.line(0) {
+        Some(line) => check(&line),
+        None => false,
+    })
+}
+
+#[test]
+fn default_options_are_weak_ltr_and_no_flag(rt: HostRuntime) {
+    let options = lines::Options {
+        base: bidi::Base::WeakLtr,
+        nobreak: false,
+        reordernsm: false,
+        whole_numbers: false,
+    };
+    assert!(rt; lines::Options::default() == options);
+}
+
+fn starts_at_zero(alloc: Global) -> bool {
+    let Ok(tables) = ucd::Tables::read(alloc, &FILES) else {
+        return false;
+    };
+    let engine: lines::Engine = lines::Engine::new(tables, lines::Options::default());
+    let counts: [u64; 2] = [engine.analysed(), engine.filled()];
+    drop(engine);
+    counts == [0, 0]
+}
+
+#[test]
+fn new_engine_has_not_worked_yet(rt: HostRuntime) {
+    assert!(rt; starts_at_zero(rt.alloc()));
+}
+
+#[test]
+fn engine_cuts_after_a_newline(rt: HostRuntime) {
+    assert!(rt;
+        of_engine(rt.alloc(), |engine| {
+            let is_cut: bool = engine.is_cut('\n', 'a');
+            is_cut
+        })
+    );
+}
+
+#[test]
+fn first_cut_of_an_engine_is_after_the_newline(rt: HostRuntime) {
+    assert!(rt;
+        of_engine(rt.alloc(), |engine| {
+            let first_cut: Option<usize> = engine.first_cut(&['a', '\n', 'b']);
+            first_cut == Some(2)
+        })
+    );
+}
+
+#[test]
+fn lay_out_breaks_eight_letters_at_width_three(rt: HostRuntime) {
+    let alloc = rt.alloc();
+    assert!(rt;
+        of_engine(alloc, |engine| {
+            lay_out(alloc, engine, "abcdefgh", 3).is_some_and(|laid| laid.line_starts()
+                == [0, 3, 6].as_slice())
+        })
+    );
+}
+
+#[test]
+fn analysed_is_the_length_after_a_layout(rt: HostRuntime) {
+    let alloc = rt.alloc();
+    assert!(rt;
+        of_engine(alloc, |engine| {
+            let is_laid_out = lay_out(alloc, engine, "abcdefgh", 3).is_some();
+            let analysed: u64 = engine.analysed();
+            is_laid_out && analysed == 8
+        })
+    );
+}
+
+#[test]
+fn filled_is_the_length_after_a_layout(rt: HostRuntime) {
+    let alloc = rt.alloc();
+    assert!(rt;
+        of_engine(alloc, |engine| {
+            let is_laid_out = lay_out(alloc, engine, "abcdefgh", 3).is_some();
+            let filled: u64 = engine.filled();
+            is_laid_out && filled == 8
+        })
+    );
+}
+
+// The lines of a paragraph at a width, unless memory runs out.
+fn refill(
+    alloc: Global,
+    engine: &mut lines::Engine,
+    laid: &lines::Laid,
+    width: u16,
+) -> Option<lines::Fill>
+    requires laid { IsLaidOut (rules_of engine.old) laid.now }
+    requires width { 0 < width }
+    ensures { IfSome result (AreLinesOf (rules_of engine.old) laid.now.text) }
+{
+    let fill: Result<lines::Fill, AllocError> = engine.refill(alloc, laid, width);
+    match fill {
+        Ok(fill) => Some(fill),
+        Err(_) => None,
     }
 }
 
 #[test]
-fn engines_lay_paragraphs_out(rt: HostRuntime) -> Result<(), Fail> {
-    let mut engine: lines::Engine = engine(rt.alloc(), &FILES, lines::Options::default())?;
-    let is_right = lay_out(rt.alloc(), &mut engine);
-    drop(engine);
-    let is_right = is_right?;
-    assert!(rt; is_right);
-    Ok(())
+fn refill_counts_the_characters_as_filled_again(rt: HostRuntime) {
+    let alloc = rt.alloc();
+    assert!(rt;
+        of_engine(alloc, |engine| {
+            let Some(laid) = lay_out(alloc, engine, "abcdefgh", 3) else {
+                return false;
+            };
+            let is_filled = refill(alloc, engine, &laid, 4).is_some();
+            is_filled && engine.analysed() == 8 && engine.filled() == 16
+        })
+    );
 }
 
-fn edit(
-    session: &mut session::Session<store::TreeStore<session::Kept>>,
-) -> Result<bool, session::EditFault> {
-    let first: session::Damage = session.insert(4, "x\ny")?;
-    let second: session::Damage = session.delete(2, 4)?;
-    let last: session::Damage = session.set_width(1)?;
-    let counts: [usize; 3] = [
-        session.char_count(),
-        session.line_count(),
-        session.paragraph_count(),
-    ];
-    Ok(
-        first.first_line == 1
-            && first.old_lines == 1
-            && first.new_lines == 2
-            && second.first_par == 0
-            && second.old_pars == 3
-            && second.new_pars == 1
-            && last.old_lines == 2
-            && counts == [7, 6, 2]
-            && session.width() == 1
-            && session.analysed() > 0
-            && session.filled() > 0,
-    )
+#[test]
+fn exchange_puts_in_the_lines_at_the_other_width(rt: HostRuntime) {
+    let alloc = rt.alloc();
+    assert!(rt;
+        of_engine(alloc, |engine| {
+            let Some(mut laid) = lay_out(alloc, engine, "abcdefgh", 3) else {
+                return false;
+            };
+            let Some(mut fill) = refill(alloc, engine, &laid, 4) else {
+                return false;
+            };
+            laid.exchange(&mut fill);
+            laid.line_starts() == [0, 4].as_slice()
+        })
+    );
 }
 
-fn is_read(session: &session::Session<store::TreeStore<session::Kept>>) -> bool {
-    let line: Option<lines::VisualLine<'_>> = session.line(6);
-    let paragraph: Option<&lines::Laid> = session.paragraph(1);
-    line.is_none() && paragraph.is_some()
+#[test]
+fn text_of_a_layout_is_the_paragraph(rt: HostRuntime) {
+    assert!(rt;
+        of_laid(rt.alloc(), |laid| {
+            let text: &[char] = laid.text();
+            text == ['a', ' ', 'א', 'ב'].as_slice()
+        })
+    );
 }
 
-fn edit_text(alloc: Global) -> Result<bool, Fail> {
-    let engine = engine(alloc, &FILES, lines::Options::default())?;
-    let mut session = match session::Session::open(alloc, engine, "ab\ncd\nef", 80) {
-        Ok(session) => session,
+#[test]
+fn base_of_a_layout_that_begins_with_a_letter_is_zero(rt: HostRuntime) {
+    assert!(rt;
+        of_laid(rt.alloc(), |laid| {
+            let base: u8 = laid.base();
+            base == 0
+        })
+    );
+}
+
+#[test]
+fn levels_of_hebrew_in_a_layout_are_one(rt: HostRuntime) {
+    assert!(rt;
+        of_laid(rt.alloc(), |laid| {
+            let levels: &[u8] = laid.levels();
+            levels == [0, 0, 1, 1].as_slice()
+        })
+    );
+}
+
+// The marks of `a`, a space, alef and bet.
+const MARKS: [breaks::Mark; 4] = [
+    breaks::Mark::Never,
+    breaks::Mark::May,
+    breaks::Mark::Never,
+    breaks::Mark::Must,
+];
+
+#[test]
+fn marks_of_a_layout_allow_a_break_after_a_space(rt: HostRuntime) {
+    assert!(rt;
+        of_laid(rt.alloc(), |laid| {
+            let marks: &[breaks::Mark] = laid.marks();
+            marks == MARKS.as_slice()
+        })
+    );
+}
+
+#[test]
+fn line_starts_of_one_line_are_zero(rt: HostRuntime) {
+    assert!(rt;
+        of_laid(rt.alloc(), |laid| {
+            let starts: &[u32] = laid.line_starts();
+            starts == [0].as_slice()
+        })
+    );
+}
+
+#[test]
+fn line_count_of_a_layout_that_fits_is_one(rt: HostRuntime) {
+    assert!(rt;
+        of_laid(rt.alloc(), |laid| {
+            let count: usize = laid.line_count();
+            count == 1
+        })
+    );
+}
+
+#[test]
+fn line_of_a_layout_is_none_past_the_last_one(rt: HostRuntime) {
+    assert!(rt;
+        of_laid(rt.alloc(), |laid| {
+            let line: Option<lines::VisualLine<'_>> = laid.line(1);
+            line.is_none()
+        })
+    );
+}
+
+#[test]
+fn is_first_holds_of_the_first_line(rt: HostRuntime) {
+    assert!(rt;
+        of_line(rt.alloc(), |line| {
+            let is_first: bool = line.is_first();
+            is_first
+        })
+    );
+}
+
+#[test]
+fn base_of_a_line_is_its_paragraphs(rt: HostRuntime) {
+    assert!(rt;
+        of_line(rt.alloc(), |line| {
+            let base: u8 = line.base();
+            base == 0
+        })
+    );
+}
+
+#[test]
+fn chars_of_a_line_are_in_visual_order(rt: HostRuntime) {
+    assert!(rt;
+        of_line(rt.alloc(), |line| {
+            let chars: &[char] = line.chars();
+            chars == ['a', ' ', 'ב', 'א'].as_slice()
+        })
+    );
+}
+
+#[test]
+fn levels_of_a_line_are_in_logical_order(rt: HostRuntime) {
+    assert!(rt;
+        of_line(rt.alloc(), |line| {
+            let levels: &[u8] = line.levels();
+            levels == [0, 0, 1, 1].as_slice()
+        })
+    );
+}
+
+#[test]
+fn ltov_swaps_the_two_hebrew_letters(rt: HostRuntime) {
+    assert!(rt;
+        of_line(rt.alloc(), |line| {
+            let ltov: &[u32] = line.ltov();
+            ltov == [0, 1, 3, 2].as_slice()
+        })
+    );
+}
+
+#[test]
+fn vtol_swaps_the_two_hebrew_letters(rt: HostRuntime) {
+    assert!(rt;
+        of_line(rt.alloc(), |line| {
+            let vtol: &[u32] = line.vtol();
+            vtol == [0, 1, 3, 2].as_slice()
+        })
+    );
+}
+
+#[test]
+fn columns_of_four_characters_are_four(rt: HostRuntime) {
+    assert!(rt;
+        of_line(rt.alloc(), |line| {
+            let columns: u32 = line.columns();
+            columns == 4
+        })
+    );
+}
+
+const VISUAL: lines::Print = lines::Print {
+    novisual: false,
+    basedir: false,
+    ltov: false,
+    vtol: false,
+    levels: false,
+    nopad: false,
+    nomirror: false,
+};
+
+#[test]
+fn default_print_is_the_visual_line_alone(rt: HostRuntime) {
+    assert!(rt; lines::Print::default() == VISUAL);
+}
+
+#[test]
+fn print_of_levels_prints_them_alone_without_the_visual_line(rt: HostRuntime) {
+    let print = lines::Print {
+        novisual: true,
+        levels: true,
+        ..lines::Print::default()
+    };
+    assert!(rt; of_line(rt.alloc(), |line| writes(line, &print, b"0 0 1 1\n")));
+}
+
+// Whether a line is written as these bytes.
+fn writes(line: &lines::VisualLine<'_>, print: &lines::Print, bytes: &[u8]) -> bool {
+    let mut room: [u8; 16] = [0; 16];
+    let mut sink = device::ToWrite::new(room.as_mut_slice());
+    let written: Result<(), lines::WriteFault> = line.write(&mut sink, 80, print);
+    drop(sink);
+    written == Ok(()) && room.get(..bytes.len()) == Some(bytes)
+}
+
+#[test]
+fn write_writes_the_line_in_visual_order_and_a_newline(rt: HostRuntime) {
+    assert!(rt;
+        of_line(
+            rt.alloc(),
+            |line| writes(line, &VISUAL, "a בא\n".as_bytes())
+        )
+    );
+}
+
+// How many bytes of a line a sink of two bytes takes.
+fn fault_after_two_bytes(line: &lines::VisualLine<'_>) -> Option<lines::WriteFault> {
+    let mut room: [u8; 2] = [0; 2];
+    let mut sink = device::ToWrite::new(room.as_mut_slice());
+    line.write(&mut sink, 80, &VISUAL).err()
+}
+
+#[test]
+fn write_fault_is_the_number_of_bytes_written(rt: HostRuntime) {
+    let fault = lines::WriteFault { written: 2 };
+    assert!(rt;
+        of_line(
+            rt.alloc(),
+            |line| fault_after_two_bytes(line) == Some(fault)
+        )
+    );
+}
+
+// session
+
+// What a test calls of a session.
+#[derive(Clone, Copy)]
+enum Call {
+    Insert,
+    Delete,
+    SetWidth,
+    LineCount,
+    Line,
+    CharCount,
+    ParagraphCount,
+    Paragraph,
+    Width,
+    Analysed,
+    Filled,
+    Print,
+    OutOfRange,
+    WidthOutOfRange,
+}
+
+// Whether the example of a call holds in a session on "ab\ncd\nef", of 80 columns. False if memory runs out.
+// Only the functions below that open a session name its store, since each that does is long to prove.
+fn holds(alloc: Global, call: Call) -> bool {
+    match open(alloc, "ab\ncd\nef", 80) {
+        Ok(session) => holds_in(session, call),
+        Err((engine, _)) => {
+            drop(engine);
+            false
+        }
+    }
+}
+
+// A session, or its engine and why it is refused.
+fn open(
+    alloc: Global,
+    text: &str,
+    width: u16,
+) -> Result<
+    session::Session<store::TreeStore<session::Kept>>,
+    (Option<lines::Engine>, session::EditFault),
+> {
+    let Ok(engine) = engine(alloc, &FILES, lines::Options::default()) else {
+        return Err((None, session::EditFault::NoMemory));
+    };
+    let opened: Result<
+        session::Session<store::TreeStore<session::Kept>>,
+        (lines::Engine, session::EditFault),
+    > = session::Session::open(alloc, engine, text, width);
+    match opened {
+        Ok(session) => Ok(session),
+        Err((engine, fault)) => Err((Some(engine), fault)),
+    }
+}
+
+fn holds_in<S: store::ParagraphStore<session::Kept> + Drop>(
+    session: session::Session<S>,
+    call: Call,
+) -> bool {
+    let mut session = session;
+    let is_right = match call {
+        Call::Insert => inserts(&mut session),
+        Call::Delete => deletes(&mut session),
+        Call::SetWidth => sets_width(&mut session),
+        Call::OutOfRange => refuses_range(&mut session),
+        Call::WidthOutOfRange => refuses_width(&mut session),
+        Call::Print => prints(&session),
+        _ => reads(&session, call),
+    };
+    drop(session);
+    is_right
+}
+
+fn reads<S: store::ParagraphStore<session::Kept>>(
+    session: &session::Session<S>,
+    call: Call,
+) -> bool {
+    match call {
+        Call::LineCount => counts_lines(session),
+        Call::Line => shows_line(session),
+        Call::CharCount => counts_chars(session),
+        Call::ParagraphCount => counts_paragraphs(session),
+        Call::Paragraph => shows_paragraph(session),
+        Call::Width => tells_width(session),
+        Call::Analysed => counts_analysed(session),
+        Call::Filled => counts_filled(session),
+        _ => false,
+    }
+}
+
+#[test]
+fn open_keeps_the_text(rt: HostRuntime) {
+    assert!(rt; opens(rt.alloc(), "ab"));
+}
+
+fn opens(alloc: Global, text: &str) -> bool {
+    match open(alloc, text, 80) {
+        Ok(session) => session.char_count() == text.len(),
+        Err((engine, _)) => {
+            drop(engine);
+            false
+        }
+    }
+}
+
+// Why no session is opened.
+fn fault_of(alloc: Global, text: &str, width: u16) -> Option<session::EditFault> {
+    match open(alloc, text, width) {
+        Ok(_) => None,
         Err((engine, fault)) => {
             drop(engine);
-            return Err(Fail::from(fault));
+            Some(fault)
         }
-    };
-    let edited = edit(&mut session);
-    let is_right = is_read(&session);
-    drop(session);
-    Ok(edited? && is_right)
+    }
 }
 
 #[test]
-fn sessions_keep_a_text_under_edits(rt: HostRuntime) -> Result<(), Fail> {
-    let is_right = edit_text(rt.alloc())?;
-    assert!(rt; is_right);
-    Ok(())
+fn open_that_is_refused_returns_the_engine(rt: HostRuntime) {
+    let opened = open(rt.alloc(), "ab", 0);
+    assert!(rt; opened.is_err_and(|(engine, _)| engine.is_some()));
+}
+
+const INSERTED: session::Damage = session::Damage {
+    first_line: 1,
+    old_lines: 1,
+    new_lines: 2,
+    first_par: 1,
+    old_pars: 1,
+    new_pars: 2,
+};
+
+fn inserts<S: store::ParagraphStore<session::Kept>>(session: &mut session::Session<S>) -> bool {
+    let damage: Result<session::Damage, session::EditFault> = session.insert(4, "x\ny");
+    damage == Ok(INSERTED)
+}
+
+#[test]
+fn insert_of_a_newline_makes_two_paragraphs_of_one(rt: HostRuntime) {
+    assert!(rt; holds(rt.alloc(), Call::Insert));
+}
+
+const DELETED: session::Damage = session::Damage {
+    first_line: 0,
+    old_lines: 3,
+    new_lines: 1,
+    first_par: 0,
+    old_pars: 3,
+    new_pars: 1,
+};
+
+fn deletes<S: store::ParagraphStore<session::Kept>>(session: &mut session::Session<S>) -> bool {
+    let damage: Result<session::Damage, session::EditFault> = session.delete(2, 4);
+    damage == Ok(DELETED)
+}
+
+#[test]
+fn delete_of_two_newlines_joins_three_paragraphs(rt: HostRuntime) {
+    assert!(rt; holds(rt.alloc(), Call::Delete));
+}
+
+const NARROWED: session::Damage = session::Damage {
+    first_line: 0,
+    old_lines: 3,
+    new_lines: 6,
+    first_par: 0,
+    old_pars: 3,
+    new_pars: 3,
+};
+
+fn sets_width<S: store::ParagraphStore<session::Kept>>(session: &mut session::Session<S>) -> bool {
+    let damage: Result<session::Damage, session::EditFault> = session.set_width(1);
+    damage == Ok(NARROWED)
+}
+
+#[test]
+fn set_width_of_one_puts_each_letter_on_a_line(rt: HostRuntime) {
+    assert!(rt; holds(rt.alloc(), Call::SetWidth));
+}
+
+#[test]
+fn damage_is_lines_and_paragraphs_before_and_after(rt: HostRuntime) {
+    let damage: session::Damage = INSERTED;
+    let lines: [usize; 3] = [damage.first_line, damage.old_lines, damage.new_lines];
+    let paragraphs: [usize; 3] = [damage.first_par, damage.old_pars, damage.new_pars];
+    assert!(rt; lines == [1, 1, 2] && paragraphs == [1, 1, 2]);
+}
+
+fn counts_lines<S: store::ParagraphStore<session::Kept>>(session: &session::Session<S>) -> bool {
+    let count: usize = session.line_count();
+    count == 3
+}
+
+#[test]
+fn line_count_of_three_short_paragraphs_is_three(rt: HostRuntime) {
+    assert!(rt; holds(rt.alloc(), Call::LineCount));
+}
+
+fn shows_line<S: store::ParagraphStore<session::Kept>>(session: &session::Session<S>) -> bool {
+    let line: Option<lines::VisualLine<'_>> = session.line(1);
+    line.is_some_and(|line| line.chars() == ['c', 'd'].as_slice())
+}
+
+#[test]
+fn line_1_is_the_second_paragraph(rt: HostRuntime) {
+    assert!(rt; holds(rt.alloc(), Call::Line));
+}
+
+fn counts_chars<S: store::ParagraphStore<session::Kept>>(session: &session::Session<S>) -> bool {
+    let count: usize = session.char_count();
+    count == 8
+}
+
+#[test]
+fn char_count_includes_newlines(rt: HostRuntime) {
+    assert!(rt; holds(rt.alloc(), Call::CharCount));
+}
+
+fn counts_paragraphs<S: store::ParagraphStore<session::Kept>>(
+    session: &session::Session<S>,
+) -> bool {
+    let count: usize = session.paragraph_count();
+    count == 3
+}
+
+#[test]
+fn paragraph_count_is_one_more_than_the_newlines(rt: HostRuntime) {
+    assert!(rt; holds(rt.alloc(), Call::ParagraphCount));
+}
+
+fn shows_paragraph<S: store::ParagraphStore<session::Kept>>(session: &session::Session<S>) -> bool {
+    let paragraph: Option<&lines::Laid> = session.paragraph(1);
+    paragraph.is_some_and(|laid| laid.text() == ['c', 'd', '\n'].as_slice())
+}
+
+#[test]
+fn paragraph_1_ends_with_its_newline(rt: HostRuntime) {
+    assert!(rt; holds(rt.alloc(), Call::Paragraph));
+}
+
+fn tells_width<S: store::ParagraphStore<session::Kept>>(session: &session::Session<S>) -> bool {
+    let width: u16 = session.width();
+    width == 80
+}
+
+#[test]
+fn width_is_that_of_open(rt: HostRuntime) {
+    assert!(rt; holds(rt.alloc(), Call::Width));
+}
+
+fn counts_analysed<S: store::ParagraphStore<session::Kept>>(session: &session::Session<S>) -> bool {
+    let analysed: u64 = session.analysed();
+    analysed == 8
+}
+
+#[test]
+fn analysed_is_the_length_after_open(rt: HostRuntime) {
+    assert!(rt; holds(rt.alloc(), Call::Analysed));
+}
+
+fn counts_filled<S: store::ParagraphStore<session::Kept>>(session: &session::Session<S>) -> bool {
+    let filled: u64 = session.filled();
+    filled == 8
+}
+
+#[test]
+fn filled_is_the_length_after_open(rt: HostRuntime) {
+    assert!(rt; holds(rt.alloc(), Call::Filled));
+}
+
+fn prints<S: store::ParagraphStore<session::Kept>>(session: &session::Session<S>) -> bool {
+    let mut room: [u8; 9] = [0; 9];
+    let mut sink = device::ToWrite::new(room.as_mut_slice());
+    let printed: Result<(), lines::WriteFault> = session.print(&mut sink, &VISUAL);
+    drop(sink);
+    printed == Ok(()) && room == *b"ab\ncd\nef\n"
+}
+
+#[test]
+fn print_writes_all_lines_in_order(rt: HostRuntime) {
+    assert!(rt; holds(rt.alloc(), Call::Print));
+}
+
+fn refuses_range<S: store::ParagraphStore<session::Kept>>(
+    session: &mut session::Session<S>,
+) -> bool {
+    session.delete(8, 1) == Err(session::EditFault::OutOfRange)
+}
+
+#[test]
+fn delete_past_the_end_is_out_of_range(rt: HostRuntime) {
+    assert!(rt; holds(rt.alloc(), Call::OutOfRange));
+}
+
+fn refuses_width<S: store::ParagraphStore<session::Kept>>(
+    session: &mut session::Session<S>,
+) -> bool {
+    session.set_width(0) == Err(session::EditFault::WidthOutOfRange)
+}
+
+#[test]
+fn width_of_zero_is_out_of_range(rt: HostRuntime) {
+    assert!(rt; holds(rt.alloc(), Call::WidthOutOfRange));
+}
+
+// Why no session is opened on so many letters. None if memory runs out.
+fn fault_of_letters(alloc: Global, count: usize) -> Option<session::EditFault> {
+    let Ok(letters) = vec![in alloc; b'a'; count] else {
+        return None;
+    };
+    fault_of(alloc, std::str::from_utf8(&letters).unwrap_or(""), 80)
+}
+
+#[test]
+fn text_of_16_777_217_letters_is_too_long(rt: HostRuntime) {
+    let fault = fault_of_letters(rt.alloc(), session::TEXT_LIMIT + 1);
+    assert!(rt; fault == Some(session::EditFault::TextTooLong));
+}
+
+#[test]
+fn paragraph_of_1_048_577_letters_is_too_long(rt: HostRuntime) {
+    let fault = fault_of_letters(rt.alloc(), lines::PARAGRAPH_LIMIT + 1);
+    assert!(rt; fault == Some(session::EditFault::ParagraphTooLong));
+}
+
+#[test]
+fn no_memory_is_shown_as_out_of_memory(rt: HostRuntime) {
+    let shown = session::EditFault::NoMemory.to_string(rt.alloc());
+    assert!(rt; shown.is_ok_and(|shown| shown.as_str() == "out of memory"));
 }

@@ -1,86 +1,285 @@
-//! One call of each public item of `tool`, with one example.
+//! The public calls of `tool`: one test for each, which calls it by its path, with its types, and checks one
+//! example.
 use device::{FromRead, ToWrite};
-use lines::{Engine, Print};
 use oom_calls::sessions::open;
-use oom_calls::tables::engine;
+use oom_calls::tables::{engine, let_go};
 use oom_calls::{Printed, Writer};
-use session::{Kept, Session};
 use std::alloc::Global;
-use std::process::Abort;
-use std::test::Fail;
-use store::TreeStore;
-
-fn check_settings(rt: &impl Abort, settings: &tool::Settings<'_>) {
-    assert!(rt; settings.ucd == "D" && settings.width == 5);
-    assert!(rt; settings.options.nobreak && settings.print.levels && !settings.print.novisual);
-    assert!(rt; settings.script.is_none() && settings.files.len() == 1);
-}
-
-#[test]
-fn settings_hold_what_the_arguments_say(rt: HostRuntime) -> Result<(), Fail> {
-    let arguments: [&str; 6] = ["--ucd", "D", "--width=5", "--nobreak", "--levels", "text"];
-    let found: Result<tool::Settings<'_>, tool::LineFault> = tool::settings(rt.alloc(), &arguments);
-    match found {
-        Ok(settings) => {
-            check_settings(&rt, &settings);
-            Ok(())
-        }
-        Err(_) => Err(Fail::new("refused")),
-    }
-}
-
-#[test]
-fn two_directions_are_a_fault_with_status_2(rt: HostRuntime) {
-    let arguments: [&str; 4] = ["--ucd", "D", "--rtl", "--ltr"];
-    let status = match tool::settings(rt.alloc(), &arguments) {
-        Ok(_) => 0,
-        Err(fault) => tool::ProgramFault::Line(fault).status(),
-    };
-    assert!(rt; status == 2);
-}
 
 fn print_text(
     alloc: Global,
-    engine: &mut Engine,
+    engine: &mut lines::Engine,
     page: &mut Printed,
 ) -> Result<(), tool::RunFault> {
-    let print: Print = Print::default();
+    let print = lines::Print::default();
     let mut reader = FromRead::new(b"abc\nd".as_slice());
     let mut writer = ToWrite::new(Writer { page });
     tool::run_text(alloc, &mut reader, &mut writer, engine, 80, &print)
 }
 
 #[test]
-fn run_text_prints_each_line(rt: HostRuntime) -> Result<(), Fail> {
-    let Ok(mut engine) = engine(rt.alloc()) else {
-        return Err(Fail::new("no engine"));
-    };
+fn run_text_prints_each_line(rt: HostRuntime) {
     let mut page = Printed::new();
-    let result = print_text(rt.alloc(), &mut engine, &mut page);
-    drop(engine);
-    assert!(rt; result == Ok(()) && page.is_one_of(&[b"abc\nd\n"]));
-    Ok(())
+    let printed = match engine(rt.alloc()) {
+        Ok(engine) => prints_text(rt.alloc(), engine, &mut page),
+        Err(_) => false,
+    };
+    assert!(rt; printed && page.is_one_of(&[b"abc\nd\n"]));
+}
+
+fn prints_text(alloc: Global, engine: lines::Engine, page: &mut Printed) -> bool {
+    let mut engine = engine;
+    let result: Result<(), tool::RunFault> = print_text(alloc, &mut engine, page);
+    let_go(engine);
+    result == Ok(())
 }
 
 // Over the text "ab\ncd\nef".
 fn run_script(
     alloc: Global,
-    session: Session<TreeStore<Kept>>,
+    session: session::Session<store::TreeStore<session::Kept>>,
     page: &mut Printed,
 ) -> Result<(), tool::RunFault> {
-    let print: Print = Print::default();
+    let print = lines::Print::default();
     let mut reader = FromRead::new(b"insert 4 x\\ny\nshow\n".as_slice());
     let mut writer = ToWrite::new(Writer { page });
     tool::run_script(alloc, &mut reader, &mut writer, session, &print)
 }
 
 #[test]
-fn run_script_replies_to_each_line(rt: HostRuntime) -> Result<(), Fail> {
-    let Ok(session) = open(rt.alloc()) else {
-        return Err(Fail::new("no session"));
-    };
+fn run_script_replies_to_each_line(rt: HostRuntime) {
     let mut page = Printed::new();
-    let result = run_script(rt.alloc(), session, &mut page);
+    let result: Result<(), tool::RunFault> = match open(rt.alloc()) {
+        Ok(session) => run_script(rt.alloc(), session, &mut page),
+        Err(_) => Err(tool::RunFault::Memory),
+    };
     assert!(rt; result == Ok(()) && page.is_one_of(&[b"@ 1 1 2\nab\ncx\nyd\nef\n"]));
-    Ok(())
+}
+
+const ARGUMENTS: [&str; 8] = [
+    "--ucd",
+    "D",
+    "--width=5",
+    "--rtl",
+    "--nobreak",
+    "--levels",
+    "--script=S",
+    "T",
+];
+
+// Whether a check holds of the settings of these arguments. False if they are refused.
+fn of_settings<F: FnOnce(&tool::Settings<'_>) -> bool>(alloc: Global, check: F) -> bool
+    requires { F.IsAlwaysCallable check }
+{
+    match tool::settings(alloc, &ARGUMENTS) {
+        Ok(settings) => check(&settings),
+        Err(_) => false,
+    }
+}
+
+#[test]
+fn settings_need_nothing_but_a_folder(rt: HostRuntime) {
+    let arguments: &[&str] = &["--ucd", "D"];
+    let settings: Result<tool::Settings<'_>, tool::LineFault> = tool::settings(
+        rt.alloc(),
+        arguments,
+    );
+    assert!(rt; settings.is_ok_and(|settings| settings.width == 80));
+}
+
+#[test]
+fn ucd_is_the_folder(rt: HostRuntime) {
+    assert!(rt;
+        of_settings(rt.alloc(), |settings| {
+            let ucd: &str = settings.ucd;
+            ucd == "D"
+        })
+    );
+}
+
+#[test]
+fn width_is_the_number_of_columns(rt: HostRuntime) {
+    assert!(rt;
+        of_settings(rt.alloc(), |settings| {
+            let width: u16 = settings.width;
+            width == 5
+        })
+    );
+}
+
+#[test]
+fn options_have_the_direction_and_nobreak(rt: HostRuntime) {
+    let wanted = lines::Options {
+        base: bidi::Base::Rtl,
+        nobreak: true,
+        ..lines::Options::default()
+    };
+    assert!(rt;
+        of_settings(rt.alloc(), |settings| {
+            let options: lines::Options = settings.options;
+            options == wanted
+        })
+    );
+}
+
+#[test]
+fn print_has_levels(rt: HostRuntime) {
+    let wanted = lines::Print {
+        levels: true,
+        ..lines::Print::default()
+    };
+    assert!(rt;
+        of_settings(rt.alloc(), |settings| {
+            let print: lines::Print = settings.print;
+            print == wanted
+        })
+    );
+}
+
+#[test]
+fn script_is_the_name_of_a_file(rt: HostRuntime) {
+    assert!(rt;
+        of_settings(rt.alloc(), |settings| {
+            let script: Option<&str> = settings.script;
+            script == Some("S")
+        })
+    );
+}
+
+#[test]
+fn files_are_the_other_arguments(rt: HostRuntime) {
+    assert!(rt;
+        of_settings(rt.alloc(), |settings| {
+            let files: &[&str] = &settings.files;
+            files.len() == 1 && files.first() == Some(&"T")
+        })
+    );
+}
+
+// Why arguments are refused.
+fn fault_of(alloc: Global, arguments: &[&str]) -> Option<tool::LineFault> {
+    match tool::settings(alloc, arguments) {
+        Ok(_) => None,
+        Err(fault) => Some(fault),
+    }
+}
+
+#[test]
+fn arguments_without_a_folder_are_refused_by_clap(rt: HostRuntime) {
+    let fault = fault_of(rt.alloc(), &["T"]);
+    assert!(rt; matches!(fault, Some(tool::LineFault::Words(_))));
+}
+
+#[test]
+fn two_directions_are_refused(rt: HostRuntime) {
+    let fault = fault_of(rt.alloc(), &["--ucd", "D", "--rtl", "--ltr"]);
+    assert!(rt; matches!(fault, Some(tool::LineFault::Directions)));
+}
+
+#[test]
+fn script_without_a_file_is_refused(rt: HostRuntime) {
+    let fault = fault_of(rt.alloc(), &["--ucd", "D", "--script", "S"]);
+    assert!(rt; matches!(fault, Some(tool::LineFault::ScriptFiles)));
+}
+
+// Whether the program ends so.
+fn ends(alloc: Global, fault: tool::ProgramFault, status: u8, message: &str) -> bool {
+    let found: u8 = fault.status();
+    let shown = fault.to_string(alloc);
+    found == status && shown.is_ok_and(|shown| shown.as_str() == message)
+}
+
+#[test]
+fn program_fault_of_a_wrong_command_line_has_status_2(rt: HostRuntime) {
+    let fault = tool::ProgramFault::Line(tool::LineFault::Directions);
+    assert!(rt;
+        ends(
+            rt.alloc(),
+            fault,
+            2,
+            "fribidi: more than one base direction"
+        )
+    );
+}
+
+#[test]
+fn program_fault_without_memory_has_status_1(rt: HostRuntime) {
+    let fault = tool::ProgramFault::Line(tool::LineFault::NoMemory);
+    assert!(rt; ends(rt.alloc(), fault, 1, "fribidi: out of memory"));
+}
+
+#[test]
+fn program_fault_of_an_unread_table_file_names_it(rt: HostRuntime) {
+    let fault = tool::ProgramFault::TableFile("LineBreak.txt");
+    assert!(rt; ends(rt.alloc(), fault, 1, "fribidi: cannot read LineBreak.txt"));
+}
+
+#[test]
+fn program_fault_of_a_table_names_file_line_and_cause(rt: HostRuntime) {
+    let fault = tool::ProgramFault::Table(ucd::TableFault {
+        file: 1,
+        line: 2,
+        cause: ucd::Cause::NamedBefore,
+    });
+    assert!(rt;
+        ends(
+            rt.alloc(),
+            fault,
+            1,
+            "fribidi: DerivedBidiClass.txt:2: cause 6"
+        )
+    );
+}
+
+// Whether the program ends so where a run does.
+fn run_ends(alloc: Global, fault: tool::RunFault, message: &str) -> bool {
+    ends(alloc, tool::ProgramFault::Run(fault), 1, message)
+}
+
+#[test]
+fn read_fault_has_no_number(rt: HostRuntime) {
+    assert!(rt; run_ends(rt.alloc(), tool::RunFault::Read, "fribidi: cannot read"));
+}
+
+#[test]
+fn write_fault_has_the_bytes_written(rt: HostRuntime) {
+    let written: u64 = 2;
+    let fault = tool::RunFault::Write(written);
+    assert!(rt; run_ends(rt.alloc(), fault, "fribidi: cannot write after 2 bytes"));
+}
+
+#[test]
+fn not_utf8_fault_has_the_place_of_the_byte(rt: HostRuntime) {
+    let place: u64 = 3;
+    let fault = tool::RunFault::NotUtf8(place);
+    assert!(rt; run_ends(rt.alloc(), fault, "fribidi: not UTF-8 at byte 3"));
+}
+
+#[test]
+fn paragraph_too_long_fault_has_no_number(rt: HostRuntime) {
+    let fault = tool::RunFault::ParagraphTooLong;
+    assert!(rt; run_ends(rt.alloc(), fault, "fribidi: paragraph too long"));
+}
+
+#[test]
+fn bad_line_fault_has_the_number_of_the_line(rt: HostRuntime) {
+    let line: u64 = 2;
+    let fault = tool::RunFault::BadLine(line);
+    assert!(rt; run_ends(rt.alloc(), fault, "fribidi: bad script line 2"));
+}
+
+#[test]
+fn memory_fault_has_no_number(rt: HostRuntime) {
+    assert!(rt; run_ends(rt.alloc(), tool::RunFault::Memory, "fribidi: out of memory"));
+}
+
+#[test]
+fn text_too_long_fault_has_no_number(rt: HostRuntime) {
+    assert!(rt;
+        run_ends(
+            rt.alloc(),
+            tool::RunFault::TextTooLong,
+            "fribidi: text too long"
+        )
+    );
 }
