@@ -2,37 +2,38 @@
 --
 -- The statuses of a call are a chain: each definition checks one condition and returns its status, or passes on to the next.
 use Rattle.std.specs.Prelude.{◌≡◌, ℕ, ◌⊎◌, List, Option, Some, None, IsUtf8, chars}
-use Rattle.hordguli_c.specs.declared.status.TheConstants.{OK, OUT_OF_RANGE, NOT_UTF8, CLOSED, UNKNOWN_OPTION, NO_MEMORY}
+use Rattle.hordguli_c.specs.declared.status.Status.{Status}
+use Rattle.hordguli_c.specs.declared.status.Status.TheVariants as is
 
 -- if a condition holds, the chain goes on; if not, the call returns a status and changes nothing
-abbrev pub Given : Type 0 → ℕ → ℕ → Type 0 → Type 0 → Type 0
+abbrev pub Given : Type 0 → Status → Status → Type 0 → Type 0 → Type 0
 Given holds refused status unchanged rest = ((¬ holds) × (status ≡ refused) × unchanged) ⊎ (holds × rest)
 
 -- the end of the chain of a call that allocates on a condition: it does its work, or there is no memory and nothing is changed
-abbrev pub OrNoMemory : Type 0 → ℕ → Type 0 → Type 0 → Type 0
-OrNoMemory allocates status unchanged done = done ⊎ ((status ≡ NO_MEMORY) × allocates × unchanged)
+abbrev pub OrNoMemory : Type 0 → Status → Type 0 → Type 0 → Type 0
+OrNoMemory allocates status unchanged done = done ⊎ ((status ≡ is.NoMemory) × allocates × unchanged)
 
 -- what a call answers by what a handle holds, which writes to one place; by a closed one nothing is written
-abbrev pub Asks : {A O : Type 0} → (ℕ → A → O → O → Type 0) → ℕ → Option A → O → O → Type 0
-Asks says status None old new = (status ≡ CLOSED) × (new ≡ old)
+abbrev pub Asks : {A O : Type 0} → (Status → A → O → O → Type 0) → Status → Option A → O → O → Type 0
+Asks says status None old new = (status ≡ is.Closed) × (new ≡ old)
 Asks says status (Some held) old new = says status held old new
 
 -- and where it is by options too, which may have a bit that isn't known
-abbrev pub AsksBy : {P A O : Type 0} → (P → ℕ → A → O → O → Type 0) → Option P → ℕ → Option A → O → O → Type 0
-AsksBy says None status held old new = (status ≡ UNKNOWN_OPTION) × (new ≡ old)
+abbrev pub AsksBy : {P A O : Type 0} → (P → Status → A → O → O → Type 0) → Option P → Status → Option A → O → O → Type 0
+AsksBy says None status held old new = (status ≡ is.UnknownOption) × (new ≡ old)
 AsksBy says (Some options) status held old new = Asks (says options) status held old new
 
 -- a call that may change what a handle holds: it stays open, or closed
-abbrev pub Changes : {A O : Type 0} → (ℕ → A → A → O → O → Type 0) → ℕ → Option A → Option A → O → O → Type 0
-Changes does status None after old new = (status ≡ CLOSED) × (after ≡ None) × (new ≡ old)
+abbrev pub Changes : {A O : Type 0} → (Status → A → A → O → O → Type 0) → Status → Option A → Option A → O → O → Type 0
+Changes does status None after old new = (status ≡ is.Closed) × (after ≡ None) × (new ≡ old)
 Changes does status (Some before) None old new = ⊥
 Changes does status (Some before) (Some after) old new = does status before after old new
 
 -- what is asked for goes out, where there is such a thing
-abbrev pub Gives : {O : Type 0} → Option O → ℕ → O → O → Type 0
-Gives None status old new = (status ≡ OUT_OF_RANGE) × (new ≡ old)
-Gives (Some x) status old new = (status ≡ OK) × (new ≡ x)
+abbrev pub Gives : {O : Type 0} → Option O → Status → O → O → Type 0
+Gives None status old new = (status ≡ is.OutOfRange) × (new ≡ old)
+Gives (Some x) status old new = (status ≡ is.Ok) × (new ≡ x)
 
 -- a text comes as bytes, and where these are no UTF-8 nothing is changed
-abbrev pub OfText : List ℕ → ℕ → Type 0 → (List ℕ → Type 0) → Type 0
-OfText bytes status unchanged does = Given (IsUtf8 bytes) NOT_UTF8 status unchanged (does (chars bytes))
+abbrev pub OfText : List ℕ → Status → Type 0 → (List ℕ → Type 0) → Type 0
+OfText bytes status unchanged does = Given (IsUtf8 bytes) is.NotUtf8 status unchanged (does (chars bytes))

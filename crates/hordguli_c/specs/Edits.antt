@@ -6,15 +6,16 @@ use Rattle.session.specs.declared.edits.Damage.{Damage}
 use Rattle.session.specs.declared.edits.EditFault.{EditFault}
 use Rattle.session.specs.declared.edits.EditFault.TheVariants as faults
 use Rattle.hordguli_c.specs.declared.edit_calls.DamageOut.{DamageOut}
-use Rattle.hordguli_c.specs.declared.status.TheConstants.{OK, OUT_OF_RANGE, WIDTH_OUT_OF_RANGE, TEXT_TOO_LONG, PARAGRAPH_TOO_LONG, NO_MEMORY}
+use Rattle.hordguli_c.specs.declared.status.Status.{Status}
+use Rattle.hordguli_c.specs.declared.status.Status.TheVariants as is
 
 -- the status of each fault
-abbrev pub edit_status : EditFault → ℕ
-edit_status faults.OutOfRange = OUT_OF_RANGE
-edit_status faults.WidthOutOfRange = WIDTH_OUT_OF_RANGE
-edit_status faults.TextTooLong = TEXT_TOO_LONG
-edit_status faults.ParagraphTooLong = PARAGRAPH_TOO_LONG
-edit_status faults.NoMemory = NO_MEMORY
+abbrev pub edit_status : EditFault → Status
+edit_status faults.OutOfRange = is.OutOfRange
+edit_status faults.WidthOutOfRange = is.WidthOutOfRange
+edit_status faults.TextTooLong = is.TextTooLong
+edit_status faults.ParagraphTooLong = is.ParagraphTooLong
+edit_status faults.NoMemory = is.NoMemory
 
 abbrev pub damage_out : Damage → DamageOut
 damage_out damage = record {
@@ -28,13 +29,13 @@ damage_out damage = record {
 
 -- An edit is made, and its damage goes out; or it is refused, and nothing does. Only some texts can want memory.
 abbrev pub Tries : (SessionState → SessionState → Damage → Type 0) → (SessionState → SessionState → EditFault → Type 0) → Type 0
-    → ℕ → SessionState → SessionState → DamageOut → DamageOut → Type 0
+    → Status → SessionState → SessionState → DamageOut → DamageOut → Type 0
 Tries makes refuses may_want status before after old new =
-    ((damage : Damage) × (status ≡ OK) × makes before after damage × (new ≡ damage_out damage))
+    ((damage : Damage) × (status ≡ is.Ok) × makes before after damage × (new ≡ damage_out damage))
     ⊎ ((fault : EditFault) × (status ≡ edit_status fault) × refuses before after fault × (fault ≡ faults.NoMemory → may_want) × (new ≡ old))
 
-abbrev pub TriesEdit : Replacement → ℕ → SessionState → SessionState → DamageOut → DamageOut → Type 0
+abbrev pub TriesEdit : Replacement → Status → SessionState → SessionState → DamageOut → DamageOut → Type 0
 TriesEdit edit status before = Tries (Edits edit) (EditsNot edit) (0 < length (text_at before) + length edit.piece) status before
 
-abbrev pub TriesWidth : ℕ → ℕ → SessionState → SessionState → DamageOut → DamageOut → Type 0
+abbrev pub TriesWidth : ℕ → Status → SessionState → SessionState → DamageOut → DamageOut → Type 0
 TriesWidth width status before = Tries (SetsWidth width) (SetsWidthNot width) (0 < length (text_at before)) status before

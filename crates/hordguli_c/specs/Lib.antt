@@ -1,3 +1,4 @@
+pub mod Statuses
 pub mod Held
 pub mod TablesHeld
 pub mod SessionHeld

@@ -10,7 +10,8 @@ use Rattle.hordguli_c.specs.Paragraphs.{mark_number}
 use Rattle.hordguli_c.specs.Places.{flag}
 use Rattle.hordguli_c.specs.declared.line_calls.LineOut.{LineOut}
 use Rattle.hordguli_c.specs.declared.layout_calls.ParagraphOut.{ParagraphOut}
-use Rattle.hordguli_c.specs.declared.status.TheConstants.{OK, OUT_OF_RANGE, NO_ROOM}
+use Rattle.hordguli_c.specs.declared.status.Status.{Status}
+use Rattle.hordguli_c.specs.declared.status.Status.TheVariants as is
 
 -- a line that begins at a position, of a session at a width
 abbrev pub line_out : ℕ → ℕ → Visual → LineOut
@@ -54,14 +55,14 @@ line_fits wanted line arrays =
     && has_room (has_bit wanted 16) (length line.vtol) (length arrays.columns)
 
 -- the arrays are written where there is room in all that are wanted, and else none is
-abbrev pub PutsLine : ℕ → Visual → ℕ → LineArrays → LineArrays → Type 0
+abbrev pub PutsLine : ℕ → Visual → Status → LineArrays → LineArrays → Type 0
 PutsLine wanted line status old new =
-    MatchBool (line_fits wanted line old) ((status ≡ OK) × (new ≡ line_put wanted line old)) ((status ≡ NO_ROOM) × (new ≡ old))
+    MatchBool (line_fits wanted line old) ((status ≡ is.Ok) × (new ≡ line_put wanted line old)) ((status ≡ is.NoRoom) × (new ≡ old))
 
 -- where a line begins and the line itself are told together, or there is none
-abbrev pub ShowsLine : ℕ → ℕ → Option ℕ → Option Visual → ℕ → LineOut × LineArrays → LineOut × LineArrays → Type 0
+abbrev pub ShowsLine : ℕ → ℕ → Option ℕ → Option Visual → Status → LineOut × LineArrays → LineOut × LineArrays → Type 0
 ShowsLine wanted width (Some start) (Some line) status old new = (new.0 ≡ line_out width start line) × PutsLine wanted line status old.1 new.1
-ShowsLine wanted width start line status old new = (status ≡ OUT_OF_RANGE) × (new ≡ old)
+ShowsLine wanted width start line status old new = (status ≡ is.OutOfRange) × (new ≡ old)
 
 abbrev pub paragraph_out : Layout → ParagraphOut
 paragraph_out laid = record { length = length laid.text; lines = length laid.lines; base = laid.base; zero = 0 }
@@ -81,10 +82,10 @@ paragraph_fits wanted laid arrays =
     has_room (has_bit wanted 1) (length laid.levels) (length arrays.levels)
     && has_room (has_bit wanted 2) (length laid.marks) (length arrays.marks)
 
-abbrev pub PutsParagraph : ℕ → Layout → ℕ → ParagraphArrays → ParagraphArrays → Type 0
+abbrev pub PutsParagraph : ℕ → Layout → Status → ParagraphArrays → ParagraphArrays → Type 0
 PutsParagraph wanted laid status old new =
-    MatchBool (paragraph_fits wanted laid old) ((status ≡ OK) × (new ≡ paragraph_put wanted laid old)) ((status ≡ NO_ROOM) × (new ≡ old))
+    MatchBool (paragraph_fits wanted laid old) ((status ≡ is.Ok) × (new ≡ paragraph_put wanted laid old)) ((status ≡ is.NoRoom) × (new ≡ old))
 
-abbrev pub ShowsParagraph : ℕ → Option Layout → ℕ → ParagraphOut × ParagraphArrays → ParagraphOut × ParagraphArrays → Type 0
+abbrev pub ShowsParagraph : ℕ → Option Layout → Status → ParagraphOut × ParagraphArrays → ParagraphOut × ParagraphArrays → Type 0
 ShowsParagraph wanted (Some laid) status old new = (new.0 ≡ paragraph_out laid) × PutsParagraph wanted laid status old.1 new.1
-ShowsParagraph wanted None status old new = (status ≡ OUT_OF_RANGE) × (new ≡ old)
+ShowsParagraph wanted None status old new = (status ≡ is.OutOfRange) × (new ≡ old)

@@ -9,7 +9,8 @@ use Rattle.session.specs.Sessions.{SessionState, IsAnswerFor, Opens, opening_ref
 use Rattle.session.specs.declared.edits.EditFault.{EditFault}
 use Rattle.hordguli_c.specs.Calls.{OfText}
 use Rattle.hordguli_c.specs.Edits.{edit_status}
-use Rattle.hordguli_c.specs.declared.status.TheConstants.{OK, NO_MEMORY, CLOSED, ALREADY_OPEN, UNKNOWN_OPTION}
+use Rattle.hordguli_c.specs.declared.status.Status.{Status}
+use Rattle.hordguli_c.specs.declared.status.Status.TheVariants as is
 
 -- an engine that has not worked yet
 pub record IsFresh (tables : Tables) (options : Options) (engine : Engine) : Type 0 where
@@ -25,19 +26,19 @@ pub record IsOpened (tables : Tables) (options : Options) (text : List ℕ) (wid
   pub opens : Opens engine text width state
 
 -- or it is refused for the first reason that there is, and for no memory only if there is none
-pub record IsRefused (tables : Tables) (options : Options) (text : List ℕ) (width : ℕ) (status : ℕ) : Type 0 where
+pub record IsRefused (tables : Tables) (options : Options) (text : List ℕ) (width : ℕ) (status : Status) : Type 0 where
   pub fault : EditFault
   pub reason : IsAnswerFor (opening_refusal (cut_by (record { tables = tables; options = options })) text width) fault
   pub status_is : status ≡ edit_status fault
 
 -- Tables with more owners than can be counted are refused before the text is looked at.
-abbrev pub OpensOn : Options → List ℕ → ℕ → ℕ → Option Tables → Option SessionState → Option SessionState → Type 0
-OpensOn options text width status tables (Some state) after = (status ≡ ALREADY_OPEN) × (after ≡ Some state)
-OpensOn options text width status None None after = (status ≡ CLOSED) × (after ≡ None)
-OpensOn options text width status (Some tables) None (Some state) = (status ≡ OK) × IsOpened tables options text width state
-OpensOn options text width status (Some tables) None None = (status ≡ NO_MEMORY) ⊎ IsRefused tables options text width status
+abbrev pub OpensOn : Options → List ℕ → ℕ → Status → Option Tables → Option SessionState → Option SessionState → Type 0
+OpensOn options text width status tables (Some state) after = (status ≡ is.AlreadyOpen) × (after ≡ Some state)
+OpensOn options text width status None None after = (status ≡ is.Closed) × (after ≡ None)
+OpensOn options text width status (Some tables) None (Some state) = (status ≡ is.Ok) × IsOpened tables options text width state
+OpensOn options text width status (Some tables) None None = (status ≡ is.NoMemory) ⊎ IsRefused tables options text width status
 
-abbrev pub OpensSession : Option Options → List ℕ → ℕ → ℕ → Option Tables → Option SessionState → Option SessionState → Type 0
-OpensSession None bytes width status tables before after = (status ≡ UNKNOWN_OPTION) × (after ≡ before)
+abbrev pub OpensSession : Option Options → List ℕ → ℕ → Status → Option Tables → Option SessionState → Option SessionState → Type 0
+OpensSession None bytes width status tables before after = (status ≡ is.UnknownOption) × (after ≡ before)
 OpensSession (Some options) bytes width status tables before after =
     OfText bytes status (after ≡ before) (λ text. OpensOn options text width status tables before after)

@@ -11,7 +11,8 @@ use Rattle.breaks.specs.declared.mark.Mark.{Mark}
 use Rattle.breaks.specs.declared.mark.Mark.TheVariants.{Never, May, Must}
 use Rattle.hordguli_c.specs.Arrays.{put}
 use Rattle.hordguli_c.specs.Calls.{Given, OrNoMemory}
-use Rattle.hordguli_c.specs.declared.status.TheConstants.{OK, NO_MEMORY, NOT_A_CHARACTER, NO_ROOM}
+use Rattle.hordguli_c.specs.declared.status.Status.{Status}
+use Rattle.hordguli_c.specs.declared.status.Status.TheVariants as is
 
 abbrev pub mark_number : Mark → ℕ
 mark_number Never = 0
@@ -19,34 +20,34 @@ mark_number May = 1
 mark_number Must = 2
 
 -- why numbers are not taken as characters
-abbrev pub CharactersNot : List ℕ → ℕ → Type 0
+abbrev pub CharactersNot : List ℕ → Status → Type 0
 CharactersNot numbers status =
-    ((¬ All IsScalar numbers) × (status ≡ NOT_A_CHARACTER))
-    ⊎ (All IsScalar numbers × (status ≡ NO_MEMORY) × (0 < length numbers))
+    ((¬ All IsScalar numbers) × (status ≡ is.NotACharacter))
+    ⊎ (All IsScalar numbers × (status ≡ is.NoMemory) × (0 < length numbers))
 
 -- a call on characters does its work if all are characters, and allocates if there are some
-abbrev pub OfCharacters : List ℕ → ℕ → Type 0 → Type 0 → Type 0
+abbrev pub OfCharacters : List ℕ → Status → Type 0 → Type 0 → Type 0
 OfCharacters characters status unchanged done =
-    Given (All IsScalar characters) NOT_A_CHARACTER status unchanged
+    Given (All IsScalar characters) is.NotACharacter status unchanged
     (OrNoMemory (0 < length characters) status unchanged done)
 
 -- the array gets a number for each of the characters, if it has room
-abbrev pub PutsEach : (List ℕ → List ℕ) → List ℕ → ℕ → List ℕ → List ℕ → Type 0
+abbrev pub PutsEach : (List ℕ → List ℕ) → List ℕ → Status → List ℕ → List ℕ → Type 0
 PutsEach numbers characters status old new =
-    Given (length characters ≤ length old) NO_ROOM status (new ≡ old)
-    (OfCharacters characters status (new ≡ old) ((status ≡ OK) × (new ≡ put (numbers characters) old)))
+    Given (length characters ≤ length old) is.NoRoom status (new ≡ old)
+    (OfCharacters characters status (new ≡ old) ((status ≡ is.Ok) × (new ≡ put (numbers characters) old)))
 
 -- the levels before L1 (UAX #9, X1 to I2), which a search for a proof leaves closed
 unfoldable pub levels_by : Tables → Base → List ℕ → List ℕ
 levels_by tables base text = levels_of tables text base
 
-abbrev pub PutsLevels : Base → List ℕ → ℕ → Tables → List ℕ → List ℕ → Type 0
+abbrev pub PutsLevels : Base → List ℕ → Status → Tables → List ℕ → List ℕ → Type 0
 PutsLevels base characters status tables = PutsEach (levels_by tables base) characters status
 
-abbrev pub PutsMarks : Bool → List ℕ → ℕ → Tables → List ℕ → List ℕ → Type 0
+abbrev pub PutsMarks : Bool → List ℕ → Status → Tables → List ℕ → List ℕ → Type 0
 PutsMarks whole_numbers characters status tables = PutsEach (λ text. map mark_number (marks_of tables whole_numbers text)) characters status
 
-abbrev pub PutsBase : Base → List ℕ → ℕ → Tables → ℕ → ℕ → Type 0
+abbrev pub PutsBase : Base → List ℕ → Status → Tables → ℕ → ℕ → Type 0
 PutsBase base characters status tables old new =
     OfCharacters characters status (new ≡ old)
-    ((status ≡ OK) × (new ≡ base_level_of (map (class_of tables) characters) base))
+    ((status ≡ is.Ok) × (new ≡ base_level_of (map (class_of tables) characters) base))

@@ -7,6 +7,7 @@ use Rattle.session.specs.declared.clusters.Cluster.{Cluster}
 use Rattle.session.specs.declared.hits.Hit.{Hit}
 use Rattle.session.specs.declared.places.Place.{Place}
 use Rattle.hordguli_c.specs.Calls.{Gives, OrNoMemory}
+use Rattle.hordguli_c.specs.declared.status.Status.{Status}
 use Rattle.hordguli_c.specs.declared.place_calls.CaretOut.{CaretOut}
 use Rattle.hordguli_c.specs.declared.place_calls.ClusterOut.{ClusterOut}
 use Rattle.hordguli_c.specs.declared.place_calls.HitOut.{HitOut}
@@ -29,7 +30,7 @@ abbrev pub cluster_out : Cluster → ClusterOut
 cluster_out cluster = record { start = cluster.start; end = cluster.end }
 
 -- the cluster of a character is given
-abbrev pub GivesCluster : ℕ → ℕ → SessionState → ClusterOut → ClusterOut → Type 0
+abbrev pub GivesCluster : ℕ → Status → SessionState → ClusterOut → ClusterOut → Type 0
 GivesCluster pos status state old new =
     OrNoMemory (pos < length (text_at state)) status (new ≡ old)
     (Gives (option_map cluster_out (cluster_at state.kept pos)) status old new)

@@ -7,7 +7,8 @@ use Rattle.ucd.specs.declared.fault.TableFault.{TableFault}
 use Rattle.ucd.specs.declared.tables.Tables.{Tables}
 use Rattle.ucd.specs.declared.tables.UcdFiles.{UcdFiles}
 use Rattle.hordguli_c.specs.declared.tables_calls.TableFaultOut.{TableFaultOut}
-use Rattle.hordguli_c.specs.declared.status.TheConstants.{OK, NO_MEMORY, TABLE_FAULT, ALREADY_OPEN}
+use Rattle.hordguli_c.specs.declared.status.Status.{Status}
+use Rattle.hordguli_c.specs.declared.status.Status.TheVariants as is
 
 abbrev pub cause_number : Cause → ℕ
 cause_number cause.NotAscii = 1
@@ -23,17 +24,17 @@ abbrev pub fault_out : TableFault → TableFaultOut
 fault_out fault = record { file = fault.file - 1; line = fault.line; cause = cause_number fault.cause }
 
 -- want of memory is a status of its own, and else the fault goes out
-abbrev pub TellsFault : Cause → TableFault → ℕ → TableFaultOut → TableFaultOut → Type 0
-TellsFault cause.Memory fault status old new = (status ≡ NO_MEMORY) × (new ≡ old)
-TellsFault why fault status old new = (status ≡ TABLE_FAULT) × (new ≡ fault_out fault)
+abbrev pub TellsFault : Cause → TableFault → Status → TableFaultOut → TableFaultOut → Type 0
+TellsFault cause.Memory fault status old new = (status ≡ is.NoMemory) × (new ≡ old)
+TellsFault why fault status old new = (status ≡ is.TableFault) × (new ≡ fault_out fault)
 
 -- the handle holds the tables of the files, or there is no memory, or the files are refused
-abbrev pub Reads : UcdFiles → ℕ → Option Tables → TableFaultOut → TableFaultOut → Type 0
-Reads files status (Some tables) old new = (status ≡ OK) × AreTablesOf files tables × (new ≡ old)
+abbrev pub Reads : UcdFiles → Status → Option Tables → TableFaultOut → TableFaultOut → Type 0
+Reads files status (Some tables) old new = (status ≡ is.Ok) × AreTablesOf files tables × (new ≡ old)
 Reads files status None old new =
-    ((status ≡ NO_MEMORY) × (new ≡ old)) ⊎ ((fault : TableFault) × IsFaultOf files fault × TellsFault fault.cause fault status old new)
+    ((status ≡ is.NoMemory) × (new ≡ old)) ⊎ ((fault : TableFault) × IsFaultOf files fault × TellsFault fault.cause fault status old new)
 
 -- of a handle that is open nothing is changed
-abbrev pub ReadsTables : UcdFiles → ℕ → Option Tables → Option Tables → TableFaultOut → TableFaultOut → Type 0
+abbrev pub ReadsTables : UcdFiles → Status → Option Tables → Option Tables → TableFaultOut → TableFaultOut → Type 0
 ReadsTables files status None after old new = Reads files status after old new
-ReadsTables files status (Some tables) after old new = (status ≡ ALREADY_OPEN) × (after ≡ Some tables) × (new ≡ old)
+ReadsTables files status (Some tables) after old new = (status ≡ is.AlreadyOpen) × (after ≡ Some tables) × (new ≡ old)

@@ -11,7 +11,8 @@ use Rattle.session.specs.Sessions.{SessionState, text_at}
 use Rattle.hordguli_c.specs.Arrays.{put}
 use Rattle.hordguli_c.specs.Calls.{Given, OrNoMemory}
 use Rattle.hordguli_c.specs.declared.page.Page.{Page}
-use Rattle.hordguli_c.specs.declared.status.TheConstants.{OK, OUT_OF_RANGE, NO_ROOM}
+use Rattle.hordguli_c.specs.declared.status.Status.{Status}
+use Rattle.hordguli_c.specs.declared.status.Status.TheVariants as is
 
 -- a page tells its bytes, all of which passed
 abbrev pub page_state : Page → Device
@@ -23,15 +24,15 @@ page_state page = record {
 }
 
 -- bytes into an array that has room for them, or else none; how many they are goes out in both cases
-abbrev pub PutsBytes : List ℕ → ℕ → List ℕ × ℕ → List ℕ × ℕ → Type 0
+abbrev pub PutsBytes : List ℕ → Status → List ℕ × ℕ → List ℕ × ℕ → Type 0
 PutsBytes bytes status old new =
-    ((status ≡ OK) × (length bytes ≤ length old.0) × (new ≡ (put bytes old.0, length bytes)))
-    ⊎ ((status ≡ NO_ROOM) × (length old.0 < length bytes) × (new ≡ (old.0, length bytes)))
+    ((status ≡ is.Ok) × (length bytes ≤ length old.0) × (new ≡ (put bytes old.0, length bytes)))
+    ⊎ ((status ≡ is.NoRoom) × (length old.0 < length bytes) × (new ≡ (old.0, length bytes)))
 
 -- the bytes of a range of so many things; they are gathered before they are put, and so memory may run out before their number is known
-abbrev pub PutsRange : ℕ → ℕ → ℕ → List ℕ → ℕ → List ℕ × ℕ → List ℕ × ℕ → Type 0
+abbrev pub PutsRange : ℕ → ℕ → ℕ → List ℕ → Status → List ℕ × ℕ → List ℕ × ℕ → Type 0
 PutsRange size first count bytes status old new =
-    Given (first + count ≤ size) OUT_OF_RANGE status (new ≡ old)
+    Given (first + count ≤ size) is.OutOfRange status (new ≡ old)
     (OrNoMemory (0 < length bytes) status (new ≡ old) (PutsBytes bytes status old new))
 
 -- why a range is not gathered: it reaches past the end, or memory ran out before all of its bytes
@@ -40,9 +41,9 @@ RangeNot size first count bytes OutOfRange = size < first + count
 RangeNot size first count bytes (Write fault) = (first + count ≤ size) × (0 < length bytes)
 
 -- lines as they are printed
-abbrev pub PutsLines : ℕ → ℕ → Print → ℕ → SessionState → List ℕ × ℕ → List ℕ × ℕ → Type 0
+abbrev pub PutsLines : ℕ → ℕ → Print → Status → SessionState → List ℕ × ℕ → List ℕ × ℕ → Type 0
 PutsLines first count print status state = PutsRange (length (lines_in state.kept)) first count (lines_page state first count print) status
 
 -- characters as UTF-8
-abbrev pub PutsText : ℕ → ℕ → ℕ → SessionState → List ℕ × ℕ → List ℕ × ℕ → Type 0
+abbrev pub PutsText : ℕ → ℕ → Status → SessionState → List ℕ × ℕ → List ℕ × ℕ → Type 0
 PutsText pos count status state = PutsRange (length (text_at state)) pos count (utf8_part state.kept pos count) status

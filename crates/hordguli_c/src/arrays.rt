@@ -6,7 +6,7 @@ ghost use Rattle.hordguli_c.specs.Arrays.{has_room, put, put_if};
 ghost use Rattle.hordguli_c.specs.Lines.{columns_in};
 ghost use Rattle.hordguli_c.specs.Paragraphs.{CharactersNot, mark_number};
 
-use crate::status::{NO_MEMORY, NOT_A_CHARACTER};
+use crate::status::{Status, number_of};
 use breaks::Mark;
 use lines::VisualLine;
 use std::alloc::{AllocError, Global};
@@ -42,16 +42,16 @@ fn collect_characters(alloc: Global, numbers: &[u32]) -> Result<Vec<char>, Alloc
 
 /// Numbers as characters. Fails with NOT_A_CHARACTER if one is not a Unicode scalar value, and only then
 /// with NO_MEMORY.
-pub fn characters_of(alloc: Global, numbers: &[u32]) -> Result<Vec<char>, u32>
+pub fn characters_of(alloc: Global, numbers: &[u32]) -> Result<Vec<char>, Status>
     ensures ok { IfOk result (λ text. All IsScalar numbers.now × (text.items ≡ numbers.now)) }
     ensures err { IfErr result (CharactersNot numbers.now) }
 {
     if !are_characters(numbers) {
-        return Err(NOT_A_CHARACTER);
+        return Err(Status::NotACharacter);
     }
     match collect_characters(alloc, numbers) {
         Ok(text) => Ok(text),
-        Err(_) => Err(NO_MEMORY),
+        Err(_) => Err(Status::NoMemory),
     }
 }
 

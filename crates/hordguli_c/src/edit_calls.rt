@@ -2,14 +2,12 @@
 ghost use Rattle.std.specs.Prelude.{◌≡◌, chars};
 ghost use Rattle.session.specs.Edits.{deletion, insertion, replacing};
 ghost use Rattle.hordguli_c.specs.Calls.{Changes, OfText};
+ghost use Rattle.hordguli_c.specs.Statuses.{Returns};
 ghost use Rattle.hordguli_c.specs.Edits.{damage_out, edit_status, TriesEdit, TriesWidth};
-ghost use Rattle.hordguli_c.specs.declared.status.TheConstants.{OK};
+ghost use Rattle.hordguli_c.specs.declared.status.Status.TheVariants.{Ok};
 
 use crate::session_handle::{SessionHandle, SessionObject};
-use crate::status::{
-    CLOSED, NO_MEMORY, NOT_UTF8, OK, OUT_OF_RANGE, PARAGRAPH_TOO_LONG, TEXT_TOO_LONG,
-    WIDTH_OUT_OF_RANGE,
-};
+use crate::status::{Status, number_of};
 use session::{Damage, EditFault};
 use std::alloc::Global;
 use std::str::from_utf8;
@@ -27,21 +25,21 @@ pub struct DamageOut {
 }
 
 /// The status of a fault.
-pub fn edit_status(fault: EditFault) -> u32
+pub fn edit_status(fault: EditFault) -> Status
     ensures { result ≡ edit_status fault }
 {
     match fault {
-        EditFault::OutOfRange => OUT_OF_RANGE,
-        EditFault::WidthOutOfRange => WIDTH_OUT_OF_RANGE,
-        EditFault::TextTooLong => TEXT_TOO_LONG,
-        EditFault::ParagraphTooLong => PARAGRAPH_TOO_LONG,
-        EditFault::NoMemory => NO_MEMORY,
+        EditFault::OutOfRange => Status::OutOfRange,
+        EditFault::WidthOutOfRange => Status::WidthOutOfRange,
+        EditFault::TextTooLong => Status::TextTooLong,
+        EditFault::ParagraphTooLong => Status::ParagraphTooLong,
+        EditFault::NoMemory => Status::NoMemory,
     }
 }
 
 // Tells the damage of an edit, and answers its status.
-fn tell(damage: Damage, out: &mut DamageOut) -> u32
-    ensures status { result ≡ OK }
+fn tell(damage: Damage, out: &mut DamageOut) -> Status
+    ensures status { result ≡ Ok }
     ensures damage { out.new ≡ damage_out damage }
 {
     *out = DamageOut {
@@ -52,10 +50,10 @@ fn tell(damage: Damage, out: &mut DamageOut) -> u32
         old_paragraphs: damage.old_pars,
         new_paragraphs: damage.new_pars,
     };
-    OK
+    Status::Ok
 }
 
-fn insert(session: &mut SessionObject, pos: usize, text: &str, damage: &mut DamageOut) -> u32
+fn insert(session: &mut SessionObject, pos: usize, text: &str, damage: &mut DamageOut) -> Status
     ensures { TriesEdit (insertion pos (chars text.now)) result session.old session.new
         damage.old damage.new }
 {
@@ -74,25 +72,25 @@ pub extern "C" fn hordguli_core_insert(
     text: &[u8],
     damage: &mut DamageOut,
 ) -> u32
-    ensures { OfText text.now result
+    ensures { Returns (λ status. OfText text.now status
         ((session.new.held ≡ session.old.held) × (damage.new ≡ damage.old))
-        (λ piece. Changes (TriesEdit (insertion pos piece)) result
-        session.old.held session.new.held damage.old damage.new) }
+        (λ piece. Changes (TriesEdit (insertion pos piece)) status
+        session.old.held session.new.held damage.old damage.new)) result }
 {
     let Ok(text) = from_utf8(text) else {
-        return NOT_UTF8;
+        return number_of(Status::NotUtf8);
     };
     match session.swap(alloc, None) {
         Some(mut object) => {
             let status = insert(&mut object, pos, text, damage);
             session.swap(alloc, Some(object));
-            status
+            number_of(status)
         }
-        None => CLOSED,
+        None => number_of(Status::Closed),
     }
 }
 
-fn delete(session: &mut SessionObject, pos: usize, count: usize, damage: &mut DamageOut) -> u32
+fn delete(session: &mut SessionObject, pos: usize, count: usize, damage: &mut DamageOut) -> Status
     ensures { TriesEdit (deletion pos count) result session.old session.new damage.old damage.new }
 {
     match session.delete(pos, count) {
@@ -110,16 +108,16 @@ pub extern "C" fn hordguli_core_delete(
     count: usize,
     damage: &mut DamageOut,
 ) -> u32
-    ensures { Changes (TriesEdit (deletion pos count)) result
-        session.old.held session.new.held damage.old damage.new }
+    ensures { Returns (λ status. Changes (TriesEdit (deletion pos count)) status
+        session.old.held session.new.held damage.old damage.new) result }
 {
     match session.swap(alloc, None) {
         Some(mut object) => {
             let status = delete(&mut object, pos, count, damage);
             session.swap(alloc, Some(object));
-            status
+            number_of(status)
         }
-        None => CLOSED,
+        None => number_of(Status::Closed),
     }
 }
 
@@ -129,7 +127,7 @@ fn replace(
     count: usize,
     text: &str,
     damage: &mut DamageOut,
-) -> u32
+) -> Status
     ensures { TriesEdit (replacing pos count (chars text.now)) result session.old session.new
         damage.old damage.new }
 {
@@ -149,25 +147,25 @@ pub extern "C" fn hordguli_core_replace(
     text: &[u8],
     damage: &mut DamageOut,
 ) -> u32
-    ensures { OfText text.now result
+    ensures { Returns (λ status. OfText text.now status
         ((session.new.held ≡ session.old.held) × (damage.new ≡ damage.old))
-        (λ piece. Changes (TriesEdit (replacing pos count piece)) result
-        session.old.held session.new.held damage.old damage.new) }
+        (λ piece. Changes (TriesEdit (replacing pos count piece)) status
+        session.old.held session.new.held damage.old damage.new)) result }
 {
     let Ok(text) = from_utf8(text) else {
-        return NOT_UTF8;
+        return number_of(Status::NotUtf8);
     };
     match session.swap(alloc, None) {
         Some(mut object) => {
             let status = replace(&mut object, pos, count, text, damage);
             session.swap(alloc, Some(object));
-            status
+            number_of(status)
         }
-        None => CLOSED,
+        None => number_of(Status::Closed),
     }
 }
 
-fn set_width(session: &mut SessionObject, width: u16, damage: &mut DamageOut) -> u32
+fn set_width(session: &mut SessionObject, width: u16, damage: &mut DamageOut) -> Status
     ensures { TriesWidth width result session.old session.new damage.old damage.new }
 {
     match session.set_width(width) {
@@ -184,14 +182,15 @@ pub extern "C" fn hordguli_core_set_width(
     width: u16,
     damage: &mut DamageOut,
 ) -> u32
-    ensures { Changes (TriesWidth width) result session.old.held session.new.held damage.old damage.new }
+    ensures { Returns (λ status.
+        Changes (TriesWidth width) status session.old.held session.new.held damage.old damage.new) result }
 {
     match session.swap(alloc, None) {
         Some(mut object) => {
             let status = set_width(&mut object, width, damage);
             session.swap(alloc, Some(object));
-            status
+            number_of(status)
         }
-        None => CLOSED,
+        None => number_of(Status::Closed),
     }
 }

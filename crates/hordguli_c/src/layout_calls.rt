@@ -2,13 +2,14 @@
 ghost use Rattle.std.specs.Prelude.{◌≡◌, length, map, slice_get, true};
 ghost use Rattle.hordguli_c.specs.Arrays.{has_room, put_if};
 ghost use Rattle.hordguli_c.specs.Calls.{Asks};
+ghost use Rattle.hordguli_c.specs.Statuses.{Returns};
 ghost use Rattle.hordguli_c.specs.Lines.{paragraph_out, PutsParagraph, ShowsParagraph};
 ghost use Rattle.hordguli_c.specs.Paragraphs.{mark_number};
 
 use crate::arrays::{has_room, put_levels_if, put_marks_if};
 use crate::options::has_bit;
 use crate::session_handle::{SessionHandle, SessionObject};
-use crate::status::{CLOSED, NO_ROOM, OK, OUT_OF_RANGE};
+use crate::status::{Status, number_of};
 use lines::Laid;
 use std::alloc::Global;
 
@@ -33,21 +34,21 @@ fn paragraph_out(laid: &Laid) -> ParagraphOut
     }
 }
 
-fn put_paragraph(laid: &Laid, wanted: u32, levels: &mut [u8], marks: &mut [u8]) -> u32
+fn put_paragraph(laid: &Laid, wanted: u32, levels: &mut [u8], marks: &mut [u8]) -> Status
     ensures { PutsParagraph wanted laid.now result
         (record { levels = levels.old; marks = marks.old })
         (record { levels = levels.new; marks = marks.new }) }
 {
     let (wants_levels, wants_marks) = (has_bit(wanted, 1), has_bit(wanted, 2));
     if !has_room(wants_levels, laid.levels().len(), levels.len()) {
-        return NO_ROOM;
+        return Status::NoRoom;
     }
     if !has_room(wants_marks, laid.marks().len(), marks.len()) {
-        return NO_ROOM;
+        return Status::NoRoom;
     }
     put_levels_if(wants_levels, laid.levels(), levels);
     put_marks_if(wants_marks, laid.marks(), marks);
-    OK
+    Status::Ok
 }
 
 fn show_paragraph(
@@ -57,7 +58,7 @@ fn show_paragraph(
     wanted: u32,
     levels: &mut [u8],
     marks: &mut [u8],
-) -> u32
+) -> Status
     ensures { ShowsParagraph wanted (slice_get session.now.kept index) result
         (out.old, record { levels = levels.old; marks = marks.old })
         (out.new, record { levels = levels.new; marks = marks.new }) }
@@ -67,7 +68,7 @@ fn show_paragraph(
             *out = paragraph_out(laid);
             put_paragraph(laid, wanted, levels, marks)
         }
-        None => OUT_OF_RANGE,
+        None => Status::OutOfRange,
     }
 }
 
@@ -83,17 +84,17 @@ pub extern "C" fn hordguli_core_paragraph(
     marks: &mut [u8],
 ) -> u32
     ensures unchanged { session.new.held ≡ session.old.held }
-    ensures paragraph { Asks (λ status state.
-        ShowsParagraph wanted (slice_get state.kept index) status) result session.old.held
+    ensures paragraph { Returns (λ status. Asks (λ status state.
+        ShowsParagraph wanted (slice_get state.kept index) status) status session.old.held
         (out.old, record { levels = levels.old; marks = marks.old })
-        (out.new, record { levels = levels.new; marks = marks.new }) }
+        (out.new, record { levels = levels.new; marks = marks.new })) result }
 {
     match session.swap(alloc, None) {
         Some(object) => {
             let status = show_paragraph(&object, index, out, wanted, levels, marks);
             session.swap(alloc, Some(object));
-            status
+            number_of(status)
         }
-        None => CLOSED,
+        None => number_of(Status::Closed),
     }
 }

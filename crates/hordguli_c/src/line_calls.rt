@@ -3,13 +3,14 @@ ghost use Rattle.std.specs.Prelude.{◌≡◌, slice_get};
 ghost use Rattle.session.specs.Kept.{lines_in};
 ghost use Rattle.session.specs.Places.{line_starts};
 ghost use Rattle.hordguli_c.specs.Calls.{Asks};
+ghost use Rattle.hordguli_c.specs.Statuses.{Returns};
 ghost use Rattle.hordguli_c.specs.Lines.{line_fits, line_out, line_put, PutsLine, ShowsLine};
 
 use crate::arrays::{has_room, put_characters_if, put_columns_if, put_levels_if, put_places_if};
 use crate::options::has_bit;
 use crate::place_calls::flag;
 use crate::session_handle::{SessionHandle, SessionObject};
-use crate::status::{CLOSED, NO_ROOM, OK, OUT_OF_RANGE};
+use crate::status::{Status, number_of};
 use lines::VisualLine;
 use std::alloc::Global;
 
@@ -73,7 +74,7 @@ fn put_line(
     ltov: &mut [u32],
     vtol: &mut [u32],
     columns: &mut [usize],
-) -> u32
+) -> Status
     ensures { PutsLine wanted line.now result (record {
       characters = characters.old;
       levels = levels.old;
@@ -89,14 +90,14 @@ fn put_line(
     }) }
 {
     if !line_fits(line, wanted, characters, levels, ltov, vtol, columns) {
-        return NO_ROOM;
+        return Status::NoRoom;
     }
     put_characters_if(has_bit(wanted, 1), line.chars(), characters);
     put_levels_if(has_bit(wanted, 2), line.levels(), levels);
     put_places_if(has_bit(wanted, 4), line.ltov(), ltov);
     put_places_if(has_bit(wanted, 8), line.vtol(), vtol);
     put_columns_if(has_bit(wanted, 16), line, columns);
-    OK
+    Status::Ok
 }
 
 fn show_line(
@@ -109,7 +110,7 @@ fn show_line(
     ltov: &mut [u32],
     vtol: &mut [u32],
     columns: &mut [usize],
-) -> u32
+) -> Status
     ensures { ShowsLine wanted session.now.width (slice_get (line_starts session.now.kept) n)
         (slice_get (lines_in session.now.kept) n) result (
           out.old,
@@ -132,10 +133,10 @@ fn show_line(
         ) }
 {
     let Some(start) = session.line_start(n) else {
-        return OUT_OF_RANGE;
+        return Status::OutOfRange;
     };
     let Some(line) = session.line(n) else {
-        return OUT_OF_RANGE;
+        return Status::OutOfRange;
     };
     *out = line_out(&line, session.width(), start);
     put_line(&line, wanted, characters, levels, ltov, vtol, columns)
@@ -156,8 +157,9 @@ pub extern "C" fn hordguli_core_line(
     columns: &mut [usize],
 ) -> u32
     ensures unchanged { session.new.held ≡ session.old.held }
-    ensures line { Asks (λ status state. ShowsLine wanted state.width (slice_get (line_starts state.kept) n)
-        (slice_get (lines_in state.kept) n) status) result session.old.held (
+    ensures line { Returns (λ status.
+        Asks (λ status state. ShowsLine wanted state.width (slice_get (line_starts state.kept) n)
+        (slice_get (lines_in state.kept) n) status) status session.old.held (
           out.old,
           record {
             characters = characters.old;
@@ -175,7 +177,7 @@ pub extern "C" fn hordguli_core_line(
             vtol = vtol.new;
             columns = columns.new;
           },
-        ) }
+        )) result }
 {
     match session.swap(alloc, None) {
         Some(object) => {
@@ -183,8 +185,8 @@ pub extern "C" fn hordguli_core_line(
                 &object, n, out, wanted, characters, levels, ltov, vtol, columns,
             );
             session.swap(alloc, Some(object));
-            status
+            number_of(status)
         }
-        None => CLOSED,
+        None => number_of(Status::Closed),
     }
 }

@@ -12,6 +12,31 @@ ghost use Rattle.hordguli_c.specs.Options.{
 use bidi::Base;
 use lines::{Options, Print};
 
+// The options and print flags of include/hordguli.h. The two lowest bits of options name a direction.
+const NOBREAK: u32 = 4;
+
+const REORDER_NSM: u32 = 8;
+
+const WHOLE_NUMBERS: u32 = 16;
+
+const ALL_OPTIONS: u32 = 31;
+
+const PRINT_VISUAL: u32 = 1;
+
+const PRINT_BASEDIR: u32 = 2;
+
+const PRINT_LTOV: u32 = 4;
+
+const PRINT_VTOL: u32 = 8;
+
+const PRINT_LEVELS: u32 = 16;
+
+const PRINT_PADDED: u32 = 32;
+
+const PRINT_MIRRORED: u32 = 64;
+
+const ALL_PRINT_FLAGS: u32 = 127;
+
 /// Whether a bit is set, by its value.
 pub fn has_bit(bits: u32, value: u32) -> bool
     requires { 0 < value }
@@ -47,7 +72,7 @@ pub fn tailoring_of(bits: u32) -> Option<bool>
 {
     if bits == 0 {
         Some(false)
-    } else if bits == 16 {
+    } else if bits == WHOLE_NUMBERS {
         Some(true)
     } else {
         None
@@ -58,12 +83,12 @@ pub fn tailoring_of(bits: u32) -> Option<bool>
 pub fn options_of(bits: u32) -> Option<Options>
     ensures { result ≡ options_of bits }
 {
-    if bits < 32 {
+    if bits <= ALL_OPTIONS {
         Some(Options {
             base: base_of(bits),
-            nobreak: has_bit(bits, 4),
-            reordernsm: has_bit(bits, 8),
-            whole_numbers: has_bit(bits, 16),
+            nobreak: has_bit(bits, NOBREAK),
+            reordernsm: has_bit(bits, REORDER_NSM),
+            whole_numbers: has_bit(bits, WHOLE_NUMBERS),
         })
     } else {
         None
@@ -74,15 +99,15 @@ pub fn options_of(bits: u32) -> Option<Options>
 pub fn print_of(bits: u32) -> Option<Print>
     ensures { result ≡ print_of bits }
 {
-    if bits < 128 {
+    if bits <= ALL_PRINT_FLAGS {
         Some(Print {
-            novisual: !has_bit(bits, 1),
-            basedir: has_bit(bits, 2),
-            ltov: has_bit(bits, 4),
-            vtol: has_bit(bits, 8),
-            levels: has_bit(bits, 16),
-            nopad: !has_bit(bits, 32),
-            nomirror: !has_bit(bits, 64),
+            novisual: !has_bit(bits, PRINT_VISUAL),
+            basedir: has_bit(bits, PRINT_BASEDIR),
+            ltov: has_bit(bits, PRINT_LTOV),
+            vtol: has_bit(bits, PRINT_VTOL),
+            levels: has_bit(bits, PRINT_LEVELS),
+            nopad: !has_bit(bits, PRINT_PADDED),
+            nomirror: !has_bit(bits, PRINT_MIRRORED),
         })
     } else {
         None

@@ -1,25 +1,32 @@
 //! The calls on one paragraph of characters, by tables alone.
 ghost use Rattle.std.specs.Prelude.{◌≡◌, ◌<◌, length, IfOk, OnErr};
 ghost use Rattle.hordguli_c.specs.Calls.{AsksBy};
+ghost use Rattle.hordguli_c.specs.Statuses.{Returns};
 ghost use Rattle.hordguli_c.specs.Options.{direction_of, tailoring_of};
 ghost use Rattle.hordguli_c.specs.Paragraphs.{levels_by, PutsBase, PutsLevels, PutsMarks};
 
 use crate::arrays::{characters_of, put_levels, put_marks};
 use crate::options::{direction_of, tailoring_of};
-use crate::status::{CLOSED, NO_MEMORY, NO_ROOM, OK, UNKNOWN_OPTION};
+use crate::status::{Status, number_of};
 use crate::tables_handle::TablesHandle;
 use bidi::{Base, base_level, resolve};
 use breaks::marks;
 use std::alloc::{AllocError, Global};
 use ucd::Tables;
 
-fn find_base(alloc: Global, tables: &Tables, base: Base, characters: &[u32], level: &mut u32) -> u32
+fn find_base(
+    alloc: Global,
+    tables: &Tables,
+    base: Base,
+    characters: &[u32],
+    level: &mut u32,
+) -> Status
     ensures { PutsBase base characters.now result tables.now level.old level.new }
 {
     match characters_of(alloc, characters) {
         Ok(text) => {
             *level = u32::from(base_level(tables, &text, base));
-            OK
+            Status::Ok
         }
         Err(status) => status,
     }
@@ -35,19 +42,20 @@ pub extern "C" fn hordguli_core_base(
     level: &mut u32,
 ) -> u32
     ensures unchanged { tables.new.held ≡ tables.old.held }
-    ensures base { AsksBy (λ base. PutsBase base characters.now) (direction_of direction) result
-        tables.old.held level.old level.new }
+    ensures base { Returns (λ status.
+        AsksBy (λ base. PutsBase base characters.now) (direction_of direction) status
+        tables.old.held level.old level.new) result }
 {
     let Some(base) = direction_of(direction) else {
-        return UNKNOWN_OPTION;
+        return number_of(Status::UnknownOption);
     };
     match tables.swap(alloc, None) {
         Some(object) => {
             let status = find_base(alloc, &object, base, characters, level);
             tables.swap(alloc, Some(object));
-            status
+            number_of(status)
         }
-        None => CLOSED,
+        None => number_of(Status::Closed),
     }
 }
 
@@ -71,11 +79,11 @@ fn find_levels(
     base: Base,
     characters: &[u32],
     levels: &mut [u8],
-) -> u32
+) -> Status
     ensures { PutsLevels base characters.now result tables.now levels.old levels.new }
 {
     if levels.len() < characters.len() {
-        return NO_ROOM;
+        return Status::NoRoom;
     }
     let text = match characters_of(alloc, characters) {
         Ok(text) => text,
@@ -84,9 +92,9 @@ fn find_levels(
     match levels_by(alloc, tables, base, &text) {
         Ok(found) => {
             put_levels(&found, levels);
-            OK
+            Status::Ok
         }
-        Err(_) => NO_MEMORY,
+        Err(_) => Status::NoMemory,
     }
 }
 
@@ -100,19 +108,20 @@ pub extern "C" fn hordguli_core_levels(
     levels: &mut [u8],
 ) -> u32
     ensures unchanged { tables.new.held ≡ tables.old.held }
-    ensures levels { AsksBy (λ base. PutsLevels base characters.now) (direction_of direction) result
-        tables.old.held levels.old levels.new }
+    ensures levels { Returns (λ status.
+        AsksBy (λ base. PutsLevels base characters.now) (direction_of direction) status
+        tables.old.held levels.old levels.new) result }
 {
     let Some(base) = direction_of(direction) else {
-        return UNKNOWN_OPTION;
+        return number_of(Status::UnknownOption);
     };
     match tables.swap(alloc, None) {
         Some(object) => {
             let status = find_levels(alloc, &object, base, characters, levels);
             tables.swap(alloc, Some(object));
-            status
+            number_of(status)
         }
-        None => CLOSED,
+        None => number_of(Status::Closed),
     }
 }
 
@@ -122,11 +131,11 @@ fn find_marks(
     whole_numbers: bool,
     characters: &[u32],
     array: &mut [u8],
-) -> u32
+) -> Status
     ensures { PutsMarks whole_numbers characters.now result tables.now array.old array.new }
 {
     if array.len() < characters.len() {
-        return NO_ROOM;
+        return Status::NoRoom;
     }
     let text = match characters_of(alloc, characters) {
         Ok(text) => text,
@@ -135,9 +144,9 @@ fn find_marks(
     match marks(alloc, tables, &text, whole_numbers) {
         Ok(found) => {
             put_marks(&found, array);
-            OK
+            Status::Ok
         }
-        Err(_) => NO_MEMORY,
+        Err(_) => Status::NoMemory,
     }
 }
 
@@ -151,18 +160,19 @@ pub extern "C" fn hordguli_core_marks(
     marks: &mut [u8],
 ) -> u32
     ensures unchanged { tables.new.held ≡ tables.old.held }
-    ensures marks { AsksBy (λ whole_numbers. PutsMarks whole_numbers characters.now) (tailoring_of options)
-        result tables.old.held marks.old marks.new }
+    ensures marks { Returns (λ status.
+        AsksBy (λ whole_numbers. PutsMarks whole_numbers characters.now) (tailoring_of options)
+        status tables.old.held marks.old marks.new) result }
 {
     let Some(whole_numbers) = tailoring_of(options) else {
-        return UNKNOWN_OPTION;
+        return number_of(Status::UnknownOption);
     };
     match tables.swap(alloc, None) {
         Some(object) => {
             let status = find_marks(alloc, &object, whole_numbers, characters, marks);
             tables.swap(alloc, Some(object));
-            status
+            number_of(status)
         }
-        None => CLOSED,
+        None => number_of(Status::Closed),
     }
 }

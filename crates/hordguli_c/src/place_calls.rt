@@ -5,21 +5,22 @@ ghost use Rattle.session.specs.Carets.{caret_at};
 ghost use Rattle.session.specs.Hits.{hit_at};
 ghost use Rattle.session.specs.Places.{line_starts, place_at};
 ghost use Rattle.hordguli_c.specs.Calls.{Asks, Gives};
+ghost use Rattle.hordguli_c.specs.Statuses.{Returns};
 ghost use Rattle.hordguli_c.specs.Places.{caret_out, cluster_out, flag, hit_out, place_out, GivesCluster};
 
 use crate::session_handle::{SessionHandle, SessionObject};
-use crate::status::{CLOSED, NO_MEMORY, OK, OUT_OF_RANGE};
+use crate::status::{Status, number_of};
 use std::alloc::Global;
 
-fn find_start(session: &SessionObject, line: usize, start: &mut usize) -> u32
+fn find_start(session: &SessionObject, line: usize, start: &mut usize) -> Status
     ensures { Gives (slice_get (line_starts session.now.kept) line) result start.old start.new }
 {
     match session.line_start(line) {
         Some(found) => {
             *start = found;
-            OK
+            Status::Ok
         }
-        None => OUT_OF_RANGE,
+        None => Status::OutOfRange,
     }
 }
 
@@ -32,16 +33,17 @@ pub extern "C" fn hordguli_core_line_start(
     start: &mut usize,
 ) -> u32
     ensures unchanged { session.new.held ≡ session.old.held }
-    ensures start { Asks (λ status state. Gives (slice_get (line_starts state.kept) line) status) result
-        session.old.held start.old start.new }
+    ensures start { Returns (λ status.
+        Asks (λ status state. Gives (slice_get (line_starts state.kept) line) status) status
+        session.old.held start.old start.new) result }
 {
     match session.swap(alloc, None) {
         Some(object) => {
             let status = find_start(&object, line, start);
             session.swap(alloc, Some(object));
-            status
+            number_of(status)
         }
-        None => CLOSED,
+        None => number_of(Status::Closed),
     }
 }
 
@@ -54,7 +56,7 @@ pub struct PlaceOut {
     pub offset: usize,
 }
 
-fn find_place(session: &SessionObject, pos: usize, place: &mut PlaceOut) -> u32
+fn find_place(session: &SessionObject, pos: usize, place: &mut PlaceOut) -> Status
     ensures { Gives (option_map place_out (place_at (rules_of session.now.engine) session.now.kept pos))
         result place.old place.new }
 {
@@ -65,9 +67,9 @@ fn find_place(session: &SessionObject, pos: usize, place: &mut PlaceOut) -> u32
                 line: found.line,
                 offset: found.offset,
             };
-            OK
+            Status::Ok
         }
-        None => OUT_OF_RANGE,
+        None => Status::OutOfRange,
     }
 }
 
@@ -80,17 +82,17 @@ pub extern "C" fn hordguli_core_place_of(
     place: &mut PlaceOut,
 ) -> u32
     ensures unchanged { session.new.held ≡ session.old.held }
-    ensures place { Asks (λ status state.
-        Gives (option_map place_out (place_at (rules_of state.engine) state.kept pos)) status) result
-        session.old.held place.old place.new }
+    ensures place { Returns (λ status. Asks (λ status state.
+        Gives (option_map place_out (place_at (rules_of state.engine) state.kept pos)) status) status
+        session.old.held place.old place.new) result }
 {
     match session.swap(alloc, None) {
         Some(object) => {
             let status = find_place(&object, pos, place);
             session.swap(alloc, Some(object));
-            status
+            number_of(status)
         }
-        None => CLOSED,
+        None => number_of(Status::Closed),
     }
 }
 
@@ -104,7 +106,7 @@ pub struct CaretOut {
     pub zero: u32,
 }
 
-fn find_caret(session: &SessionObject, pos: usize, caret: &mut CaretOut) -> u32
+fn find_caret(session: &SessionObject, pos: usize, caret: &mut CaretOut) -> Status
     ensures { Gives (option_map caret_out (caret_at (rules_of session.now.engine) session.now.kept pos))
         result caret.old caret.new }
 {
@@ -116,9 +118,9 @@ fn find_caret(session: &SessionObject, pos: usize, caret: &mut CaretOut) -> u32
                 level: u32::from(found.level),
                 zero: 0,
             };
-            OK
+            Status::Ok
         }
-        None => OUT_OF_RANGE,
+        None => Status::OutOfRange,
     }
 }
 
@@ -131,17 +133,17 @@ pub extern "C" fn hordguli_core_caret_at(
     caret: &mut CaretOut,
 ) -> u32
     ensures unchanged { session.new.held ≡ session.old.held }
-    ensures caret { Asks (λ status state.
-        Gives (option_map caret_out (caret_at (rules_of state.engine) state.kept pos)) status) result
-        session.old.held caret.old caret.new }
+    ensures caret { Returns (λ status. Asks (λ status state.
+        Gives (option_map caret_out (caret_at (rules_of state.engine) state.kept pos)) status) status
+        session.old.held caret.old caret.new) result }
 {
     match session.swap(alloc, None) {
         Some(object) => {
             let status = find_caret(&object, pos, caret);
             session.swap(alloc, Some(object));
-            status
+            number_of(status)
         }
-        None => CLOSED,
+        None => number_of(Status::Closed),
     }
 }
 
@@ -161,7 +163,7 @@ pub fn flag(is: bool) -> u32
     if is { 1 } else { 0 }
 }
 
-fn find_hit(session: &SessionObject, line: usize, column: usize, hit: &mut HitOut) -> u32
+fn find_hit(session: &SessionObject, line: usize, column: usize, hit: &mut HitOut) -> Status
     ensures { Gives (option_map hit_out (hit_at session.now.kept line column)) result hit.old hit.new }
 {
     match session.hit(line, column) {
@@ -171,9 +173,9 @@ fn find_hit(session: &SessionObject, line: usize, column: usize, hit: &mut HitOu
                 trailing: flag(found.trailing),
                 zero: 0,
             };
-            OK
+            Status::Ok
         }
-        None => OUT_OF_RANGE,
+        None => Status::OutOfRange,
     }
 }
 
@@ -187,16 +189,17 @@ pub extern "C" fn hordguli_core_hit_at(
     hit: &mut HitOut,
 ) -> u32
     ensures unchanged { session.new.held ≡ session.old.held }
-    ensures hit { Asks (λ status state. Gives (option_map hit_out (hit_at state.kept line column)) status)
-        result session.old.held hit.old hit.new }
+    ensures hit { Returns (λ status.
+        Asks (λ status state. Gives (option_map hit_out (hit_at state.kept line column)) status)
+        status session.old.held hit.old hit.new) result }
 {
     match session.swap(alloc, None) {
         Some(object) => {
             let status = find_hit(&object, line, column, hit);
             session.swap(alloc, Some(object));
-            status
+            number_of(status)
         }
-        None => CLOSED,
+        None => number_of(Status::Closed),
     }
 }
 
@@ -208,7 +211,7 @@ pub struct ClusterOut {
     pub end: usize,
 }
 
-fn find_cluster(session: &SessionObject, pos: usize, cluster: &mut ClusterOut) -> u32
+fn find_cluster(session: &SessionObject, pos: usize, cluster: &mut ClusterOut) -> Status
     ensures { GivesCluster pos result session.now cluster.old cluster.new }
 {
     match session.cluster(pos) {
@@ -217,10 +220,10 @@ fn find_cluster(session: &SessionObject, pos: usize, cluster: &mut ClusterOut) -
                 start: found.start,
                 end: found.end,
             };
-            OK
+            Status::Ok
         }
-        Ok(None) => OUT_OF_RANGE,
-        Err(_) => NO_MEMORY,
+        Ok(None) => Status::OutOfRange,
+        Err(_) => Status::NoMemory,
     }
 }
 
@@ -233,14 +236,15 @@ pub extern "C" fn hordguli_core_cluster_at(
     cluster: &mut ClusterOut,
 ) -> u32
     ensures unchanged { session.new.held ≡ session.old.held }
-    ensures cluster { Asks (GivesCluster pos) result session.old.held cluster.old cluster.new }
+    ensures cluster { Returns (λ status.
+        Asks (GivesCluster pos) status session.old.held cluster.old cluster.new) result }
 {
     match session.swap(alloc, None) {
         Some(object) => {
             let status = find_cluster(&object, pos, cluster);
             session.swap(alloc, Some(object));
-            status
+            number_of(status)
         }
-        None => CLOSED,
+        None => number_of(Status::Closed),
     }
 }

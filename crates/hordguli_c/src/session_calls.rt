@@ -4,13 +4,14 @@ ghost use Rattle.lines.specs.Engine.{analysed_of, filled_of, written_of};
 ghost use Rattle.session.specs.Kept.{lines_in};
 ghost use Rattle.session.specs.Sessions.{text_at};
 ghost use Rattle.hordguli_c.specs.Calls.{Asks, Gives};
+ghost use Rattle.hordguli_c.specs.Statuses.{Returns};
 ghost use Rattle.hordguli_c.specs.Opening.{IsFresh, IsOpened, IsRefused, OpensOn, OpensSession};
 ghost use Rattle.hordguli_c.specs.Options.{options_of};
 
 use crate::edit_calls::edit_status;
 use crate::options::options_of;
 use crate::session_handle::{SessionHandle, SessionObject};
-use crate::status::{ALREADY_OPEN, CLOSED, NO_MEMORY, NOT_UTF8, OK, UNKNOWN_OPTION};
+use crate::status::{Status, number_of};
 use crate::tables_handle::TablesHandle;
 use lines::{Engine, Options};
 use session::Session;
@@ -25,7 +26,7 @@ fn open_by(
     options: Options,
     text: &str,
     width: u16,
-) -> Result<SessionObject, u32>
+) -> Result<SessionObject, Status>
     ensures { MatchResult result (IsOpened tables options (chars text.now) width)
         (IsRefused tables options (chars text.now) width) }
 {
@@ -44,21 +45,21 @@ fn open_at(
     options: Options,
     text: &str,
     width: u16,
-) -> u32
+) -> Status
     requires { session.old.held ≡ None }
     ensures { OpensOn options (chars text.now) width result (Some tables.now)
         session.old.held session.new.held }
 {
     let Ok(copy) = tables.copy(alloc) else {
-        return NO_MEMORY;
+        return Status::NoMemory;
     };
     match open_by(alloc, copy, options, text, width) {
         Ok(opened) => match Box::new(alloc, opened) {
             Ok(object) => {
                 session.swap(alloc, Some(object));
-                OK
+                Status::Ok
             }
-            Err(_) => NO_MEMORY,
+            Err(_) => Status::NoMemory,
         },
         Err(status) => status,
     }
@@ -75,26 +76,26 @@ pub extern "C" fn hordguli_core_session_open(
     text: &[u8],
 ) -> u32
     ensures unchanged { tables.new.held ≡ tables.old.held }
-    ensures opens { OpensSession (options_of options) text.now width result tables.old.held
-        session.old.held session.new.held }
+    ensures opens { Returns (λ status. OpensSession (options_of options) text.now width status tables.old.held
+        session.old.held session.new.held) result }
 {
     let Some(options) = options_of(options) else {
-        return UNKNOWN_OPTION;
+        return number_of(Status::UnknownOption);
     };
     let Ok(text) = from_utf8(text) else {
-        return NOT_UTF8;
+        return number_of(Status::NotUtf8);
     };
     if let Some(object) = session.swap(alloc, None) {
         session.swap(alloc, Some(object));
-        return ALREADY_OPEN;
+        return number_of(Status::AlreadyOpen);
     }
     match tables.swap(alloc, None) {
         Some(object) => {
             let status = open_at(alloc, session, &object, options, text, width);
             tables.swap(alloc, Some(object));
-            status
+            number_of(status)
         }
-        None => CLOSED,
+        None => number_of(Status::Closed),
     }
 }
 
@@ -140,20 +141,20 @@ pub extern "C" fn hordguli_core_session_counts(
     counts: &mut CountsOut,
 ) -> u32
     ensures unchanged { session.new.held ≡ session.old.held }
-    ensures counts { Asks (λ status state. Gives (Some (record {
+    ensures counts { Returns (λ status. Asks (λ status state. Gives (Some (record {
       characters = length (text_at state);
       lines = length (lines_in state.kept);
       paragraphs = length state.kept;
       width = state.width;
-    })) status) result session.old.held counts.old counts.new }
+    })) status) status session.old.held counts.old counts.new) result }
 {
     match session.swap(alloc, None) {
         Some(object) => {
             *counts = counts_of(&object);
             session.swap(alloc, Some(object));
-            OK
+            number_of(Status::Ok)
         }
-        None => CLOSED,
+        None => number_of(Status::Closed),
     }
 }
 
@@ -188,18 +189,18 @@ pub extern "C" fn hordguli_core_session_work(
     work: &mut WorkOut,
 ) -> u32
     ensures unchanged { session.new.held ≡ session.old.held }
-    ensures work { Asks (λ status state. Gives (Some (record {
+    ensures work { Returns (λ status. Asks (λ status state. Gives (Some (record {
       analysed = analysed_of state.engine;
       filled = filled_of state.engine;
       written = written_of state.engine;
-    })) status) result session.old.held work.old work.new }
+    })) status) status session.old.held work.old work.new) result }
 {
     match session.swap(alloc, None) {
         Some(object) => {
             *work = work_of(&object);
             session.swap(alloc, Some(object));
-            OK
+            number_of(Status::Ok)
         }
-        None => CLOSED,
+        None => number_of(Status::Closed),
     }
 }

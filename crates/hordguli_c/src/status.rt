@@ -1,27 +1,30 @@
-//! The statuses of the calls. Their numbers are those of include/hordguli.h, and never change.
+//! The statuses of the calls.
+ghost use Rattle.std.specs.Prelude.{◌≡◌, ◌≤◌};
+ghost use Rattle.hordguli_c.specs.Statuses.{status_of};
 
-pub const OK: u32 = 0;
+/// What a call returns. The numbers are those of include/hordguli.h, and never change.
+#[derive(Clone, Copy)]
+pub enum Status {
+    Ok = 0,
+    OutOfRange = 1,
+    WidthOutOfRange = 2,
+    TextTooLong = 3,
+    ParagraphTooLong = 4,
+    NoMemory = 5,
+    TableFault = 6,
+    NotUtf8 = 7,
+    NotACharacter = 8,
+    Closed = 9,
+    AlreadyOpen = 10,
+    UnknownOption = 11,
+    NoRoom = 12,
+}
 
-pub const OUT_OF_RANGE: u32 = 1;
-
-pub const WIDTH_OUT_OF_RANGE: u32 = 2;
-
-pub const TEXT_TOO_LONG: u32 = 3;
-
-pub const PARAGRAPH_TOO_LONG: u32 = 4;
-
-pub const NO_MEMORY: u32 = 5;
-
-pub const TABLE_FAULT: u32 = 6;
-
-pub const NOT_UTF8: u32 = 7;
-
-pub const NOT_A_CHARACTER: u32 = 8;
-
-pub const CLOSED: u32 = 9;
-
-pub const ALREADY_OPEN: u32 = 10;
-
-pub const UNKNOWN_OPTION: u32 = 11;
-
-pub const NO_ROOM: u32 = 12;
+/// The number by which C knows a status.
+#[tactic(auto, unfolding(crate::specs::Statuses::status_of))]
+pub fn number_of(status: Status) -> u32
+    ensures status { status_of result ≡ status }
+    ensures within { result ≤ 12 }
+{
+    status as u32
+}

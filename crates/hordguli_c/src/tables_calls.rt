@@ -1,9 +1,10 @@
 //! The calls on handles of tables.
 ghost use Rattle.std.specs.Prelude.{◌≡◌, None};
 ghost use Rattle.ucd.specs.declared.tables.UcdFiles.{UcdFiles};
+ghost use Rattle.hordguli_c.specs.Statuses.{Returns};
 ghost use Rattle.hordguli_c.specs.TablesCalls.{cause_number, fault_out, ReadsTables, TellsFault};
 
-use crate::status::{ALREADY_OPEN, NO_MEMORY, OK, TABLE_FAULT};
+use crate::status::{Status, number_of};
 use crate::tables_handle::TablesHandle;
 use std::alloc::Global;
 use ucd::{Cause, TableFault, Tables, UcdFiles};
@@ -32,18 +33,18 @@ fn cause_number(cause: Cause) -> usize
 }
 
 // Tells a fault, and answers its status.
-fn tell(fault: TableFault, out: &mut TableFaultOut) -> u32
+fn tell(fault: TableFault, out: &mut TableFaultOut) -> Status
     ensures { TellsFault fault.cause fault result out.old out.new }
 {
     if fault.cause == Cause::Memory {
-        return NO_MEMORY;
+        return Status::NoMemory;
     }
     *out = TableFaultOut {
         file: fault.file.saturating_sub(1),
         line: fault.line,
         cause: cause_number(fault.cause),
     };
-    TABLE_FAULT
+    Status::TableFault
 }
 
 /// Reads table files, of which each is a slice of its own.
@@ -60,7 +61,7 @@ pub extern "C" fn hordguli_core_tables_read(
     emoji_data: &[u8],
     fault: &mut TableFaultOut,
 ) -> u32
-    ensures { ReadsTables (record {
+    ensures { Returns (λ status. ReadsTables (record {
       bidi_class = bidi_class.entry;
       bidi_brackets = bidi_brackets.entry;
       bidi_mirroring = bidi_mirroring.entry;
@@ -68,11 +69,11 @@ pub extern "C" fn hordguli_core_tables_read(
       general_category = general_category.entry;
       east_asian_width = east_asian_width.entry;
       emoji_data = emoji_data.entry;
-    }) result tables.old.held tables.new.held fault.old fault.new }
+    }) status tables.old.held tables.new.held fault.old fault.new) result }
 {
     if let Some(object) = tables.swap(alloc, None) {
         tables.swap(alloc, Some(object));
-        return ALREADY_OPEN;
+        return number_of(Status::AlreadyOpen);
     }
     let files = UcdFiles {
         bidi_class,
@@ -87,11 +88,11 @@ pub extern "C" fn hordguli_core_tables_read(
         Ok(read) => match Box::new(alloc, read) {
             Ok(object) => {
                 tables.swap(alloc, Some(object));
-                OK
+                number_of(Status::Ok)
             }
-            Err(_) => NO_MEMORY,
+            Err(_) => number_of(Status::NoMemory),
         },
-        Err(refused) => tell(refused, fault),
+        Err(refused) => number_of(tell(refused, fault)),
     }
 }
 

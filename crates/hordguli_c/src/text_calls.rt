@@ -5,29 +5,30 @@ ghost use Rattle.session.specs.Printing.{lines_page};
 ghost use Rattle.session.specs.Reading.{utf8_len, utf8_part};
 ghost use Rattle.session.specs.Sessions.{text_at};
 ghost use Rattle.hordguli_c.specs.Calls.{Asks, AsksBy, Gives, OfText};
+ghost use Rattle.hordguli_c.specs.Statuses.{Returns};
 ghost use Rattle.hordguli_c.specs.Options.{print_of};
 ghost use Rattle.hordguli_c.specs.Texts.{PutsBytes, PutsLines, PutsText, RangeNot};
-ghost use Rattle.hordguli_c.specs.declared.status.TheConstants.{OK};
+ghost use Rattle.hordguli_c.specs.declared.status.Status.TheVariants.{Ok};
 
 use crate::options::print_of;
 use crate::page::Page;
 use crate::session_handle::{SessionHandle, SessionObject};
-use crate::status::{CLOSED, NO_MEMORY, NO_ROOM, NOT_UTF8, OK, OUT_OF_RANGE, UNKNOWN_OPTION};
+use crate::status::{Status, number_of};
 use lines::Print;
 use session::RangeFault;
 use std::alloc::Global;
 use std::str::from_utf8;
 
 // Puts bytes into an array, if it has room for them.
-fn put_bytes(bytes: &[u8], array: &mut [u8], len: &mut usize) -> u32
+fn put_bytes(bytes: &[u8], array: &mut [u8], len: &mut usize) -> Status
     ensures { PutsBytes bytes.now result (array.old, len.old) (array.new, len.new) }
 {
     *len = bytes.len();
     if array.len() < bytes.len() {
-        return NO_ROOM;
+        return Status::NoRoom;
     }
     array[..bytes.len()].copy_from_slice(bytes);
-    OK
+    Status::Ok
 }
 
 // Lines as they are printed.
@@ -58,13 +59,13 @@ fn put_lines(
     print: &Print,
     array: &mut [u8],
     len: &mut usize,
-) -> u32
+) -> Status
     ensures { PutsLines first count print.now result session.now (array.old, len.old) (array.new, len.new) }
 {
     match printed(alloc, session, first, count, print) {
         Ok(page) => put_bytes(&page.bytes, array, len),
-        Err(RangeFault::OutOfRange) => OUT_OF_RANGE,
-        Err(RangeFault::Write(_)) => NO_MEMORY,
+        Err(RangeFault::OutOfRange) => Status::OutOfRange,
+        Err(RangeFault::Write(_)) => Status::NoMemory,
     }
 }
 
@@ -80,19 +81,19 @@ pub extern "C" fn hordguli_core_lines_utf8(
     len: &mut usize,
 ) -> u32
     ensures unchanged { session.new.held ≡ session.old.held }
-    ensures lines { AsksBy (PutsLines first count) (print_of print) result session.old.held
-        (array.old, len.old) (array.new, len.new) }
+    ensures lines { Returns (λ status. AsksBy (PutsLines first count) (print_of print) status session.old.held
+        (array.old, len.old) (array.new, len.new)) result }
 {
     let Some(print) = print_of(print) else {
-        return UNKNOWN_OPTION;
+        return number_of(Status::UnknownOption);
     };
     match session.swap(alloc, None) {
         Some(object) => {
             let status = put_lines(alloc, &object, first, count, &print, array, len);
             session.swap(alloc, Some(object));
-            status
+            number_of(status)
         }
-        None => CLOSED,
+        None => number_of(Status::Closed),
     }
 }
 
@@ -122,13 +123,13 @@ fn put_text(
     count: usize,
     array: &mut [u8],
     len: &mut usize,
-) -> u32
+) -> Status
     ensures { PutsText pos count result session.now (array.old, len.old) (array.new, len.new) }
 {
     match encoded(alloc, session, pos, count) {
         Ok(page) => put_bytes(&page.bytes, array, len),
-        Err(RangeFault::OutOfRange) => OUT_OF_RANGE,
-        Err(RangeFault::Write(_)) => NO_MEMORY,
+        Err(RangeFault::OutOfRange) => Status::OutOfRange,
+        Err(RangeFault::Write(_)) => Status::NoMemory,
     }
 }
 
@@ -143,28 +144,28 @@ pub extern "C" fn hordguli_core_text(
     len: &mut usize,
 ) -> u32
     ensures unchanged { session.new.held ≡ session.old.held }
-    ensures text { Asks (PutsText pos count) result session.old.held
-        (array.old, len.old) (array.new, len.new) }
+    ensures text { Returns (λ status. Asks (PutsText pos count) status session.old.held
+        (array.old, len.old) (array.new, len.new)) result }
 {
     match session.swap(alloc, None) {
         Some(object) => {
             let status = put_text(alloc, &object, pos, count, array, len);
             session.swap(alloc, Some(object));
-            status
+            number_of(status)
         }
-        None => CLOSED,
+        None => number_of(Status::Closed),
     }
 }
 
-fn find_utf8_len(session: &SessionObject, pos: usize, count: usize, len: &mut usize) -> u32
+fn find_utf8_len(session: &SessionObject, pos: usize, count: usize, len: &mut usize) -> Status
     ensures { Gives (utf8_len session.now.kept pos count) result len.old len.new }
 {
     match session.utf8_len(pos, count) {
         Some(found) => {
             *len = found;
-            OK
+            Status::Ok
         }
-        None => OUT_OF_RANGE,
+        None => Status::OutOfRange,
     }
 }
 
@@ -178,16 +179,16 @@ pub extern "C" fn hordguli_core_utf8_length(
     len: &mut usize,
 ) -> u32
     ensures unchanged { session.new.held ≡ session.old.held }
-    ensures len { Asks (λ status state. Gives (utf8_len state.kept pos count) status) result
-        session.old.held len.old len.new }
+    ensures len { Returns (λ status. Asks (λ status state. Gives (utf8_len state.kept pos count) status) status
+        session.old.held len.old len.new) result }
 {
     match session.swap(alloc, None) {
         Some(object) => {
             let status = find_utf8_len(&object, pos, count, len);
             session.swap(alloc, Some(object));
-            status
+            number_of(status)
         }
-        None => CLOSED,
+        None => number_of(Status::Closed),
     }
 }
 
@@ -200,14 +201,14 @@ fn char_count(text: &str) -> usize
 /// How many characters some UTF-8 has.
 #[unsafe(no_mangle)]
 pub extern "C" fn hordguli_core_count_utf8(bytes: &[u8], count: &mut usize) -> u32
-    ensures { OfText bytes.now result (count.new ≡ count.old)
-        (λ text. (result ≡ OK) × (count.new ≡ length text)) }
+    ensures { Returns (λ status. OfText bytes.now status (count.new ≡ count.old)
+        (λ text. (status ≡ Ok) × (count.new ≡ length text))) result }
 {
     match from_utf8(bytes) {
         Ok(text) => {
             *count = char_count(text);
-            OK
+            number_of(Status::Ok)
         }
-        Err(_) => NOT_UTF8,
+        Err(_) => number_of(Status::NotUtf8),
     }
 }

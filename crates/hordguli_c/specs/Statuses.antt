@@ -1,0 +1,18 @@
+-- The statuses by their numbers, as include/hordguli.h has them.
+use Rattle.std.specs.Prelude.{ℕ, ◌≤◌, List, [], ◌∷◌, slice_index_or}
+use Rattle.hordguli_c.specs.declared.status.Status.{Status}
+use Rattle.hordguli_c.specs.declared.status.Status.TheVariants as is
+
+abbrev pub statuses : List Status
+statuses =
+    is.Ok ∷ is.OutOfRange ∷ is.WidthOutOfRange ∷ is.TextTooLong ∷ is.ParagraphTooLong ∷ is.NoMemory ∷ is.TableFault ∷ is.NotUtf8
+    ∷ is.NotACharacter ∷ is.Closed ∷ is.AlreadyOpen ∷ is.UnknownOption ∷ is.NoRoom ∷ []
+
+-- the status of a number, which is the last one for a number above 12
+unfoldable pub status_of : ℕ → Status
+status_of number = slice_index_or statuses number is.NoRoom
+
+-- a call of C's returns the number of a status
+pub record Returns (says : Status → Type 0) (number : ℕ) : Type 0 where
+  pub status : says (status_of number)
+  pub within : number ≤ 12
