@@ -50,6 +50,7 @@ lib-oom_calls: lib-test_tables
 lib-hordguli_fribidi: lib-lines
 run-dump_properties: lib-ucd lib-tables
 run-fribidi run-oom_driver: lib-tool
+run-fribidi: lib-tables
 run-oom_driver run-no_allocation: lib-oom_calls
 lib-tables: lib-ucd
 run-bench: lib-session lib-tables

@@ -16,9 +16,9 @@ use std::io::{ErrorKind, Read, Stdout};
 use std::process::ExitCode;
 use std::{env, fs, io};
 use store::TreeStore;
+use tables::{FolderFault, in_folder};
 use text_run::{RunFault, run_text};
 use tool::{ProgramFault, ScriptOptions, open_text, run_script_in};
-use ucd::{FILE_NAMES, Tables, UcdFiles};
 
 fn main(rt: HostRuntime) -> ExitCode {
     let Err(fault) = run(&rt) else {
@@ -79,7 +79,7 @@ fn run_over(rt: &HostRuntime, folder: &str, words: &[&str]) -> Result<(), Progra
 fn run_settings(rt: &HostRuntime, settings: &Settings<'_>) -> Result<(), ProgramFault>
     requires { 0 < settings.now.width }
 {
-    let tables = tables(rt, settings.ucd)?;
+    let tables = in_folder(rt, settings.ucd).map_err(table_fault)?;
     let mut engine = Engine::new(tables, settings.options);
     let mut output = ToWrite::new(rt.stdout());
     match settings.script {
@@ -108,43 +108,11 @@ fn texts<'a>(alloc: Global, words: &'a [String]) -> Result<Vec<&'a str>, AllocEr
     words.iter().map(|word| word.as_str()).collect(alloc)
 }
 
-// Reads the table files of a folder, all of them before the first is parsed.
-fn tables(rt: &HostRuntime, folder: &str) -> Result<Tables, ProgramFault> {
-    let alloc = rt.alloc();
-    let mut files = [
-        Vec::new(alloc),
-        Vec::new(alloc),
-        Vec::new(alloc),
-        Vec::new(alloc),
-        Vec::new(alloc),
-        Vec::new(alloc),
-        Vec::new(alloc),
-    ];
-    for (k, name) in FILE_NAMES.iter().enumerate() {
-        files[k] = table_file(rt, folder, name)?;
-    }
-    let files = UcdFiles {
-        bidi_class: &files[0],
-        bidi_brackets: &files[1],
-        bidi_mirroring: &files[2],
-        line_break: &files[3],
-        general_category: &files[4],
-        east_asian_width: &files[5],
-        emoji_data: &files[6],
-    };
-    Tables::read(alloc, &files).map_err(ProgramFault::Table)
-}
-
-fn table_file(rt: &HostRuntime, folder: &str, name: &'static str) -> Result<Vec<u8>, ProgramFault> {
-    let Ok(path) = format!(in rt.alloc(); "{folder}/{name}") else {
-        return Err(ProgramFault::Run(RunFault::Memory));
-    };
-    match fs::read(rt, path.as_str()) {
-        Ok(bytes) => Ok(bytes),
-        Err(error) if error.kind() == ErrorKind::OutOfMemory => {
-            Err(ProgramFault::Run(RunFault::Memory))
-        }
-        Err(_) => Err(ProgramFault::TableFile(name)),
+fn table_fault(fault: FolderFault) -> ProgramFault {
+    match fault {
+        FolderFault::Unread(name) => ProgramFault::TableFile(name),
+        FolderFault::Table(fault) => ProgramFault::Table(fault),
+        FolderFault::Memory => ProgramFault::Run(RunFault::Memory),
     }
 }
 

@@ -1,48 +1,60 @@
-//! The tables of a folder's seven files, for programs that are no command: how a file couldn't be read or is
-//! at
-//! fault is told as an `anyhow::Error`.
+//! Reads the tables from the seven files of a folder, for programs.
 #![tactic(auto)]
 
-use anyhow::{Result, bail};
 use std::fs;
-use ucd::{FILE_NAMES, Tables, UcdFiles};
+use std::io::ErrorKind;
+use thiserror::Error;
+use ucd::{FILE_NAMES, TableFault, Tables, UcdFiles};
 
-/// The tables of the files of a folder, which have the names that Unicode gives them (`ucd::FILE_NAMES`).
-pub fn in_folder(rt: &HostRuntime, folder: &str) -> Result<Tables> {
-    let mut files = Vec::new(rt.alloc());
-    for name in &FILE_NAMES {
-        files.push(file(rt, folder, name)?)?;
+/// Why there are no tables.
+#[derive(Clone, Copy, Debug, PartialEq, Eq, Error)]
+pub enum FolderFault {
+    /// The file of this name cannot be read.
+    #[error("cannot read {0}")]
+    Unread(&'static str),
+    /// A file is malformed, or memory ran out when they were read as tables.
+    #[error("{0}")]
+    Table(TableFault),
+    /// Memory ran out when the files were read.
+    #[error("out of memory")]
+    Memory,
+}
+
+/// Reads the tables from the files of a folder, which have the names of `ucd::FILE_NAMES`. All files are read
+/// before the first is parsed.
+pub fn in_folder(rt: &HostRuntime, folder: &str) -> Result<Tables, FolderFault> {
+    let alloc = rt.alloc();
+    let mut files = [
+        Vec::new(alloc),
+        Vec::new(alloc),
+        Vec::new(alloc),
+        Vec::new(alloc),
+        Vec::new(alloc),
+        Vec::new(alloc),
+        Vec::new(alloc),
+    ];
+    for (k, name) in FILE_NAMES.iter().enumerate() {
+        files[k] = file(rt, folder, name)?;
     }
-    of_files(rt, &files)
-}
-
-fn file(rt: &HostRuntime, folder: &str, name: &str) -> Result<Vec<u8>> {
-    let path = format!(in rt.alloc(); "{folder}/{name}")?;
-    Ok(fs::read(rt, path.as_str())?)
-}
-
-// The tables of the files in the order of their names.
-fn of_files(rt: &HostRuntime, files: &[Vec<u8>]) -> Result<Tables> {
-    let [
-        bidi_class,
-        bidi_brackets,
-        bidi_mirroring,
-        line_break,
-        general_category,
-        east_asian_width,
-        emoji_data,
-    ] = files
-    else {
-        bail!("there are seven table files");
-    };
     let files = UcdFiles {
-        bidi_class,
-        bidi_brackets,
-        bidi_mirroring,
-        line_break,
-        general_category,
-        east_asian_width,
-        emoji_data,
+        bidi_class: &files[0],
+        bidi_brackets: &files[1],
+        bidi_mirroring: &files[2],
+        line_break: &files[3],
+        general_category: &files[4],
+        east_asian_width: &files[5],
+        emoji_data: &files[6],
     };
-    Ok(Tables::read(rt.alloc(), &files)?)
+    Tables::read(alloc, &files).map_err(FolderFault::Table)
+}
+
+fn file(rt: &HostRuntime, folder: &str, name: &'static str) -> Result<Vec<u8>, FolderFault> {
+    let Ok(path) = format!(in rt.alloc(); "{folder}/{name}") else {
+        return Err(FolderFault::Memory);
+    };
+    match fs::read(rt, path.as_str()) {
+        Ok(bytes) => Ok(bytes),
+        Err(error) if error.kind() == ErrorKind::OutOfMemory => Err(FolderFault::Memory),
+        Err(_) => Err(FolderFault::Unread(name)),
+    }
 }
