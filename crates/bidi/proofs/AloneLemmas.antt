@@ -5,7 +5,7 @@ use Rattle.std.proofs.lemmas.List.{append-nil, drop-set-lt, drop_more, length-se
 use Rattle.ucd.specs.declared.bidi_class.BidiClass.{BidiClass}
 use Rattle.ucd.specs.declared.bidi_class.BidiClass.TheVariants.{ON}
 use Rattle.ucd.specs.declared.bracket.Bracket.{Bracket}
-use Rattle.bidi.specs.Classes.{class_at}
+use Rattle.ucd.specs.Classes.{class_at}
 use Rattle.bidi.specs.Isolates.{matches_of}
 use Rattle.bidi.specs.Levels.{levels_in, put, sequence_levels}
 use Rattle.bidi.specs.Runs.{IsRunEnd, next_start, sequence_at}

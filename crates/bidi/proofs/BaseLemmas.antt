@@ -2,7 +2,7 @@
 use Rattle.std.proofs.Common.{◌≡◌, ℕ, ◌+◌, ◌-◌, ◌<◌, true, List, length, Option, Some, None, is_some, if◌then◌else◌, sym, ap, ◌∙◌, inl, inr}
 use Rattle.std.proofs.lemmas.Bool.{cond-true, cond-false, cases_Bool}
 use Rattle.ucd.specs.declared.bidi_class.BidiClass.{BidiClass}
-use Rattle.bidi.specs.Classes.{class_at, is_initiator, is_pdi, is_strong}
+use Rattle.ucd.specs.Classes.{class_at, is_initiator, is_pdi, is_strong}
 use Rattle.bidi.specs.Base.{strong_level, first_strong_level}
 use Rattle.bidi.proofs.IsolateLemmas.{Reached, Reached-next, Reached-strong}
 

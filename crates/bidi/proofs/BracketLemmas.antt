@@ -12,12 +12,13 @@ use Rattle.std.proofs.lemmas.List.Elements.{All-get_or, All-from_get_or}
 use Rattle.ucd.specs.declared.bidi_class.BidiClass.{BidiClass}
 use Rattle.ucd.specs.declared.bidi_class.BidiClass.TheVariants.{ON}
 use Rattle.bidi.specs.Brackets.{is_other, is_direction, is_toward, stands, context, pair_direction, is_set_with, set_with, set_pair, pair_step, resolve_pairs}
-use Rattle.bidi.specs.Classes.{class_at}
+use Rattle.ucd.specs.Classes.{class_at}
 use Rattle.bidi.specs.Closers.{closer_in, AreNested}
 use Rattle.bidi.specs.Neighbours.{nearest}
 use Rattle.bidi.specs.Neutral.{agree, side}
 use Rattle.bidi.specs.Resolving.{IsClear}
-use Rattle.bidi.specs.Weak.{is_left, is_mark}
+use Rattle.ucd.specs.Classes.{is_mark}
+use Rattle.bidi.specs.Weak.{is_left}
 
 -- the items of a range
 module _ {T : Type 0} where

@@ -9,7 +9,7 @@ use Rattle.bidi.specs.declared.bracket_type.BracketType.TheVariants.{Other, Open
 use Rattle.bidi.specs.declared.sequence_levels.Brackets.{Brackets}
 use Rattle.bidi.specs.BracketTypes.{bracket_at, bracket_types, type_by}
 use Rattle.bidi.specs.Paragraphs.{AreBracketsOf, AreFor}
-use Rattle.bidi.specs.Runs.{AreWithin}
+use Rattle.ucd.specs.Within.{AreWithin}
 
 -- what follows from a result where it is Ok
 pub ok_then : {T E A B : Type 0} (r : Result T E) → OnOk r A → (A → B) → OnOk r B

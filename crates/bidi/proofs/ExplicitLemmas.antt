@@ -11,9 +11,9 @@ use Rattle.ucd.specs.declared.bidi_class.BidiClass.TheVariants.{ON, LRE, LRO, RL
 use Rattle.bidi.specs.declared.explicit.Openers.{Openers}
 use Rattle.bidi.specs.declared.explicit.Status.{Status}
 use Rattle.bidi.specs.declared.explicit.Stayed.{Stayed}
-use Rattle.bidi.specs.Classes.{class_at, is_initiator, is_pdi, is_separator}
+use Rattle.ucd.specs.Classes.{class_at, is_initiator, is_pdi, is_separator}
 use Rattle.bidi.specs.Explicit.{close_embedding, close_isolate, open_after, open_chain, inside_at, level_at, type_at}
-use Rattle.bidi.specs.Sequences.{is_removed}
+use Rattle.ucd.specs.Classes.{is_removed}
 use Rattle.bidi.specs.Openers.{innermost, Holds, Follows, AreOpeners}
 use Rattle.bidi.proofs.OpenersLemmas.{innermost-level, innermost-override, level-le}
 

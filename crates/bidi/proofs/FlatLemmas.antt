@@ -9,16 +9,18 @@ use Rattle.ucd.specs.declared.bidi_class.BidiClass.{BidiClass}
 use Rattle.ucd.specs.declared.bidi_class.BidiClass.TheVariants.{L, R, AL, EN, ES, ET, AN, CS, NSM, B, S, WS, ON, LRE, LRO, RLE, RLO, LRI, RLI, FSI, PDI}
 use Rattle.ucd.specs.declared.bracket.Bracket.{Bracket}
 use Rattle.bidi.specs.Brackets.{brackets, closer_of, is_set_with, is_toward, pair_step, pairs_of, set_pair, set_with, stands, context}
-use Rattle.bidi.specs.Classes.{class_at, is_initiator, is_strong}
+use Rattle.ucd.specs.Classes.{class_at, is_initiator, is_strong}
 use Rattle.bidi.specs.Explicit.{directed, is_first_strong, level_at, open_after, type_at}
 use Rattle.bidi.specs.Levels.{levels_by, paragraph_levels, put_back, resolved, sequence_levels}
 use Rattle.bidi.specs.Neighbours.{nearest}
 use Rattle.bidi.specs.Neutral.{agree, side}
 use Rattle.bidi.specs.Plain.{is_flat}
 use Rattle.bidi.specs.Rows.{levels_after}
-use Rattle.bidi.specs.Sequences.{is_removed, stayed}
+use Rattle.ucd.specs.Classes.{is_removed}
+use Rattle.bidi.specs.Sequences.{stayed}
 use Rattle.bidi.specs.Waiting.{carry, digit_type, mark_type}
-use Rattle.bidi.specs.Weak.{is_left, is_mark, is_number, mark_after, w3_type, w6_type, weak}
+use Rattle.ucd.specs.Classes.{is_mark}
+use Rattle.bidi.specs.Weak.{is_left, is_number, mark_after, w3_type, w6_type, weak}
 use Rattle.bidi.proofs.BracketLemmas.{length-set_with}
 use Rattle.bidi.proofs.NeutralLemmas.{levels_after-is}
 use Rattle.bidi.proofs.PlainLemmas.{directed-none, level_at-base, map-agree, map-same, resolved-one, type_at-class}

@@ -8,7 +8,7 @@ use Rattle.std.proofs.lemmas.List.Folds.{list_all_at}
 use Rattle.std.proofs.lemmas.List.FromFn.{length-range_with_len, get_or-range_with_len}
 use Rattle.ucd.specs.declared.bidi_class.BidiClass.{BidiClass}
 use Rattle.ucd.specs.declared.bidi_class.BidiClass.TheVariants.{LRI, RLI, FSI, PDI, ON}
-use Rattle.bidi.specs.Classes.{class_at, is_initiator, is_pdi, is_strong}
+use Rattle.ucd.specs.Classes.{class_at, is_initiator, is_pdi, is_strong}
 use Rattle.bidi.specs.Base.{is_balanced, match_of, is_before, is_in_span, is_outside, strong_level, first_strong_level}
 use Rattle.bidi.proofs.LeastLemmas.{least_found, least_none, least_reaches, least_misses}
 

@@ -8,7 +8,7 @@ use Rattle.std.proofs.lemmas.List.FromFn.{length-range_with_len, get_or-range_wi
 use Rattle.ucd.specs.declared.bidi_class.BidiClass.{BidiClass}
 use Rattle.ucd.specs.declared.bidi_class.BidiClass.TheVariants.{ON}
 use Rattle.bidi.specs.Base.{is_balanced, match_of, is_before, is_in_span, is_outside, first_strong_level, strong_level}
-use Rattle.bidi.specs.Classes.{class_at, is_initiator, is_pdi, is_strong}
+use Rattle.ucd.specs.Classes.{class_at, is_initiator, is_pdi, is_strong}
 use Rattle.bidi.specs.Isolates.{match_at, matches_of}
 use Rattle.bidi.specs.Explicit.{span_of}
 use Rattle.bidi.proofs.IsolateLemmas.{Reached, Reached-end, Lowest-fresh, Lowest-here, opened, closed, opened-next, closed-next, opens_shuts_none, strong_opens_none, strong_shuts_none, balanced, level_at_match, returns_to, steps, Reached-start, Reached-next, Reached-strong}

@@ -1,7 +1,7 @@
 -- What `least` answers: the first number that passes, if one of the range does.
 use Rattle.std.proofs.Common.{◌≡◌, ℕ, zero, suc, ◌+◌, ◌<◌, ◌≤◌, Bool, true, false, Some, None, unwrap_or, is_none, ◌==◌, refl, sym, ap, ◌∙◌, inl, inr, arith}
 use Rattle.std.proofs.lemmas.Bool.{cond-true, cond-false, cases_Bool, cases_eq, cases_lt, eq-eqb, ne_eqb, lt-ltb, le-ltb, both_ways}
-use Rattle.bidi.specs.Least.{least}
+use Rattle.ucd.specs.Least.{least}
 use Rattle.bidi.specs.Base.{is_before}
 
 -- the first number of the range that passes

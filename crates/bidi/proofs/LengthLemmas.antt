@@ -11,10 +11,11 @@ use Rattle.ucd.specs.declared.bidi_class.BidiClass.TheVariants.{L}
 use Rattle.bidi.specs.declared.base.Base.{Base}
 use Rattle.bidi.specs.declared.base.Base.TheVariants.{Rtl, Ltr, WeakRtl, WeakLtr}
 use Rattle.bidi.specs.Base.{base_level_of, first_strong, strong_level}
-use Rattle.bidi.specs.Classes.{class_at}
+use Rattle.ucd.specs.Classes.{class_at}
 use Rattle.bidi.specs.Explicit.{directed, directed_at, level_at, type_at}
 use Rattle.bidi.specs.Levels.{levels_of, paragraph_levels, put_back, resolved}
-use Rattle.bidi.specs.Sequences.{is_removed, stayed}
+use Rattle.ucd.specs.Classes.{is_removed}
+use Rattle.bidi.specs.Sequences.{stayed}
 
 -- a base level is 0 or 1
 strong_level-low : (class : BidiClass) → strong_level class ≤ 1

@@ -6,7 +6,7 @@ use Rattle.std.proofs.lemmas.List.{get_or-set_same, get_or-set_other, length-set
 use Rattle.ucd.specs.declared.bidi_class.BidiClass.{BidiClass}
 use Rattle.ucd.specs.declared.bracket.Bracket.{Bracket}
 use Rattle.bidi.specs.Base.{match_of}
-use Rattle.bidi.specs.Classes.{class_at, is_initiator}
+use Rattle.ucd.specs.Classes.{class_at, is_initiator}
 use Rattle.bidi.specs.Isolates.{match_at}
 use Rattle.bidi.specs.Levels.{put, levels_in, resolved}
 use Rattle.bidi.specs.Runs.{IsRunEnd, runs_from, sequence_at, next_start, marked, joined_first}

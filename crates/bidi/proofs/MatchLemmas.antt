@@ -5,7 +5,7 @@ use Rattle.std.proofs.lemmas.List.{get_or-set_same, get_or-set_other, get_or-tak
 use Rattle.std.proofs.lemmas.List.FromFn.{fill_by_all}
 use Rattle.ucd.specs.declared.bidi_class.BidiClass.{BidiClass}
 use Rattle.bidi.specs.Base.{is_balanced, match_of}
-use Rattle.bidi.specs.Classes.{class_at, is_initiator, is_pdi}
+use Rattle.ucd.specs.Classes.{class_at, is_initiator, is_pdi}
 use Rattle.bidi.specs.Isolates.{match_at, matches_of}
 use Rattle.bidi.proofs.IsolateLemmas.{opened, closed, opened-next, closed-next, opens_shuts_none, balanced, unbalanced}
 use Rattle.bidi.proofs.LeastLemmas.{least_found, least_none}

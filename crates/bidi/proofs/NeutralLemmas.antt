@@ -4,7 +4,7 @@ use Rattle.std.proofs.lemmas.Bool.{cond-true, cond-false, cases_Bool, not_from_t
 use Rattle.std.proofs.lemmas.List.{append-nil, length-set, drop_more, drop_all, take_all, take_more_set, replicate_more}
 use Rattle.ucd.specs.declared.bidi_class.BidiClass.{BidiClass}
 use Rattle.ucd.specs.declared.bidi_class.BidiClass.TheVariants.{L, ON}
-use Rattle.bidi.specs.Classes.{class_at}
+use Rattle.ucd.specs.Classes.{class_at}
 use Rattle.bidi.specs.Neighbours.{each_by, nearest}
 use Rattle.bidi.specs.Neutral.{between, implicit_level, is_neutral, neutral, neutral_at}
 use Rattle.bidi.specs.Rows.{row_level, levels_after, AreLevelsSoFar, PutsRow}

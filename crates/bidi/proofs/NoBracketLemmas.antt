@@ -5,9 +5,9 @@ use Rattle.std.proofs.lemmas.Bool.{and_left, and_right, cond-false}
 use Rattle.ucd.specs.declared.bidi_class.BidiClass.{BidiClass}
 use Rattle.ucd.specs.declared.bracket.Bracket.{Bracket}
 use Rattle.bidi.specs.Brackets.{brackets, closer_of, fits, greatest, is_live, is_closer, is_closing, is_full, is_opener, is_opening, is_other, pair_step, paired_with, pairs_before, pairs_of, resolve_pairs}
-use Rattle.bidi.specs.Classes.{class_at}
-use Rattle.bidi.specs.Least.{least}
-use Rattle.bidi.specs.Weak.{is_mark}
+use Rattle.ucd.specs.Classes.{class_at}
+use Rattle.ucd.specs.Least.{least}
+use Rattle.ucd.specs.Classes.{is_mark}
 use Rattle.bidi.proofs.LeastLemmas.{least_none}
 
 no_steps : (embedding sos : BidiClass) (marks : List Bool) (places : List ℕ) (types : List BidiClass)

@@ -8,7 +8,7 @@ use Rattle.std.proofs.lemmas.List.Folds.{list_any-append}
 use Rattle.ucd.specs.declared.bidi_class.BidiClass.{BidiClass}
 use Rattle.bidi.specs.declared.explicit.Openers.{Openers}
 use Rattle.bidi.specs.declared.explicit.Status.{Status}
-use Rattle.bidi.specs.Classes.{is_initiator}
+use Rattle.ucd.specs.Classes.{is_initiator}
 use Rattle.bidi.specs.Explicit.{close_embedding, close_isolate, opens_odd, level_above, override_of, Inside, inside}
 use Rattle.bidi.specs.Openers.{entry_of, innermost, statuses, isolates, overflowed_isolates, overflowed_embeddings, Holds, AreBeforeIsolate, ClosesIsolate}
 

@@ -15,8 +15,8 @@ use Rattle.ucd.specs.declared.bidi_class.BidiClass.TheVariants.{ON}
 use Rattle.ucd.specs.declared.bracket.Bracket.{Bracket}
 use Rattle.bidi.specs.declared.brackets.Opener.{Opener}
 use Rattle.bidi.specs.Brackets.{Pair, canonical, closer_of, fits, greatest, is_closer, is_closing, is_full, is_live, is_opener, is_opening, is_other, is_pair_of, paired_with, pairs_before, pairs_of}
-use Rattle.bidi.specs.Classes.{class_at}
-use Rattle.bidi.specs.Least.{least}
+use Rattle.ucd.specs.Classes.{class_at}
+use Rattle.ucd.specs.Least.{least}
 use Rattle.bidi.specs.Closers.{AreNested, closer_in, closed_by, closers_of, left_by, newest, pair_of, place_of}
 use Rattle.bidi.proofs.LeastLemmas.{least_found, least_none, least_within}
 

@@ -4,7 +4,7 @@ use Rattle.std.specs.List.{range_with_len, All}
 use Rattle.std.proofs.lemmas.List.{get_or_default}
 use Rattle.std.proofs.lemmas.List.Elements.{All-filter, All-map}
 use Rattle.std.proofs.lemmas.List.FromFn.{get_or-range_with_len, length-range_with_len}
-use Rattle.bidi.specs.Runs.{AreWithin}
+use Rattle.ucd.specs.Within.{AreWithin}
 
 pub All-places : (P : ℕ → Type 0) (items places : List ℕ) → All P items → AreWithin (length items) places → All P (map (slice_index items) places)
 All-places P items places all within =

@@ -9,13 +9,14 @@ use Rattle.ucd.specs.declared.bidi_class.BidiClass.{BidiClass}
 use Rattle.ucd.specs.declared.bidi_class.BidiClass.TheVariants.{ON, BN, LRE, LRO, RLE, RLO, PDF, LRI, RLI, FSI}
 use Rattle.ucd.specs.declared.bracket.Bracket.{Bracket}
 use Rattle.bidi.specs.Base.{match_of}
-use Rattle.bidi.specs.Classes.{class_at, is_initiator, is_pdi, is_separator}
+use Rattle.ucd.specs.Classes.{class_at, is_initiator, is_pdi, is_separator}
 use Rattle.bidi.specs.Cuts.{paragraphs}
 use Rattle.bidi.specs.Explicit.{directed, directed_at, inside, is_first_strong, level_at, open_after, type_at}
 use Rattle.bidi.specs.Levels.{levels_by, levels_in, paragraph_levels, put, put_back, resolved, sequence_levels}
 use Rattle.bidi.specs.Plain.{is_plain}
 use Rattle.bidi.specs.Runs.{IsRunEnd, runs_from}
-use Rattle.bidi.specs.Sequences.{changes, direction, eos, first_of, is_removed, last_of, level_before, level_after, sequences, sequences_from, sos, stayed}
+use Rattle.ucd.specs.Classes.{is_removed}
+use Rattle.bidi.specs.Sequences.{changes, direction, eos, first_of, last_of, level_before, level_after, sequences, sequences_from, sos, stayed}
 use Rattle.bidi.proofs.RunLemmas.{first_of-range, last_of-range, runs_from-end, runs_from-run}
 
 -- a function of the places of a list that reads its items

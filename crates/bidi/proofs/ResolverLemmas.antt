@@ -14,7 +14,7 @@ use Rattle.bidi.specs.declared.bracket_type.BracketType.{BracketType}
 use Rattle.bidi.specs.declared.bracket_type.BracketType.TheVariants.{Other, Opening, Closing}
 use Rattle.bidi.specs.Base.{base_level_of}
 use Rattle.bidi.specs.BracketTypes.{bracket_types, is_bracket, type_by}
-use Rattle.bidi.specs.Classes.{class_in}
+use Rattle.ucd.specs.Classes.{class_in}
 use Rattle.bidi.specs.Levels.{levels_of, paragraph_levels}
 use Rattle.bidi.specs.Plain.{has_bracket_in, is_flat}
 use Rattle.bidi.proofs.FlatLemmas.{zero_levels}

@@ -9,11 +9,12 @@ use Rattle.std.proofs.lemmas.List.Sums.{count_by-le-length, length-filter}
 use Rattle.ucd.specs.declared.bidi_class.BidiClass.{BidiClass}
 use Rattle.ucd.specs.declared.bidi_class.BidiClass.TheVariants.{FSI, LRI, ON, RLI}
 use Rattle.bidi.specs.Base.{first_strong_level, is_balanced, match_of}
-use Rattle.bidi.specs.Classes.{class_at, is_initiator, is_pdi}
+use Rattle.ucd.specs.Classes.{class_at, is_initiator, is_pdi}
 use Rattle.bidi.specs.Explicit.{directed, directed_at, span_of}
 use Rattle.bidi.specs.Isolates.{match_at, matches_of}
-use Rattle.bidi.specs.Least.{least}
-use Rattle.bidi.specs.Sequences.{is_removed, stayed}
+use Rattle.ucd.specs.Least.{least}
+use Rattle.ucd.specs.Classes.{is_removed}
+use Rattle.bidi.specs.Sequences.{stayed}
 use Rattle.bidi.proofs.PlainLemmas.{range-read}
 
 map_pointwise : {X Y : Type 0} (f g : X → Y) → ((x : X) → f x ≡ g x) → (xs : List X) → map f xs ≡ map g xs

@@ -6,10 +6,11 @@ use Rattle.std.proofs.lemmas.List.{append-nil, take_at, drop_at, get_or_append_l
 use Rattle.std.proofs.lemmas.List.FromFn.{length-range_with_len, get_or-range_with_len}
 use Rattle.ucd.specs.declared.bidi_class.BidiClass.{BidiClass}
 use Rattle.bidi.specs.Base.{match_of}
-use Rattle.bidi.specs.Classes.{class_at, is_initiator}
+use Rattle.ucd.specs.Classes.{class_at, is_initiator}
 use Rattle.bidi.specs.Cuts.{paragraphs}
 use Rattle.bidi.specs.Isolates.{match_at, matches_of}
-use Rattle.bidi.specs.Runs.{IsRunEnd, AreWithin, runs_from, joined_first, sequence_at, next_start}
+use Rattle.ucd.specs.Within.{AreWithin}
+use Rattle.bidi.specs.Runs.{IsRunEnd, runs_from, joined_first, sequence_at, next_start}
 use Rattle.bidi.specs.Sequences.{changes, first_of, last_of, is_match, continues_in, joined}
 use Rattle.bidi.proofs.JumpLemmas.{end-above, get_or-matches_of}
 use Rattle.bidi.proofs.PiecesLemmas.{paragraphs-at_cut, paragraphs-no_cut}

@@ -6,8 +6,9 @@ use Rattle.ucd.specs.declared.bidi_class.BidiClass.{BidiClass}
 use Rattle.ucd.specs.declared.bidi_class.BidiClass.TheVariants.{L, R, AL, EN, ES, ET, AN, CS, NSM, ON}
 use Rattle.bidi.specs.declared.weak.Row.{Row}
 use Rattle.bidi.specs.declared.weak.Row.TheVariants.{Nothing, European, Arabic, EuropeanTerminators, EuropeanSeparator, ArabicSeparator, Terminators}
-use Rattle.bidi.specs.Classes.{class_at, is_strong}
-use Rattle.bidi.specs.Weak.{is_mark, is_left, w3_type, weak}
+use Rattle.ucd.specs.Classes.{class_at, is_strong}
+use Rattle.ucd.specs.Classes.{is_mark}
+use Rattle.bidi.specs.Weak.{is_left, w3_type, weak}
 use Rattle.bidi.specs.Waiting.{is_settled, is_weak, mark_type, digit_type, read_types, waits, lengthens, completes, written, row_after, start_after, types_after, AreTypesSoFar, SettlesRow}
 use Rattle.bidi.proofs.WeakLemmas.{left-w3, weak-is}
 

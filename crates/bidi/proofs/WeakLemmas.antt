@@ -4,9 +4,10 @@ use Rattle.std.proofs.lemmas.List.{append-nil, replicate_more}
 use Rattle.ucd.specs.declared.bidi_class.BidiClass.{BidiClass}
 use Rattle.ucd.specs.declared.bidi_class.BidiClass.TheVariants.{L, R, AL, EN, ES, ET, AN, CS, NSM, ON}
 use Rattle.bidi.specs.declared.weak.Row.TheVariants.{Nothing, European, Arabic, EuropeanTerminators, EuropeanSeparator, ArabicSeparator, Terminators}
-use Rattle.bidi.specs.Classes.{is_strong}
+use Rattle.ucd.specs.Classes.{is_strong}
 use Rattle.bidi.specs.Neighbours.{each_by, nearest}
-use Rattle.bidi.specs.Weak.{is_mark, is_number, is_left, is_terminator, w1_at, w1, w2_at, w2, w3, w3_type, w4_at, w4, w5_at, w5, w6, w6_type, w7_at, weak}
+use Rattle.ucd.specs.Classes.{is_mark}
+use Rattle.bidi.specs.Weak.{is_number, is_left, is_terminator, w1_at, w1, w2_at, w2, w3, w3_type, w4_at, w4, w5_at, w5, w6, w6_type, w7_at, weak}
 use Rattle.bidi.specs.Waiting.{carry, mark_type, digit_type, read_types, number_type, types_after}
 
 -- a rule that looks back at the nearest such item

@@ -5,8 +5,8 @@ use Rattle.ucd.specs.declared.bidi_class.BidiClass.{BidiClass}
 use Rattle.ucd.specs.declared.bidi_class.BidiClass.TheVariants.{L}
 use Rattle.bidi.specs.declared.base.Base.{Base}
 use Rattle.bidi.specs.declared.base.Base.TheVariants.{Rtl, Ltr, WeakRtl, WeakLtr}
-use Rattle.bidi.specs.Classes.{class_at, is_initiator, is_pdi, is_strong}
-use Rattle.bidi.specs.Least.{least}
+use Rattle.ucd.specs.Classes.{class_at, is_initiator, is_pdi, is_strong}
+use Rattle.ucd.specs.Least.{least}
 
 -- from i to j there are as many initiators as PDIs, both ends counted
 abbrev pub is_balanced : List BidiClass → ℕ → ℕ → Bool

@@ -4,11 +4,12 @@ use Rattle.std.specs.List.{list_any, list_all, range_with_len}
 use Rattle.ucd.specs.declared.bidi_class.BidiClass.{BidiClass}
 use Rattle.ucd.specs.declared.bidi_class.BidiClass.TheVariants.{L, R, AL, EN, AN, ON}
 use Rattle.ucd.specs.declared.bracket.Bracket.{Bracket}
-use Rattle.bidi.specs.Classes.{class_at}
-use Rattle.bidi.specs.Least.{least}
+use Rattle.ucd.specs.Classes.{class_at}
+use Rattle.ucd.specs.Least.{least}
 use Rattle.bidi.specs.Neighbours.{nearest}
 use Rattle.bidi.specs.Neutral.{agree, side}
-use Rattle.bidi.specs.Weak.{is_left, is_mark}
+use Rattle.ucd.specs.Classes.{is_mark}
+use Rattle.bidi.specs.Weak.{is_left}
 
 abbrev pub is_other : BidiClass → Bool
 is_other ON = true

@@ -5,7 +5,7 @@ use Rattle.ucd.specs.declared.bidi_class.BidiClass.{BidiClass}
 use Rattle.ucd.specs.declared.bidi_class.BidiClass.TheVariants.{ON}
 use Rattle.bidi.specs.declared.brackets.Opener.{Opener}
 use Rattle.bidi.specs.Brackets.{Pair, canonical, closer_of, greatest}
-use Rattle.bidi.specs.Classes.{class_at}
+use Rattle.ucd.specs.Classes.{class_at}
 
 abbrev pub closers_of : List Pair → ℕ → List ℕ
 closers_of pairs len = map (λ i. unwrap_or (closer_of pairs i) len) (range_with_len 0 len)

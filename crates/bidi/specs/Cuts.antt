@@ -2,8 +2,8 @@
 use Rattle.std.specs.Prelude.{◌≡◌, ℕ, ◌-◌, ◌<◌, ◌==◌, ◌&&◌, not, Bool, List, [], ◌∷◌, length, take, drop, slice_index, Option, Some, None, if◌then◌else◌}
 use Rattle.std.specs.List.{onto_first}
 use Rattle.ucd.specs.declared.bidi_class.BidiClass.{BidiClass}
-use Rattle.bidi.specs.Least.{least}
-use Rattle.bidi.specs.Classes.{is_separator}
+use Rattle.ucd.specs.Least.{least}
+use Rattle.ucd.specs.Classes.{is_separator}
 
 -- There is a cut after a separator, but not between U+000D and U+000A where both are separators.
 abbrev pub cut : (ℕ → BidiClass) → ℕ → ℕ → Bool

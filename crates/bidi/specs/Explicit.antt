@@ -3,7 +3,7 @@ use Rattle.std.specs.Prelude.{ℕ, ◌+◌, ◌-◌, ◌%◌, ◌==◌, nat_lt, 
 use Rattle.std.specs.List.{list_any, prefix_len, range_with_len}
 use Rattle.ucd.specs.declared.bidi_class.BidiClass.{BidiClass}
 use Rattle.ucd.specs.declared.bidi_class.BidiClass.TheVariants.{L, R, RLE, LRE, RLO, LRO, PDF, RLI, LRI, FSI, PDI}
-use Rattle.bidi.specs.Classes.{class_at, is_initiator, is_pdi, is_separator}
+use Rattle.ucd.specs.Classes.{class_at, is_initiator, is_pdi, is_separator}
 use Rattle.bidi.specs.Base.{match_of, first_strong_level}
 
 -- the classes between the initiator at k and its match, or after it where it has none

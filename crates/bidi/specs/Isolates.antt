@@ -2,7 +2,7 @@
 use Rattle.std.specs.Prelude.{ℕ, List, length, map, unwrap_or, if◌then◌else◌}
 use Rattle.std.specs.List.{range_with_len}
 use Rattle.ucd.specs.declared.bidi_class.BidiClass.{BidiClass}
-use Rattle.bidi.specs.Classes.{class_at, is_initiator}
+use Rattle.ucd.specs.Classes.{class_at, is_initiator}
 use Rattle.bidi.specs.Base.{match_of}
 
 -- the match of the initiator at an index, or the length where it has none, or where there is no initiator

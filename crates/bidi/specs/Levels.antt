@@ -7,9 +7,10 @@ use Rattle.ucd.specs.declared.bidi_class.BidiClass.{BidiClass}
 use Rattle.bidi.specs.declared.base.Base.{Base}
 use Rattle.bidi.specs.Base.{base_level_of}
 use Rattle.bidi.specs.Brackets.{brackets}
-use Rattle.bidi.specs.Classes.{class_at}
+use Rattle.ucd.specs.Classes.{class_at}
 use Rattle.bidi.specs.Explicit.{directed, level_at, type_at}
-use Rattle.bidi.specs.Sequences.{is_removed, stayed, sequences, first_of, sos, eos, direction}
+use Rattle.ucd.specs.Classes.{is_removed}
+use Rattle.bidi.specs.Sequences.{stayed, sequences, first_of, sos, eos, direction}
 use Rattle.bidi.specs.Weak.{weak}
 use Rattle.bidi.specs.Neutral.{neutral, implicit_level}
 

@@ -1,13 +1,11 @@
 pub mod Base
 pub mod BracketTypes
 pub mod Brackets
-pub mod Classes
 pub mod Closers
 pub mod Cuts
 pub mod Explicit
 pub mod Isolates
 pub mod KnownBrackets
-pub mod Least
 pub mod Levels
 pub mod Neighbours
 pub mod Neutral

@@ -4,7 +4,7 @@ use Rattle.std.specs.List.{list_any}
 use Rattle.ucd.specs.declared.bidi_class.BidiClass.{BidiClass}
 use Rattle.bidi.specs.declared.explicit.Openers.{Openers}
 use Rattle.bidi.specs.declared.explicit.Status.{Status}
-use Rattle.bidi.specs.Classes.{is_initiator}
+use Rattle.ucd.specs.Classes.{is_initiator}
 use Rattle.bidi.specs.Explicit.{Inside, inside}
 
 -- what holds inside an opener, or in the paragraph outside of all

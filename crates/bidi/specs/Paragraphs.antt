@@ -2,10 +2,11 @@
 use Rattle.std.specs.Prelude.{◌≡◌, ℕ, ◌<◌, max, true, false, Option, None, All, List, length, map, slice_index}
 use Rattle.ucd.specs.declared.bracket.Bracket.{Bracket}
 use Rattle.bidi.specs.BracketTypes.{bracket_at, bracket_types}
-use Rattle.bidi.specs.Classes.{class_at}
+use Rattle.ucd.specs.Classes.{class_at}
 use Rattle.bidi.specs.Isolates.{matches_of}
 use Rattle.bidi.specs.Levels.{levels_in, put, resolved}
-use Rattle.bidi.specs.Runs.{AreWithin, sequence_at}
+use Rattle.ucd.specs.Within.{AreWithin}
+use Rattle.bidi.specs.Runs.{sequence_at}
 use Rattle.bidi.specs.Sequences.{direction, first_of, last_of, level_before, level_after}
 use Rattle.bidi.specs.Stayed.{HasAll}
 use Rattle.bidi.specs.declared.sequence_levels.Paragraph.{Paragraph}

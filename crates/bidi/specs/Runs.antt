@@ -28,10 +28,6 @@ sequence_at classes levels start = joined_first classes (runs_from levels start)
 abbrev pub next_start : List ℕ → ℕ → Option ℕ
 next_start levels k = if nat_lt k (length levels) && not (slice_index levels k == slice_index levels (k - 1)) then Some k else None
 
--- all places are below a length
-abbrev pub AreWithin : ℕ → List ℕ → Type 0
-AreWithin len places = (k : ℕ) → k < length places → slice_index places k < len
-
 -- marks with one more, if there is a place to mark
 abbrev pub marked : List Bool → Option ℕ → List Bool
 marked marks None = marks

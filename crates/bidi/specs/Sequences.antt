@@ -4,19 +4,9 @@ use Rattle.std.specs.Prelude.{ℕ, ◌+◌, ◌-◌, ◌%◌, ◌==◌, max, Boo
 use Rattle.std.specs.List.{list_any, range_with_len}
 use Rattle.ucd.specs.declared.bidi_class.BidiClass.{BidiClass}
 use Rattle.ucd.specs.declared.bidi_class.BidiClass.TheVariants.{L, R, RLE, LRE, RLO, LRO, PDF, BN}
-use Rattle.bidi.specs.Classes.{class_at, is_initiator}
+use Rattle.ucd.specs.Classes.{class_at, is_initiator, is_removed}
 use Rattle.bidi.specs.Base.{match_of}
 use Rattle.bidi.specs.Cuts.{paragraphs}
-
--- X9: the classes whose characters are taken out
-abbrev pub is_removed : BidiClass → Bool
-is_removed RLE = true
-is_removed LRE = true
-is_removed RLO = true
-is_removed LRO = true
-is_removed PDF = true
-is_removed BN = true
-is_removed class = false
 
 -- the indexes of a paragraph's characters that stay
 abbrev pub stayed : List BidiClass → List ℕ

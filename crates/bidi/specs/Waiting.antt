@@ -4,8 +4,9 @@ use Rattle.ucd.specs.declared.bidi_class.BidiClass.{BidiClass}
 use Rattle.ucd.specs.declared.bidi_class.BidiClass.TheVariants.{L, EN, ES, ET, AN, CS, NSM, ON}
 use Rattle.bidi.specs.declared.weak.Row.{Row}
 use Rattle.bidi.specs.declared.weak.Row.TheVariants.{Nothing, European, Arabic, EuropeanTerminators, EuropeanSeparator, ArabicSeparator, Terminators}
-use Rattle.bidi.specs.Classes.{is_strong}
-use Rattle.bidi.specs.Weak.{is_mark, mark_after, is_number, is_arabic, is_left, w3_type}
+use Rattle.ucd.specs.Classes.{is_strong}
+use Rattle.ucd.specs.Classes.{is_mark}
+use Rattle.bidi.specs.Weak.{mark_after, is_number, is_arabic, is_left, w3_type}
 
 -- a rule that looks back at the nearest item that passes a test alone: the list that it makes, after such an item
 abbrev pub carry : {T : Type 0} → (T → T → List T → T) → (T → Bool) → T → List T → List T

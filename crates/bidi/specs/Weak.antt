@@ -2,12 +2,8 @@
 use Rattle.std.specs.Prelude.{Bool, true, false, ◌||◌, not, List, [], ◌∷◌, map, if◌then◌else◌}
 use Rattle.ucd.specs.declared.bidi_class.BidiClass.{BidiClass}
 use Rattle.ucd.specs.declared.bidi_class.BidiClass.TheVariants.{L, R, AL, EN, ES, ET, AN, CS, NSM, ON, LRI, RLI, FSI, PDI}
-use Rattle.bidi.specs.Classes.{is_strong}
+use Rattle.ucd.specs.Classes.{is_strong, is_mark}
 use Rattle.bidi.specs.Neighbours.{each_by, nearest}
-
-abbrev pub is_mark : BidiClass → Bool
-is_mark NSM = true
-is_mark type = false
 
 abbrev pub is_terminator : BidiClass → Bool
 is_terminator ET = true

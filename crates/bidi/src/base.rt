@@ -2,7 +2,7 @@
 ghost use Rattle.std.specs.Prelude.{◌≡◌, ◌+◌, ◌-◌, ◌<◌, map, if◌then◌else◌};
 ghost use Rattle.ucd.specs.Tables.{class_of};
 ghost use Rattle.bidi.specs.Base.{base_level_of, first_strong_level, strong_level};
-ghost use Rattle.bidi.specs.Classes.{class_in, is_initiator, is_pdi, is_strong};
+ghost use Rattle.ucd.specs.Classes.{class_in, is_initiator, is_pdi, is_strong};
 
 use ucd::{BidiClass, Properties, Tables};
 

@@ -11,8 +11,9 @@ ghost use Rattle.bidi.specs.Brackets.{context, is_direction};
 ghost use Rattle.bidi.specs.Brackets.{is_toward, stands, set_with, set_pair};
 ghost use Rattle.bidi.specs.Closers.{closers_of, closer_in, AreNested, newest, place_of, left_by};
 ghost use Rattle.bidi.specs.Closers.{closed_by};
-ghost use Rattle.bidi.specs.Weak.{is_mark, is_left};
-ghost use Rattle.bidi.specs.Classes.{class_at};
+ghost use Rattle.ucd.specs.Classes.{is_mark};
+ghost use Rattle.bidi.specs.Weak.{is_left};
+ghost use Rattle.ucd.specs.Classes.{class_at};
 ghost use Rattle.bidi.specs.Neutral.{agree, side};
 ghost use Rattle.bidi.specs.Resolving.{IsClear};
 

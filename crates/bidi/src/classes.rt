@@ -1,7 +1,7 @@
 //! Kinds of bidirectional classes.
 ghost use Rattle.std.specs.Prelude.{◌≡◌};
-ghost use Rattle.bidi.specs.Classes.{is_initiator, is_pdi};
-ghost use Rattle.bidi.specs.Sequences.{is_removed};
+ghost use Rattle.ucd.specs.Classes.{is_initiator, is_pdi};
+ghost use Rattle.ucd.specs.Classes.{is_removed};
 
 use ucd::BidiClass;
 

@@ -1,6 +1,6 @@
 //! Explicit levels and types (UAX #9, X1 to X9), in one walk with a stack of the openers that are open.
 ghost use Rattle.std.specs.Prelude.{◌≡◌, ◌≤◌, ◌∷◌, [], ◌++◌, OnOk, unwrap_or, if◌then◌else◌};
-ghost use Rattle.bidi.specs.Classes.{is_pdi, is_separator};
+ghost use Rattle.ucd.specs.Classes.{is_pdi, is_separator};
 ghost use Rattle.bidi.specs.Explicit.{level_above, override_of, close_embedding, close_isolate, open_after};
 ghost use Rattle.bidi.specs.Openers.{Holds, IsInnermost, Follows, AreOpeners, ClosesIsolate};
 ghost use Rattle.bidi.specs.Stayed.{IsStayed};

@@ -4,7 +4,7 @@ ghost use Rattle.std.specs.Prelude.{◌≡◌, ◌+◌, ◌-◌, ◌<◌, ◌==�
 ghost use Rattle.std.specs.Prelude.{length, take, slice_index, slice_set};
 ghost use Rattle.std.specs.List.{list_any};
 ghost use Rattle.bidi.specs.Base.{first_strong_level};
-ghost use Rattle.bidi.specs.Classes.{class_at, is_initiator};
+ghost use Rattle.ucd.specs.Classes.{class_at, is_initiator};
 ghost use Rattle.bidi.specs.Explicit.{directed, directed_at, is_first_strong, span_of};
 ghost use Rattle.bidi.specs.Isolates.{matches_of};
 

@@ -2,7 +2,7 @@
 ghost use Rattle.std.specs.Prelude.{◌≡◌, ◌<◌, ◌≤◌, false, length, map};
 ghost use Rattle.bidi.specs.Neutral.{is_neutral, between, neutral, implicit_level};
 ghost use Rattle.bidi.specs.Rows.{row_level, PutsRow};
-ghost use Rattle.bidi.specs.Classes.{class_at};
+ghost use Rattle.ucd.specs.Classes.{class_at};
 ghost use Rattle.bidi.specs.Sequences.{direction};
 
 use crate::fill::fill;

@@ -11,7 +11,7 @@ ghost use Rattle.bidi.specs.declared.bracket_type.BracketType.TheVariants.{Other
 ghost use Rattle.bidi.specs.Base.{base_level_of};
 ghost use Rattle.bidi.specs.BracketTypes.{bracket_types, is_bracket, type_by};
 ghost use Rattle.bidi.specs.KnownBrackets.{AreKnown};
-ghost use Rattle.bidi.specs.Classes.{class_in};
+ghost use Rattle.ucd.specs.Classes.{class_in};
 ghost use Rattle.bidi.specs.Levels.{levels_of, paragraph_levels};
 ghost use Rattle.bidi.specs.Paragraphs.{AreFor, OfAllTexts};
 ghost use Rattle.bidi.specs.Plain.{has_bracket_in, is_flat, is_plain};

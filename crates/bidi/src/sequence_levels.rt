@@ -3,11 +3,12 @@ ghost use Rattle.std.specs.Prelude.{◌≡◌, ◌-◌, ◌<◌, ◌≤◌, true
 ghost use Rattle.std.specs.Prelude.{IfSome, OnOk};
 ghost use Rattle.std.specs.List.{range_with_len};
 ghost use Rattle.bidi.specs.BracketTypes.{bracket_at};
-ghost use Rattle.bidi.specs.Classes.{class_at};
+ghost use Rattle.ucd.specs.Classes.{class_at};
 ghost use Rattle.bidi.specs.Levels.{put, sequence_levels};
 ghost use Rattle.bidi.specs.Paragraphs.{AreFor, AreSides, AreSidesBetween, IsReady, OfAllTexts, Takes};
 ghost use Rattle.bidi.specs.Paragraphs.{resolved_by, sequence_in, write_by};
-ghost use Rattle.bidi.specs.Runs.{AreWithin, IsRunEnd, marked};
+ghost use Rattle.ucd.specs.Within.{AreWithin};
+ghost use Rattle.bidi.specs.Runs.{IsRunEnd, marked};
 
 use crate::bracket_type::BracketType;
 use crate::brackets::{Pairs, copy_types};

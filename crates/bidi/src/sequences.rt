@@ -2,10 +2,11 @@
 ghost use Rattle.std.specs.Prelude.{◌≡◌, ◌+◌, ◌-◌, ◌<◌, ◌≤◌, ◌==◌, ◌&&◌, ◌++◌, if◌then◌else◌};
 ghost use Rattle.std.specs.Prelude.{length, max, slice_index, OnOk};
 ghost use Rattle.std.specs.List.{range_with_len};
-ghost use Rattle.bidi.specs.Classes.{class_at, is_initiator};
+ghost use Rattle.ucd.specs.Classes.{class_at, is_initiator};
 ghost use Rattle.bidi.specs.Isolates.{matches_of};
 ghost use Rattle.bidi.specs.Sequences.{direction, level_before, level_after};
-ghost use Rattle.bidi.specs.Runs.{IsRunEnd, AreWithin, next_start, sequence_at};
+ghost use Rattle.ucd.specs.Within.{AreWithin};
+ghost use Rattle.bidi.specs.Runs.{IsRunEnd, next_start, sequence_at};
 
 use crate::classes::is_initiator;
 use std::alloc::AllocError;

@@ -1,9 +1,10 @@
 //! The weak rules (UAX #9, W1 to W7), in one walk over the types of one isolating run sequence.
 ghost use Rattle.std.specs.Prelude.{◌≡◌, ◌<◌, ◌≤◌, true, length, not, if◌then◌else◌};
-ghost use Rattle.bidi.specs.Classes.{class_at, is_strong};
+ghost use Rattle.ucd.specs.Classes.{class_at, is_strong};
 ghost use Rattle.bidi.specs.Waiting.{mark_type, digit_type, number_type, written, completes, row_after};
 ghost use Rattle.bidi.specs.Waiting.{is_settled, is_weak, start_after, SettlesRow};
-ghost use Rattle.bidi.specs.Weak.{is_mark, is_left, mark_after, w3_type, weak};
+ghost use Rattle.ucd.specs.Classes.{is_mark};
+ghost use Rattle.bidi.specs.Weak.{is_left, mark_after, w3_type, weak};
 
 use crate::fill::fill;
 use ucd::BidiClass;

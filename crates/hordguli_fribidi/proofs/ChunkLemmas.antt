@@ -10,13 +10,13 @@ use Rattle.std.proofs.lemmas.Slice.{drop-put_mid, take-put_mid, take-put_mid_bel
 use borrow.Rule.Slice.PartMut.{put_mid, same_len_mid}
 use Rattle.ucd.specs.declared.bidi_class.BidiClass.{BidiClass}
 use Rattle.ucd.specs.declared.bidi_class.BidiClass.TheVariants.{ON}
-use Rattle.bidi.specs.Weak.{is_mark}
+use Rattle.ucd.specs.Classes.{is_mark}
 use Rattle.hordguli_fribidi.proofs.InPlaceLemmas.{items_at_places}
 use Rattle.hordguli_fribidi.proofs.OrderLemmas.{length-vtol}
 use Rattle.hordguli_fribidi.specs.InPlace.{IsChunk}
 use Rattle.hordguli_fribidi.specs.Types.{class_of}
-use Rattle.lines.specs.Groups.{IsAlone, IsGroup, StandsTogether}
-use Rattle.lines.specs.Order.{has_base, is_mark_at, is_odd, lowest_odd, ltov_of, order_by, order_of, precedes_mark, reverse_with_next, vtol_of, AreInverse}
+use Rattle.reorder.specs.Groups.{IsAlone, IsGroup, StandsTogether}
+use Rattle.reorder.specs.Order.{has_base, is_mark_at, is_odd, lowest_odd, ltov_of, order_by, order_of, precedes_mark, reverse_with_next, vtol_of, AreInverse}
 
 -- ---- what a group is
 

@@ -10,7 +10,7 @@ use Rattle.std.proofs.lemmas.List.Sums.{prefix_len-le-length, prefix_len_passes,
 use Rattle.std.proofs.lemmas.Simd.{map-map}
 use Rattle.std.proofs.lemmas.Slice.{drop-put_mid, take-put_mid}
 use borrow.Rule.Slice.PartMut.{put_mid, same_len_mid}
-use Rattle.lines.specs.Order.{highest, is_at_least, lowest_odd, order_by, order_of, places, reverse_runs, reversed_from}
+use Rattle.reorder.specs.Order.{highest, is_at_least, lowest_odd, order_by, order_of, places, reverse_runs, reversed_from}
 use Rattle.hordguli_fribidi.specs.InPlace.{flags_at, reverse_flagged}
 
 -- ---- an array, and a list of places

@@ -6,8 +6,8 @@ use Rattle.std.proofs.lemmas.Bool.{both_ways, cases_Bool, cases_eq, cases_lt, co
 use Rattle.std.proofs.lemmas.List.{take_all}
 use Rattle.std.proofs.lemmas.List.Folds.{list_any_at, list_any_more, list_any_kept}
 use Rattle.std.proofs.lemmas.List.Sums.{fold_more}
-use Rattle.bidi.specs.Least.{least}
-use Rattle.lines.specs.Order.{has_odd, highest, is_odd, lowest_odd}
+use Rattle.ucd.specs.Least.{least}
+use Rattle.reorder.specs.Order.{has_odd, highest, is_odd, lowest_odd}
 
 -- the first number of a range that passes
 least_found : (p : ℕ → Bool) (low count k : ℕ) → low ≤ k → k < low + count → p k ≡ true → ((m : ℕ) → m < k → p m ≡ false) → least p low count ≡ Some k

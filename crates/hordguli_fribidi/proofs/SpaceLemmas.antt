@@ -9,7 +9,7 @@ use Rattle.std.proofs.Math.Seq.{set-append_seam}
 use Rattle.ucd.specs.declared.bidi_class.BidiClass.{BidiClass}
 use Rattle.ucd.specs.declared.bidi_class.BidiClass.TheVariants.{L}
 use Rattle.hordguli_fribidi.specs.Types.{class_of}
-use Rattle.lines.specs.Spaces.{ends_segment, is_blank, is_reset, line_levels}
+use Rattle.reorder.specs.Spaces.{ends_segment, is_blank, is_reset, line_levels}
 
 -- what the walk knows at a place: the levels from there on are set, and whether a blank before it is reset
 pub record Walked (base : ℕ) (classes : List BidiClass) (old current : List ℕ) (resets : Bool) (at : ℕ) : Type 0 where

@@ -1,7 +1,7 @@
 -- What is moved and set where it stands. Only the code speaks of these.
 use Rattle.std.specs.Prelude.{◌≡◌, ℕ, ◌-◌, Bool, List, [], ◌∷◌, ◌++◌, ◌⊎◌, map, nat_le, if◌then◌else◌}
 use Rattle.ucd.specs.declared.bidi_class.BidiClass.{BidiClass}
-use Rattle.lines.specs.Groups.{IsAlone, IsGroup}
+use Rattle.reorder.specs.Groups.{IsAlone, IsGroup}
 
 -- an array with each maximal interval of places whose flag is set reversed; `run` is the interval under way, reversed
 abbrev pub reverse_flagged : List Bool → List ℕ → List ℕ → List ℕ

@@ -2,8 +2,8 @@
 use Rattle.std.specs.Prelude.{◌≡◌, ℕ, suc, ◌==◌, List, length, map, replicate, Option, Some, None, if◌then◌else◌}
 use Rattle.bidi.specs.Base.{base_level_of, first_strong_level}
 use Rattle.bidi.specs.Levels.{paragraph_levels}
-use Rattle.lines.specs.Order.{highest}
-use Rattle.lines.specs.Spaces.{line_levels}
+use Rattle.reorder.specs.Order.{highest}
+use Rattle.reorder.specs.Spaces.{line_levels}
 use Rattle.hordguli_fribidi.specs.Types.{base_of, bracket_by, class_of, direction_of}
 
 -- the numbers of brackets, of which there is one for each type, or none at all

@@ -1,7 +1,7 @@
 -- A line of a paragraph in visual order. All arrays are those of the paragraph up to the line's end, and the line begins at `off`.
 use Rattle.std.specs.Prelude.{◌≡◌, ℕ, suc, ◌/◌, ◌%◌, ◌==◌, Bool, List, ◌++◌, length, map, take, drop, slice_index, if◌then◌else◌}
-use Rattle.lines.specs.Order.{highest, vtol_of}
-use Rattle.lines.specs.Spaces.{line_levels}
+use Rattle.reorder.specs.Order.{highest, vtol_of}
+use Rattle.reorder.specs.Spaces.{line_levels}
 use Rattle.hordguli_fribidi.specs.Types.{class_of}
 
 -- whether flags ask for marks after their bases (FRIBIDI_FLAG_REORDER_NSM)

@@ -4,9 +4,9 @@ ghost use Rattle.std.specs.Prelude.{IfOk, OnErr, OnOk};
 ghost use Rattle.bidi.specs.Base.{first_strong_level, strong_level};
 ghost use Rattle.bidi.specs.BracketTypes.{bracket_types};
 ghost use Rattle.bidi.specs.declared.bracket_type.BracketType.TheVariants.{Other};
-ghost use Rattle.bidi.specs.Classes.{is_initiator, is_pdi, is_strong};
-ghost use Rattle.lines.specs.Order.{highest};
-ghost use Rattle.lines.specs.Spaces.{line_levels};
+ghost use Rattle.ucd.specs.Classes.{is_initiator, is_pdi, is_strong};
+ghost use Rattle.reorder.specs.Order.{highest};
+ghost use Rattle.reorder.specs.Spaces.{line_levels};
 ghost use Rattle.hordguli_fribidi.specs.Levels.{base_in, brackets_of, direction_in, levels_before, AreLevels};
 ghost use Rattle.hordguli_fribidi.specs.Types.{bracket_by, class_of};
 

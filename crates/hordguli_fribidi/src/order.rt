@@ -4,10 +4,10 @@ ghost use Rattle.std.specs.Prelude.{◌≡◌, ◌<◌, ◌≤◌, ◌+◌, ◌=
 ghost use Rattle.std.specs.Prelude.{ℕ, [], length, map, true, false, nat_le, nat_lt, slice_index};
 ghost use Rattle.std.specs.Prelude.{IfSome, Some, None};
 ghost use Rattle.std.specs.List.{list_any, prefix_len};
-ghost use Rattle.bidi.specs.Weak.{is_mark};
+ghost use Rattle.ucd.specs.Classes.{is_mark};
 ghost use Rattle.hordguli_fribidi.specs.InPlace.{flags_at, reverse_flagged, IsChunk};
 ghost use Rattle.hordguli_fribidi.specs.Types.{class_of};
-ghost use Rattle.lines.specs.Order.{has_base, highest, is_mark_at, is_odd, lowest_odd, order_of, vtol_of};
+ghost use Rattle.reorder.specs.Order.{has_base, highest, is_mark_at, is_odd, lowest_odd, order_of, vtol_of};
 
 use crate::types::class_of;
 use lines::{groups_stand_together, maps_are_inverse, others_stay};

@@ -1,7 +1,7 @@
 //! A line of a paragraph in visual order: its levels, and what stands at its places in C's arrays.
 ghost use Rattle.std.specs.Prelude.{◌≡◌, ◌≢◌, ◌<◌, ◌≤◌, ◌-◌, ℕ, false, length, map, drop};
 ghost use Rattle.std.specs.Prelude.{slice_index, None, IfSome};
-ghost use Rattle.lines.specs.Order.{highest, is_odd, lowest_odd, vtol_of};
+ghost use Rattle.reorder.specs.Order.{highest, is_odd, lowest_odd, vtol_of};
 ghost use Rattle.hordguli_fribidi.specs.Lines.{asks_marks, reordered_if, IsReordered};
 ghost use Rattle.hordguli_fribidi.specs.Types.{class_of};
 

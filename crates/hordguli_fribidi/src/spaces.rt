@@ -3,7 +3,7 @@
 ghost use Rattle.std.specs.Prelude.{◌≡◌, ◌&&◌, ◌||◌, map, length};
 ghost use Rattle.std.specs.List.{list_any};
 ghost use Rattle.hordguli_fribidi.specs.Types.{class_of};
-ghost use Rattle.lines.specs.Spaces.{ends_segment, is_blank, line_levels};
+ghost use Rattle.reorder.specs.Spaces.{ends_segment, is_blank, line_levels};
 
 use crate::types::class_of;
 use ucd::BidiClass;

@@ -6,7 +6,7 @@ use Rattle.std.proofs.lemmas.List.{append-nil, drop_all, length-set, take_all, t
 use Rattle.std.specs.List.{fold, prefix_len, suffix_len}
 use Rattle.ucd.specs.declared.tables.Tables.{Tables}
 use Rattle.bidi.specs.Brackets.{greatest}
-use Rattle.bidi.specs.Least.{least}
+use Rattle.ucd.specs.Least.{least}
 use Rattle.breaks.specs.declared.mark.Mark.{Mark}
 use Rattle.lines.specs.Bare.{bare, AreAlike, with_ends}
 use Rattle.lines.specs.BarePlaces.{bare_places}

@@ -2,7 +2,7 @@
 use Rattle.std.proofs.Common.{◌≡◌, ◌≢◌, ◌∙◌, ℕ, ◌==◌, ◌&&◌, Bool, true, false, not, refl, ap}
 use Rattle.ucd.specs.declared.bidi_class.BidiClass.{BidiClass}
 use Rattle.ucd.specs.declared.bidi_class.BidiClass.TheVariants.{L, R, AL, EN, ES, ET, AN, CS, NSM, BN, B, S, WS, ON, LRE, LRO, RLE, RLO, PDF, LRI, RLI, FSI, PDI}
-use Rattle.bidi.specs.Classes.{is_separator}
+use Rattle.ucd.specs.Classes.{is_separator}
 use Rattle.bidi.specs.Cuts.{cut}
 
 not_separator : (class : BidiClass) → class ≢ B → is_separator class ≡ false

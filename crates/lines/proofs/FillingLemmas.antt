@@ -8,7 +8,7 @@ use Rattle.std.proofs.lemmas.List.{length-take-le}
 use Rattle.std.proofs.lemmas.List.Sums.{sum_by_more, sum_by-take-le, suffix_len-take_no, suffix_len-take_yes}
 use Rattle.std.specs.List.{suffix_len}
 use Rattle.bidi.specs.Brackets.{greatest}
-use Rattle.bidi.specs.Least.{least}
+use Rattle.ucd.specs.Least.{least}
 use Rattle.bidi.proofs.LeastLemmas.{least_found, least_none}
 use Rattle.bidi.proofs.PairLemmas.{greatest_found}
 use Rattle.lines.specs.Filling.{cluster_ends_at, columns, first_end, fits_to, may_end, must_end, nothing, place_at, line_end, line_len, shown, starts, stop}

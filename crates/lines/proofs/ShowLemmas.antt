@@ -9,15 +9,15 @@ use Rattle.std.specs.List.{slice_range, suffix_len, All}
 use Rattle.ucd.specs.Tables.{class_of}
 use Rattle.ucd.specs.declared.bidi_class.BidiClass.{BidiClass}
 use Rattle.ucd.specs.declared.tables.Tables.{Tables}
-use Rattle.bidi.specs.Runs.{AreWithin}
+use Rattle.ucd.specs.Within.{AreWithin}
 use Rattle.lines.specs.Extents.{shown_between, shown_from}
 use Rattle.lines.specs.Filling.{columns, shown}
 use Rattle.lines.specs.Kept.{AreStarts, IsSound, line_in, lines_by, lines_in}
 use Rattle.lines.specs.Layouts.{AreWithin as LinesAreWithin}
-use Rattle.lines.specs.Mirroring.{visual_chars}
-use Rattle.lines.specs.Order.{ltov_of, vtol_of}
+use Rattle.reorder.specs.Mirroring.{visual_chars}
+use Rattle.reorder.specs.Order.{ltov_of, vtol_of}
 use Rattle.lines.specs.Showing.{line_showing, nothing_shown, AreShown, IsPlaced, IsShown}
-use Rattle.lines.specs.Spaces.{line_levels}
+use Rattle.reorder.specs.Spaces.{line_levels}
 use Rattle.lines.specs.Visual.{Line, end_of, lines_from}
 use Rattle.lines.specs.declared.options.Options.{Options}
 use Rattle.lines.specs.declared.places.Place.{Place}

@@ -6,7 +6,7 @@ use Rattle.std.proofs.lemmas.Bool.{and_from, cases_Bool, cond-true, cond-false, 
 use Rattle.std.proofs.lemmas.List.{take_all}
 use Rattle.std.proofs.lemmas.Option.{slice_get_within}
 use Rattle.ucd.specs.declared.tables.Tables.{Tables}
-use Rattle.bidi.specs.Least.{least}
+use Rattle.ucd.specs.Least.{least}
 use Rattle.bidi.specs.Levels.{levels_of}
 use Rattle.bidi.proofs.PairLemmas.{greatest_found, greatest_here}
 use Rattle.breaks.specs.Marks.{marks_of}

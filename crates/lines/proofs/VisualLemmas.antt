@@ -14,7 +14,7 @@ use Rattle.lines.specs.Filling.{line_len, line_starts_of, shown, starts}
 use Rattle.lines.specs.Kept.{AreStarts}
 use Rattle.lines.specs.Layouts.{AreWithin, Rules, base_of, lines_of}
 use Rattle.lines.specs.Places.{places, places_of}
-use Rattle.lines.specs.Spaces.{line_levels}
+use Rattle.reorder.specs.Spaces.{line_levels}
 use Rattle.lines.specs.Visual.{Line, line_between, lines_from}
 use Rattle.lines.specs.declared.options.Options.{Options}
 use Rattle.lines.specs.declared.places.Place.{Place}

@@ -20,10 +20,10 @@ use Rattle.lines.specs.Asked.{visual_shown}
 use Rattle.lines.specs.Bytes.{direction_line, line_bytes, numbers_line, visual_line}
 use Rattle.lines.specs.Clusters.{cluster_ends}
 use Rattle.lines.specs.Filling.{is_must, line_starts_of, must_end, nothing, place_at, shown, starts, stop}
-use Rattle.lines.specs.Order.{ltov_of, vtol_of}
+use Rattle.reorder.specs.Order.{ltov_of, vtol_of}
 use Rattle.lines.specs.Pages.{lines_bytes}
 use Rattle.lines.specs.Places.{is_trailing_in, places, places_of}
-use Rattle.lines.specs.Spaces.{line_levels}
+use Rattle.reorder.specs.Spaces.{line_levels}
 use Rattle.lines.specs.Visual.{Line, Visual, line_between, lines_from, visual_of}
 use Rattle.lines.specs.Whole.{IsShownLen, IsWhole}
 use Rattle.lines.specs.declared.options.Options.{Options}

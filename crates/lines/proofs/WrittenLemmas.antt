@@ -13,10 +13,10 @@ use Rattle.lines.specs.Filling.{line_starts_of}
 use Rattle.lines.specs.Layouts.{Rules, base_of}
 use Rattle.lines.specs.Pages.{lines_bytes, paragraph_bytes}
 use Rattle.lines.specs.Places.{places_of}
-use Rattle.lines.specs.Mirroring.{visual_chars}
-use Rattle.lines.specs.Order.{ltov_of, vtol_of}
+use Rattle.reorder.specs.Mirroring.{visual_chars}
+use Rattle.reorder.specs.Order.{ltov_of, vtol_of}
 use Rattle.lines.specs.Showing.{line_showing, lines_shown, nothing_shown}
-use Rattle.lines.specs.Spaces.{line_levels}
+use Rattle.reorder.specs.Spaces.{line_levels}
 use Rattle.lines.specs.Visual.{Line, Visual, end_of, lines_from, visual_of}
 use Rattle.lines.specs.declared.options.Options.{Options}
 use Rattle.lines.specs.declared.places.Place.{Place}

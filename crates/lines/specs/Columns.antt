@@ -1,7 +1,7 @@
 -- The columns of a line, place by place. They are those of its characters as they stand in the text, and not of their mirrors.
 use Rattle.std.specs.Prelude.{ℕ, ◌+◌, ◌-◌, nat_lt, List, length, map, take, sum_by, slice_index, Option, if◌then◌else◌}
-use Rattle.bidi.specs.Least.{least}
-use Rattle.lines.specs.Order.{is_odd}
+use Rattle.ucd.specs.Least.{least}
+use Rattle.reorder.specs.Order.{is_odd}
 use Rattle.lines.specs.Places.{columns_of}
 use Rattle.lines.specs.Visual.{Visual}
 

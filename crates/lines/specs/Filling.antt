@@ -2,7 +2,7 @@
 use Rattle.std.specs.Prelude.{ℕ, zero, suc, ◌-◌, nat_le, Bool, true, false, ◌&&◌, ◌||◌, List, [], ◌∷◌, length, take, sum_by, slice_index_or, Option, Some, None, unwrap_or, if◌then◌else◌}
 use Rattle.std.specs.List.{suffix_len}
 use Rattle.bidi.specs.Brackets.{greatest}
-use Rattle.bidi.specs.Least.{least}
+use Rattle.ucd.specs.Least.{least}
 use Rattle.breaks.specs.declared.mark.Mark.{Mark}
 use Rattle.breaks.specs.declared.mark.Mark.TheVariants.{Never, Must}
 use Rattle.lines.specs.declared.places.Place.{Place}

@@ -1,6 +1,6 @@
 -- The lines of a paragraph as they are kept: in lists of the paragraph's length, where each line's part stands from its start on.
 use Rattle.std.specs.Prelude.{◌≡◌, ℕ, ◌+◌, ◌<◌, ◌≤◌, List, [], ◌∷◌, length, slice_index, slice_index_or, slice_range, All}
-use Rattle.bidi.specs.Runs.{AreWithin}
+use Rattle.ucd.specs.Within.{AreWithin}
 use Rattle.lines.specs.Visual.{Line}
 use Rattle.lines.specs.declared.fill.Shown.{Shown}
 

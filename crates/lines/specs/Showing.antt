@@ -2,11 +2,11 @@
 use Rattle.std.specs.Prelude.{◌≡◌, ℕ, ◌+◌, ◌<◌, ◌≤◌, List, [], ◌∷◌, length, map, take, slice_index, slice_index_or, slice_range}
 use Rattle.ucd.specs.Tables.{class_of}
 use Rattle.ucd.specs.declared.tables.Tables.{Tables}
-use Rattle.bidi.specs.Runs.{AreWithin}
+use Rattle.ucd.specs.Within.{AreWithin}
 use Rattle.lines.specs.Kept.{line_in}
-use Rattle.lines.specs.Mirroring.{visual_chars}
-use Rattle.lines.specs.Order.{ltov_of, vtol_of}
-use Rattle.lines.specs.Spaces.{line_levels}
+use Rattle.reorder.specs.Mirroring.{visual_chars}
+use Rattle.reorder.specs.Order.{ltov_of, vtol_of}
+use Rattle.reorder.specs.Spaces.{line_levels}
 use Rattle.lines.specs.Visual.{Line, end_of}
 use Rattle.lines.specs.declared.options.Options.{Options}
 use Rattle.lines.specs.declared.fill.Shown.{Shown}

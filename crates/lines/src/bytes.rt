@@ -3,7 +3,7 @@
 ghost use Rattle.std.specs.Prelude.{◌≡◌, [], ◌∷◌, ◌++◌, ◌≤◌, ◌&&◌, IfOk, IfErr, if◌then◌else◌};
 ghost use Rattle.std.specs.Prelude.{◌+◌, ◌*◌, ◌<◌, take, codes};
 ghost use Rattle.std.specs.Prelude.{length, map, replicate, encode_utf8, encode_utf8_all, slice_index};
-ghost use Rattle.bidi.specs.Runs.{AreWithin};
+ghost use Rattle.ucd.specs.Within.{AreWithin};
 ghost use Rattle.std.specs.List.{join_with_byte};
 ghost use Rattle.lines.specs.Bytes.{direction_line, numbers_line, padding, shown_chars, visual_line};
 ghost use Rattle.lines.specs.Writing.{PassedOn, StoppedIn};

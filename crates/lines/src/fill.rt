@@ -2,7 +2,7 @@
 //! and what is written of all of them.
 ghost use Rattle.std.specs.Prelude.{◌≡◌, ◌+◌, ◌≤◌, List, length, map, option_map, slice_get};
 ghost use Rattle.std.specs.Prelude.{IfErr, IfOk, IfSome};
-ghost use Rattle.bidi.specs.Runs.{AreWithin};
+ghost use Rattle.ucd.specs.Within.{AreWithin};
 ghost use Rattle.lines.specs.Engine.{counted};
 ghost use Rattle.lines.specs.Extents.{extents_in, shown_from};
 ghost use Rattle.lines.specs.Kept.{AreStarts, line_in};

@@ -4,17 +4,17 @@ ghost use Rattle.std.specs.Prelude.{◌≡◌, ◌-◌, ◌<◌, ◌≤◌, ℕ,
 ghost use Rattle.std.specs.Prelude.{length, map, take, slice_index};
 ghost use Rattle.std.specs.List.{range_with_len, suffix_len};
 ghost use Rattle.ucd.specs.Properties.{properties_of};
-ghost use Rattle.bidi.specs.Classes.{class_in};
-ghost use Rattle.lines.specs.Spaces.{line_levels};
-ghost use Rattle.bidi.specs.Runs.{AreWithin};
+ghost use Rattle.ucd.specs.Classes.{class_in};
+ghost use Rattle.reorder.specs.Spaces.{line_levels};
+ghost use Rattle.ucd.specs.Within.{AreWithin};
 ghost use Rattle.lines.specs.Engine.{counted, RisesBy};
 ghost use Rattle.lines.specs.Extents.{shown_from};
 ghost use Rattle.lines.specs.Filling.{columns, shown};
 ghost use Rattle.lines.specs.Kept.{AreStarts};
 ghost use Rattle.lines.specs.Layouts;
 ghost use Rattle.lines.specs.Lists.{held_lines, AreSound};
-ghost use Rattle.lines.specs.Mirroring.{visual_chars};
-ghost use Rattle.lines.specs.Order.{is_odd, ltov_of, vtol_of};
+ghost use Rattle.reorder.specs.Mirroring.{visual_chars};
+ghost use Rattle.reorder.specs.Order.{is_odd, ltov_of, vtol_of};
 ghost use Rattle.lines.specs.Paragraphs.{IsLookedUp};
 ghost use Rattle.lines.specs.Showing.{AreShown, IsShown};
 ghost use Rattle.lines.specs.Visual.{end_of, lines_from};
@@ -23,12 +23,11 @@ ghost use Rattle.lines.specs.declared.engine.TheConstants.{PARAGRAPH_LIMIT};
 
 use crate::counts::Count;
 use crate::fill::{Lists, Shown};
-use crate::mirror::{visual_chars, visual_runs};
-use crate::order::{arrange, identity, order, order_runs};
 use crate::paragraph::{Paragraph, Spans, Text};
 use crate::places::Place;
 use crate::reserve::reserve;
-use crate::spaces::reset_levels;
+use reorder::{identity, order_runs, reset_levels};
+use reorder::{visual_chars, visual_order, visual_places, visual_runs};
 use std::alloc::AllocError;
 use ucd::Properties;
 
@@ -312,7 +311,7 @@ pub(crate) fn show_part(
     if is_plain(levels, is_flat) {
         show_plain(part, ltov, vtol, chars);
     } else {
-        order(
+        visual_order(
             line.properties,
             levels,
             line.rules.options.reordernsm,
@@ -339,7 +338,7 @@ pub(crate) fn show_chars(line: &Text<'_>, levels: &[u8], places: &mut [u32], cha
     let part = &line.characters[..levels.len()];
     let properties = &line.properties[..levels.len()];
     if line.rules.options.reordernsm {
-        arrange(line.properties, levels, true, places);
+        visual_places(line.properties, levels, true, places);
         visual_chars(line.rules.tables, part, properties, levels, places, chars);
         return;
     }

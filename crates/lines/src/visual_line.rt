@@ -1,7 +1,7 @@
 //! One line of a paragraph as it is shown, which borrows from the paragraph.
 ghost use Rattle.std.specs.Prelude.{◌≡◌, false, ◌^◌, ◌<◌, ◌≤◌, true, length, slice_index, OnOk, IfOk, IfErr};
 ghost use Rattle.device.specs.Device.{Wrote, StoppedAt};
-ghost use Rattle.bidi.specs.Runs.{AreWithin};
+ghost use Rattle.ucd.specs.Within.{AreWithin};
 ghost use Rattle.lines.specs.Bytes.{line_bytes, padding};
 ghost use Rattle.lines.specs.Columns.{columns_at, columns_left, covering, padding_of};
 ghost use Rattle.lines.specs.Places.{columns_of};
@@ -33,7 +33,7 @@ pub struct VisualLine<'a> {
 
 impl<'a> Model for VisualLine<'a> {
     ghost use Rattle.std.specs.Prelude.{length};
-    ghost use Rattle.bidi.specs.Runs.{AreWithin};
+    ghost use Rattle.ucd.specs.Within.{AreWithin};
     ghost use Rattle.lines.specs.Visual.{Visual};
 
     ghost Value = { Visual };

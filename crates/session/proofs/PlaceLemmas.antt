@@ -10,7 +10,7 @@ use Rattle.std.proofs.lemmas.Option.{get_or_from_slice_get, slice_get_past, slic
 use Rattle.std.specs.List.Sorted.{IsNonDecreasing}
 use Rattle.lines.specs.Kept.{AreStarts}
 use Rattle.ucd.specs.Tables.{class_of}
-use Rattle.bidi.specs.Classes.{is_separator}
+use Rattle.ucd.specs.Classes.{is_separator}
 use Rattle.bidi.specs.Pieces.{ParagraphsArePieces}
 use Rattle.lines.specs.Beginnings.{BeginInOrder}
 use Rattle.lines.specs.Engine.{rules_of}

@@ -5,7 +5,7 @@ use Rattle.std.proofs.lemmas.List.{append-nil, length-append, take_more, take_al
 use Rattle.std.proofs.lemmas.List.Folds.{concat-append}
 use Rattle.std.proofs.lemmas.List.Sums.{sum_by-cons}
 use Rattle.std.proofs.lemmas.Bool.{cond-true, cond-false, cases_eq, cases_lt, le-leb, lt-leb, and_left, and_right, and_from}
-use Rattle.bidi.specs.Least.{least}
+use Rattle.ucd.specs.Least.{least}
 use Rattle.session.specs.Edits.{Replacement}
 use Rattle.session.specs.Touched.{AreTouched, region_edit}
 use Rattle.session.specs.Touched.{start_of, is_touched, first_touched, touched_count}

@@ -2,7 +2,7 @@
 use Rattle.std.specs.Prelude.{ℕ, ◌+◌, nat_lt, List, [], length, slice_get, slice_index, Option, Some, None, option_map, if◌then◌else◌}
 use Rattle.lines.specs.Columns.{columns_left}
 use Rattle.lines.specs.Layouts.{Layout, Rules, base_of}
-use Rattle.lines.specs.Order.{is_odd}
+use Rattle.reorder.specs.Order.{is_odd}
 use Rattle.lines.specs.Visual.{Visual}
 use Rattle.session.specs.Kept.{lines_in}
 use Rattle.session.specs.Places.{place_at}

@@ -1,7 +1,7 @@
 -- The grapheme cluster of a character.
 use Rattle.std.specs.Prelude.{ℕ, ◌+◌, ◌-◌, nat_le, Bool, false, List, [], length, slice_index_or, Option, Some, None, if◌then◌else◌}
 use Rattle.bidi.specs.Brackets.{greatest}
-use Rattle.bidi.specs.Least.{least}
+use Rattle.ucd.specs.Least.{least}
 use Rattle.lines.specs.Clusters.{cluster_ends}
 use Rattle.lines.specs.Layouts.{Layout}
 use Rattle.session.specs.Kept.{pars_of, text_of}

@@ -2,7 +2,7 @@
 use Rattle.std.specs.Prelude.{ℕ, ◌+◌, ◌-◌, false, not, List, length, slice_get, slice_index, Option, Some, None}
 use Rattle.lines.specs.Columns.{columns_left, covering}
 use Rattle.lines.specs.Layouts.{Layout}
-use Rattle.lines.specs.Order.{is_odd}
+use Rattle.reorder.specs.Order.{is_odd}
 use Rattle.lines.specs.Visual.{Visual}
 use Rattle.session.specs.Kept.{lines_in}
 use Rattle.session.specs.Places.{line_starts}

@@ -1,7 +1,7 @@
 -- Where the lines of a text begin, and on which of them a character stands.
 use Rattle.std.specs.Prelude.{ℕ, ◌+◌, ◌-◌, ◌<◌, nat_le, nat_lt, ◌==◌, ◌&&◌, ◌||◌, Bool, List, [], ◌∷◌, ◌++◌, length, map, count_by, slice_index, Option, Some, None, if◌then◌else◌}
 use Rattle.ucd.specs.Tables.{class_of}
-use Rattle.bidi.specs.Classes.{is_separator}
+use Rattle.ucd.specs.Classes.{is_separator}
 use Rattle.lines.specs.Beginnings.{BeginInOrder}
 use Rattle.lines.specs.Layouts.{Layout, Rules}
 use Rattle.session.specs.Kept.{lines_in, text_of}

@@ -1,7 +1,7 @@
 -- Which paragraphs an edit touches, how much there is to analyse, and where these stand.
 use Rattle.std.specs.Prelude.{◌≡◌, ℕ, ◌+◌, ◌-◌, ◌<◌, ◌≤◌, nat_le, Bool, ◌&&◌, List, [], length, take, count_by, unwrap_or}
 use Rattle.std.specs.List.{concat, range_with_len, slice_range}
-use Rattle.bidi.specs.Least.{least}
+use Rattle.ucd.specs.Least.{least}
 use Rattle.session.specs.Edits.{Replacement}
 
 -- where the paragraph at an index starts, which is where the one before it ends

@@ -1,6 +1,6 @@
 //! Where a caret stands before a character, as the character is shown.
 ghost use Rattle.std.specs.Prelude.{◌≡◌, ◌^◌, ◌<◌, slice_index};
-ghost use Rattle.lines.specs.Order.{is_odd};
+ghost use Rattle.reorder.specs.Order.{is_odd};
 ghost use Rattle.session.specs.Carets.{caret_in, line_end};
 
 use crate::places::Place;

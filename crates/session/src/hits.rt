@@ -1,7 +1,7 @@
 //! Which character stands at a column of a line.
 ghost use Rattle.std.specs.Prelude.{◌≡◌, ◌^◌, ◌<◌, not, slice_index};
 ghost use Rattle.lines.specs.Columns.{columns_left, covering};
-ghost use Rattle.lines.specs.Order.{is_odd};
+ghost use Rattle.reorder.specs.Order.{is_odd};
 ghost use Rattle.session.specs.Hits.{hit_in, rightmost};
 
 use lines::VisualLine;

@@ -6,7 +6,7 @@ use Rattle.device.specs.Device.{Device}
 use Rattle.lines.specs.Bytes.{line_bytes}
 use Rattle.lines.specs.Columns.{covering, padding_of}
 use Rattle.lines.specs.Layouts.{Layout, Rules}
-use Rattle.lines.specs.Order.{is_odd}
+use Rattle.reorder.specs.Order.{is_odd}
 use Rattle.lines.specs.Visual.{Visual}
 use Rattle.lines.specs.Writing.{StoppedIn}
 use Rattle.lines.specs.declared.print.Print.{Print}

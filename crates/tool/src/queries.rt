@@ -1,7 +1,7 @@
 //! The questions of a script about the text as it stands, and what is answered to each.
 ghost use Rattle.std.specs.Prelude.{◌≡◌, ◌^◌, ◌<◌, ◌≤◌, IfOk, IfErr, OnErr, length, slice_index};
 ghost use Rattle.lines.specs.Engine.{rules_of};
-ghost use Rattle.lines.specs.Order.{is_odd};
+ghost use Rattle.reorder.specs.Order.{is_odd};
 ghost use Rattle.lines.specs.Writing.{PassedOn};
 ghost use Rattle.session.specs.Kept.{text_of};
 ghost use Rattle.tool.specs.Queries.{caret_text, cluster_text, hit_text, lines_text, part_text};

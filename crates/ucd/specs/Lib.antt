@@ -4,11 +4,13 @@ pub mod BidiClasses
 pub mod Bits
 pub mod Brackets
 pub mod Categories
+pub mod Classes
 pub mod Contents
 pub mod Emoji
 pub mod Entries
 pub mod Files
 pub mod Grammar
+pub mod Least
 pub mod LineClasses
 pub mod Paged
 pub mod Pages
@@ -18,3 +20,4 @@ pub mod Said
 pub mod Separators
 pub mod Tables
 pub mod Widths
+pub mod Within

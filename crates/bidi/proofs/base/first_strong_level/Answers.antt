@@ -5,7 +5,7 @@ use Rattle.ucd.specs.declared.bidi_class.BidiClass.{BidiClass}
 use Rattle.ucd.specs.declared.bidi_class.BidiClass.TheVariants.{ON}
 use Rattle.ucd.specs.declared.tables.Tables.{Tables}
 use Rattle.ucd.specs.Tables.{class_of}
-use Rattle.bidi.specs.Classes.{class_at, is_strong}
+use Rattle.ucd.specs.Classes.{class_at, is_strong}
 use Rattle.bidi.proofs.BaseLemmas.{is_some-level, settled, stepped}
 use Rattle.bidi.proofs.IsolateLemmas.{Reached-end}
 use Rattle.bidi.proofs.base.first_strong_level.Goals as goal

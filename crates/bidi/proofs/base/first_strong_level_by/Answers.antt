@@ -4,7 +4,7 @@ use Rattle.std.proofs.lemmas.List.{get_or-map, length-map}
 use Rattle.ucd.specs.declared.bidi_class.BidiClass.{BidiClass}
 use Rattle.ucd.specs.declared.bidi_class.BidiClass.TheVariants.{ON}
 use Rattle.ucd.specs.declared.properties.Properties.{Properties}
-use Rattle.bidi.specs.Classes.{class_at, class_in, is_strong}
+use Rattle.ucd.specs.Classes.{class_at, class_in, is_strong}
 use Rattle.bidi.proofs.BaseLemmas.{is_some-level, settled, stepped}
 use Rattle.bidi.proofs.IsolateLemmas.{Reached-end}
 use Rattle.bidi.proofs.base.first_strong_level_by.Goals as goal

@@ -1,5 +1,5 @@
 use Rattle.std.proofs.Common.{map}
-use Rattle.bidi.specs.Classes.{class_in}
+use Rattle.ucd.specs.Classes.{class_in}
 use Rattle.bidi.proofs.IsolateLemmas.{Reached}
 use Rattle.bidi.proofs.base.first_strong_level_by.Given as goal
 

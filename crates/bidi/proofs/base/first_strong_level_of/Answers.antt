@@ -2,7 +2,7 @@ use Rattle.std.proofs.Common.{sym, ◌∙◌, arith}
 use Rattle.std.proofs.lemmas.Bool.{both_ways}
 use Rattle.std.proofs.lemmas.List.{get_or_default}
 use Rattle.ucd.specs.declared.bidi_class.BidiClass.TheVariants.{L, ON}
-use Rattle.bidi.specs.Classes.{is_strong}
+use Rattle.ucd.specs.Classes.{is_strong}
 use Rattle.bidi.proofs.BaseLemmas.{is_some-level, settled, stepped}
 use Rattle.bidi.proofs.IsolateLemmas.{Reached-end}
 use Rattle.bidi.proofs.base.first_strong_level_of.Goals as goal

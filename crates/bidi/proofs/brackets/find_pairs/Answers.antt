@@ -10,7 +10,7 @@ use Rattle.bidi.specs.declared.brackets.Opener.{Opener}
 use Rattle.bidi.specs.Brackets.{is_closer, is_closing, is_opener, is_opening, is_other}
 use Rattle.bidi.specs.BracketTypes.{bracket_at, bracket_types, is_bracket, type_by}
 use Rattle.bidi.specs.Closers.{closed_by, closers_of, left_by, newest, place_of}
-use Rattle.bidi.specs.Classes.{class_at}
+use Rattle.ucd.specs.Classes.{class_at}
 use Rattle.bidi.proofs.BracketTypeLemmas.{look_for, text_for, told}
 use Rattle.bidi.proofs.PairLemmas.{Walks, Walks-start, Walks-other, Walks-skip, Walks-open, Walks-close, place-below, all-full, all-end, nested, before, length-closers_of}
 use Rattle.bidi.proofs.brackets.find_pairs.Goals as goal

@@ -1,6 +1,6 @@
 use Rattle.std.proofs.Common.{◌≡◌, ℕ, ◌-◌, ◌<◌, ◌≤◌, false, length}
 use Rattle.bidi.specs.Brackets.{is_toward}
-use Rattle.bidi.specs.Classes.{class_at}
+use Rattle.ucd.specs.Classes.{class_at}
 use Rattle.bidi.proofs.brackets.next_toward.Given as goal
 
 abbrev pub invariant-loop-at : goal.invariant-loop-at

@@ -1,7 +1,7 @@
 use Rattle.std.proofs.Common.{◌≡◌, ◌<◌, ◌≤◌, ◌+◌, ◌-◌, length, refl, map, slice_index, sym, ap, ◌∙◌, arith}
 use Rattle.bidi.specs.Brackets.{context, set_pair}
-use Rattle.bidi.specs.Classes.{class_at}
-use Rattle.bidi.specs.Weak.{is_mark}
+use Rattle.ucd.specs.Classes.{class_at}
+use Rattle.ucd.specs.Classes.{is_mark}
 use Rattle.bidi.proofs.BracketLemmas.{Resolved, Resolved-start, Resolved-pair, Resolved-skip, unchanged, direction_is, IsClear-skip}
 use Rattle.bidi.proofs.brackets.resolve_brackets.Goals as goal
 

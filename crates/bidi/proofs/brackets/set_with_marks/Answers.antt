@@ -1,7 +1,7 @@
 use Rattle.std.proofs.Common.{sym, ap, ◌∙◌, arith}
 use Rattle.std.proofs.lemmas.List.{get_or_default}
 use Rattle.ucd.specs.declared.bidi_class.BidiClass.TheVariants.{L, ON}
-use Rattle.bidi.specs.Weak.{is_mark}
+use Rattle.ucd.specs.Classes.{is_mark}
 use Rattle.bidi.proofs.BracketLemmas.{Marked-first, Marked-next, Marked-end}
 use Rattle.bidi.proofs.brackets.set_with_marks.Goals as goal
 

@@ -5,7 +5,7 @@ use Rattle.std.proofs.lemmas.List.FromFn.{fill_by_all, map-range_with_len_more}
 use Rattle.std.proofs.lemmas.List.Folds.{list_any_at}
 use Rattle.ucd.specs.declared.bidi_class.BidiClass.{BidiClass}
 use Rattle.ucd.specs.declared.bidi_class.BidiClass.TheVariants.{ON, FSI}
-use Rattle.bidi.specs.Classes.{class_at}
+use Rattle.ucd.specs.Classes.{class_at}
 use Rattle.bidi.specs.Isolates.{matches_of}
 use Rattle.bidi.specs.Explicit.{directed, directed_at, is_first_strong}
 use Rattle.bidi.proofs.LengthLemmas.{length-directed}

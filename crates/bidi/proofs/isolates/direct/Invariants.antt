@@ -1,6 +1,6 @@
 use Rattle.std.proofs.Common.{◌≡◌, map}
 use Rattle.std.specs.List.{range_with_len}
-use Rattle.bidi.specs.Classes.{class_at}
+use Rattle.ucd.specs.Classes.{class_at}
 use Rattle.bidi.specs.Explicit.{directed_at}
 use Rattle.bidi.proofs.isolates.direct.Given as goal
 

@@ -3,7 +3,7 @@ use Rattle.std.proofs.lemmas.Bool.{cond-true, cond-false, cases_Bool, cases_eq, 
 use Rattle.std.proofs.lemmas.List.{get_or_default, length-set, nil_from_length, with_items_is}
 use Rattle.ucd.specs.declared.bidi_class.BidiClass.{BidiClass}
 use Rattle.ucd.specs.declared.bidi_class.BidiClass.TheVariants.{L, ON}
-use Rattle.bidi.specs.Classes.{class_at, is_initiator, is_pdi}
+use Rattle.ucd.specs.Classes.{class_at, is_initiator, is_pdi}
 use Rattle.bidi.proofs.MatchLemmas.{Opens, Opens-up, Opens-down, Opens-down_none, Opens-flat, Opens-end}
 use Rattle.bidi.proofs.isolates.find_matches.Goals as goal
 use Rattle.bidi.proofs.isolates.find_matches.Goals.{then-is_initiator+in_ok-push, else-is_initiator+then-is_pdi, else-is_initiator+else-is_pdi}

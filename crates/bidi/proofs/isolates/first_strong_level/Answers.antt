@@ -4,7 +4,7 @@ use Rattle.std.proofs.lemmas.List.{get_or_default}
 use Rattle.ucd.specs.declared.bidi_class.BidiClass.{BidiClass}
 use Rattle.ucd.specs.declared.bidi_class.BidiClass.TheVariants.{L, ON}
 use Rattle.bidi.specs.Base.{strong_level}
-use Rattle.bidi.specs.Classes.{class_at, is_initiator, is_strong}
+use Rattle.ucd.specs.Classes.{class_at, is_initiator, is_strong}
 use Rattle.bidi.specs.Isolates.{match_at, matches_of}
 use Rattle.bidi.proofs.JumpLemmas.{Walks, Walks-strong, Walks-step, Walks-jump, Walks-end, get_or-matches_of, match_at-le, end-above}
 use Rattle.bidi.proofs.isolates.first_strong_level.Goals as goal

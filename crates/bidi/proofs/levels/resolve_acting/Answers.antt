@@ -5,10 +5,11 @@ use Rattle.bidi.specs.BracketTypes.{bracket_at}
 use Rattle.ucd.specs.declared.bracket.Bracket.{Bracket}
 use Rattle.ucd.specs.declared.bidi_class.BidiClass.{BidiClass}
 use Rattle.bidi.specs.declared.explicit.Stayed.{Stayed}
-use Rattle.bidi.specs.Classes.{class_at}
+use Rattle.ucd.specs.Classes.{class_at}
 use Rattle.bidi.specs.Explicit.{level_at, type_at}
 use Rattle.bidi.specs.Levels.{levels_by, put_back, resolved}
-use Rattle.bidi.specs.Sequences.{is_removed, stayed}
+use Rattle.ucd.specs.Classes.{is_removed}
+use Rattle.bidi.specs.Sequences.{stayed}
 use Rattle.bidi.specs.Stayed.{HasAll, IsStayed}
 use Rattle.bidi.specs.Paragraphs.{AreBracketsOf}
 use Rattle.bidi.proofs.BracketTypeLemmas.{types-kept}

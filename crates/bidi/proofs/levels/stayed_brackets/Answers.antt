@@ -2,7 +2,7 @@ use Rattle.std.proofs.Common.{◌∷◌, [], ◌++◌, sym, ap, ◌∙◌, arith
 use Rattle.std.proofs.lemmas.List.{get_or_default}
 use Rattle.ucd.specs.declared.bidi_class.BidiClass.TheVariants.{L, ON}
 use Rattle.bidi.specs.BracketTypes.{bracket_at}
-use Rattle.bidi.specs.Sequences.{is_removed}
+use Rattle.ucd.specs.Classes.{is_removed}
 use Rattle.bidi.proofs.ExplicitLemmas.{stays, goes}
 use Rattle.bidi.proofs.levels.stayed_brackets.Goals as goal
 use Rattle.bidi.proofs.levels.stayed_brackets.Goals.{then-not-is_removed+in_ok-push, else-not-is_removed}

@@ -1,8 +1,8 @@
 use Rattle.std.proofs.Common.{◌≡◌, map, filter, not}
 use Rattle.std.specs.List.{range_with_len}
 use Rattle.bidi.specs.BracketTypes.{bracket_at}
-use Rattle.bidi.specs.Classes.{class_at}
-use Rattle.bidi.specs.Sequences.{is_removed}
+use Rattle.ucd.specs.Classes.{class_at}
+use Rattle.ucd.specs.Classes.{is_removed}
 use Rattle.bidi.proofs.levels.stayed_brackets.Given as goal
 
 abbrev pub invariant-loop-at : goal.invariant-loop-at

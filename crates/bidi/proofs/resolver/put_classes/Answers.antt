@@ -2,7 +2,7 @@ use Rattle.std.proofs.Common.{◌≡◌, ◌<◌, ◌&&◌, ◌||◌, ◌∷◌,
 use Rattle.std.specs.List.{list_all, list_any}
 use Rattle.std.proofs.lemmas.List.{map-append, take_all, take_more, take_more_set}
 use Rattle.std.proofs.lemmas.List.Folds.{list_all-map, list_all_more, list_any_more}
-use Rattle.bidi.specs.Classes.{class_in}
+use Rattle.ucd.specs.Classes.{class_in}
 use Rattle.bidi.specs.Plain.{has_bracket_in, is_plain}
 use Rattle.bidi.proofs.resolver.put_classes.Goals as goal
 

@@ -1,6 +1,6 @@
 use Rattle.std.proofs.Common.{◌≡◌, map, take}
 use Rattle.std.specs.List.{list_all, list_any}
-use Rattle.bidi.specs.Classes.{class_in}
+use Rattle.ucd.specs.Classes.{class_in}
 use Rattle.bidi.specs.Plain.{has_bracket_in, is_plain}
 use Rattle.bidi.proofs.resolver.put_classes.Given as goal
 

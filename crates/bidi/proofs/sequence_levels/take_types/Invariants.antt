@@ -1,5 +1,5 @@
 use Rattle.std.proofs.Common.{◌≡◌, map, take}
-use Rattle.bidi.specs.Classes.{class_at}
+use Rattle.ucd.specs.Classes.{class_at}
 use Rattle.bidi.proofs.sequence_levels.take_types.Given as goal
 
 abbrev pub invariant-loop-place : goal.invariant-loop-place

@@ -3,7 +3,7 @@ use Rattle.std.proofs.lemmas.List.{get_or_default}
 use Rattle.ucd.specs.declared.bidi_class.BidiClass.{BidiClass}
 use Rattle.ucd.specs.declared.bidi_class.BidiClass.TheVariants.{L, ON}
 use Rattle.bidi.specs.Base.{match_of}
-use Rattle.bidi.specs.Classes.{class_at, is_initiator}
+use Rattle.ucd.specs.Classes.{class_at, is_initiator}
 use Rattle.bidi.specs.Isolates.{match_at, matches_of}
 use Rattle.bidi.specs.Sequences.{direction}
 use Rattle.bidi.proofs.JumpLemmas.{get_or-matches_of, open-match_at}

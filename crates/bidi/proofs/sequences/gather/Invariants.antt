@@ -1,5 +1,6 @@
 use Rattle.std.proofs.Common.{◌≡◌, ◌-◌, ◌<◌, ◌++◌, length}
-use Rattle.bidi.specs.Runs.{AreWithin, sequence_at}
+use Rattle.ucd.specs.Within.{AreWithin}
+use Rattle.bidi.specs.Runs.{sequence_at}
 use Rattle.bidi.proofs.sequences.gather.Given as goal
 
 abbrev pub invariant-loop-next : goal.invariant-loop-next

@@ -3,7 +3,7 @@ use Rattle.std.proofs.lemmas.Bool.{both_ways}
 use Rattle.std.proofs.lemmas.List.{get_or-map, length-map}
 use Rattle.ucd.specs.declared.bidi_class.BidiClass.{BidiClass}
 use Rattle.ucd.specs.declared.bidi_class.BidiClass.TheVariants.{ON}
-use Rattle.bidi.specs.Classes.{class_at, is_strong}
+use Rattle.ucd.specs.Classes.{class_at, is_strong}
 use Rattle.hordguli_fribidi.specs.Types.{class_of}
 use Rattle.hordguli_fribidi.proofs.BaseLemmas.{is_some-level, settled, stepped}
 use Rattle.hordguli_fribidi.proofs.IsolateLemmas.{Reached-end}

@@ -1,6 +1,6 @@
 use Rattle.std.proofs.Common.{◌∙◌, List, ℕ, get_or, map, ap, sym}
 use Rattle.hordguli_fribidi.specs.Types.{class_of}
-use Rattle.lines.specs.Order.{order_of, vtol_of}
+use Rattle.reorder.specs.Order.{order_of, vtol_of}
 use Rattle.hordguli_fribidi.proofs.ChunkLemmas.{plain_order, stays, without_marks}
 use Rattle.hordguli_fribidi.proofs.order.arrange.Goals as goal
 use Rattle.hordguli_fribidi.proofs.order.arrange.Goals.{then-reordernsm+then-has_mark, else-reordernsm, else-reordernsm-via-then-reordernsm+else-has_mark, else-reordernsm-via-else-reordernsm}

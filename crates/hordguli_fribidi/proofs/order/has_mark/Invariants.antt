@@ -1,6 +1,6 @@
 use Rattle.std.proofs.Common.{◌≡◌, take}
 use Rattle.std.specs.List.{list_any}
-use Rattle.bidi.specs.Weak.{is_mark}
+use Rattle.ucd.specs.Classes.{is_mark}
 use Rattle.hordguli_fribidi.specs.Types.{class_of}
 use Rattle.hordguli_fribidi.proofs.order.has_mark.Given as goal
 

@@ -1,7 +1,7 @@
 use Rattle.std.proofs.Common.{◌≡◌, take}
 use Rattle.std.specs.List.{list_any}
 use Rattle.hordguli_fribidi.specs.Types.{class_of}
-use Rattle.lines.specs.Spaces.{ends_segment}
+use Rattle.reorder.specs.Spaces.{ends_segment}
 use Rattle.hordguli_fribidi.proofs.spaces.has_separator.Given as goal
 
 abbrev pub invariant-loop-number : goal.invariant-loop-number

@@ -1,6 +1,6 @@
 use Rattle.std.proofs.Common.{◌≡◌, ℕ, ◌<◌, List, length, get_or, map, take, encode_utf8, encode_utf8_all, slice_index, sym, ◌∙◌, arith}
 use Rattle.std.proofs.lemmas.List.{get_or-map, get_or_default, length-map}
-use Rattle.bidi.specs.Runs.{AreWithin}
+use Rattle.ucd.specs.Within.{AreWithin}
 use Rattle.lines.proofs.WriteLemmas.{encoded-more, part-more}
 use Rattle.lines.proofs.bytes.encode_places.Goals as goal
 

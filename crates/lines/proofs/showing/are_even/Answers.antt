@@ -1,7 +1,7 @@
 use Rattle.std.proofs.Common.{◌≡◌, ◌≤◌, ◌%◌, length, get_or, ap, inl, inr, arith}
 use Rattle.std.proofs.lemmas.Bool.{cases_lt, eqb-true, ne_eqb}
 use Rattle.std.proofs.lemmas.List.{get_or_past}
-use Rattle.lines.specs.Order.{is_odd}
+use Rattle.reorder.specs.Order.{is_odd}
 use Rattle.lines.proofs.showing.are_even.Goals as goal
 
 pub returns : goal.returns

@@ -1,8 +1,8 @@
 use Rattle.std.proofs.Common.{map, ap, sym, ◌∙◌}
 use Rattle.std.proofs.lemmas.List.{length-map}
-use Rattle.bidi.specs.Classes.{class_in}
-use Rattle.lines.specs.Spaces.{line_levels}
-use Rattle.lines.proofs.SpaceLemmas.{line_of_zeros}
+use Rattle.ucd.specs.Classes.{class_in}
+use Rattle.reorder.specs.Spaces.{line_levels}
+use Rattle.reorder.proofs.SpaceLemmas.{line_of_zeros}
 use Rattle.lines.proofs.showing.reset_line.Goals as goal
 
 pub returns-then-are_zero-clause-levels : goal.returns-then-are_zero-clause-levels

@@ -1,11 +1,11 @@
 use Rattle.std.proofs.Common.{◌≡◌, ◌∙◌, ℕ, length, map, take, ap, subst, sym}
 use Rattle.std.proofs.lemmas.List.{length-take-le, take-map}
 use Rattle.ucd.specs.Properties.{properties_of}
-use Rattle.bidi.specs.Classes.{class_in}
-use Rattle.bidi.specs.Runs.{AreWithin}
-use Rattle.lines.specs.Mirroring.{visual_chars}
-use Rattle.lines.specs.Order.{vtol_of}
-use Rattle.lines.proofs.OrderLemmas.{length-order, vtol_within}
+use Rattle.ucd.specs.Classes.{class_in}
+use Rattle.ucd.specs.Within.{AreWithin}
+use Rattle.reorder.specs.Mirroring.{visual_chars}
+use Rattle.reorder.specs.Order.{vtol_of}
+use Rattle.reorder.proofs.OrderLemmas.{length-order, vtol_within}
 use Rattle.lines.proofs.showing.show_chars.Goals as goal
 
 pub visual_chars-requires-clause-properties : goal.visual_chars-requires-clause-properties

@@ -1,12 +1,12 @@
 use Rattle.std.proofs.Common.{◌≡◌, length, map, take, ap, subst, sym, ◌∙◌, arith}
 use Rattle.std.proofs.lemmas.List.{length-take-le}
 use Rattle.ucd.specs.Tables.{class_of}
-use Rattle.bidi.specs.Classes.{class_in}
-use Rattle.bidi.specs.Runs.{AreWithin}
-use Rattle.lines.specs.Mirroring.{visual_chars}
-use Rattle.lines.specs.Order.{ltov_of, vtol_of}
-use Rattle.lines.specs.Spaces.{line_levels}
-use Rattle.lines.proofs.PlainLemmas.{classes_are, front_written, zero_take}
+use Rattle.ucd.specs.Classes.{class_in}
+use Rattle.ucd.specs.Within.{AreWithin}
+use Rattle.reorder.specs.Mirroring.{visual_chars}
+use Rattle.reorder.specs.Order.{ltov_of, vtol_of}
+use Rattle.reorder.specs.Spaces.{line_levels}
+use Rattle.reorder.proofs.PlainLemmas.{classes_are, front_written, zero_take}
 use Rattle.lines.proofs.showing.show_line.Goals as goal
 
 pub show_part-requires-clause-flat : goal.show_part-requires-clause-flat

@@ -2,9 +2,9 @@ use Rattle.std.proofs.Common.{◌≡◌, length, map, take, ap, subst, sym, ◌�
 use Rattle.std.specs.List.{range_with_len}
 use Rattle.std.proofs.lemmas.List.{length-take-le, take-map}
 use Rattle.ucd.specs.Properties.{properties_of}
-use Rattle.bidi.specs.Classes.{class_in}
-use Rattle.bidi.specs.Runs.{AreWithin}
-use Rattle.lines.proofs.PlainLemmas.{plain_chars, plain_ltov, plain_vtol, plain_within}
+use Rattle.ucd.specs.Classes.{class_in}
+use Rattle.ucd.specs.Within.{AreWithin}
+use Rattle.reorder.proofs.PlainLemmas.{plain_chars, plain_ltov, plain_vtol, plain_within}
 use Rattle.lines.proofs.showing.show_part.Goals as goal
 
 pub returns-then-is_plain-clause-ltov : goal.returns-then-is_plain-clause-ltov

@@ -1,11 +1,11 @@
 use Rattle.std.proofs.Common.{◌∙◌, ℕ, List, [], IfErr, IfOk, map, take, ap, ap₂, refl, subst}
 use Rattle.ucd.specs.Tables.{class_of}
-use Rattle.bidi.specs.Classes.{class_in}
+use Rattle.ucd.specs.Classes.{class_in}
 use Rattle.lines.specs.Asked.{visual_part}
 use Rattle.lines.specs.Bytes.{line_bytes}
-use Rattle.lines.specs.Spaces.{line_levels}
+use Rattle.reorder.specs.Spaces.{line_levels}
 use Rattle.lines.specs.Writing.{PassedOn, StoppedIn}
-use Rattle.lines.proofs.PlainLemmas.{classes_are, plain_chars}
+use Rattle.reorder.proofs.PlainLemmas.{classes_are, plain_chars}
 use Rattle.lines.proofs.writing.write_line.Goals as goal
 
 -- where nothing is shown

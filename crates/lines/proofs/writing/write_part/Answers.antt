@@ -2,13 +2,13 @@ use Rattle.std.proofs.Common.{◌∙◌, IfErr, IfOk, length, map, take, ap, sub
 use Rattle.std.proofs.lemmas.List.{length-take-le}
 use Rattle.std.proofs.lemmas.Bool.{both_ways}
 use Rattle.ucd.specs.Tables.{class_of}
-use Rattle.bidi.specs.Classes.{class_in}
+use Rattle.ucd.specs.Classes.{class_in}
 use Rattle.lines.specs.Bytes.{line_bytes}
-use Rattle.lines.specs.Mirroring.{visual_chars}
-use Rattle.lines.specs.Order.{vtol_of}
+use Rattle.reorder.specs.Mirroring.{visual_chars}
+use Rattle.reorder.specs.Order.{vtol_of}
 use Rattle.lines.specs.Visual.{Visual}
 use Rattle.lines.specs.Writing.{PassedOn, StoppedIn}
-use Rattle.lines.proofs.PlainLemmas.{classes_are, plain_chars}
+use Rattle.reorder.proofs.PlainLemmas.{classes_are, plain_chars}
 use Rattle.lines.proofs.WrittenLemmas.{is_part}
 use Rattle.lines.proofs.writing.write_part.Goals as goal
 use Rattle.lines.proofs.writing.write_part.Goals.{then-form-via-then-form, then-form-via-else-form+then-is_plain}

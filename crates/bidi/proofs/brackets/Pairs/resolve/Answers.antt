@@ -4,7 +4,7 @@ use Rattle.ucd.specs.declared.bidi_class.BidiClass.{BidiClass}
 use Rattle.ucd.specs.declared.bracket.Bracket.{Bracket}
 use Rattle.bidi.specs.Brackets.{closer_of, pair_step, pairs_of, resolve_pairs}
 use Rattle.bidi.specs.Closers.{closer_in, closers_of}
-use Rattle.bidi.specs.Weak.{is_mark}
+use Rattle.ucd.specs.Classes.{is_mark}
 use Rattle.bidi.proofs.BracketLemmas.{Resolved-skip, Resolved-start}
 use Rattle.bidi.proofs.BracketTypeLemmas.{look_for, text_for, told}
 use Rattle.bidi.proofs.PairLemmas.{closer_in-pairs_of, fold-same, length-closers_of}

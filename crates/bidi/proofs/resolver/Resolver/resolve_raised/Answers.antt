@@ -4,7 +4,7 @@ use Rattle.std.proofs.lemmas.List.{length-map}
 use Rattle.ucd.specs.Properties.{properties_of}
 use Rattle.ucd.specs.Tables.{bracket_of}
 use Rattle.bidi.specs.BracketTypes.{type_by}
-use Rattle.bidi.specs.Classes.{class_in}
+use Rattle.ucd.specs.Classes.{class_in}
 use Rattle.bidi.specs.Levels.{paragraph_levels}
 use Rattle.bidi.specs.Paragraphs.{AreBracketsOf}
 use Rattle.bidi.specs.Plain.{has_bracket_in}

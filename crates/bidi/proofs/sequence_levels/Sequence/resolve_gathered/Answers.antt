@@ -1,8 +1,8 @@
 use Rattle.std.proofs.Common.{◌≡◌, ℕ, None, length, map, slice_index, sym, ap, subst, ◌∙◌}
 use Rattle.std.proofs.lemmas.List.{length-map, with_items_is}
 use Rattle.bidi.specs.BracketTypes.{bracket_at}
-use Rattle.bidi.specs.Runs.{AreWithin}
-use Rattle.bidi.specs.Classes.{class_at}
+use Rattle.ucd.specs.Within.{AreWithin}
+use Rattle.ucd.specs.Classes.{class_at}
 use Rattle.bidi.specs.Levels.{put, sequence_levels}
 use Rattle.bidi.specs.Paragraphs.{AreBracketsOf, AreSides, Takes, sequence_in}
 use Rattle.bidi.specs.Sequences.{eos, first_of, sos}

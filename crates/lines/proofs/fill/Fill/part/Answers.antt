@@ -1,7 +1,7 @@
 use Rattle.std.proofs.Common.{◌≡◌, ◌∙◌, ◌<◌, arith, ap, length, slice_get, slice_index, sym, Some}
 use Rattle.std.proofs.lemmas.List.{get_or_default}
 use Rattle.std.proofs.lemmas.Option.{slice_get_past}
-use Rattle.bidi.specs.Runs.{AreWithin}
+use Rattle.ucd.specs.Within.{AreWithin}
 use Rattle.lines.specs.Kept.{line_in, lines_in}
 use Rattle.lines.specs.Layouts.{Filled}
 use Rattle.lines.specs.Parts.{line_of}

@@ -1,9 +1,0 @@
-use Rattle.std.proofs.Common.{◌-◌, length}
-use Rattle.lines.proofs.RunLemmas.{RunsWritten}
-use Rattle.lines.proofs.mirror.visual_runs.Given as goal
-
-abbrev pub invariant-loop-k : goal.invariant-loop-k
-invariant-loop-k l = RunsWritten l.tables l.levels l.line l.runs l.chars l.k l.at
-
-abbrev pub decreases-loop-k : goal.decreases-loop-k
-decreases-loop-k l = length l.runs - l.k

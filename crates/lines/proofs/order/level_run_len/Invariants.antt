@@ -1,9 +1,0 @@
-use Rattle.std.proofs.Common.{◌-◌, length}
-use Rattle.lines.proofs.RunLemmas.{AlongRun}
-use Rattle.lines.proofs.order.level_run_len.Given as goal
-
-abbrev pub invariant-loop-end : goal.invariant-loop-end
-invariant-loop-end l = AlongRun l.levels l.start l.level l.«end»
-
-abbrev pub decreases-loop-end : goal.decreases-loop-end
-decreases-loop-end l = length l.levels - l.«end»

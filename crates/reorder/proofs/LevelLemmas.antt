@@ -1,0 +1,166 @@
+-- What a walk over levels finds: the highest one, and the lowest odd one.
+use Rattle.std.proofs.Common.{◌≡◌, ℕ, zero, suc, ◌+◌, ◌%◌, ◌<◌, ◌≤◌, ◌==◌, min, max, Bool, true, false, ◌&&◌, ◌||◌, if◌then◌else◌}
+use Rattle.std.proofs.Common.{List, length, get_or, take, Option, Some, None, unwrap_or, IfSome, refl, sym, ap, subst, ◌∙◌, inl, inr, arith}
+use Rattle.std.specs.List.{list_any}
+use Rattle.std.proofs.lemmas.Bool.{cases_Bool, cases_eq, cases_lt, cond-true, cond-false, and_from, and_left, and_parts, and_right, or_right, eq-eqb, eqb-true, ne_eqb}
+use Rattle.std.proofs.lemmas.List.{take_all}
+use Rattle.std.proofs.lemmas.List.Folds.{list_any_more, list_any_kept}
+use Rattle.std.proofs.lemmas.List.Sums.{fold_more}
+use Rattle.ucd.specs.Least.{least}
+use Rattle.reorder.specs.Order.{has_odd, highest, is_odd, lowest_odd}
+
+-- the first number of a range that passes
+least_found : (p : ℕ → Bool) (low count k : ℕ) → low ≤ k → k < low + count → p k ≡ true → ((m : ℕ) → m < k → p m ≡ false) → least p low count ≡ Some k
+least_found p low zero k from to here before = absurd (omega arith)
+least_found p low (suc count) k from to here before =
+    elim (cases_eq low k) [
+      | inl e ↦ cond-true (p low) (Some low) (least p (suc low) count) (ap p e ∙ here) ∙ ap Some e
+      | inr ne ↦ cond-false (p low) (Some low) (least p (suc low) count) (before low (omega arith))
+          ∙ least_found p (suc low) count k (omega arith) (omega arith) here before
+    ]
+
+pub least_none : (p : ℕ → Bool) (low count : ℕ) → ((m : ℕ) → p m ≡ false) → least p low count ≡ None
+least_none p low zero fails = refl
+least_none p low (suc count) fails =
+    cond-false (p low) (Some low) (least p (suc low) count) (fails low) ∙ least_none p (suc low) count fails
+
+-- the lowest odd level of a list, where no level is above `top`
+pub record IsLow (levels : List ℕ) (top low : ℕ) : Type 0 where
+  pub found : has_odd levels low ≡ true
+  pub first : (m : ℕ) → m < low → has_odd levels m ≡ false
+  pub above : 0 < low
+  pub below : low ≤ top
+
+-- the same, if there is one
+abbrev pub IsLowest : List ℕ → ℕ → Option ℕ → Type 0
+IsLowest levels top None = (m : ℕ) → has_odd levels m ≡ false
+IsLowest levels top (Some low) = IsLow levels top low
+
+-- what the walk knows at a place
+pub record Extremes (levels : List ℕ) (k top : ℕ) (lowest : Option ℕ) : Type 0 where
+  pub top_is : top ≡ highest (take k levels)
+  pub lowest_is : IsLowest (take k levels) top lowest
+
+pub Extremes-start : (levels : List ℕ) → Extremes levels 0 0 None
+Extremes-start levels = record { top_is = refl; lowest_is = λ m. and_right (is_odd m) false refl }
+
+or_none : (b : Bool) → (b || false) ≡ b
+or_none true = refl
+or_none false = refl
+
+-- one more level makes no other one odd
+other : (levels : List ℕ) (k m : ℕ) → k < length levels → (get_or levels k 0 ≡ m → ⊥) → has_odd (take (k + 1) levels) m ≡ has_odd (take k levels) m
+other levels k m within ne =
+    let before = list_any (λ level. level == m) (take k levels) in
+    ap (λ b. is_odd m && b) (list_any_more (λ level. level == m) levels k 0 within
+    ∙ ap (λ b. before || b) (ne_eqb (get_or levels k 0) m ne) ∙ or_none before)
+
+-- an even level makes none odd
+even : (levels : List ℕ) (k m : ℕ) → k < length levels → is_odd (get_or levels k 0) ≡ false → has_odd (take (k + 1) levels) m ≡ has_odd (take k levels) m
+even levels k m within e =
+    elim (cases_eq (get_or levels k 0) m) [
+      | inl same ↦
+          let here : is_odd m ≡ false = ap is_odd (sym same) ∙ e in
+          and_left (is_odd m) (list_any (λ level. level == m) (take (k + 1) levels)) here
+          ∙ sym (and_left (is_odd m) (list_any (λ level. level == m) (take k levels)) here)
+      | inr ne ↦ other levels k m within ne
+    ]
+
+-- an odd level is one
+here : (levels : List ℕ) (k : ℕ) → k < length levels → is_odd (get_or levels k 0) ≡ true → has_odd (take (k + 1) levels) (get_or levels k 0) ≡ true
+here levels k within odd =
+    let x = get_or levels k 0 in
+    and_from (is_odd x) (list_any (λ level. level == x) (take (k + 1) levels)) odd
+    (list_any_more (λ level. level == x) levels k 0 within ∙ or_right (list_any (λ level. level == x) (take k levels)) (x == x) (eq-eqb x x refl))
+
+-- one that is there already stays
+kept : (levels : List ℕ) (k m : ℕ) → has_odd (take k levels) m ≡ true → has_odd (take (k + 1) levels) m ≡ true
+kept levels k m there =
+    let both = and_parts (is_odd m) (list_any (λ level. level == m) (take k levels)) there in
+    and_from (is_odd m) (list_any (λ level. level == m) (take (k + 1) levels)) both.0 (list_any_kept (λ level. level == m) levels k both.1)
+
+positive : (x : ℕ) → is_odd x ≡ true → 0 < x
+positive x odd = let e : x % 2 ≡ 1 = eqb-true (x % 2) 1 odd in omega arith
+
+-- the lowest odd level with one more even level
+past_even : (levels : List ℕ) (k top next : ℕ) (lowest : Option ℕ) → k < length levels → is_odd (get_or levels k 0) ≡ false → top ≤ next
+    → IsLowest (take k levels) top lowest → IsLowest (take (k + 1) levels) next lowest
+past_even levels k top next None within e more w = λ m. even levels k m within e ∙ w m
+past_even levels k top next (Some low) within e more w = record {
+  found = kept levels k low w.found;
+  first = λ m h. even levels k m within e ∙ w.first m h;
+  above = w.above;
+  below = omega (arith, w.below);
+}
+
+-- with one more odd level, which is the lower one
+past_lower : (levels : List ℕ) (k top next : ℕ) → k < length levels → is_odd (get_or levels k 0) ≡ true → get_or levels k 0 ≤ next
+    → ((m : ℕ) → m < get_or levels k 0 → has_odd (take k levels) m ≡ false) → IsLow (take (k + 1) levels) next (get_or levels k 0)
+past_lower levels k top next within odd more w = record {
+  found = here levels k within odd;
+  first = λ m h. other levels k m within (λ e. omega arith) ∙ w m h;
+  above = positive (get_or levels k 0) odd;
+  below = more;
+}
+
+past_odd : (levels : List ℕ) (k top next : ℕ) (lowest : Option ℕ) → k < length levels → is_odd (get_or levels k 0) ≡ true → next ≡ max top (get_or levels k 0)
+    → IsLowest (take k levels) top lowest → IsLow (take (k + 1) levels) next (min (unwrap_or lowest (get_or levels k 0)) (get_or levels k 0))
+past_odd levels k top next None within odd most w =
+    let x = get_or levels k 0 in
+    let e : min x x ≡ x = omega arith in
+    subst (λ (low : ℕ). IsLow (take (k + 1) levels) next low) (sym e) (past_lower levels k top next within odd (omega arith) (λ m h. w m))
+past_odd levels k top next (Some low) within odd most w =
+    let x = get_or levels k 0 in
+    elim (cases_lt x low) [
+      | inl lower ↦
+          let e : min low x ≡ x = omega arith in
+          subst (λ (l : ℕ). IsLow (take (k + 1) levels) next l) (sym e)
+          (past_lower levels k top next within odd (omega arith) (λ m h. w.first m (omega arith)))
+      | inr higher ↦
+          let e : min low x ≡ low = omega arith in
+          let stays : IsLow (take (k + 1) levels) next low = record {
+            found = kept levels k low w.found;
+            first = λ m h. other levels k m within (λ same. omega arith) ∙ w.first m h;
+            above = w.above;
+            below = omega (arith, w.below);
+          } in
+          subst (λ (l : ℕ). IsLow (take (k + 1) levels) next l) (sym e) stays
+    ]
+
+pub Extremes-next : (levels : List ℕ) (k top next : ℕ) (lowest after : Option ℕ) → Extremes levels k top lowest → k < length levels
+    → next ≡ max top (get_or levels k 0)
+    → after ≡ (if is_odd (get_or levels k 0) then Some (min (unwrap_or lowest (get_or levels k 0)) (get_or levels k 0)) else lowest)
+    → Extremes levels (k + 1) next after
+Extremes-next levels k top next lowest after w within most is =
+    let x = get_or levels k 0 in
+    record {
+      top_is = most ∙ ap (λ n. max n x) w.top_is ∙ sym (fold_more max 0 levels k 0 within);
+      lowest_is = elim (cases_Bool (is_odd x)) [
+        | inl odd ↦
+            subst (λ (o : Option ℕ). IsLowest (take (k + 1) levels) next o) (sym (is ∙ cond-true (is_odd x) (Some (min (unwrap_or lowest x) x)) lowest odd))
+            (past_odd levels k top next lowest within odd most w.lowest_is)
+        | inr e ↦
+            subst (λ (o : Option ℕ). IsLowest (take (k + 1) levels) next o) (sym (is ∙ cond-false (is_odd x) (Some (min (unwrap_or lowest x) x)) lowest e))
+            (past_even levels k top next lowest within e (omega arith) w.lowest_is)
+      ];
+    }
+
+-- at the end of the walk
+pub record Found (levels : List ℕ) (top : ℕ) (lowest : Option ℕ) : Type 0 where
+  pub top_is : top ≡ highest levels
+  pub lowest_is : lowest ≡ lowest_odd levels
+  pub ordered : IfSome lowest (λ low. (0 < low) × (low ≤ top))
+
+-- the least number that passes is the lowest odd level
+is_least : (levels : List ℕ) (top : ℕ) (lowest : Option ℕ) → top ≡ highest levels → IsLowest levels top lowest → Found levels top lowest
+is_least levels top None e w = record { top_is = e; lowest_is = sym (least_none (has_odd levels) 0 (suc (highest levels)) w); ordered = tt }
+is_least levels top (Some low) e w = record {
+  top_is = e;
+  lowest_is = sym (least_found (has_odd levels) 0 (suc (highest levels)) low (omega arith) (omega (arith, w.below)) w.found w.first);
+  ordered = (w.above, w.below);
+}
+
+pub Extremes-end : (levels : List ℕ) (k top : ℕ) (lowest : Option ℕ) → Extremes levels k top lowest → length levels ≤ k → Found levels top lowest
+Extremes-end levels k top lowest w past =
+    let whole : take k levels ≡ levels = take_all k levels past in
+    is_least levels top lowest (w.top_is ∙ ap highest whole) (subst (λ (xs : List ℕ). IsLowest xs top lowest) whole w.lowest_is)

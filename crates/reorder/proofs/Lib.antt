@@ -1,0 +1,10 @@
+pub mod OrderLemmas
+pub mod RunLemmas
+pub mod GroupLemmas
+pub mod InverseLemmas
+pub mod NeighbourLemmas
+pub mod SpaceLemmas
+pub mod TogetherLemmas
+pub mod LevelLemmas
+pub mod PlainLemmas
+pub mod WorkedOrder

@@ -1,0 +1,6 @@
+use Rattle.std.proofs.Common.{◌≡◌, false}
+use Rattle.reorder.specs.NoEnds.{AreNoEnds}
+use Rattle.reorder.proofs.spaces.has_separator.Given as goal
+
+abbrev pub invariant-loop-k : goal.invariant-loop-k
+invariant-loop-k l = l.any ≡ false → AreNoEnds l.part 0 l.k

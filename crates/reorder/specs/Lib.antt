@@ -1,0 +1,6 @@
+pub mod Order
+pub mod Spaces
+pub mod Mirroring
+pub mod LevelRuns
+pub mod Groups
+pub mod NoEnds

@@ -1,0 +1,341 @@
+//! The visual order of one line (UAX #9, L2), and marks in reading order where they are asked for (L3).
+ghost use Rattle.std.specs.Prelude.{◌≡◌, ◌<◌, ◌≤◌, ◌==◌, ◌++◌, min, if◌then◌else◌};
+ghost use Rattle.std.specs.Prelude.{ℕ, Bool, true, false, List, [], length, map, take, drop, slice_index};
+ghost use Rattle.std.specs.Prelude.{unwrap_or, IfSome, None};
+ghost use Rattle.std.specs.Prelude.{◌+◌, reverse};
+ghost use Rattle.std.specs.List.{flat_map, position_or_len, prefix_len, range_with_len};
+ghost use Rattle.std.specs.List.Sorted.{IsPermutation};
+ghost use Rattle.ucd.specs.Within.{AreWithin};
+ghost use Rattle.ucd.specs.declared.bidi_class.BidiClass.{BidiClass};
+ghost use Rattle.ucd.specs.Classes.{class_in};
+ghost use Rattle.reorder.specs.Groups.{is_bound, AreBound, IsAlone, IsGroup, StandsTogether};
+ghost use Rattle.reorder.specs.LevelRuns.{level_run_len, run_at, run_shown, turned};
+ghost use Rattle.reorder.specs.Order.{places};
+ghost use Rattle.reorder.specs.Order.{has_base, highest, is_at_least, is_mark_at, is_odd, lowest_odd, ltov_of};
+ghost use Rattle.reorder.specs.Order.{order_of, reverse_runs, reverse_with_next, vtol_of, AreInverse};
+
+use ucd::{BidiClass, Properties};
+
+/// Orders a line, or a part of it, by the levels of its characters after L1: writes the place of each
+/// visual position to `vtol`, and the visual position of each place to `ltov`. With `reordernsm`, marks stand
+/// in reading order.
+pub fn visual_order(
+    line: &[Properties],
+    levels: &[u8],
+    reordernsm: bool,
+    vtol: &mut [u32],
+    ltov: &mut [u32],
+)
+    requires line { length levels.now ≤ length line.now }
+    requires vtol { length vtol.old ≡ length levels.now }
+    requires ltov { length ltov.old ≡ length levels.now }
+    requires within { length levels.now ≤ u32.MAX }
+    ensures vtol { vtol.new ≡ vtol_of reordernsm (map class_in line.now) levels.now }
+    ensures ltov { ltov.new ≡ ltov_of reordernsm (map class_in line.now) levels.now }
+    ensures within { AreWithin (length levels.now) vtol.new }
+    ensures inverse { AreInverse (length levels.now) vtol.new ltov.new }
+{
+    visual_places(line, levels, reordernsm, vtol);
+    invert(vtol, ltov);
+}
+
+/// The two maps of a line are inverse, whatever its classes and levels are: a law, which takes no time.
+pub fn maps_are_inverse()
+    ensures { (reordernsm : Bool) (classes : List BidiClass) (levels : List ℕ) → AreInverse (length levels)
+        (vtol_of reordernsm classes levels) (ltov_of reordernsm classes levels) }
+{}
+
+/// A base at an odd level and its marks stand next to one another, with the option in reading order and else
+/// the other way round: a law, which takes no time.
+pub fn groups_stand_together()
+    ensures { (classes : List BidiClass) (levels : List ℕ) (base n : ℕ)
+        → IsGroup classes levels base n → StandsTogether classes levels base n }
+{}
+
+/// What is in no such group stands where it does without the option: a law, which takes no time.
+pub fn others_stay()
+    ensures { (classes : List BidiClass) (levels : List ℕ) (k : ℕ) → k < length levels
+        → IsAlone classes levels (slice_index (vtol_of false classes levels) k)
+        → slice_index (vtol_of true classes levels) k ≡ slice_index (vtol_of false classes levels) k }
+{}
+
+/// Writes 0, 1, and so on.
+pub fn identity(items: &mut [u32])
+    requires { length items.old ≤ u32.MAX }
+    ensures { items.new ≡ range_with_len 0 (length items.old) }
+{
+    count_from(0, items);
+}
+
+// Writes a place, the one after it, and so on.
+fn count_from(start: u32, items: &mut [u32])
+    requires { start + length items.old ≤ u32.MAX }
+    ensures { items.new ≡ range_with_len start (length items.old) }
+{
+    for (k, item) in items.iter_mut().enumerate() {
+        *item = start + k as u32;
+    }
+}
+
+/// Writes the places of a line in visual order.
+pub fn visual_places(line: &[Properties], levels: &[u8], reordernsm: bool, vtol: &mut [u32])
+    requires line { length levels.now ≤ length line.now }
+    requires vtol { length vtol.old ≡ length levels.now }
+    requires limit { length levels.now ≤ u32.MAX }
+    ensures vtol { vtol.new ≡ vtol_of reordernsm (map class_in line.now) levels.now }
+    ensures within { AreWithin (length levels.now) vtol.new }
+{
+    order_places(levels, vtol);
+    if reordernsm {
+        reverse_groups(line, levels, vtol);
+    }
+}
+
+// Writes the places of a line in the order of L2.
+fn order_places(levels: &[u8], vtol: &mut [u32])
+    requires vtol { length vtol.old ≡ length levels.now }
+    requires limit { length levels.now ≤ u32.MAX }
+    ensures { vtol.new ≡ order_of levels.now }
+{
+    if let Some(count) = order_runs(levels, vtol) {
+        lay_runs(levels, count, vtol);
+    }
+}
+
+/// Writes where each level run of a line begins, in visual order, to the front of a list, and says how many
+/// runs there are: so the rule moves runs, and not characters. Where most runs are of one character it writes
+/// all places in that order, and says nothing.
+pub fn order_runs(levels: &[u8], items: &mut [u32]) -> Option<usize>
+    requires len { length items.old ≡ length levels.now }
+    requires limit { length levels.now ≤ u32.MAX }
+    ensures runs { IfSome result (λ count.
+        flat_map (run_shown levels.now) (take count items.new) ≡ order_of levels.now) }
+    ensures within { IfSome result (λ count. AreWithin (length levels.now) (take count items.new)) }
+    ensures few { IfSome result (λ count. count ≤ length items.new) }
+    ensures places { result ≡ None → items.new ≡ order_of levels.now }
+{
+    let (count, highest, lowest) = find_runs(levels, items);
+    if count > levels.len() / 2 {
+        identity(items);
+        reverse_levels(levels, highest, lowest, items);
+        return None;
+    }
+    reverse_levels(levels, highest, lowest, &mut items[..count]);
+    Some(count)
+}
+
+// Writes where each level run of a line begins to the front of a list. Says how many there are, the highest
+// level, 0 where there is none, and the lowest odd one, if there is one.
+fn find_runs(levels: &[u8], items: &mut [u32]) -> (usize, u8, Option<u8>)
+    requires len { length items.old ≡ length levels.now }
+    requires limit { length levels.now ≤ u32.MAX }
+    ensures runs { flat_map (run_at levels.now) (take result.0 items.new) ≡ places levels.now }
+    ensures within { AreWithin (length levels.now) (take result.0 items.new) }
+    ensures few { result.0 ≤ length items.new }
+    ensures highest { result.1 ≡ highest levels.now }
+    ensures lowest { result.2 ≡ lowest_odd levels.now }
+    ensures ordered { IfSome result.2 (λ lowest. (0 < lowest) × (lowest ≤ result.1)) }
+{
+    let mut count = 0;
+    let mut highest = 0;
+    let mut lowest = None;
+    let mut start = 0;
+    while start < levels.len() {
+        items[count] = start as u32;
+        count += 1;
+        let level = levels[start];
+        highest = highest.max(level);
+        lowest = lower_odd(lowest, level);
+        start += level_run_len(levels, start);
+    }
+    (count, highest, lowest)
+}
+
+/// How many characters the level run has that begins at a place.
+pub fn level_run_len(levels: &[u8], start: usize) -> usize
+    requires { start < length levels.now }
+    ensures len { result ≡ level_run_len levels.now start }
+    ensures within { (0 < result) × (start + result ≤ length levels.now) }
+{
+    let level = levels[start];
+    let mut end = start + 1;
+    while end < levels.len() && levels[end] == level {
+        end += 1;
+    }
+    end - start
+}
+
+// Writes the places of all runs of a line, whose beginnings stand at the front of the same list. From the
+// last run on, since it ends with the list, and no run has fewer places than it has beginnings.
+fn lay_runs(levels: &[u8], count: usize, items: &mut [u32])
+    requires count { count ≤ length items.old }
+    requires within { AreWithin (length levels.now) (take count items.old) }
+    requires limit { length levels.now ≤ u32.MAX }
+    requires whole { length (flat_map (run_shown levels.now) (take count items.old)) ≡ length items.old }
+    ensures { items.new ≡ flat_map (run_shown levels.now) (take count items.old) }
+{
+    let mut left = count;
+    let mut end = items.len();
+    while left > 0 {
+        left -= 1;
+        let start = items[left];
+        let len = level_run_len(levels, start as usize);
+        lay_run(
+            start,
+            levels[start as usize] % 2 == 1,
+            &mut items[end - len..end],
+        );
+        end -= len;
+    }
+}
+
+// Writes the places of a run.
+fn lay_run(start: u32, is_odd: bool, items: &mut [u32])
+    requires { start + length items.old ≤ u32.MAX }
+    ensures { items.new ≡ (if is_odd then reverse (range_with_len start (length items.old))
+        else range_with_len start (length items.old)) }
+{
+    count_from(start, items);
+    if is_odd {
+        items.reverse();
+    }
+}
+
+// Reverses each base at an odd level with the marks that L2 put left of it.
+fn reverse_groups(line: &[Properties], levels: &[u8], vtol: &mut [u32])
+    requires line { length levels.now ≤ length line.now }
+    requires vtol { vtol.old ≡ order_of levels.now }
+    ensures { vtol.new ≡ reverse_with_next (has_base (map class_in line.now) levels.now) [] vtol.old }
+{
+    let mut start = 0;
+    while start < vtol.len() {
+        start += reverse_group(line, levels, &mut vtol[start..]);
+    }
+}
+
+// Reverses the group that begins there, if one does, and says how many places are done: up to a base, or up
+// to a mark that has none.
+fn reverse_group(line: &[Properties], levels: &[u8], items: &mut [u32]) -> usize
+    requires line { length levels.now ≤ length line.now }
+    requires items { (start : ℕ) × (items.old ≡ drop start (order_of levels.now)) }
+    requires some { 0 < length items.old }
+    ensures len { (0 < result) × (result ≤ length items.old) }
+    ensures rest { drop result items.new ≡ drop result items.old }
+    ensures done { reverse_with_next (has_base (map class_in line.now) levels.now) [] items.old
+        ≡ take result items.new
+        ++ reverse_with_next (has_base (map class_in line.now) levels.now) [] (drop result items.old) }
+{
+    let len = bound_len(line, levels, items);
+    if !is_mark_at(line, items[len]) {
+        items[..len + 1].reverse();
+    }
+    len + 1
+}
+
+// How many places of marks stand there left of the character that they follow.
+fn bound_len(line: &[Properties], levels: &[u8], items: &[u32]) -> usize
+    requires line { length levels.now ≤ length line.now }
+    requires items { AreWithin (length levels.now) items.now }
+    requires some { 0 < length items.now }
+    ensures { AreBound (map class_in line.now) levels.now items.now result }
+{
+    let mut len = 0;
+    while len + 1 < items.len() && is_bound(line, levels, items[len], items[len + 1]) {
+        len += 1;
+    }
+    len
+}
+
+// Whether a mark follows a character, and both are at the same, odd level.
+fn is_bound(line: &[Properties], levels: &[u8], place: u32, next: u32) -> bool
+    requires line { length levels.now ≤ length line.now }
+    requires places { (place < length levels.now) × (next < length levels.now) }
+    ensures { result ≡ is_bound (map class_in line.now) levels.now place next }
+{
+    let (at, before) = (place as usize, next as usize);
+    before + 1 == at
+        && is_mark_at(line, place)
+        && levels[before] % 2 == 1
+        && levels[at] == levels[before]
+}
+
+// Whether the character at a place is a mark by the tables.
+fn is_mark_at(line: &[Properties], place: u32) -> bool
+    requires { place < length line.now }
+    ensures { result ≡ is_mark_at (map class_in line.now) place }
+{
+    match line[place as usize].bidi_class() {
+        BidiClass::NSM => true,
+        _ => false,
+    }
+}
+
+// Reverses the intervals of each level from the highest down to the lowest odd one, if there is one.
+fn reverse_levels(levels: &[u8], top: u8, low: Option<u8>, items: &mut [u32])
+    requires within { AreWithin (length levels.now) items.old }
+    requires highest { top ≡ highest levels.now }
+    requires lowest { low ≡ lowest_odd levels.now }
+    requires ordered { IfSome low (λ lowest. (0 < lowest) × (lowest ≤ top)) }
+    ensures { items.new ≡ turned levels.now items.old }
+{
+    if let Some(lowest) = low {
+        // Ends, since an odd level is not 0.
+        let mut level = top;
+        while level >= lowest {
+            reverse_runs(levels, level, items);
+            level -= 1;
+        }
+    }
+}
+
+// The lowest odd level, with one more level.
+fn lower_odd(lowest: Option<u8>, level: u8) -> Option<u8>
+    ensures { result ≡ (if is_odd level then Some (min (unwrap_or lowest level) level) else lowest) }
+{
+    if level % 2 == 1 {
+        Some(lowest.unwrap_or(level).min(level))
+    } else {
+        lowest
+    }
+}
+
+// Reverses each maximal interval of places at a level or a higher one.
+fn reverse_runs(levels: &[u8], level: u8, items: &mut [u32])
+    requires { AreWithin (length levels.now) items.old }
+    ensures { items.new ≡ reverse_runs (is_at_least levels.now level) [] items.old }
+{
+    let mut start = 0;
+    while start < items.len() {
+        let len = run_len(levels, level, &items[start..]);
+        items[start..start + len].reverse();
+        start += len + 1;
+    }
+}
+
+// How many places are at a level or a higher one before the first that is not.
+fn run_len(levels: &[u8], level: u8, items: &[u32]) -> usize
+    requires { AreWithin (length levels.now) items.now }
+    ensures len { result ≡ prefix_len (is_at_least levels.now level) items.now }
+    ensures within { result ≤ length items.now }
+{
+    for (k, place) in items.iter().enumerate() {
+        if levels[*place as usize] < level {
+            return k;
+        }
+    }
+    items.len()
+}
+
+// Writes where each of the places stands in the list.
+fn invert(vtol: &[u32], ltov: &mut [u32])
+    requires places { IsPermutation (range_with_len 0 (length vtol.now)) vtol.now }
+    requires len { length ltov.old ≡ length vtol.now }
+    requires within { length vtol.now ≤ u32.MAX }
+    ensures ltov { ltov.new
+        ≡ map (λ k. position_or_len (λ i. i == k) vtol.now) (range_with_len 0 (length vtol.now)) }
+    ensures inverse { AreInverse (length vtol.now) vtol.now ltov.new }
+{
+    for (k, place) in vtol.iter().enumerate() {
+        ltov[*place as usize] = k as u32;
+    }
+}

@@ -1,0 +1,92 @@
+//! The levels of one line after separators and the blanks before them, or at the line's end, take the
+//! paragraph level (UAX #9, L1).
+ghost use Rattle.std.specs.Prelude.{◌≡◌, ◌≤◌, ◌&&◌, ◌||◌, false, true, map, length};
+ghost use Rattle.ucd.specs.Classes.{class_in};
+ghost use Rattle.reorder.specs.Spaces.{ends_segment, is_blank, line_levels};
+ghost use Rattle.reorder.specs.NoEnds.{AreNoEnds};
+
+use ucd::{BidiClass, Properties};
+
+/// Gives the characters of a line that L1 names the paragraph level, `base`. The classes are those of the
+/// tables, not what earlier rules made of them.
+pub fn reset_levels(line: &[Properties], base: u8, levels: &mut [u8])
+    requires { length line.now ≡ length levels.old }
+    ensures { levels.new ≡ line_levels base (map class_in line.now) levels.old }
+{
+    // Whether a blank before this place takes the paragraph level. Where none does, no character does up to
+    // a separator.
+    let mut resets = true;
+    let mut at = line.len();
+    while at > 0 {
+        let end = changed_end(line, resets, at);
+        if end == 0 {
+            return;
+        }
+        at = end - 1;
+        resets = is_reset(line[at].bidi_class(), resets);
+        if resets {
+            levels[at] = base;
+        }
+    }
+}
+
+// The place after the last character before a place that may take the paragraph level, or 0.
+fn changed_end(line: &[Properties], resets: bool, at: usize) -> usize
+    requires { at ≤ length line.now }
+    ensures within { result ≤ at }
+    ensures resets { resets ≡ true → result ≡ at }
+    ensures passed { AreNoEnds line.now result at }
+{
+    if resets { at } else { separator_end(line, at) }
+}
+
+// How many characters are looked at together.
+const AT_ONCE: usize = 16;
+
+// The place after the last separator before a place, or 0.
+fn separator_end(line: &[Properties], end: usize) -> usize
+    requires { end ≤ length line.now }
+    ensures within { result ≤ end }
+    ensures passed { AreNoEnds line.now result end }
+{
+    let mut at = end;
+    while at >= AT_ONCE && !has_separator(&line[at - AT_ONCE..at]) {
+        at -= AT_ONCE;
+    }
+    while at > 0 && !ends_segment(line[at - 1].bidi_class()) {
+        at -= 1;
+    }
+    at
+}
+
+// Whether one of some characters is a separator: all are looked at, which is faster than to stop.
+fn has_separator(part: &[Properties]) -> bool
+    ensures { result ≡ false → AreNoEnds part.now 0 (length part.now) }
+{
+    let mut any = false;
+    for k in 0..part.len() {
+        any |= ends_segment(part[k].bidi_class());
+    }
+    any
+}
+
+fn ends_segment(class: BidiClass) -> bool
+    ensures { result ≡ ends_segment class }
+{
+    matches!(class, BidiClass::S | BidiClass::B)
+}
+
+// Whether a character takes the paragraph level: a separator does, and a blank does if what stands after it
+// does, or if nothing stands there.
+fn is_reset(class: BidiClass, after: bool) -> bool
+    ensures { result ≡ (ends_segment class || (is_blank class && after)) }
+{
+    match class {
+        BidiClass::S | BidiClass::B => true,
+        BidiClass::WS => after,
+        BidiClass::LRI | BidiClass::RLI | BidiClass::FSI | BidiClass::PDI => after,
+        BidiClass::LRE | BidiClass::RLE | BidiClass::LRO | BidiClass::RLO => after,
+        BidiClass::PDF | BidiClass::BN => after,
+        _ => false,
+    }
+}
