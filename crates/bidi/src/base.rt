@@ -4,7 +4,7 @@ ghost use Rattle.ucd.specs.Tables.{class_of};
 ghost use Rattle.bidi.specs.Base.{base_level_of, first_strong_level, strong_level};
 ghost use Rattle.ucd.specs.Classes.{class_in, is_initiator, is_pdi, is_strong};
 
-use ucd::{BidiClass, Properties, Tables};
+use ucd::{BidiClass, Classes, KnownClasses, ListedClasses, Properties, Tables, TextClasses};
 
 /// How the base level of a paragraph is found.
 #[derive(Clone, Copy, Debug, PartialEq, Eq)]
@@ -34,80 +34,47 @@ impl Default for Base {
 pub fn base_level(tables: &Tables, text: &[char], base: Base) -> u8
     ensures { result ≡ base_level_of (map (class_of tables.now) text.now) base }
 {
-    match base {
-        Base::Rtl => 1,
-        Base::Ltr => 0,
-        Base::WeakRtl => first_strong_level(tables, text).unwrap_or(1),
-        Base::WeakLtr => first_strong_level(tables, text).unwrap_or(0),
-    }
-}
-
-// The level that the first strong character outside all isolates gives, if there is one.
-fn first_strong_level(tables: &Tables, text: &[char]) -> Option<u8>
-    ensures { result ≡ first_strong_level (map (class_of tables.now) text.now) }
-{
-    // How many isolates are open: a character stands outside all of them where none is.
-    let mut depth = 0;
-    for c in text {
-        let class = tables.bidi_class(*c);
-        let level = strong_level(class);
-        if depth == 0 && level.is_some() {
-            return level;
-        }
-        depth = depth_after(class, depth);
-    }
-    None
+    base_level_in(&TextClasses { tables, text }, base)
 }
 
 /// The base level of one paragraph, 0 or 1, by what the tables say of its characters.
 pub fn base_level_by(properties: &[Properties], base: Base) -> u8
     ensures { result ≡ base_level_of (map class_in properties.now) base }
 {
-    match base {
-        Base::Rtl => 1,
-        Base::Ltr => 0,
-        Base::WeakRtl => first_strong_level_by(properties).unwrap_or(1),
-        Base::WeakLtr => first_strong_level_by(properties).unwrap_or(0),
-    }
-}
-
-fn first_strong_level_by(properties: &[Properties]) -> Option<u8>
-    ensures { result ≡ first_strong_level (map class_in properties.now) }
-{
-    let mut depth = 0;
-    for one in properties {
-        let class = one.bidi_class();
-        let level = strong_level(class);
-        if depth == 0 && level.is_some() {
-            return level;
-        }
-        depth = depth_after(class, depth);
-    }
-    None
+    base_level_in(&KnownClasses { properties }, base)
 }
 
 /// The base level of one paragraph, 0 or 1, by the classes of its characters.
 pub fn base_level_of(classes: &[BidiClass], base: Base) -> u8
     ensures { result ≡ base_level_of classes.now base }
 {
+    base_level_in(&ListedClasses { classes }, base)
+}
+
+fn base_level_in<C: Classes>(classes: &C, base: Base) -> u8
+    ensures { result ≡ base_level_of (C.all classes.now) base }
+{
     match base {
         Base::Rtl => 1,
         Base::Ltr => 0,
-        Base::WeakRtl => first_strong_level_of(classes).unwrap_or(1),
-        Base::WeakLtr => first_strong_level_of(classes).unwrap_or(0),
+        Base::WeakRtl => first_strong_level(classes).unwrap_or(1),
+        Base::WeakLtr => first_strong_level(classes).unwrap_or(0),
     }
 }
 
-fn first_strong_level_of(classes: &[BidiClass]) -> Option<u8>
-    ensures { result ≡ first_strong_level classes.now }
+/// The level that the first strong character outside all isolates gives (P2 and P3), or `None`.
+pub fn first_strong_level<C: Classes>(classes: &C) -> Option<u8>
+    ensures { result ≡ first_strong_level (C.all classes.now) }
 {
+    // How many isolates are open: a character is outside all of them if none is.
     let mut depth = 0;
-    for class in classes {
-        let level = strong_level(*class);
+    for k in 0..classes.len() {
+        let class = classes.class_at(k);
+        let level = strong_level(class);
         if depth == 0 && level.is_some() {
             return level;
         }
-        depth = depth_after(*class, depth);
+        depth = depth_after(class, depth);
     }
     None
 }

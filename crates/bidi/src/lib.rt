@@ -27,7 +27,7 @@ mod sequence_levels;
 mod sequences;
 mod weak;
 
-pub use base::{Base, base_level, base_level_by, base_level_of};
+pub use base::{Base, base_level, base_level_by, base_level_of, first_strong_level};
 pub use bracket_type::BracketType;
 pub use cuts::{first_cut, is_cut, paragraphs_are_pieces};
 pub use resolver::{Resolver, resolve, resolve_by};

@@ -1,9 +1,1 @@
-mod BaseLemmas
 mod BracketLemmas
-mod ChunkLemmas
-mod InPlaceLemmas
-mod IsolateLemmas
-mod LeastLemmas
-mod LevelLemmas
-mod OrderLemmas
-mod SpaceLemmas

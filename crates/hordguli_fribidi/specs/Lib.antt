@@ -2,4 +2,3 @@ pub mod Types
 pub mod Points
 pub mod Levels
 pub mod Lines
-pub mod InPlace

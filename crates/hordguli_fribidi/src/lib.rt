@@ -3,7 +3,5 @@
 
 mod characters;
 mod levels;
-mod order;
-mod reorder;
-mod spaces;
+mod line;
 mod types;

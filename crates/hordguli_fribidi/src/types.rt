@@ -1,10 +1,10 @@
 //! The numbers by which FriBidi names classes, directions and brackets.
-ghost use Rattle.std.specs.Prelude.{◌≡◌};
+ghost use Rattle.std.specs.Prelude.{◌≡◌, map};
 ghost use Rattle.bidi.specs.BracketTypes.{type_by};
 ghost use Rattle.hordguli_fribidi.specs.Types.{base_of, bracket_by, class_of, direction_of, name_index};
 
 use bidi::{Base, BracketType};
-use ucd::BidiClass;
+use ucd::{BidiClass, Classes};
 
 /// The class that a number names; one that names none counts as ON.
 #[tactic(auto, unfolding(crate::specs::Types::class_of))]
@@ -36,6 +36,24 @@ pub fn class_of(number: u32) -> BidiClass
         33_587_264 => BidiClass::FSI,
         32_864 => BidiClass::PDI,
         _ => BidiClass::ON,
+    }
+}
+
+/// The classes that numbers name.
+#[derive(Clone, Copy)]
+pub struct TypeClasses<'a> {
+    pub types: &'a [u32],
+}
+
+impl Classes for TypeClasses<'_> {
+    ghost all = { λ s. map class_of s.types.now };
+
+    fn len(&self) -> usize {
+        self.types.len()
+    }
+
+    fn class_at(&self, k: usize) -> BidiClass {
+        class_of(self.types[k])
     }
 }
 

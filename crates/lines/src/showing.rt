@@ -26,10 +26,11 @@ use crate::fill::{Lists, Shown};
 use crate::paragraph::{Paragraph, Spans, Text};
 use crate::places::Place;
 use crate::reserve::reserve;
-use reorder::{identity, order_runs, reset_levels};
-use reorder::{visual_chars, visual_order, visual_places, visual_runs};
+use reorder::{
+    identity, order_runs, reset_levels, visual_chars, visual_order, visual_places, visual_runs,
+};
 use std::alloc::AllocError;
-use ucd::Properties;
+use ucd::{KnownClasses, Properties};
 
 /// The lines of a paragraph, put into lists of which the first says where they start: L1 on each line, and L2
 /// and L4 on its shown part.
@@ -232,7 +233,7 @@ pub(crate) fn reset_line(properties: &[Properties], base: u8, levels: &mut [u8])
     if base == 0 && are_zero(levels) {
         return true;
     }
-    reset_levels(properties, base, levels);
+    reset_levels(&KnownClasses { properties }, base, levels);
     false
 }
 
@@ -312,7 +313,9 @@ pub(crate) fn show_part(
         show_plain(part, ltov, vtol, chars);
     } else {
         visual_order(
-            line.properties,
+            &KnownClasses {
+                properties: line.properties,
+            },
             levels,
             line.rules.options.reordernsm,
             vtol,
@@ -338,7 +341,14 @@ pub(crate) fn show_chars(line: &Text<'_>, levels: &[u8], places: &mut [u32], cha
     let part = &line.characters[..levels.len()];
     let properties = &line.properties[..levels.len()];
     if line.rules.options.reordernsm {
-        visual_places(line.properties, levels, true, places);
+        visual_places(
+            &KnownClasses {
+                properties: line.properties,
+            },
+            levels,
+            true,
+            places,
+        );
         visual_chars(line.rules.tables, part, properties, levels, places, chars);
         return;
     }

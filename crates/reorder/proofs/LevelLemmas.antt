@@ -2,9 +2,9 @@
 use Rattle.std.proofs.Common.{◌≡◌, ℕ, zero, suc, ◌+◌, ◌%◌, ◌<◌, ◌≤◌, ◌==◌, min, max, Bool, true, false, ◌&&◌, ◌||◌, if◌then◌else◌}
 use Rattle.std.proofs.Common.{List, length, get_or, take, Option, Some, None, unwrap_or, IfSome, refl, sym, ap, subst, ◌∙◌, inl, inr, arith}
 use Rattle.std.specs.List.{list_any}
-use Rattle.std.proofs.lemmas.Bool.{cases_Bool, cases_eq, cases_lt, cond-true, cond-false, and_from, and_left, and_parts, and_right, or_right, eq-eqb, eqb-true, ne_eqb}
+use Rattle.std.proofs.lemmas.Bool.{both_ways, cases_Bool, cases_eq, cases_lt, cond-true, cond-false, and_from, and_left, and_parts, and_right, or_right, eq-eqb, eqb-true, ne_eqb}
 use Rattle.std.proofs.lemmas.List.{take_all}
-use Rattle.std.proofs.lemmas.List.Folds.{list_any_more, list_any_kept}
+use Rattle.std.proofs.lemmas.List.Folds.{list_any_at, list_any_more, list_any_kept}
 use Rattle.std.proofs.lemmas.List.Sums.{fold_more}
 use Rattle.ucd.specs.Least.{least}
 use Rattle.reorder.specs.Order.{has_odd, highest, is_odd, lowest_odd}
@@ -164,3 +164,49 @@ pub Extremes-end : (levels : List ℕ) (k top : ℕ) (lowest : Option ℕ) → E
 Extremes-end levels k top lowest w past =
     let whole : take k levels ≡ levels = take_all k levels past in
     is_least levels top lowest (w.top_is ∙ ap highest whole) (subst (λ (xs : List ℕ). IsLowest xs top lowest) whole w.lowest_is)
+
+-- ---- the same by a number and whether it counts: the greatest number stands for a level that does not
+
+abbrev pub lowest_by : Bool → ℕ → Option ℕ
+lowest_by any low = if any then Some low else None
+
+pub record Reduced (levels : List ℕ) (k top : ℕ) (any : Bool) (low : ℕ) : Type 0 where
+  pub extremes : Extremes levels k top (lowest_by any low)
+  pub most : any ≡ false → low ≡ 255
+  pub small : low ≤ 255
+
+pub Reduced-start : (levels : List ℕ) → Reduced levels 0 0 false 255
+Reduced-start levels = record { extremes = Extremes-start levels; most = λ _. refl; small = omega arith }
+
+step_by : (any odd : Bool) (low x after : ℕ) → (any ≡ false → low ≡ 255) → low ≤ 255 → x ≤ 255 → after ≡ min low (if odd then x else 255)
+    → (lowest_by (any || odd) after ≡ (if odd then Some (min (unwrap_or (lowest_by any low) x) x) else lowest_by any low)) × ((any || odd) ≡ false → after ≡ 255)
+step_by true true low x after most small fits is = (ap Some is, λ h. absurd (both_ways true h refl))
+step_by true false low x after most small fits is = (ap Some (omega (arith, is)), λ h. absurd (both_ways true h refl))
+step_by false true low x after most small fits is = (ap Some (omega (arith, is, most refl)), λ h. absurd (both_ways true h refl))
+step_by false false low x after most small fits is = (refl, λ h. omega (arith, is, most refl))
+
+pub Reduced-next : (levels : List ℕ) (k top next : ℕ) (any more : Bool) (low after : ℕ) → Reduced levels k top any low → k < length levels
+    → get_or levels k 0 ≤ 255 → next ≡ max top (get_or levels k 0) → more ≡ (any || is_odd (get_or levels k 0))
+    → after ≡ min low (if is_odd (get_or levels k 0) then get_or levels k 0 else 255) → Reduced levels (k + 1) next more after
+Reduced-next levels k top next any more low after w within fits most adds is =
+    let x : ℕ = get_or levels k 0 in
+    let both = step_by any (is_odd x) low x after w.most w.small fits is in
+    record {
+      extremes = Extremes-next levels k top next (lowest_by any low) (lowest_by more after) w.extremes within most
+          (ap (λ (b : Bool). lowest_by b after) adds ∙ both.0);
+      most = λ h. both.1 (sym adds ∙ h);
+      small = omega (arith, is, w.small);
+    }
+
+-- where no level is odd
+pub all_even : (levels : List ℕ) (k top : ℕ) (lowest : Option ℕ) → Extremes levels k top lowest → length levels ≤ k → lowest ≡ None
+    → (i : ℕ) → i < length levels → is_odd (get_or levels i 0) ≡ false
+all_even levels k top lowest w past none i within =
+    let x : ℕ = get_or levels i 0 in
+    let whole : take k levels ≡ levels = take_all k levels past in
+    let none_odd : IsLowest levels top None = subst (λ (xs : List ℕ). IsLowest xs top None) whole (subst (λ (o : Option ℕ). IsLowest (take k levels) top o) none w.lowest_is) in
+    elim (cases_Bool (is_odd x)) [
+      | inl odd ↦ absurd (both_ways (has_odd levels x) (none_odd x)
+          (and_from (is_odd x) (list_any (λ level. level == x) levels) odd (list_any_at (λ level. level == x) levels i 0 within (eq-eqb x x refl))))
+      | inr e ↦ e
+    ]

@@ -8,3 +8,5 @@ pub mod TogetherLemmas
 pub mod LevelLemmas
 pub mod PlainLemmas
 pub mod WorkedOrder
+pub mod ChunkLemmas
+pub mod InPlaceLemmas

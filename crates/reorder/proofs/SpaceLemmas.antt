@@ -1,14 +1,12 @@
 -- A walk over a line from its end, which sets the levels that L1 names.
 use Rattle.std.proofs.Common.{suc, refl, ap₂, ◌≡◌, ℕ, ◌+◌, ◌<◌, ◌≤◌, Bool, true, false, zero, ◌-◌, ◌&&◌, ◌||◌, if◌then◌else◌, List, [], ◌∷◌}
-use Rattle.std.proofs.Common.{◌++◌, length, get_or, map, set, take, drop, sym, ap, subst, ◌∙◌, inl, inr, arith, append_assoc}
+use Rattle.std.proofs.Common.{◌++◌, length, get_or, set, take, drop, sym, ap, subst, ◌∙◌, inl, inr, arith, append_assoc}
 use Rattle.std.proofs.lemmas.Bool.{cases_Bool, cond-true, cond-false}
-use Rattle.std.proofs.lemmas.List.{append-nil, drop_all, drop_more, length-map, length-take-le, get_or-map, take_all, take_more}
+use Rattle.std.proofs.lemmas.List.{append-nil, drop_all, drop_more, get_or_default, length-take-le, take_all, take_more}
 use Rattle.std.proofs.Math.Seq.{set-append_seam}
 use Rattle.ucd.specs.declared.bidi_class.BidiClass.{BidiClass}
-use Rattle.ucd.specs.declared.bidi_class.BidiClass.TheVariants.{L}
-use Rattle.ucd.specs.declared.properties.Properties.{Properties}
-use Rattle.ucd.specs.Answers.{unnamed}
-use Rattle.ucd.specs.Classes.{class_in}
+use Rattle.ucd.specs.declared.bidi_class.BidiClass.TheVariants.{L, ON}
+use Rattle.ucd.specs.Classes.{class_at}
 use Rattle.reorder.specs.NoEnds.{AreNoEnds}
 use Rattle.reorder.specs.Spaces.{ends_segment, is_blank, is_reset, line_levels}
 
@@ -89,30 +87,27 @@ passed_over base classes old current n (suc d) w sizes passed =
     sizes (λ k from to. passed k from (omega arith))
 
 -- where no character takes the paragraph level up to a separator
-pub Walked-skip : (line : List Properties) (base : ℕ) (old current : List ℕ) (resets : Bool) (at n : ℕ) → Walked base (map class_in line) old current resets at → length line ≡ length old
-    → n ≤ at → (resets ≡ true → n ≡ at) → AreNoEnds line n at → Walked base (map class_in line) old current resets n
-Walked-skip line base old current true at n w sizes within stays passed = subst (λ (k : ℕ). Walked base (map class_in line) old current true k) (sym (stays refl)) w
-Walked-skip line base old current false at n w sizes within stays passed =
+pub Walked-skip : (classes : List BidiClass) (base : ℕ) (old current : List ℕ) (resets : Bool) (at n : ℕ) → Walked base classes old current resets at → length classes ≡ length old
+    → n ≤ at → (resets ≡ true → n ≡ at) → AreNoEnds classes n at → Walked base classes old current resets n
+Walked-skip classes base old current true at n w sizes within stays passed = subst (λ (k : ℕ). Walked base classes old current true k) (sym (stays refl)) w
+Walked-skip classes base old current false at n w sizes within stays passed =
     let there : n + (at - n) ≡ at = omega arith in
-    passed_over base (map class_in line) old current n (at - n) (subst (λ (k : ℕ). Walked base (map class_in line) old current false k) (sym there) w) (length-map line class_in ∙ sizes)
+    passed_over base classes old current n (at - n) (subst (λ (k : ℕ). Walked base classes old current false k) (sym there) w) sizes
     (λ k from to.
     let before : k < at = omega arith in
-    let inside : k < length line = omega (arith, before, w.within, length-map line class_in) in
-    subst (λ (c : BidiClass). ends_segment c ≡ false) (sym (get_or-map class_in line k unnamed L inside)) (passed k unnamed from before))
+    let inside : k < length classes = omega (arith, before, w.within) in
+    subst (λ (c : BidiClass). ends_segment c ≡ false) (get_or_default classes k ON L inside) (passed k from before))
 
-pub Walked-next : (line : List Properties) (base : ℕ) (old current : List ℕ) (resets after : Bool) (at k : ℕ) (c : Properties) (class : BidiClass) (written : List ℕ)
-    → Walked base (map class_in line) old current resets at → k + 1 ≡ at → length line ≡ length old
-    → c ≡ get_or line k c → class ≡ class_in c → after ≡ (ends_segment class || (is_blank class && resets))
+pub Walked-next : (classes : List BidiClass) (base : ℕ) (old current : List ℕ) (resets after : Bool) (at k : ℕ) (class : BidiClass) (written : List ℕ)
+    → Walked base classes old current resets at → k + 1 ≡ at → length classes ≡ length old
+    → class ≡ class_at classes k → after ≡ (ends_segment class || (is_blank class && resets))
     → written ≡ (if after then set current k base else current)
-    → Walked base (map class_in line) old written after k
-Walked-next line base old current resets after at k c class written w e sizes read known found is =
-    let classes = map class_in line in
-    let wide : length classes ≡ length line = length-map line class_in in
-    let within : k < length line = omega (arith, w.within) in
-    let here : class ≡ get_or classes k L =
-    known ∙ ap class_in read ∙ sym (get_or-map class_in line k c L within) in
+    → Walked base classes old written after k
+Walked-next classes base old current resets after at k class written w e sizes read found is =
+    let within : k < length classes = omega (arith, w.within) in
+    let here : class ≡ get_or classes k L = read ∙ get_or_default classes k ON L within in
     next base classes old current resets after k written (subst (λ (n : ℕ). Walked base classes old current resets n) (sym e) w)
-    (wide ∙ sizes) (found ∙ ap (λ b. ends_segment b || (is_blank b && resets)) here) is
+    sizes (found ∙ ap (λ b. ends_segment b || (is_blank b && resets)) here) is
 
 -- L1 changes nothing where all levels are 0 and the paragraph level is
 pub line_of_zeros : (classes : List BidiClass) (levels : List ℕ) → length classes ≡ length levels → ((k : ℕ) → get_or levels k 0 ≡ 0) → line_levels 0 classes levels ≡ levels

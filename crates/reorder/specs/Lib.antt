@@ -4,3 +4,4 @@ pub mod Mirroring
 pub mod LevelRuns
 pub mod Groups
 pub mod NoEnds
+pub mod InPlace

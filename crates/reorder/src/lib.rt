@@ -2,11 +2,15 @@
 //! themselves.
 #![tactic(auto)]
 
+mod in_place;
 mod mirror;
 mod order;
 mod spaces;
 
+pub use in_place::{highest_and_lowest_odd, reorder_in_place};
 pub use mirror::{visual_chars, visual_runs};
-pub use order::{identity, level_run_len, order_runs, visual_order, visual_places};
-pub use order::{groups_stand_together, maps_are_inverse, others_stay};
+pub use order::{
+    groups_stand_together, identity, level_run_len, maps_are_inverse, order_runs, others_stay,
+    visual_order, visual_places,
+};
 pub use spaces::reset_levels;

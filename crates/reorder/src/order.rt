@@ -7,31 +7,30 @@ ghost use Rattle.std.specs.List.{flat_map, position_or_len, prefix_len, range_wi
 ghost use Rattle.std.specs.List.Sorted.{IsPermutation};
 ghost use Rattle.ucd.specs.Within.{AreWithin};
 ghost use Rattle.ucd.specs.declared.bidi_class.BidiClass.{BidiClass};
-ghost use Rattle.ucd.specs.Classes.{class_in};
 ghost use Rattle.reorder.specs.Groups.{is_bound, AreBound, IsAlone, IsGroup, StandsTogether};
 ghost use Rattle.reorder.specs.LevelRuns.{level_run_len, run_at, run_shown, turned};
 ghost use Rattle.reorder.specs.Order.{places};
 ghost use Rattle.reorder.specs.Order.{has_base, highest, is_at_least, is_mark_at, is_odd, lowest_odd, ltov_of};
 ghost use Rattle.reorder.specs.Order.{order_of, reverse_runs, reverse_with_next, vtol_of, AreInverse};
 
-use ucd::{BidiClass, Properties};
+use ucd::{BidiClass, Classes};
 
 /// Orders a line, or a part of it, by the levels of its characters after L1: writes the place of each
 /// visual position to `vtol`, and the visual position of each place to `ltov`. With `reordernsm`, marks stand
 /// in reading order.
-pub fn visual_order(
-    line: &[Properties],
+pub fn visual_order<C: Classes>(
+    line: &C,
     levels: &[u8],
     reordernsm: bool,
     vtol: &mut [u32],
     ltov: &mut [u32],
 )
-    requires line { length levels.now ≤ length line.now }
+    requires line { length levels.now ≤ length (C.all line.now) }
     requires vtol { length vtol.old ≡ length levels.now }
     requires ltov { length ltov.old ≡ length levels.now }
     requires within { length levels.now ≤ u32.MAX }
-    ensures vtol { vtol.new ≡ vtol_of reordernsm (map class_in line.now) levels.now }
-    ensures ltov { ltov.new ≡ ltov_of reordernsm (map class_in line.now) levels.now }
+    ensures vtol { vtol.new ≡ vtol_of reordernsm (C.all line.now) levels.now }
+    ensures ltov { ltov.new ≡ ltov_of reordernsm (C.all line.now) levels.now }
     ensures within { AreWithin (length levels.now) vtol.new }
     ensures inverse { AreInverse (length levels.now) vtol.new ltov.new }
 {
@@ -78,11 +77,11 @@ fn count_from(start: u32, items: &mut [u32])
 }
 
 /// Writes the places of a line in visual order.
-pub fn visual_places(line: &[Properties], levels: &[u8], reordernsm: bool, vtol: &mut [u32])
-    requires line { length levels.now ≤ length line.now }
+pub fn visual_places<C: Classes>(line: &C, levels: &[u8], reordernsm: bool, vtol: &mut [u32])
+    requires line { length levels.now ≤ length (C.all line.now) }
     requires vtol { length vtol.old ≡ length levels.now }
     requires limit { length levels.now ≤ u32.MAX }
-    ensures vtol { vtol.new ≡ vtol_of reordernsm (map class_in line.now) levels.now }
+    ensures vtol { vtol.new ≡ vtol_of reordernsm (C.all line.now) levels.now }
     ensures within { AreWithin (length levels.now) vtol.new }
 {
     order_places(levels, vtol);
@@ -202,10 +201,10 @@ fn lay_run(start: u32, is_odd: bool, items: &mut [u32])
 }
 
 // Reverses each base at an odd level with the marks that L2 put left of it.
-fn reverse_groups(line: &[Properties], levels: &[u8], vtol: &mut [u32])
-    requires line { length levels.now ≤ length line.now }
+fn reverse_groups<C: Classes>(line: &C, levels: &[u8], vtol: &mut [u32])
+    requires line { length levels.now ≤ length (C.all line.now) }
     requires vtol { vtol.old ≡ order_of levels.now }
-    ensures { vtol.new ≡ reverse_with_next (has_base (map class_in line.now) levels.now) [] vtol.old }
+    ensures { vtol.new ≡ reverse_with_next (has_base (C.all line.now) levels.now) [] vtol.old }
 {
     let mut start = 0;
     while start < vtol.len() {
@@ -215,15 +214,15 @@ fn reverse_groups(line: &[Properties], levels: &[u8], vtol: &mut [u32])
 
 // Reverses the group that begins there, if one does, and says how many places are done: up to a base, or up
 // to a mark that has none.
-fn reverse_group(line: &[Properties], levels: &[u8], items: &mut [u32]) -> usize
-    requires line { length levels.now ≤ length line.now }
+fn reverse_group<C: Classes>(line: &C, levels: &[u8], items: &mut [u32]) -> usize
+    requires line { length levels.now ≤ length (C.all line.now) }
     requires items { (start : ℕ) × (items.old ≡ drop start (order_of levels.now)) }
     requires some { 0 < length items.old }
     ensures len { (0 < result) × (result ≤ length items.old) }
     ensures rest { drop result items.new ≡ drop result items.old }
-    ensures done { reverse_with_next (has_base (map class_in line.now) levels.now) [] items.old
+    ensures done { reverse_with_next (has_base (C.all line.now) levels.now) [] items.old
         ≡ take result items.new
-        ++ reverse_with_next (has_base (map class_in line.now) levels.now) [] (drop result items.old) }
+        ++ reverse_with_next (has_base (C.all line.now) levels.now) [] (drop result items.old) }
 {
     let len = bound_len(line, levels, items);
     if !is_mark_at(line, items[len]) {
@@ -233,11 +232,11 @@ fn reverse_group(line: &[Properties], levels: &[u8], items: &mut [u32]) -> usize
 }
 
 // How many places of marks stand there left of the character that they follow.
-fn bound_len(line: &[Properties], levels: &[u8], items: &[u32]) -> usize
-    requires line { length levels.now ≤ length line.now }
+fn bound_len<C: Classes>(line: &C, levels: &[u8], items: &[u32]) -> usize
+    requires line { length levels.now ≤ length (C.all line.now) }
     requires items { AreWithin (length levels.now) items.now }
     requires some { 0 < length items.now }
-    ensures { AreBound (map class_in line.now) levels.now items.now result }
+    ensures { AreBound (C.all line.now) levels.now items.now result }
 {
     let mut len = 0;
     while len + 1 < items.len() && is_bound(line, levels, items[len], items[len + 1]) {
@@ -247,10 +246,10 @@ fn bound_len(line: &[Properties], levels: &[u8], items: &[u32]) -> usize
 }
 
 // Whether a mark follows a character, and both are at the same, odd level.
-fn is_bound(line: &[Properties], levels: &[u8], place: u32, next: u32) -> bool
-    requires line { length levels.now ≤ length line.now }
+fn is_bound<C: Classes>(line: &C, levels: &[u8], place: u32, next: u32) -> bool
+    requires line { length levels.now ≤ length (C.all line.now) }
     requires places { (place < length levels.now) × (next < length levels.now) }
-    ensures { result ≡ is_bound (map class_in line.now) levels.now place next }
+    ensures { result ≡ is_bound (C.all line.now) levels.now place next }
 {
     let (at, before) = (place as usize, next as usize);
     before + 1 == at
@@ -260,11 +259,11 @@ fn is_bound(line: &[Properties], levels: &[u8], place: u32, next: u32) -> bool
 }
 
 // Whether the character at a place is a mark by the tables.
-fn is_mark_at(line: &[Properties], place: u32) -> bool
-    requires { place < length line.now }
-    ensures { result ≡ is_mark_at (map class_in line.now) place }
+fn is_mark_at<C: Classes>(line: &C, place: u32) -> bool
+    requires { place < length (C.all line.now) }
+    ensures { result ≡ is_mark_at (C.all line.now) place }
 {
-    match line[place as usize].bidi_class() {
+    match line.class_at(place as usize) {
         BidiClass::NSM => true,
         _ => false,
     }

@@ -1,19 +1,18 @@
 //! The levels of one line after separators and the blanks before them, or at the line's end, take the
 //! paragraph level (UAX #9, L1).
-ghost use Rattle.std.specs.Prelude.{◌≡◌, ◌≤◌, ◌&&◌, ◌||◌, false, true, map, length};
-ghost use Rattle.ucd.specs.Classes.{class_in};
+ghost use Rattle.std.specs.Prelude.{◌≡◌, ◌≤◌, ◌&&◌, ◌||◌, false, true, length};
 ghost use Rattle.reorder.specs.Spaces.{ends_segment, is_blank, line_levels};
 ghost use Rattle.reorder.specs.NoEnds.{AreNoEnds};
 
-use ucd::{BidiClass, Properties};
+use ucd::{BidiClass, Classes};
 
-/// Gives the characters of a line that L1 names the paragraph level, `base`. The classes are those of the
+/// Resets the levels of a line to the paragraph level, `base`, where L1 says so. The classes are those of the
 /// tables, not what earlier rules made of them.
-pub fn reset_levels(line: &[Properties], base: u8, levels: &mut [u8])
-    requires { length line.now ≡ length levels.old }
-    ensures { levels.new ≡ line_levels base (map class_in line.now) levels.old }
+pub fn reset_levels<C: Classes>(line: &C, base: u8, levels: &mut [u8])
+    requires { length (C.all line.now) ≡ length levels.old }
+    ensures { levels.new ≡ line_levels base (C.all line.now) levels.old }
 {
-    // Whether a blank before this place takes the paragraph level. Where none does, no character does up to
+    // Whether a blank before this place takes the paragraph level. If none does, no character does up to
     // a separator.
     let mut resets = true;
     let mut at = line.len();
@@ -23,7 +22,7 @@ pub fn reset_levels(line: &[Properties], base: u8, levels: &mut [u8])
             return;
         }
         at = end - 1;
-        resets = is_reset(line[at].bidi_class(), resets);
+        resets = is_reset(line.class_at(at), resets);
         if resets {
             levels[at] = base;
         }
@@ -31,11 +30,11 @@ pub fn reset_levels(line: &[Properties], base: u8, levels: &mut [u8])
 }
 
 // The place after the last character before a place that may take the paragraph level, or 0.
-fn changed_end(line: &[Properties], resets: bool, at: usize) -> usize
-    requires { at ≤ length line.now }
+fn changed_end<C: Classes>(line: &C, resets: bool, at: usize) -> usize
+    requires { at ≤ length (C.all line.now) }
     ensures within { result ≤ at }
     ensures resets { resets ≡ true → result ≡ at }
-    ensures passed { AreNoEnds line.now result at }
+    ensures passed { AreNoEnds (C.all line.now) result at }
 {
     if resets { at } else { separator_end(line, at) }
 }
@@ -44,28 +43,29 @@ fn changed_end(line: &[Properties], resets: bool, at: usize) -> usize
 const AT_ONCE: usize = 16;
 
 // The place after the last separator before a place, or 0.
-fn separator_end(line: &[Properties], end: usize) -> usize
-    requires { end ≤ length line.now }
+fn separator_end<C: Classes>(line: &C, end: usize) -> usize
+    requires { end ≤ length (C.all line.now) }
     ensures within { result ≤ end }
-    ensures passed { AreNoEnds line.now result end }
+    ensures passed { AreNoEnds (C.all line.now) result end }
 {
     let mut at = end;
-    while at >= AT_ONCE && !has_separator(&line[at - AT_ONCE..at]) {
+    while at >= AT_ONCE && !has_separator(line, at - AT_ONCE, at) {
         at -= AT_ONCE;
     }
-    while at > 0 && !ends_segment(line[at - 1].bidi_class()) {
+    while at > 0 && !ends_segment(line.class_at(at - 1)) {
         at -= 1;
     }
     at
 }
 
 // Whether one of some characters is a separator: all are looked at, which is faster than to stop.
-fn has_separator(part: &[Properties]) -> bool
-    ensures { result ≡ false → AreNoEnds part.now 0 (length part.now) }
+fn has_separator<C: Classes>(line: &C, start: usize, end: usize) -> bool
+    requires { end ≤ length (C.all line.now) }
+    ensures { result ≡ false → AreNoEnds (C.all line.now) start end }
 {
     let mut any = false;
-    for k in 0..part.len() {
-        any |= ends_segment(part[k].bidi_class());
+    for k in start..end {
+        any |= ends_segment(line.class_at(k));
     }
     any
 }

@@ -19,6 +19,7 @@
 mod bidi_class;
 mod bracket;
 mod category;
+mod classes;
 mod emoji;
 mod entries;
 mod fault;
@@ -36,6 +37,7 @@ mod width;
 
 pub use bidi_class::BidiClass;
 pub use bracket::Bracket;
+pub use classes::{Classes, KnownClasses, ListedClasses, TextClasses};
 pub use fault::{Cause, FILE_NAMES, TableFault};
 pub use line_class::LineClass;
 pub use properties::{LINE_INDEX_COUNT, Properties};

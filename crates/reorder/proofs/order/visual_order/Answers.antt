@@ -1,11 +1,10 @@
-use Rattle.std.proofs.Common.{map, sym, ◌∙◌, arith}
-use Rattle.ucd.specs.Classes.{class_in}
+use Rattle.std.proofs.Common.{sym, ◌∙◌, arith}
 use Rattle.reorder.proofs.OrderLemmas.{is_ltov, length-vtol, order_permutes}
 use Rattle.reorder.proofs.order.visual_order.Goals as goal
 
 pub invert-requires : goal.invert-requires
-invert-requires c =
-    let classes = map class_in c.args.line.now in
+invert-requires g c =
+    let classes = g.C.Classes.all c.args.line.now in
     let size = length-vtol c.args.reordernsm classes c.args.levels.now c.visual_places.new.vtol c.visual_places.ensures.vtol in
     record {
       places = order_permutes c.args.reordernsm classes c.args.levels.now c.visual_places.new.vtol c.visual_places.ensures.vtol;
@@ -14,8 +13,8 @@ invert-requires c =
     }
 
 pub returns : goal.returns
-returns c =
-    let classes = map class_in c.args.line.now in
+returns g c =
+    let classes = g.C.Classes.all c.args.line.now in
     let vtol = c.visual_places.new.vtol in
     let size = length-vtol c.args.reordernsm classes c.args.levels.now vtol c.visual_places.ensures.vtol in
     let inverse = rw size at c.invert.ensures.inverse in

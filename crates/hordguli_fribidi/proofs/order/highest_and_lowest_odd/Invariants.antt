@@ -1,5 +1,0 @@
-use Rattle.hordguli_fribidi.proofs.LevelLemmas.{Reduced}
-use Rattle.hordguli_fribidi.proofs.order.highest_and_lowest_odd.Given as goal
-
-abbrev pub invariant-loop-level : goal.invariant-loop-level
-invariant-loop-level l = Reduced l.levels l.level-index l.highest l.any l.lowest

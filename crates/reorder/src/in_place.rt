@@ -1,0 +1,166 @@
+//! The visual order of one line (UAX #9, L2), with marks in reading order if asked for (L3), put into an array
+//! whose items are moved within it.
+ghost use Rattle.std.specs.Prelude.{◌≡◌, ◌<◌, ◌≤◌, ◌+◌, ◌==◌, ◌&&◌, if◌then◌else◌};
+ghost use Rattle.std.specs.Prelude.{ℕ, [], length, map, true, false, nat_le, nat_lt, slice_index};
+ghost use Rattle.std.specs.Prelude.{IfSome, Some, None};
+ghost use Rattle.std.specs.List.{list_any, prefix_len};
+ghost use Rattle.ucd.specs.Classes.{is_mark};
+ghost use Rattle.reorder.specs.InPlace.{flags_at, reverse_flagged, IsChunk};
+ghost use Rattle.reorder.specs.Order.{has_base, highest, is_mark_at, is_odd, lowest_odd, order_of, vtol_of};
+
+use crate::order::{groups_stand_together, maps_are_inverse, others_stay};
+use ucd::{BidiClass, Classes};
+
+/// Puts the items of an array, one for each character of a line, into visual order, by the levels after L1.
+/// With `reordernsm`, marks are in reading order. Allocates nothing.
+pub fn reorder_in_place<C: Classes>(line: &C, levels: &[u8], reordernsm: bool, items: &mut [u32])
+    requires line { length (C.all line.now) ≡ length levels.now }
+    requires items { length items.old ≡ length levels.now }
+    ensures { items.new ≡ map (slice_index items.old) (vtol_of reordernsm (C.all line.now) levels.now) }
+{
+    let (highest, lowest) = highest_and_lowest_odd(levels);
+    if let Some(low) = lowest {
+        if reordernsm && has_mark(line) {
+            reverse_groups(line, levels, items);
+        }
+        reverse_levels(levels, highest, low, items);
+    }
+}
+
+// Reverses each base at an odd level with its marks, so that L2 puts them into reading order.
+fn reverse_groups<C: Classes>(line: &C, levels: &[u8], items: &mut [u32])
+    requires line { length (C.all line.now) ≡ length levels.now }
+    requires items { length items.old ≡ length levels.now }
+    ensures { map (slice_index items.new) (order_of levels.now)
+        ≡ map (slice_index items.old) (vtol_of true (C.all line.now) levels.now) }
+{
+    groups_stand_together();
+    others_stay();
+    maps_are_inverse();
+    let mut start = 0;
+    while start < items.len() {
+        let len = group_len(line, levels, start);
+        items[start..start + len].reverse();
+        start += len;
+    }
+}
+
+// How many characters the group has that begins there: a base at an odd level and the marks after it that are
+// at this level; else there is one character.
+fn group_len<C: Classes>(line: &C, levels: &[u8], start: usize) -> usize
+    requires line { length (C.all line.now) ≡ length levels.now }
+    requires start { start < length levels.now }
+    requires base { has_base (C.all line.now) levels.now start ≡ false }
+    ensures within { (0 < result) × (start + result ≤ length levels.now) }
+    ensures chunk { IsChunk (C.all line.now) levels.now start result }
+    ensures next { has_base (C.all line.now) levels.now (start + result) ≡ false }
+{
+    let level = levels[start];
+    if level % 2 == 0 || is_mark(line.class_at(start)) {
+        return 1;
+    }
+    let mut len = 1;
+    while is_mark_of(line, levels, start + len, level) {
+        len += 1;
+    }
+    len
+}
+
+// Whether a mark at a level stands there.
+fn is_mark_of<C: Classes>(line: &C, levels: &[u8], place: usize, level: u8) -> bool
+    requires { length (C.all line.now) ≡ length levels.now }
+    ensures { result ≡ (nat_lt place (length levels.now)
+        && (is_mark_at (C.all line.now) place && (slice_index levels.now place == level))) }
+{
+    place < levels.len() && is_mark(line.class_at(place)) && levels[place] == level
+}
+
+fn is_mark(class: BidiClass) -> bool
+    ensures { result ≡ is_mark class }
+{
+    matches!(class, BidiClass::NSM)
+}
+
+// Whether there is a mark.
+fn has_mark<C: Classes>(line: &C) -> bool
+    ensures { result ≡ list_any is_mark (C.all line.now) }
+{
+    let mut found = false;
+    for k in 0..line.len() {
+        found |= is_mark(line.class_at(k));
+    }
+    found
+}
+
+// Reverses the intervals of each level from the highest down to the lowest odd one.
+fn reverse_levels(levels: &[u8], top: u8, low: u8, items: &mut [u32])
+    requires items { length items.old ≡ length levels.now }
+    requires top { top ≡ highest levels.now }
+    requires low { Some low ≡ lowest_odd levels.now }
+    requires ordered { (0 < low) × (low ≤ top) }
+    ensures { items.new ≡ map (slice_index items.old) (order_of levels.now) }
+{
+    // Ends, since an odd level is not 0.
+    let mut level = top;
+    while level >= low {
+        reverse_runs(levels, level, items);
+        level -= 1;
+    }
+}
+
+// Reverses each maximal interval of places at a level or a higher one.
+fn reverse_runs(levels: &[u8], level: u8, items: &mut [u32])
+    requires { length items.old ≡ length levels.now }
+    ensures { items.new ≡ reverse_flagged (flags_at level levels.now) [] items.old }
+{
+    let mut start = 0;
+    while start < levels.len() {
+        if levels[start] < level {
+            start += 1;
+        } else {
+            let len = run_len(&levels[start..], level);
+            items[start..start + len].reverse();
+            start += len;
+        }
+    }
+}
+
+// How many places are at a level or a higher one before the first that is not.
+fn run_len(levels: &[u8], level: u8) -> usize
+    requires { (0 < length levels.now) × (level ≤ slice_index levels.now 0) }
+    ensures len { result ≡ prefix_len (nat_le level) levels.now }
+    ensures within { (0 < result) × (result ≤ length levels.now) }
+{
+    for (k, other) in levels.iter().enumerate() {
+        if *other < level {
+            return k;
+        }
+    }
+    levels.len()
+}
+
+/// The highest level, 0 where there is none, and the lowest odd one, if there is one.
+pub fn highest_and_lowest_odd(levels: &[u8]) -> (u8, Option<u8>)
+    ensures highest { result.0 ≡ highest levels.now }
+    ensures lowest { result.1 ≡ lowest_odd levels.now }
+    ensures ordered { IfSome result.1 (λ lowest. (0 < lowest) × (lowest ≤ result.0)) }
+    ensures even { result.1 ≡ None
+        → (k : ℕ) → k < length levels.now → is_odd (slice_index levels.now k) ≡ false }
+{
+    let mut highest = 0;
+    let mut any = false;
+    let mut lowest = 255;
+    for level in levels {
+        highest = highest.max(*level);
+        any |= *level % 2 == 1;
+        lowest = lowest.min(odd_or_most(*level));
+    }
+    (highest, if any { Some(lowest) } else { None })
+}
+
+// A level, or the greatest number where it is even.
+fn odd_or_most(level: u8) -> u8
+    ensures { result ≡ (if is_odd level then level else 255) }
+{
+    if level % 2 == 1 { level } else { 255 }
+}
