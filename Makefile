@@ -40,14 +40,14 @@ all program bench-program conformance-program:
 	mkdir -p bin
 	for name in $(filter fribidi bench conformance,$(programs)); do cp crates/$$name/out/$$name bin/$$name; done
 
-lib-bidi lib-breaks: lib-ucd
-lib-lines: lib-device lib-bidi lib-breaks
+lib-bidi lib-breaks lib-reorder: lib-ucd
+lib-lines: lib-device lib-bidi lib-breaks lib-reorder
 lib-session: lib-lines lib-store
 lib-command_line lib-text_run: lib-lines
 lib-tool: lib-session lib-command_line lib-text_run
 lib-oom_calls lib-hordguli_c: lib-session
 lib-oom_calls: lib-test_tables
-lib-hordguli_fribidi: lib-lines
+lib-hordguli_fribidi: lib-bidi lib-reorder
 run-dump_properties: lib-ucd lib-tables
 run-fribidi run-oom_driver: lib-tool
 run-fribidi: lib-tables

@@ -1,5 +1,18 @@
-//! The order of a line's characters on a screen (UAX #9, section 3.4, L1 to L4), for callers that break lines
-//! themselves.
+//! The order of a line's characters on a screen (UAX #9, section 3.4, L1 to L4).
+//!
+//! A caller that breaks lines itself takes the levels of a line from its paragraph (`bidi::resolve`). These
+//! calls reset some of them (L1), find the order of the line by them (L2, L3), and mirror characters (L4):
+//!
+//! ```rust
+//! let line = TextClasses { tables, text };
+//! reset_levels(&line, 0, &mut levels);
+//! visual_order(&line, &levels, false, &mut vtol, &mut ltov);
+//! visual_chars(tables, text, &properties, &levels, &vtol, &mut chars);
+//! assert!(rt; levels == [1, 1, 1, 0] && vtol == [2, 1, 0, 3]);
+//! assert!(rt; chars == ['(', 'ב', ')', ' ']);
+//! ```
+//!
+//! No call allocates. Arrays of positions have at most `u32::MAX` items; `reorder_in_place` has no limit.
 #![tactic(auto)]
 
 mod in_place;

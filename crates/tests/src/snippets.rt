@@ -1,13 +1,14 @@
-//! What the first lines of `ucd`, `bidi`, `breaks` and `store` show: `tests/docs/run` looks whether their
+//! What the first lines of `ucd`, `bidi`, `reorder`, `breaks` and `store` show: `tests/docs/run` looks whether their
 //! lines stand here.
 use crate::files::{FILES, read};
 use bidi::{Base, resolve};
 use breaks::{Mark, marks};
+use reorder::{reset_levels, visual_chars, visual_order};
 use std::alloc::{AllocError, Global};
 use std::process::Abort;
 use std::test::Fail;
 use store::{Measured, ParagraphStore, TreeStore};
-use ucd::{BidiClass, LineClass, TableFault, Tables, UcdFiles};
+use ucd::{BidiClass, LineClass, Properties, TableFault, Tables, TextClasses, UcdFiles};
 
 fn look_up(rt: &impl Abort, alloc: Global, files: &UcdFiles<'_>) -> Result<(), TableFault> {
     let tables = Tables::read(alloc, files)?;
@@ -34,6 +35,28 @@ fn find_levels(rt: &impl Abort, alloc: Global, tables: &Tables) -> Result<(), Al
 fn levels(rt: HostRuntime) -> Result<(), Fail> {
     let tables = read(rt.alloc(), &FILES)?;
     let result = find_levels(&rt, rt.alloc(), &tables);
+    drop(tables);
+    Ok(result?)
+}
+
+fn order_line(rt: &impl Abort, alloc: Global, tables: &Tables) -> Result<(), AllocError> {
+    let text = &['(', 'ב', ')', ' '];
+    let properties: Vec<Properties> = text.iter().map(|c| tables.properties(*c)).collect(alloc)?;
+    let mut levels = [1; 4];
+    let (mut vtol, mut ltov, mut chars) = ([0; 4], [0; 4], [' '; 4]);
+    let line = TextClasses { tables, text };
+    reset_levels(&line, 0, &mut levels);
+    visual_order(&line, &levels, false, &mut vtol, &mut ltov);
+    visual_chars(tables, text, &properties, &levels, &vtol, &mut chars);
+    assert!(rt; levels == [1, 1, 1, 0] && vtol == [2, 1, 0, 3]);
+    assert!(rt; chars == ['(', 'ב', ')', ' ']);
+    Ok(())
+}
+
+#[test]
+fn line_order(rt: HostRuntime) -> Result<(), Fail> {
+    let tables = read(rt.alloc(), &FILES)?;
+    let result = order_line(&rt, rt.alloc(), &tables);
     drop(tables);
     Ok(result?)
 }
