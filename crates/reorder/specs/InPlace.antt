@@ -1,4 +1,4 @@
--- What is moved and set where it stands. Only the code speaks of these.
+-- Items that are moved within their array by L2. Only the code cites these.
 use Rattle.std.specs.Prelude.{◌≡◌, ℕ, ◌-◌, Bool, List, [], ◌∷◌, ◌++◌, ◌⊎◌, map, nat_le, if◌then◌else◌}
 use Rattle.ucd.specs.declared.bidi_class.BidiClass.{BidiClass}
 use Rattle.reorder.specs.Groups.{IsAlone, IsGroup}
