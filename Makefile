@@ -7,8 +7,9 @@
 #   make fribidi    Proves and builds FriBidi's interface, bin/libhordguli_fribidi.so, for LD_PRELOAD.
 #   make ucd        Copies the seven Unicode table files into ucd/: from Debian's package unicode-data, which it installs,
 #                   or from another folder by UNICODE=FOLDER. crates/ucd/src/version.rt names the Unicode version.
-#   make install    Installs what make, make c and make ucd have built (PREFIX=/usr/local, LIBDIR, DESTDIR, COMMAND=fribidi).
-#   make uninstall  Removes what make install has installed, with the same variables.
+#   make install    Installs what make, make c, make fribidi and make ucd have built (PREFIX=/usr/local, LIBDIR, DESTDIR,
+#                   COMMAND=fribidi, ZSHDIR).
+#   make uninstall  Removes what make install has installed, with the same PREFIX and DESTDIR.
 #
 # For contributors
 #
@@ -19,6 +20,12 @@
 #   make conformance  Runs Unicode's conformance tests over the proved library.
 #   make fribidi-compare  Compares FriBidi's interface with FriBidi on a million random lists.
 #   make callers    Runs pyfribidi, Pango, a VTE terminal and libass over FriBidi's interface (installs Debian packages).
+#   make deb        Builds the Debian packages of packaging/debian from what make install needs, and runs lintian (DIST=dist).
+#   make dist       Builds hordguli-VERSION-linux-x86_64.tar.gz from the same files (DIST=dist).
+#   make test-packages  Tests the packages in new Debian 12 and 13 systems (debootstrap, as root): ten minutes.
+#   make test-reproducible  Builds all packages in two folders, compiled both times, and compares them byte by byte.
+#   make test-hosts Runs examples/many over three hosts on the loopback address, one of which is ended during a run.
+#   make release    Checks the version, runs CI, builds and tests all packages, and writes them to dist/.
 #   make bench      Runs all benchmarks of bench/, which compare with Debian's fribidi, with ICU and with Rust crates.
 
 UNICODE = /usr/share/unicode
@@ -27,7 +34,9 @@ TABLES = DerivedBidiClass BidiBrackets BidiMirroring LineBreak DerivedGeneralCat
 OPTIONS = --width 44 --basedir
 
 .PHONY: all program ucd demo check tmux parallel test attack bench-program conformance-program conformance bench c fribidi fribidi-compare \
-	callers install uninstall
+	callers install uninstall deb dist test-packages test-reproducible test-hosts release
+
+DIST = dist
 
 all: programs = fribidi conformance oom_driver no_allocation
 program: programs = fribidi
@@ -117,8 +126,27 @@ install uninstall: export PREFIX := $(PREFIX)
 install uninstall: export LIBDIR := $(LIBDIR)
 install uninstall: export DESTDIR := $(DESTDIR)
 install uninstall: export COMMAND := $(COMMAND)
+install uninstall: export ZSHDIR := $(ZSHDIR)
 install uninstall:
 	@tools/install $@
+
+deb dist: export DIST := $(DIST)
+deb dist:
+	@tools/build_packages $@ "$$DIST"
+
+test-packages: deb dist
+	@tests/packages/run "$$DIST"
+
+test-packages: export DIST := $(DIST)
+
+test-reproducible:
+	@tests/packages/reproducible
+
+test-hosts: parallel ucd
+	@tests/examples/many_hosts
+
+release:
+	@tools/release
 
 attack:
 	tests/mutants/run $(CRATES)

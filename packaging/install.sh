@@ -1,0 +1,61 @@
+#!/bin/sh
+# Installs this folder: install.sh PREFIX. Removes what it has installed: install.sh --uninstall PREFIX.
+# Before that it compares the files with SHA256SUMS. PREFIX/share/hordguli/installed lists the files and folders that were made.
+set -eu
+LC_ALL=C
+export LC_ALL
+usage() {
+    echo "usage: install.sh PREFIX"
+    echo "       install.sh --uninstall PREFIX"
+    exit 2
+}
+task=install
+if [ "${1-}" = --uninstall ]; then
+    task=uninstall
+    shift
+fi
+if [ $# != 1 ]; then usage; fi
+case $1 in
+    '' | -*) usage ;;
+    /*) prefix=$1 ;;
+    *) prefix=$PWD/$1 ;;
+esac
+list=$prefix/share/hordguli/installed
+
+if [ $task = uninstall ]; then
+    [ -f "$list" ] || { echo "install.sh: there is no $list: nothing is installed there"; exit 1; }
+    # (what is in a folder comes before the folder, which stays if something else is in it)
+    sort -r "$list" | while IFS= read -r path; do
+        case $path in
+            */) rmdir "$path" 2> /dev/null || true ;;
+            *) rm -f "$path" ;;
+        esac
+    done
+    echo "install.sh: what was installed in $prefix is removed"
+    exit
+fi
+
+made=$(mktemp)
+trap 'rm -f "$made"' EXIT
+make_folder() { # FOLDER: makes it and those above it, and notes which it has made
+    if [ -d "$1" ]; then return; fi
+    make_folder "$(dirname "$1")"
+    mkdir "$1"
+    echo "$1/" >> "$made"
+}
+
+cd "$(dirname "$0")"
+sha256sum --quiet --check SHA256SUMS
+find bin include lib share ! -type d | sort | while IFS= read -r file; do
+    folder=$(dirname "$prefix/$file")
+    make_folder "$folder"
+    # (a file in use is not overwritten, but replaced)
+    cp -P "$file" "$folder/.new.$$"
+    mv -f "$folder/.new.$$" "$prefix/$file"
+    echo "$prefix/$file" >> "$made"
+done
+echo "$list" >> "$made"
+if [ -f "$list" ]; then cat "$list" >> "$made"; fi
+sort -u "$made" > "$list.new"
+mv -f "$list.new" "$list"
+echo "install.sh: the files are in $prefix"
