@@ -179,8 +179,8 @@ pub extern "C" fn hordguli_core_utf8_length(
     len: &mut usize,
 ) -> u32
     ensures unchanged { session.new.held ≡ session.old.held }
-    ensures len { Returns (λ status. Asks (λ status state. Gives (utf8_len state.kept pos count) status) status
-        session.old.held len.old len.new) result }
+    ensures len { Returns (λ status. Asks (λ status state. Gives (utf8_len state.kept pos count) status)
+        status session.old.held len.old len.new) result }
 {
     match session.swap(alloc, None) {
         Some(object) => {

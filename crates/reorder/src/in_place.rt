@@ -1,5 +1,5 @@
-//! The visual order of one line (UAX #9, L2), with marks in reading order if asked for (L3), put into an array
-//! whose items are moved within it.
+//! The visual order of one line (UAX #9, L2), with marks in reading order if asked for (L3), for the items of
+//! an array, which are moved within it.
 ghost use Rattle.std.specs.Prelude.{◌≡◌, ◌<◌, ◌≤◌, ◌+◌, ◌==◌, ◌&&◌, if◌then◌else◌};
 ghost use Rattle.std.specs.Prelude.{ℕ, [], length, map, true, false, nat_le, nat_lt, slice_index};
 ghost use Rattle.std.specs.Prelude.{IfSome, Some, None};

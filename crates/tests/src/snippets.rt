@@ -1,5 +1,5 @@
-//! What the first lines of `ucd`, `bidi`, `reorder`, `breaks` and `store` show: `tests/docs/run` looks whether their
-//! lines stand here.
+//! What the first lines of `ucd`, `bidi`, `reorder`, `breaks` and `store` show. `tests/docs/run` checks that
+//! their lines are here.
 use crate::files::{FILES, read};
 use bidi::{Base, resolve};
 use breaks::{Mark, marks};
