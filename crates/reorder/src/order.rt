@@ -10,7 +10,8 @@ ghost use Rattle.ucd.specs.declared.bidi_class.BidiClass.{BidiClass};
 ghost use Rattle.reorder.specs.Groups.{is_bound, AreBound, IsAlone, IsGroup, StandsTogether};
 ghost use Rattle.reorder.specs.LevelRuns.{level_run_len, run_at, run_shown, turned};
 ghost use Rattle.reorder.specs.Order.{has_base, highest, is_at_least, is_mark_at, is_odd, lowest_odd};
-ghost use Rattle.reorder.specs.Order.{ltov_of, order_of, places, reverse_runs, reverse_with_next, vtol_of, AreInverse};
+ghost use Rattle.reorder.specs.Order.{ltov_of, order_of, places, reverse_runs, reverse_with_next};
+ghost use Rattle.reorder.specs.Order.{vtol_of, AreInverse};
 
 use ucd::{BidiClass, Classes};
 
