@@ -22,7 +22,7 @@
 #   make callers    Runs pyfribidi, Pango, a VTE terminal and libass over FriBidi's interface (installs Debian packages).
 #   make deb        Builds the Debian packages of packaging/debian from what make install needs, and runs lintian (DIST=dist).
 #   make dist       Builds hordguli-VERSION-linux-x86_64.tar.gz from the same files (DIST=dist).
-#   make test-packages  Tests the packages in new Debian 12 and 13 systems (debootstrap, as root): ten minutes.
+#   make test-packages  Tests the packages in new Debian 12 and 13 systems (debootstrap, as root): four minutes.
 #   make test-reproducible  Builds all packages in two folders, compiled both times, and compares them byte by byte.
 #   make test-hosts Runs examples/many over three hosts on the loopback address, one of which is ended during a run.
 #   make release    Checks the version, runs CI, builds and tests all packages, and writes them to dist/.
