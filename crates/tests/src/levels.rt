@@ -29,7 +29,8 @@ fn put_list(text: &mut Vec<char>, len: usize, number: usize) -> Result<(), Alloc
     Ok(())
 }
 
-fn properties_of(
+/// What the tables say of the characters of a text.
+pub fn properties_of(
     alloc: Global,
     tables: &Tables,
     text: &[char],

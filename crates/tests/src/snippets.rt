@@ -1,6 +1,7 @@
 //! What the first lines of `ucd`, `bidi`, `reorder`, `breaks` and `store` show. `tests/docs/run` checks that
 //! their lines are here.
 use crate::files::{FILES, read};
+use crate::levels::properties_of;
 use bidi::{Base, resolve};
 use breaks::{Mark, marks};
 use reorder::{reset_levels, visual_chars, visual_order};
@@ -8,7 +9,7 @@ use std::alloc::{AllocError, Global};
 use std::process::Abort;
 use std::test::Fail;
 use store::{Measured, ParagraphStore, TreeStore};
-use ucd::{BidiClass, LineClass, Properties, TableFault, Tables, TextClasses, UcdFiles};
+use ucd::{BidiClass, LineClass, TableFault, Tables, TextClasses, UcdFiles};
 
 fn look_up(rt: &impl Abort, alloc: Global, files: &UcdFiles<'_>) -> Result<(), TableFault> {
     let tables = Tables::read(alloc, files)?;
@@ -41,7 +42,7 @@ fn levels(rt: HostRuntime) -> Result<(), Fail> {
 
 fn order_line(rt: &impl Abort, alloc: Global, tables: &Tables) -> Result<(), AllocError> {
     let text = &['(', 'ב', ')', ' '];
-    let properties: Vec<Properties> = text.iter().map(|c| tables.properties(*c)).collect(alloc)?;
+    let properties = properties_of(alloc, tables, text)?;
     let mut levels = [1; 4];
     let (mut vtol, mut ltov, mut chars) = ([0; 4], [0; 4], [' '; 4]);
     let line = TextClasses { tables, text };
