@@ -9,58 +9,58 @@ use Rattle.bidi.specs.Brackets.{greatest}
 use Rattle.ucd.specs.Least.{least}
 use Rattle.breaks.specs.declared.mark.Mark.{Mark}
 use Rattle.lines.specs.Bare.{bare, AreAlike, with_ends}
-use Rattle.lines.specs.BarePlaces.{bare_places}
+use Rattle.lines.specs.BareInfos.{bare_infos}
 use Rattle.lines.specs.Extents.{shown_between, shown_from}
 use Rattle.lines.specs.Filling.{by_break, columns, fits_to, is_break, is_must, line_len, may_end, must_end, nothing, place_at, shown, stop}
-use Rattle.lines.specs.Places.{place, places}
+use Rattle.lines.specs.CharInfos.{info, infos}
 use Rattle.lines.specs.Visual.{Line, line_between, lines_from}
 use Rattle.lines.specs.declared.options.Options.{Options}
-use Rattle.lines.specs.declared.places.Place.{Place}
+use Rattle.lines.specs.declared.char_info.CharInfo.{CharInfo}
 use Rattle.lines.specs.declared.fill.Shown.{Shown}
 
 -- ---- lists
 
-at_bare : (xs : List Place) (k : ℕ) → place_at (map bare xs) k ≡ bare (place_at xs k)
+at_bare : (xs : List CharInfo) (k : ℕ) → place_at (map bare xs) k ≡ bare (place_at xs k)
 at_bare [] k = refl
 at_bare (x ∷ xs) zero = refl
 at_bare (x ∷ xs) (suc k) = at_bare xs k
 
-sum_bare : (n : ℕ) (xs : List Place) → fold (λ (a : ℕ) (x : Place). a + x.columns) n (map bare xs) ≡ fold (λ (a : ℕ) (x : Place). a + x.columns) n xs
+sum_bare : (n : ℕ) (xs : List CharInfo) → fold (λ (a : ℕ) (x : CharInfo). a + x.columns) n (map bare xs) ≡ fold (λ (a : ℕ) (x : CharInfo). a + x.columns) n xs
 sum_bare n [] = refl
 sum_bare n (x ∷ xs) = sum_bare (n + x.columns) xs
 
-columns_bare : (xs : List Place) → columns (map bare xs) ≡ columns xs
+columns_bare : (xs : List CharInfo) → columns (map bare xs) ≡ columns xs
 columns_bare xs = sum_bare 0 xs
 
-append_bare : (xs ys : List Place) → map bare (xs ++ ys) ≡ map bare xs ++ map bare ys
+append_bare : (xs ys : List CharInfo) → map bare (xs ++ ys) ≡ map bare xs ++ map bare ys
 append_bare [] ys = refl
 append_bare (x ∷ xs) ys = ap (λ zs. bare x ∷ zs) (append_bare xs ys)
 
-prefix_bare : (xs : List Place) → prefix_len (λ p. p.is_trailing) (map bare xs) ≡ prefix_len (λ p. p.is_trailing) xs
+prefix_bare : (xs : List CharInfo) → prefix_len (λ p. p.is_trailing) (map bare xs) ≡ prefix_len (λ p. p.is_trailing) xs
 prefix_bare [] = refl
 prefix_bare (x ∷ xs) = rw (prefix_bare xs) refl
 
-reverse_bare : (xs : List Place) → reverse (map bare xs) ≡ map bare (reverse xs)
+reverse_bare : (xs : List CharInfo) → reverse (map bare xs) ≡ map bare (reverse xs)
 reverse_bare [] = refl
 reverse_bare (x ∷ xs) =
     reverse-append (bare x ∷ []) (map bare xs) ∙ ap (λ ys. ys ++ bare x ∷ []) (reverse_bare xs)
     ∙ sym (append_bare (reverse xs) (x ∷ [])) ∙ ap (map bare) (sym (reverse-append (x ∷ []) xs))
 
-suffix_bare : (xs : List Place) → suffix_len (λ p. p.is_trailing) (map bare xs) ≡ suffix_len (λ p. p.is_trailing) xs
+suffix_bare : (xs : List CharInfo) → suffix_len (λ p. p.is_trailing) (map bare xs) ≡ suffix_len (λ p. p.is_trailing) xs
 suffix_bare xs = ap (prefix_len (λ p. p.is_trailing)) (reverse_bare xs) ∙ prefix_bare (reverse xs)
 
-shown_bare : (xs : List Place) → shown (map bare xs) ≡ map bare (shown xs)
+shown_bare : (xs : List CharInfo) → shown (map bare xs) ≡ map bare (shown xs)
 shown_bare xs =
     ap₂ (λ n m. take (n - m) (map bare xs)) (length-map xs bare) (suffix_bare xs)
     ∙ take-map bare (length xs - suffix_len (λ p. p.is_trailing) xs) xs
 
-shown_columns_bare : (xs : List Place) → columns (shown (map bare xs)) ≡ columns (shown xs)
+shown_columns_bare : (xs : List CharInfo) → columns (shown (map bare xs)) ≡ columns (shown xs)
 shown_columns_bare xs = ap columns (shown_bare xs) ∙ columns_bare (shown xs)
 
-shown_length_bare : (xs : List Place) → length (shown (map bare xs)) ≡ length (shown xs)
+shown_length_bare : (xs : List CharInfo) → length (shown (map bare xs)) ≡ length (shown xs)
 shown_length_bare xs = ap length (shown_bare xs) ∙ length-map (shown xs) bare
 
-range_bare : (xs : List Place) (s e : ℕ) → slice_range (map bare xs) s e ≡ map bare (slice_range xs s e)
+range_bare : (xs : List CharInfo) (s e : ℕ) → slice_range (map bare xs) s e ≡ map bare (slice_range xs s e)
 range_bare xs s e = ap (take (e - s)) (drop-map bare s xs) ∙ take-map bare (e - s) (drop s xs)
 
 -- ---- tests that agree
@@ -75,167 +75,167 @@ least_same p q low (suc count) same = rw (same low, least_same p q (suc low) cou
 
 -- ---- filling
 
-stop_bare : (xs : List Place) → stop (map bare xs) ≡ stop xs
+stop_bare : (xs : List CharInfo) → stop (map bare xs) ≡ stop xs
 stop_bare xs =
     ap₂ (λ n o. unwrap_or o (n - 1)) (length-map xs bare)
-    (ap (least (must_end (map bare xs)) 0) (length-map xs bare) ∙ least_same (must_end (map bare xs)) (must_end xs) 0 (length xs) (λ k. ap (λ (p : Place). is_must p.mark) (at_bare xs k)))
+    (ap (least (must_end (map bare xs)) 0) (length-map xs bare) ∙ least_same (must_end (map bare xs)) (must_end xs) 0 (length xs) (λ k. ap (λ (p : CharInfo). is_must p.mark) (at_bare xs k)))
 
-fits_bare : (width : ℕ) (xs : List Place) (k : ℕ) → fits_to width (map bare xs) k ≡ fits_to width xs k
+fits_bare : (width : ℕ) (xs : List CharInfo) (k : ℕ) → fits_to width (map bare xs) k ≡ fits_to width xs k
 fits_bare width xs k =
     ap (λ n. nat_le n width) (ap (λ ys. columns (shown ys)) (take-map bare (suc k) xs) ∙ shown_columns_bare (take (suc k) xs))
 
-break_bare : (width : ℕ) (xs : List Place) → by_break width (map bare xs) ≡ by_break width xs
+break_bare : (width : ℕ) (xs : List CharInfo) → by_break width (map bare xs) ≡ by_break width xs
 break_bare width xs =
     ap (λ n. greatest (λ k. may_end (map bare xs) k && fits_to width (map bare xs) k) (suc n)) (stop_bare xs)
     ∙ greatest_same (λ k. may_end (map bare xs) k && fits_to width (map bare xs) k) (λ k. may_end xs k && fits_to width xs k) (suc (stop xs))
-    (λ k. ap₂ ◌&&◌ (ap (λ (p : Place). is_break p.mark) (at_bare xs k)) (fits_bare width xs k))
+    (λ k. ap₂ ◌&&◌ (ap (λ (p : CharInfo). is_break p.mark) (at_bare xs k)) (fits_bare width xs k))
 
 -- places that differ in their clusters alone have the same breaks
-pub same_stop : (xs ys : List Place) → AreAlike xs ys → stop xs ≡ stop ys
+pub same_stop : (xs ys : List CharInfo) → AreAlike xs ys → stop xs ≡ stop ys
 same_stop xs ys alike = sym (stop_bare xs) ∙ ap stop alike ∙ stop_bare ys
 
-pub same_break : (width : ℕ) (xs ys : List Place) → AreAlike xs ys → by_break width xs ≡ by_break width ys
+pub same_break : (width : ℕ) (xs ys : List CharInfo) → AreAlike xs ys → by_break width xs ≡ by_break width ys
 same_break width xs ys alike = sym (break_bare width xs) ∙ ap (by_break width) alike ∙ break_bare width ys
 
 -- a line that ends at a break
-pub line_by_stop : (width k : ℕ) (rest known : List Place) → AreAlike rest known → k ≡ stop rest → k + 1 ≡ line_len true width known
+pub line_by_stop : (width k : ℕ) (rest known : List CharInfo) → AreAlike rest known → k ≡ stop rest → k + 1 ≡ line_len true width known
 line_by_stop width k rest known alike is = rw (is, same_stop rest known alike) (omega arith)
 
-pub line_by_break : (width k : ℕ) (rest known : List Place) → AreAlike rest known → by_break width rest ≡ Some k → k + 1 ≡ line_len false width known
+pub line_by_break : (width k : ℕ) (rest known : List CharInfo) → AreAlike rest known → by_break width rest ≡ Some k → k + 1 ≡ line_len false width known
 line_by_break width k rest known alike is =
     let found : by_break width known ≡ Some k = sym (same_break width rest known alike) ∙ is in
     rw found (omega arith)
 
 -- ---- clusters
 
-pub alike_drop : (xs ys : List Place) (n : ℕ) → AreAlike xs ys → AreAlike (drop n xs) (drop n ys)
+pub alike_drop : (xs ys : List CharInfo) (n : ℕ) → AreAlike xs ys → AreAlike (drop n xs) (drop n ys)
 alike_drop xs ys n alike = sym (drop-map bare n xs) ∙ ap (drop n) alike ∙ drop-map bare n ys
 
-pub alike_length : (xs ys : List Place) → AreAlike xs ys → length xs ≡ length ys
+pub alike_length : (xs ys : List CharInfo) → AreAlike xs ys → length xs ≡ length ys
 alike_length xs ys alike = sym (length-map xs bare) ∙ ap length alike ∙ length-map ys bare
 
-pub with_alike : (xs : List Place) (ends : List Bool) → length ends ≡ length xs → AreAlike (with_ends xs ends) xs
+pub with_alike : (xs : List CharInfo) (ends : List Bool) → length ends ≡ length xs → AreAlike (with_ends xs ends) xs
 with_alike [] [] size = refl
 with_alike [] (e ∷ ends) size = absurd (omega (arith, size))
 with_alike (x ∷ xs) [] size = absurd (omega (arith, size))
 with_alike (x ∷ xs) (e ∷ ends) size = ap (λ ys. bare x ∷ ys) (with_alike xs ends (omega (arith, size)))
 
-with_bare : (xs : List Place) (ends : List Bool) → with_ends (map bare xs) ends ≡ with_ends xs ends
+with_bare : (xs : List CharInfo) (ends : List Bool) → with_ends (map bare xs) ends ≡ with_ends xs ends
 with_bare [] ends = refl
 with_bare (x ∷ xs) [] = refl
 with_bare (x ∷ xs) (e ∷ ends) = ap (λ ys. record x { ends_cluster = e } ∷ ys) (with_bare xs ends)
 
-pub same_with : (xs ys : List Place) (ends : List Bool) → AreAlike xs ys → with_ends xs ends ≡ with_ends ys ends
+pub same_with : (xs ys : List CharInfo) (ends : List Bool) → AreAlike xs ys → with_ends xs ends ≡ with_ends ys ends
 same_with xs ys ends alike = sym (with_bare xs ends) ∙ ap (λ zs. with_ends zs ends) alike ∙ with_bare ys ends
 
-pub with_places : (t : Tables) (text : List ℕ) (marks : List Mark) (ends : List Bool) → with_ends (bare_places t text marks) ends ≡ places t text marks ends
-with_places t [] marks ends = refl
-with_places t (c ∷ text) [] ends = refl
-with_places t (c ∷ text) (mark ∷ marks) [] = refl
-with_places t (c ∷ text) (mark ∷ marks) (e ∷ ends) = ap (λ ps. place t c mark e ∷ ps) (with_places t text marks ends)
+pub with_infos : (t : Tables) (text : List ℕ) (marks : List Mark) (ends : List Bool) → with_ends (bare_infos t text marks) ends ≡ infos t text marks ends
+with_infos t [] marks ends = refl
+with_infos t (c ∷ text) [] ends = refl
+with_infos t (c ∷ text) (mark ∷ marks) [] = refl
+with_infos t (c ∷ text) (mark ∷ marks) (e ∷ ends) = ap (λ ps. info t c mark e ∷ ps) (with_infos t text marks ends)
 
-pub length-bare_places : (t : Tables) (text : List ℕ) (marks : List Mark) → length marks ≡ length text → length (bare_places t text marks) ≡ length text
-length-bare_places t [] marks size = refl
-length-bare_places t (c ∷ text) [] size = absurd (omega (arith, size))
-length-bare_places t (c ∷ text) (mark ∷ marks) size = ap suc (length-bare_places t text marks (omega (arith, size)))
+pub length-bare_infos : (t : Tables) (text : List ℕ) (marks : List Mark) → length marks ≡ length text → length (bare_infos t text marks) ≡ length text
+length-bare_infos t [] marks size = refl
+length-bare_infos t (c ∷ text) [] size = absurd (omega (arith, size))
+length-bare_infos t (c ∷ text) (mark ∷ marks) size = ap suc (length-bare_infos t text marks (omega (arith, size)))
 
-with_append : (xs : List Place) (ends : List Bool) (p : Place) (e : Bool) → length ends ≡ length xs
+with_append : (xs : List CharInfo) (ends : List Bool) (p : CharInfo) (e : Bool) → length ends ≡ length xs
     → with_ends (xs ++ p ∷ []) (ends ++ e ∷ []) ≡ with_ends xs ends ++ record p { ends_cluster = e } ∷ []
 with_append [] [] p e size = refl
 with_append [] (f ∷ ends) p e size = absurd (omega (arith, size))
 with_append (x ∷ xs) [] p e size = absurd (omega (arith, size))
 with_append (x ∷ xs) (f ∷ ends) p e size = ap (λ ys. record x { ends_cluster = f } ∷ ys) (with_append xs ends p e (omega (arith, size)))
 
-length_with : (xs : List Place) (ends : List Bool) → length ends ≡ length xs → length (with_ends xs ends) ≡ length xs
+length_with : (xs : List CharInfo) (ends : List Bool) → length ends ≡ length xs → length (with_ends xs ends) ≡ length xs
 length_with [] ends size = refl
 length_with (x ∷ xs) [] size = absurd (omega (arith, size))
 length_with (x ∷ xs) (e ∷ ends) size = ap suc (length_with xs ends (omega (arith, size)))
 
 -- one place more with its end
-pub with_more : (old current : List Place) (ends : List Bool) (k : ℕ) (e : Bool) → k < length old → length ends ≡ length old → e ≡ get_or ends k e
+pub with_more : (old current : List CharInfo) (ends : List Bool) (k : ℕ) (e : Bool) → k < length old → length ends ≡ length old → e ≡ get_or ends k e
     → current ≡ with_ends (take k old) (take k ends) ++ drop k old
     → set current k (record (place_at current k) { ends_cluster = e }) ≡ with_ends (take (k + 1) old) (take (k + 1) ends) ++ drop (k + 1) old
 with_more old current ends k e within size e_is so_far =
-    let p : Place = place_at old k in
-    let front : List Place = with_ends (take k old) (take k ends) in
+    let p : CharInfo = place_at old k in
+    let front : List CharInfo = with_ends (take k old) (take k ends) in
     let sizes : length (take k ends) ≡ length (take k old) = omega (arith, length-take-le k old (omega (arith, within)), length-take-le k ends (omega (arith, within, size))) in
     let len : length front ≡ k = length_with (take k old) (take k ends) sizes ∙ length-take-le k old (omega (arith, within)) in
     let here : drop k old ≡ p ∷ drop (k + 1) old = drop_more old k nothing within in
     let whole : current ≡ front ++ p ∷ drop (k + 1) old = so_far ∙ ap (λ ys. front ++ ys) here in
     let read : place_at current k ≡ p =
-    ap (λ (ys : List Place). place_at ys k) whole ∙ ap (λ n. place_at (front ++ p ∷ drop (k + 1) old) n) (sym len) ∙ get_or-append_seam front p (drop (k + 1) old) nothing in
+    ap (λ (ys : List CharInfo). place_at ys k) whole ∙ ap (λ n. place_at (front ++ p ∷ drop (k + 1) old) n) (sym len) ∙ get_or-append_seam front p (drop (k + 1) old) nothing in
     let put : set current k (record (place_at current k) { ends_cluster = e }) ≡ front ++ record p { ends_cluster = e } ∷ drop (k + 1) old =
-    ap (λ (q : Place). set current k (record q { ends_cluster = e })) read
-    ∙ ap (λ (ys : List Place). set ys k (record p { ends_cluster = e })) whole
+    ap (λ (q : CharInfo). set current k (record q { ends_cluster = e })) read
+    ∙ ap (λ (ys : List CharInfo). set ys k (record p { ends_cluster = e })) whole
     ∙ ap (λ n. set (front ++ p ∷ drop (k + 1) old) n (record p { ends_cluster = e })) (sym len)
     ∙ set-append_seam front p (drop (k + 1) old) (record p { ends_cluster = e }) in
     let ends_more : take (k + 1) ends ≡ take k ends ++ e ∷ [] =
     take_more ends k e (omega (arith, within, size)) ∙ ap (λ (x : Bool). take k ends ++ x ∷ []) (sym e_is) in
-    let done : with_ends (take (k + 1) old) (take (k + 1) ends) ≡ front ++ record p { ends_cluster = e } ∷ [] =
+    let before : with_ends (take (k + 1) old) (take (k + 1) ends) ≡ front ++ record p { ends_cluster = e } ∷ [] =
     ap₂ with_ends (take_more old k nothing within) ends_more ∙ with_append (take k old) (take k ends) p e sizes in
-    put ∙ sym (ap (λ (ys : List Place). ys ++ drop (k + 1) old) done ∙ append_assoc front (record p { ends_cluster = e } ∷ []) (drop (k + 1) old))
+    put ∙ sym (ap (λ (ys : List CharInfo). ys ++ drop (k + 1) old) before ∙ append_assoc front (record p { ends_cluster = e } ∷ []) (drop (k + 1) old))
 
 -- ---- lines
 
 module _ (tables : Tables) (options : Options) (base : ℕ) (text levels : List ℕ) where
-  line_bare : (xs : List Place) (s e : ℕ) → line_between tables options base text levels (map bare xs) s e ≡ line_between tables options base text levels xs s e
+  line_bare : (xs : List CharInfo) (s e : ℕ) → line_between tables options base text levels (map bare xs) s e ≡ line_between tables options base text levels xs s e
   line_bare xs s e =
       let part = slice_range xs s e in
       let amount : length (shown (slice_range (map bare xs) s e)) ≡ length (shown part) = ap (λ ys. length (shown ys)) (range_bare xs s e) ∙ shown_length_bare part in
       let sum : columns (shown (slice_range (map bare xs) s e)) ≡ columns (shown part) = ap (λ ys. columns (shown ys)) (range_bare xs s e) ∙ shown_columns_bare part in
       rw (amount, sum) refl
 
-  lines_bare : (xs : List Place) (starts : List ℕ) → lines_from tables options base text levels (map bare xs) starts ≡ lines_from tables options base text levels xs starts
+  lines_bare : (xs : List CharInfo) (starts : List ℕ) → lines_from tables options base text levels (map bare xs) starts ≡ lines_from tables options base text levels xs starts
   lines_bare xs [] = refl
   lines_bare xs (s ∷ []) = ap (λ (l : Line). l ∷ []) (line_bare xs s (length text))
   lines_bare xs (s ∷ t ∷ starts) = ap₂ (λ (l : Line) (ls : List Line). l ∷ ls) (line_bare xs s t) (lines_bare xs (t ∷ starts))
 
-  pub same_lines : (xs ys : List Place) (starts : List ℕ) → AreAlike xs ys → lines_from tables options base text levels xs starts ≡ lines_from tables options base text levels ys starts
+  pub same_lines : (xs ys : List CharInfo) (starts : List ℕ) → AreAlike xs ys → lines_from tables options base text levels xs starts ≡ lines_from tables options base text levels ys starts
   same_lines xs ys starts alike = sym (lines_bare xs starts) ∙ ap (λ zs. lines_from tables options base text levels zs starts) alike ∙ lines_bare ys starts
 
 -- ---- how much of each line is shown
 
-between_bare : (xs : List Place) (s e : ℕ) → shown_between (map bare xs) s e ≡ shown_between xs s e
+between_bare : (xs : List CharInfo) (s e : ℕ) → shown_between (map bare xs) s e ≡ shown_between xs s e
 between_bare xs s e =
     let part = slice_range xs s e in
     let amount : length (shown (slice_range (map bare xs) s e)) ≡ length (shown part) = ap (λ ys. length (shown ys)) (range_bare xs s e) ∙ shown_length_bare part in
     let sum : columns (shown (slice_range (map bare xs) s e)) ≡ columns (shown part) = ap (λ ys. columns (shown ys)) (range_bare xs s e) ∙ shown_columns_bare part in
     rw (amount, sum) refl
 
-parts_bare : (n : ℕ) (xs : List Place) (starts : List ℕ) → shown_from n (map bare xs) starts ≡ shown_from n xs starts
+parts_bare : (n : ℕ) (xs : List CharInfo) (starts : List ℕ) → shown_from n (map bare xs) starts ≡ shown_from n xs starts
 parts_bare n xs [] = refl
 parts_bare n xs (s ∷ []) = ap (λ (p : Shown). p ∷ []) (between_bare xs s n)
 parts_bare n xs (s ∷ t ∷ starts) = ap₂ (λ (p : Shown) (ps : List Shown). p ∷ ps) (between_bare xs s t) (parts_bare n xs (t ∷ starts))
 
-pub same_shown : (n : ℕ) (xs ys : List Place) (starts : List ℕ) → AreAlike xs ys → shown_from n xs starts ≡ shown_from n ys starts
+pub same_shown : (n : ℕ) (xs ys : List CharInfo) (starts : List ℕ) → AreAlike xs ys → shown_from n xs starts ≡ shown_from n ys starts
 same_shown n xs ys starts alike = sym (parts_bare n xs starts) ∙ ap (λ zs. shown_from n zs starts) alike ∙ parts_bare n ys starts
 
 -- the first k places are put, and those of what is left make the whole with them
-pub record PlacesPut (t : Tables) (text : List ℕ) (marks : List Mark) (current : List Place) (k : ℕ) : Type 0 where
+pub record PlacesPut (t : Tables) (text : List ℕ) (marks : List Mark) (current : List CharInfo) (k : ℕ) : Type 0 where
   pub sizes : length current ≡ length text
   pub within : k ≤ length text
-  pub whole : take k current ++ bare_places t (drop k text) (drop k marks) ≡ bare_places t text marks
+  pub whole : take k current ++ bare_infos t (drop k text) (drop k marks) ≡ bare_infos t text marks
 
-pub PlacesPut-next : (t : Tables) (text : List ℕ) (marks : List Mark) (current : List Place) (k c : ℕ) (mark d : Mark) (p : Place) → PlacesPut t text marks current k
-    → k < length text → length marks ≡ length text → c ≡ get_or text k c → mark ≡ get_or marks k d → p ≡ place t c mark false
+pub PlacesPut-next : (t : Tables) (text : List ℕ) (marks : List Mark) (current : List CharInfo) (k c : ℕ) (mark d : Mark) (p : CharInfo) → PlacesPut t text marks current k
+    → k < length text → length marks ≡ length text → c ≡ get_or text k c → mark ≡ get_or marks k d → p ≡ info t c mark false
     → PlacesPut t text marks (set current k p) (k + 1)
 PlacesPut-next t text marks current k c mark d p w below same c_is mark_is is =
     let first : drop k text ≡ c ∷ drop (k + 1) text = drop_more text k c below ∙ ap (λ (x : ℕ). x ∷ drop (k + 1) text) (sym c_is) in
     let own : drop k marks ≡ mark ∷ drop (k + 1) marks = drop_more marks k d (omega arith) ∙ ap (λ (m : Mark). m ∷ drop (k + 1) marks) (sym mark_is) in
-    let rest : List Place = bare_places t (drop (k + 1) text) (drop (k + 1) marks) in
+    let rest : List CharInfo = bare_infos t (drop (k + 1) text) (drop (k + 1) marks) in
     record {
       sizes = length-set current k p ∙ w.sizes;
       within = omega (arith, below);
-      whole = ap (λ (front : List Place). front ++ rest) (take_more_set current k p (omega (arith, w.sizes)))
+      whole = ap (λ (front : List CharInfo). front ++ rest) (take_more_set current k p (omega (arith, w.sizes)))
           ∙ append_assoc (take k current) (p ∷ []) rest
-          ∙ ap (λ (q : Place). take k current ++ q ∷ rest) is
-          ∙ sym (ap₂ (λ (cs : List ℕ) (ms : List Mark). take k current ++ bare_places t cs ms) first own)
+          ∙ ap (λ (q : CharInfo). take k current ++ q ∷ rest) is
+          ∙ sym (ap₂ (λ (cs : List ℕ) (ms : List Mark). take k current ++ bare_infos t cs ms) first own)
           ∙ w.whole;
     }
 
-pub PlacesPut-end : (t : Tables) (text : List ℕ) (marks : List Mark) (current : List Place) (k : ℕ) → PlacesPut t text marks current k → length text ≤ k
-    → current ≡ bare_places t text marks
+pub PlacesPut-end : (t : Tables) (text : List ℕ) (marks : List Mark) (current : List CharInfo) (k : ℕ) → PlacesPut t text marks current k → length text ≤ k
+    → current ≡ bare_infos t text marks
 PlacesPut-end t text marks current k w past =
     sym (append-nil current)
-    ∙ ap₂ ◌++◌ (sym (take_all k current (omega (arith, w.sizes)))) (sym (ap (λ (cs : List ℕ). bare_places t cs (drop k marks)) (drop_all k text past)))
+    ∙ ap₂ ◌++◌ (sym (take_all k current (omega (arith, w.sizes)))) (sym (ap (λ (cs : List ℕ). bare_infos t cs (drop k marks)) (drop_all k text past)))
     ∙ w.whole

@@ -12,39 +12,39 @@ use Rattle.lines.specs.Clusters.{cluster_ends}
 use Rattle.lines.specs.Filling.{line_starts_of}
 use Rattle.lines.specs.Kept.{AreStarts}
 use Rattle.lines.specs.Layouts.{Rules, base_of, lines_of, start_of}
-use Rattle.lines.specs.Places.{places_of}
+use Rattle.lines.specs.CharInfos.{infos_of}
 use Rattle.lines.specs.Visual.{lines_from}
 use Rattle.lines.specs.declared.options.Options.{Options}
-use Rattle.lines.specs.declared.places.Place.{Place}
+use Rattle.lines.specs.declared.char_info.CharInfo.{CharInfo}
 use Rattle.lines.proofs.ClusterLemmas.{length-cluster_ends}
-use Rattle.lines.proofs.SkippedLemmas.{length-places}
+use Rattle.lines.proofs.SkippedLemmas.{length-infos}
 use Rattle.lines.proofs.StayLemmas.{EndsAtMust}
 use Rattle.lines.proofs.VisualLemmas.{starts_within}
 
-starts_from : (tables : Tables) (options : Options) (base : ℕ) (text levels : List ℕ) (ps : List Place) (starts : List ℕ)
+starts_from : (tables : Tables) (options : Options) (base : ℕ) (text levels : List ℕ) (ps : List CharInfo) (starts : List ℕ)
     → map start_of (lines_from tables options base text levels ps starts) ≡ starts
 starts_from tables options base text levels ps [] = refl
 starts_from tables options base text levels ps (s ∷ []) = refl
 starts_from tables options base text levels ps (s ∷ t ∷ starts) = ap (λ ss. s ∷ ss) (starts_from tables options base text levels ps (t ∷ starts))
 
-starts_at_0 : (nobreak : Bool) (width : ℕ) (ps : List Place) → 0 < length ps → slice_get (line_starts_of nobreak width ps) 0 ≡ Some 0
+starts_at_0 : (nobreak : Bool) (width : ℕ) (ps : List CharInfo) → 0 < length ps → slice_get (line_starts_of nobreak width ps) 0 ≡ Some 0
 unfolding line_starts_of
 starts_at_0 nobreak width [] some = absurd (omega (arith, some))
 starts_at_0 nobreak width (p ∷ ps) some = refl
 
-some_places : EndsAtMust → (rules : Rules) (text : List ℕ) → 0 < length text → 0 < length (places_of rules.tables rules.options.whole_numbers text)
-unfolding places_of
-some_places law rules text some =
+some_infos : EndsAtMust → (rules : Rules) (text : List ℕ) → 0 < length text → 0 < length (infos_of rules.tables rules.options.whole_numbers text)
+unfolding infos_of
+some_infos law rules text some =
     let marks : List Mark = marks_of rules.tables rules.options.whole_numbers text in
     let few = slice_get_within marks (length text - 1) Must (law rules.tables rules.options.whole_numbers text some) in
-    omega (arith, some, length-places rules.tables text marks (cluster_ends text) (omega (arith, few)) (length-cluster_ends text))
+    omega (arith, some, length-infos rules.tables text marks (cluster_ends text) (omega (arith, few)) (length-cluster_ends text))
 
 pub begin_in_order : EndsAtMust → (rules : Rules) (width : ℕ) (text : List ℕ) → BeginInOrder text (lines_of rules width text)
 begin_in_order law rules width text =
-    let ps : List Place = places_of rules.tables rules.options.whole_numbers text in
+    let ps : List CharInfo = infos_of rules.tables rules.options.whole_numbers text in
     let starts : List ℕ = line_starts_of rules.options.nobreak width ps in
     let are : map start_of (lines_of rules width text) ≡ starts = starts_from rules.tables rules.options (base_of rules text) text (levels_of rules.tables text rules.options.base) ps starts in
     record {
       starts = subst (AreStarts (length text)) (sym are) (starts_within rules width text);
-      first = λ some. ap (λ ss. slice_get ss 0) are ∙ starts_at_0 rules.options.nobreak width ps (some_places law rules text some);
+      first = λ some. ap (λ ss. slice_get ss 0) are ∙ starts_at_0 rules.options.nobreak width ps (some_infos law rules text some);
     }

@@ -5,7 +5,7 @@ use Rattle.std.proofs.lemmas.List.{get_or-map, length-map, take_all, take_more}
 use Rattle.std.proofs.lemmas.List.Sums.{sum_by_push}
 use Rattle.ucd.specs.Least.{least}
 use Rattle.lines.specs.Columns.{columns_left, covering, unmirrored}
-use Rattle.lines.specs.Places.{columns_of}
+use Rattle.lines.specs.CharInfos.{columns_of}
 use Rattle.lines.specs.Visual.{Visual}
 
 module _ (line : Visual) where

@@ -4,46 +4,46 @@ use Rattle.ucd.specs.declared.tables.Tables.{Tables}
 use Rattle.breaks.specs.declared.mark.Mark.{Mark}
 use Rattle.lines.specs.Filling.{line_len, line_starts_of, starts}
 use Rattle.lines.specs.Layouts.{Rules, base_of, lines_of}
-use Rattle.lines.specs.Places.{places, places_of}
+use Rattle.lines.specs.CharInfos.{infos, infos_of}
 use Rattle.lines.specs.Visual.{lines_from}
 use Rattle.lines.specs.declared.options.Options.{Options}
-use Rattle.lines.specs.declared.places.Place.{Place}
+use Rattle.lines.specs.declared.char_info.CharInfo.{CharInfo}
 use Rattle.bidi.specs.Levels.{levels_of}
 use Rattle.breaks.specs.Marks.{marks_of}
 use Rattle.lines.specs.Clusters.{cluster_ends}
 
-length-lines_from : (tables : Tables) (options : Options) (base : ℕ) (text levels : List ℕ) (ps : List Place) (ss : List ℕ) → length (lines_from tables options base text levels ps ss) ≡ length ss
+length-lines_from : (tables : Tables) (options : Options) (base : ℕ) (text levels : List ℕ) (ps : List CharInfo) (ss : List ℕ) → length (lines_from tables options base text levels ps ss) ≡ length ss
 length-lines_from tables options base text levels ps [] = refl
 length-lines_from tables options base text levels ps (s ∷ []) = refl
 length-lines_from tables options base text levels ps (s ∷ t ∷ ss) = ap suc (length-lines_from tables options base text levels ps (t ∷ ss))
 
-few-starts : (nobreak : Bool) (width place left : ℕ) (rest : List Place) → length (starts nobreak width place left rest) ≤ length rest
+few-starts : (nobreak : Bool) (width place left : ℕ) (rest : List CharInfo) → length (starts nobreak width place left rest) ≤ length rest
 few-starts nobreak width place zero [] = omega arith
 few-starts nobreak width place (suc left) [] = omega arith
 few-starts nobreak width place zero (p ∷ rest) = omega (arith, few-starts nobreak width (suc place) (line_len nobreak width (p ∷ rest) - 1) rest)
 few-starts nobreak width place (suc left) (p ∷ rest) = omega (arith, few-starts nobreak width (suc place) left rest)
 
-few-places : (t : Tables) (text : List ℕ) (marks : List Mark) (clusters : List Bool) → length (places t text marks clusters) ≤ length text
-few-places t [] marks clusters = omega arith
-few-places t (c ∷ text) [] clusters = omega arith
-few-places t (c ∷ text) (mark ∷ marks) [] = omega arith
-few-places t (c ∷ text) (mark ∷ marks) (ends ∷ clusters) = omega (arith, few-places t text marks clusters)
+few-infos : (t : Tables) (text : List ℕ) (marks : List Mark) (clusters : List Bool) → length (infos t text marks clusters) ≤ length text
+few-infos t [] marks clusters = omega arith
+few-infos t (c ∷ text) [] clusters = omega arith
+few-infos t (c ∷ text) (mark ∷ marks) [] = omega arith
+few-infos t (c ∷ text) (mark ∷ marks) (ends ∷ clusters) = omega (arith, few-infos t text marks clusters)
 
-few-line_starts : (nobreak : Bool) (width : ℕ) (ps : List Place) → length (line_starts_of nobreak width ps) ≤ length ps
+few-line_starts : (nobreak : Bool) (width : ℕ) (ps : List CharInfo) → length (line_starts_of nobreak width ps) ≤ length ps
 unfolding line_starts_of
 few-line_starts nobreak width ps = few-starts nobreak width 0 0 ps
 
-few-places_of : (t : Tables) (whole_numbers : Bool) (text : List ℕ) → length (places_of t whole_numbers text) ≤ length text
-unfolding places_of
-few-places_of t whole_numbers text = few-places t text (marks_of t whole_numbers text) (cluster_ends text)
+few-infos_of : (t : Tables) (whole_numbers : Bool) (text : List ℕ) → length (infos_of t whole_numbers text) ≤ length text
+unfolding infos_of
+few-infos_of t whole_numbers text = few-infos t text (marks_of t whole_numbers text) (cluster_ends text)
 
 pub few_lines : (rules : Rules) (width : ℕ) (text : List ℕ) → length (lines_of rules width text) ≤ length text
 few_lines rules width text =
-    let ps = places_of rules.tables rules.options.whole_numbers text in
+    let ps = infos_of rules.tables rules.options.whole_numbers text in
     let ss = line_starts_of rules.options.nobreak width ps in
     omega (
       arith,
       length-lines_from rules.tables rules.options (base_of rules text) text (levels_of rules.tables text rules.options.base) ps ss,
       few-line_starts rules.options.nobreak width ps,
-      few-places_of rules.tables rules.options.whole_numbers text,
+      few-infos_of rules.tables rules.options.whole_numbers text,
     )

@@ -15,7 +15,7 @@ use Rattle.lines.specs.Filling.{cluster_ends_at, columns, first_end, fits_to, ma
 use Rattle.lines.specs.Kept.{AreStarts}
 use Rattle.lines.specs.Sums.{sums_after, AreSumsOf}
 use Rattle.lines.specs.declared.filling.Sums.{Sums}
-use Rattle.lines.specs.declared.places.Place.{Place}
+use Rattle.lines.specs.declared.char_info.CharInfo.{CharInfo}
 
 -- ---- the greatest number that passes
 
@@ -31,28 +31,28 @@ greatest_skips p k (suc n) below fails =
 
 -- ---- sums
 
-abbrev trails : Place → Bool
+abbrev trails : CharInfo → Bool
 trails p = p.is_trailing
 
 -- the shown part of a line up to a position
-shown_to : (rest : List Place) (n : ℕ) → n ≤ length rest → shown (take n rest) ≡ take (n - suffix_len trails (take n rest)) rest
+shown_to : (rest : List CharInfo) (n : ℕ) → n ≤ length rest → shown (take n rest) ≡ take (n - suffix_len trails (take n rest)) rest
 shown_to rest n within =
     ap (λ m. take (m - suffix_len trails (take n rest)) (take n rest)) (length-take-le n rest within)
     ∙ take-take (n - suffix_len trails (take n rest)) n rest (omega arith)
 
-trailing_more : (rest : List Place) (k : ℕ) → k < length rest → trails (place_at rest k) ≡ true → suffix_len trails (take (suc k) rest) ≡ 1 + suffix_len trails (take k rest)
+trailing_more : (rest : List CharInfo) (k : ℕ) → k < length rest → trails (place_at rest k) ≡ true → suffix_len trails (take (suc k) rest) ≡ 1 + suffix_len trails (take k rest)
 trailing_more rest k within trailing =
     let e : suc k - 1 ≡ k = omega arith in
     suffix_len-take_yes trails rest (suc k) nothing (omega arith) (omega (arith, within)) (subst (λ j. trails (place_at rest j) ≡ true) (sym e) trailing)
     ∙ ap (λ j. 1 + suffix_len trails (take j rest)) e
 
-trailing_none : (rest : List Place) (k : ℕ) → k < length rest → trails (place_at rest k) ≡ false → suffix_len trails (take (suc k) rest) ≡ 0
+trailing_none : (rest : List CharInfo) (k : ℕ) → k < length rest → trails (place_at rest k) ≡ false → suffix_len trails (take (suc k) rest) ≡ 0
 trailing_none rest k within counts =
     let e : suc k - 1 ≡ k = omega arith in
     suffix_len-take_no trails rest (suc k) nothing (omega arith) (omega (arith, within)) (subst (λ j. trails (place_at rest j) ≡ false) (sym e) counts)
 
 -- a character at the end of a line counts for nothing there, or else all is shown
-pub shown_after : (rest : List Place) (k : ℕ) → k < length rest
+pub shown_after : (rest : List CharInfo) (k : ℕ) → k < length rest
     → columns (shown (take (suc k) rest)) ≡ (if (place_at rest k).is_trailing then columns (shown (take k rest)) else columns (take (suc k) rest))
 shown_after rest k within =
     let s : ℕ = suffix_len trails (take k rest) in
@@ -72,13 +72,13 @@ shown_after rest k within =
           ∙ sym (cond-false (trails (place_at rest k)) (columns (shown (take k rest))) (columns (take (suc k) rest)) counts)
     ]
 
-pub columns_after : (rest : List Place) (k : ℕ) → k < length rest → columns (take (suc k) rest) ≡ columns (take k rest) + (place_at rest k).columns
+pub columns_after : (rest : List CharInfo) (k : ℕ) → k < length rest → columns (take (suc k) rest) ≡ columns (take k rest) + (place_at rest k).columns
 columns_after rest k within =
     let e : suc k ≡ k + 1 = omega arith in
     ap (λ n. columns (take n rest)) e ∙ sum_by_more (λ p. p.columns) rest k nothing within
 
 -- sums with one more character
-pub sums_more : (rest : List Place) (k : ℕ) (sums : Sums) → k < length rest → AreSumsOf (take k rest) sums → AreSumsOf (take (suc k) rest) (sums_after sums (place_at rest k))
+pub sums_more : (rest : List CharInfo) (k : ℕ) (sums : Sums) → k < length rest → AreSumsOf (take k rest) sums → AreSumsOf (take (suc k) rest) (sums_after sums (place_at rest k))
 sums_more rest k sums within so_far = record {
   columns_are = ap (λ n. n + (place_at rest k).columns) so_far.columns_are ∙ sym (columns_after rest k within);
   shown_are = elim (cases_Bool (trails (place_at rest k))) [
@@ -93,11 +93,11 @@ sums_more rest k sums within so_far = record {
 }
 
 -- the shown part takes at most what the whole takes
-shown_most : (rest : List Place) (n : ℕ) → n ≤ length rest → columns (shown (take n rest)) ≤ columns (take n rest)
+shown_most : (rest : List CharInfo) (n : ℕ) → n ≤ length rest → columns (shown (take n rest)) ≤ columns (take n rest)
 shown_most rest n within = sum_by-take-le (λ p. p.columns) (take n rest) (length (take n rest) - suffix_len trails (take n rest))
 
 -- with one more character it takes no less
-shown_grows : (rest : List Place) (k : ℕ) → k < length rest → columns (shown (take k rest)) ≤ columns (shown (take (suc k) rest))
+shown_grows : (rest : List CharInfo) (k : ℕ) → k < length rest → columns (shown (take k rest)) ≤ columns (shown (take (suc k) rest))
 shown_grows rest k within =
     elim (cases_Bool (trails (place_at rest k))) [
       | inl trailing ↦ omega (arith, shown_after rest k within, cond-true (trails (place_at rest k)) (columns (shown (take k rest))) (columns (take (suc k) rest)) trailing)
@@ -111,7 +111,7 @@ shown_grows rest k within =
     ]
 
 -- after a position up to which the line does not fit, it fits nowhere
-pub misfits : (width : ℕ) (rest : List Place) (k j : ℕ) → k ≤ j → j < length rest → fits_to width rest k ≡ false → fits_to width rest j ≡ false
+pub misfits : (width : ℕ) (rest : List CharInfo) (k j : ℕ) → k ≤ j → j < length rest → fits_to width rest k ≡ false → fits_to width rest j ≡ false
 misfits width rest k zero above within here = let e : k ≡ 0 = omega (arith, above) in subst (λ j. fits_to width rest j ≡ false) e here
 misfits width rest k (suc j) above within here =
     elim (cases_eq k (suc j)) [
@@ -122,26 +122,26 @@ misfits width rest k (suc j) above within here =
 
 -- ---- where a line must end
 
-pub stop_at : (rest : List Place) (k : ℕ) → k < length rest → ((j : ℕ) → j < k → must_end rest j ≡ false) → must_end rest k ≡ true → stop rest ≡ k
+pub stop_at : (rest : List CharInfo) (k : ℕ) → k < length rest → ((j : ℕ) → j < k → must_end rest j ≡ false) → must_end rest k ≡ true → stop rest ≡ k
 stop_at rest k within before here =
     ap (λ o. unwrap_or o (length rest - 1)) (least_found (must_end rest) 0 (length rest) k (omega arith) (omega (arith, within)) here (λ m from below. before m below))
 
-pub stop_none : (rest : List Place) → ((j : ℕ) → j < length rest → must_end rest j ≡ false) → stop rest ≡ length rest - 1
+pub stop_none : (rest : List CharInfo) → ((j : ℕ) → j < length rest → must_end rest j ≡ false) → stop rest ≡ length rest - 1
 stop_none rest fails = ap (λ o. unwrap_or o (length rest - 1)) (least_none (must_end rest) 0 (length rest) (λ m from below. fails m (omega (arith, below))))
 
-pub first_end_at : (rest : List Place) (k : ℕ) → k < length rest → ((j : ℕ) → j < k → (may_end rest j || cluster_ends_at rest j) ≡ false)
+pub first_end_at : (rest : List CharInfo) (k : ℕ) → k < length rest → ((j : ℕ) → j < k → (may_end rest j || cluster_ends_at rest j) ≡ false)
     → (may_end rest k || cluster_ends_at rest k) ≡ true → first_end rest ≡ k
 first_end_at rest k within before here =
     ap (λ o. unwrap_or o (length rest - 1)) (least_found (λ j. may_end rest j || cluster_ends_at rest j) 0 (length rest) k (omega arith) (omega (arith, within)) here (λ m from below. before m below))
 
-pub first_end_none : (rest : List Place) → ((j : ℕ) → j < length rest → (may_end rest j || cluster_ends_at rest j) ≡ false) → first_end rest ≡ length rest - 1
+pub first_end_none : (rest : List CharInfo) → ((j : ℕ) → j < length rest → (may_end rest j || cluster_ends_at rest j) ≡ false) → first_end rest ≡ length rest - 1
 first_end_none rest fails =
     ap (λ o. unwrap_or o (length rest - 1)) (least_none (λ j. may_end rest j || cluster_ends_at rest j) 0 (length rest) (λ m from below. fails m (omega (arith, below))))
 
 -- ---- what the walk keeps
 
 -- of the characters before k, which all fit and after none of which a line must end
-pub record IsWalked (width : ℕ) (rest : List Place) (k : ℕ) (sums : Sums) (break cluster : Option ℕ) : Type 0 where
+pub record IsWalked (width : ℕ) (rest : List CharInfo) (k : ℕ) (sums : Sums) (break cluster : Option ℕ) : Type 0 where
   pub within : k ≤ length rest
   pub sums_are : AreSumsOf (take k rest) sums
   pub most : sums.columns ≤ 255 * k
@@ -177,12 +177,12 @@ least_within p low (suc count) n d k e above below fails =
     ]
 
 -- the stop stands at k or after it
-pub stop_from : (rest : List Place) (k : ℕ) → k < length rest → ((j : ℕ) → j < k → must_end rest j ≡ false) → (k ≤ stop rest) × (stop rest < length rest)
+pub stop_from : (rest : List CharInfo) (k : ℕ) → k < length rest → ((j : ℕ) → j < k → must_end rest j ≡ false) → (k ≤ stop rest) × (stop rest < length rest)
 stop_from rest k within fails =
     least_within (must_end rest) 0 (length rest) (length rest) (length rest - 1) k (omega arith) (omega (arith, within)) (omega (arith, within)) (λ m from below. fails m below)
 
 -- a step of the walk
-pub walk_more : (width : ℕ) (rest : List Place) (k : ℕ) (sums next : Sums) (break cluster : Option ℕ) → k < length rest → IsWalked width rest k sums break cluster
+pub walk_more : (width : ℕ) (rest : List CharInfo) (k : ℕ) (sums next : Sums) (break cluster : Option ℕ) → k < length rest → IsWalked width rest k sums break cluster
     → next ≡ sums_after sums (place_at rest k) → next.columns ≤ sums.columns + 255 → next.shown ≤ width → must_end rest k ≡ false
     → IsWalked width rest (k + 1) next (if may_end rest k then Some k else break) (if cluster_ends_at rest k then Some k else cluster)
 walk_more width rest k sums next break cluster within walked e most fitting must =
@@ -202,7 +202,7 @@ walk_more width rest k sums next break cluster within walked e most fitting must
     })
 
 -- the walk ends where a line must
-pub walk_stops : (width : ℕ) (rest : List Place) (test : ℕ → Bool) (k : ℕ) (sums next : Sums) (best : Option ℕ) → k < length rest
+pub walk_stops : (width : ℕ) (rest : List CharInfo) (test : ℕ → Bool) (k : ℕ) (sums next : Sums) (best : Option ℕ) → k < length rest
     → AreSumsOf (take k rest) sums → ((j : ℕ) → j < k → must_end rest j ≡ false) → next ≡ sums_after sums (place_at rest k) → next.shown ≤ width → must_end rest k ≡ true
     → best ≡ greatest (λ j. test j && fits_to width rest j) k
     → (if test k then Some k else best) ≡ greatest (λ j. test j && fits_to width rest j) (suc (stop rest))
@@ -213,7 +213,7 @@ walk_stops width rest test k sums next best within are no_must e fitting must so
     ∙ ap (λ n. greatest (λ j. test j && fits_to width rest j) (suc n)) (sym (stop_at rest k within no_must must))
 
 -- the walk ends with the characters
-pub walk_ends : (width : ℕ) (rest : List Place) (test : ℕ → Bool) (k : ℕ) → 0 < length rest → k ≡ length rest → ((j : ℕ) → j < k → must_end rest j ≡ false)
+pub walk_ends : (width : ℕ) (rest : List CharInfo) (test : ℕ → Bool) (k : ℕ) → 0 < length rest → k ≡ length rest → ((j : ℕ) → j < k → must_end rest j ≡ false)
     → greatest (λ j. test j && fits_to width rest j) k ≡ greatest (λ j. test j && fits_to width rest j) (suc (stop rest))
 walk_ends width rest test k some e no_must =
     let none : stop rest ≡ length rest - 1 = stop_none rest (λ j below. no_must j (omega (arith, below, e))) in
@@ -221,7 +221,7 @@ walk_ends width rest test k some e no_must =
     ap (greatest (λ j. test j && fits_to width rest j)) same
 
 -- the walk ends where the line does not fit, nor from there on
-pub walk_misfits : (width : ℕ) (rest : List Place) (test : ℕ → Bool) (k : ℕ) (sums next : Sums) → k < length rest
+pub walk_misfits : (width : ℕ) (rest : List CharInfo) (test : ℕ → Bool) (k : ℕ) (sums next : Sums) → k < length rest
     → AreSumsOf (take k rest) sums → ((j : ℕ) → j < k → must_end rest j ≡ false) → next ≡ sums_after sums (place_at rest k) → width < next.shown
     → greatest (λ j. test j && fits_to width rest j) k ≡ greatest (λ j. test j && fits_to width rest j) (suc (stop rest))
 walk_misfits width rest test k sums next within are no_must e above =
@@ -234,7 +234,7 @@ walk_misfits width rest test k sums next within are no_must e above =
 -- ---- lines one after another
 
 -- after the characters that are left of a line, the next one starts
-pub starts_skip : (nobreak : Bool) (width place left : ℕ) (rest : List Place) → left ≤ length rest
+pub starts_skip : (nobreak : Bool) (width place left : ℕ) (rest : List CharInfo) → left ≤ length rest
     → starts nobreak width place left rest ≡ starts nobreak width (place + left) 0 (drop left rest)
 starts_skip nobreak width place zero rest within = ap (λ n. starts nobreak width n 0 rest) (omega arith)
 starts_skip nobreak width place (suc left) [] within = absurd (omega (arith, within))
@@ -242,7 +242,7 @@ starts_skip nobreak width place (suc left) (p ∷ rest) within =
     starts_skip nobreak width (suc place) left rest (omega (arith, within)) ∙ ap (λ n. starts nobreak width n 0 (drop left rest)) (omega arith)
 
 -- the first line, and the others
-pub starts_line : (nobreak : Bool) (width place : ℕ) (rest : List Place) → 0 < length rest → line_len nobreak width rest ≤ length rest
+pub starts_line : (nobreak : Bool) (width place : ℕ) (rest : List CharInfo) → 0 < length rest → line_len nobreak width rest ≤ length rest
     → starts nobreak width place 0 rest ≡ place ∷ starts nobreak width (place + line_len nobreak width rest) 0 (drop (line_len nobreak width rest) rest)
 starts_line nobreak width place [] some within = absurd (omega (arith, some))
 starts_line nobreak width place (p ∷ rest) some within =
@@ -255,14 +255,14 @@ starts_line nobreak width place (p ∷ rest) some within =
     ∙ ap (λ m. starts nobreak width m 0 (drop n rest)) more)
 
 -- what is found in a line stands in it
-pub found_within : (rest : List Place) (test : ℕ → Bool) (k : ℕ) → 0 < length rest → greatest test (suc (stop rest)) ≡ Some k → k < length rest
+pub found_within : (rest : List CharInfo) (test : ℕ → Bool) (k : ℕ) → 0 < length rest → greatest test (suc (stop rest)) ≡ Some k → k < length rest
 found_within rest test k some e =
     omega (arith, (stop_from rest 0 some (λ j below. absurd (omega (arith, below)))).1, (greatest_found test (suc (stop rest)) k e).0)
 
 -- ---- how much of a line is shown
 
 -- what is shown of the first k characters
-pub record IsShownTo (rest : List Place) (k len columns_shown columns_all : ℕ) : Type 0 where
+pub record IsShownTo (rest : List CharInfo) (k len columns_shown columns_all : ℕ) : Type 0 where
   pub within : k ≤ length rest
   pub most : columns_all ≤ 255 * k
   pub len_within : len ≤ k

@@ -11,7 +11,7 @@ mod LengthLemmas
 pub mod KeptLemmas
 pub mod LayoutLemmas
 pub mod PageLemmas
-pub mod PlaceLemmas
+pub mod InfoLemmas
 mod ShowLemmas
 pub mod SkippedLemmas
 mod StayLemmas

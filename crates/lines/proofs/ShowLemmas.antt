@@ -20,7 +20,7 @@ use Rattle.lines.specs.Showing.{line_showing, nothing_shown, AreShown, IsPlaced,
 use Rattle.reorder.specs.Spaces.{line_levels}
 use Rattle.lines.specs.Visual.{Line, end_of, lines_from}
 use Rattle.lines.specs.declared.options.Options.{Options}
-use Rattle.lines.specs.declared.places.Place.{Place}
+use Rattle.lines.specs.declared.char_info.CharInfo.{CharInfo}
 use Rattle.lines.specs.declared.fill.Shown.{Shown}
 
 -- ---- where a line ends
@@ -66,53 +66,53 @@ ends_before n starts j (suc k) are h within =
 
 -- ---- how much of each line is shown
 
-pub length-shown_from : (n : ℕ) (places : List Place) (starts : List ℕ) → length (shown_from n places starts) ≡ length starts
-length-shown_from n places [] = refl
-length-shown_from n places (s ∷ []) = refl
-length-shown_from n places (s ∷ t ∷ starts) = ap suc (length-shown_from n places (t ∷ starts))
+pub length-shown_from : (n : ℕ) (infos : List CharInfo) (starts : List ℕ) → length (shown_from n infos starts) ≡ length starts
+length-shown_from n infos [] = refl
+length-shown_from n infos (s ∷ []) = refl
+length-shown_from n infos (s ∷ t ∷ starts) = ap suc (length-shown_from n infos (t ∷ starts))
 
-pub shown_at : (n : ℕ) (places : List Place) (starts : List ℕ) (k : ℕ) (d : Shown) → k < length starts
-    → get_or (shown_from n places starts) k d ≡ shown_between places (get_or starts k 0) (end_of n starts k)
-shown_at n places [] k d h = absurd (omega (arith, h))
-shown_at n places (s ∷ []) zero d h = refl
-shown_at n places (s ∷ []) (suc k) d h = absurd (omega (arith, h))
-shown_at n places (s ∷ t ∷ starts) zero d h = refl
-shown_at n places (s ∷ t ∷ starts) (suc k) d h = shown_at n places (t ∷ starts) k d (omega (arith, h))
+pub shown_at : (n : ℕ) (infos : List CharInfo) (starts : List ℕ) (k : ℕ) (d : Shown) → k < length starts
+    → get_or (shown_from n infos starts) k d ≡ shown_between infos (get_or starts k 0) (end_of n starts k)
+shown_at n infos [] k d h = absurd (omega (arith, h))
+shown_at n infos (s ∷ []) zero d h = refl
+shown_at n infos (s ∷ []) (suc k) d h = absurd (omega (arith, h))
+shown_at n infos (s ∷ t ∷ starts) zero d h = refl
+shown_at n infos (s ∷ t ∷ starts) (suc k) d h = shown_at n infos (t ∷ starts) k d (omega (arith, h))
 
 -- of one line more
-pub shown_more : (n : ℕ) (places : List Place) (starts : List ℕ) (k e : ℕ) (part : Shown) (parts more : List Shown) → k < length starts → e ≡ end_of n starts k
-    → part.len ≡ length (shown (slice_range places (get_or starts k 0) e)) → part.columns ≡ columns (shown (slice_range places (get_or starts k 0) e))
-    → parts ≡ take k (shown_from n places starts) → more ≡ parts ++ part ∷ [] → more ≡ take (k + 1) (shown_from n places starts)
-shown_more n places starts k e part parts more below e_is len columns_are so_far is =
-    let here : k < length (shown_from n places starts) = omega (arith, below, length-shown_from n places starts) in
-    let this : part ≡ shown_between places (get_or starts k 0) e = rw (len, columns_are) refl in
-    let item : get_or (shown_from n places starts) k part ≡ part =
-    shown_at n places starts k part below ∙ ap (shown_between places (get_or starts k 0)) (sym e_is) ∙ sym this in
-    is ∙ ap (λ (ps : List Shown). ps ++ part ∷ []) so_far ∙ ap (λ (p : Shown). take k (shown_from n places starts) ++ p ∷ []) (sym item)
-    ∙ sym (take_more (shown_from n places starts) k part here)
+pub shown_more : (n : ℕ) (infos : List CharInfo) (starts : List ℕ) (k e : ℕ) (part : Shown) (parts more : List Shown) → k < length starts → e ≡ end_of n starts k
+    → part.len ≡ length (shown (slice_range infos (get_or starts k 0) e)) → part.columns ≡ columns (shown (slice_range infos (get_or starts k 0) e))
+    → parts ≡ take k (shown_from n infos starts) → more ≡ parts ++ part ∷ [] → more ≡ take (k + 1) (shown_from n infos starts)
+shown_more n infos starts k e part parts more below e_is len columns_are so_far is =
+    let here : k < length (shown_from n infos starts) = omega (arith, below, length-shown_from n infos starts) in
+    let this : part ≡ shown_between infos (get_or starts k 0) e = rw (len, columns_are) refl in
+    let item : get_or (shown_from n infos starts) k part ≡ part =
+    shown_at n infos starts k part below ∙ ap (shown_between infos (get_or starts k 0)) (sym e_is) ∙ sym this in
+    is ∙ ap (λ (ps : List Shown). ps ++ part ∷ []) so_far ∙ ap (λ (p : Shown). take k (shown_from n infos starts) ++ p ∷ []) (sym item)
+    ∙ sym (take_more (shown_from n infos starts) k part here)
 
 -- of a text that has as many characters, and of starts that are the same
-pub taken_shown : (n m : ℕ) (places : List Place) (starts seen : List ℕ) {parts : List Shown} → n ≡ m → seen ≡ starts → parts ≡ shown_from m places seen
-    → parts ≡ shown_from n places starts
-taken_shown n m places starts seen e same is = is ∙ ap₂ (λ (j : ℕ) (ss : List ℕ). shown_from j places ss) (sym e) same
+pub taken_shown : (n m : ℕ) (infos : List CharInfo) (starts seen : List ℕ) {parts : List Shown} → n ≡ m → seen ≡ starts → parts ≡ shown_from m infos seen
+    → parts ≡ shown_from n infos starts
+taken_shown n m infos starts seen e same is = is ∙ ap₂ (λ (j : ℕ) (ss : List ℕ). shown_from j infos ss) (sym e) same
 
 -- no more than there is
-shown_most : (places : List Place) (s e : ℕ) → (shown_between places s e).len ≤ e - s
-shown_most places s e =
-    let piece : List Place = slice_range places s e in
+shown_most : (infos : List CharInfo) (s e : ℕ) → (shown_between infos s e).len ≤ e - s
+shown_most infos s e =
+    let piece : List CharInfo = slice_range infos s e in
     omega (
       arith,
       length-take (length piece - suffix_len (λ p. p.is_trailing) piece) piece,
-      length-take (e - s) (drop s places),
+      length-take (e - s) (drop s infos),
     )
 
-pub shown_within : (n : ℕ) (places : List Place) (starts : List ℕ) (parts : List Shown) (k e : ℕ) (part d : Shown) → AreStarts n starts → k < length starts
-    → e ≡ end_of n starts k → parts ≡ shown_from n places starts → part ≡ get_or parts k d → get_or starts k 0 + part.len ≤ e
-shown_within n places starts parts k e part d are below e_is is this =
+pub shown_within : (n : ℕ) (infos : List CharInfo) (starts : List ℕ) (parts : List Shown) (k e : ℕ) (part d : Shown) → AreStarts n starts → k < length starts
+    → e ≡ end_of n starts k → parts ≡ shown_from n infos starts → part ≡ get_or parts k d → get_or starts k 0 + part.len ≤ e
+shown_within n infos starts parts k e part d are below e_is is this =
     let w = end_within n starts k are below in
-    let here : part ≡ shown_between places (get_or starts k 0) (end_of n starts k) = this ∙ ap (λ (ps : List Shown). get_or ps k d) is ∙ shown_at n places starts k d below in
-    let len : part.len ≡ (shown_between places (get_or starts k 0) (end_of n starts k)).len = ap (λ (p : Shown). p.len) here in
-    omega (arith, e_is, len, w.0, shown_most places (get_or starts k 0) (end_of n starts k))
+    let here : part ≡ shown_between infos (get_or starts k 0) (end_of n starts k) = this ∙ ap (λ (ps : List Shown). get_or ps k d) is ∙ shown_at n infos starts k d below in
+    let len : part.len ≡ (shown_between infos (get_or starts k 0) (end_of n starts k)).len = ap (λ (p : Shown). p.len) here in
+    omega (arith, e_is, len, w.0, shown_most infos (get_or starts k 0) (end_of n starts k))
 
 -- ---- parts of a list, after a write to a part
 
@@ -283,22 +283,22 @@ all_lines P levels ltov vtol chars starts parts h each = λ j d below.
 
 module _ (tables : Tables) (options : Options) (base : ℕ) (text old : List ℕ) where
   -- lines that are equal one by one
-  lines_are : (places : List Place) (levels ltov vtol chars starts : List ℕ)
+  lines_are : (infos : List CharInfo) (levels ltov vtol chars starts : List ℕ)
       → ((j : ℕ) → j < length starts
-      → line_in levels ltov vtol chars (get_or starts j 0) (get_or (shown_from (length text) places starts) j nothing_shown)
-      ≡ line_showing tables options base text old (get_or (shown_from (length text) places starts) j nothing_shown) (get_or starts j 0) (end_of (length text) starts j))
-      → lines_by levels ltov vtol chars starts (shown_from (length text) places starts) ≡ lines_from tables options base text old places starts
-  lines_are places levels ltov vtol chars [] each = refl
-  lines_are places levels ltov vtol chars (s ∷ []) each = ap (λ (line : Line). line ∷ []) (each zero (omega arith))
-  lines_are places levels ltov vtol chars (s ∷ t ∷ starts) each =
-      ap₂ ◌∷◌ (each zero (omega arith)) (lines_are places levels ltov vtol chars (t ∷ starts) (λ j below. each (suc j) (omega (arith, below))))
+      → line_in levels ltov vtol chars (get_or starts j 0) (get_or (shown_from (length text) infos starts) j nothing_shown)
+      ≡ line_showing tables options base text old (get_or (shown_from (length text) infos starts) j nothing_shown) (get_or starts j 0) (end_of (length text) starts j))
+      → lines_by levels ltov vtol chars starts (shown_from (length text) infos starts) ≡ lines_from tables options base text old infos starts
+  lines_are infos levels ltov vtol chars [] each = refl
+  lines_are infos levels ltov vtol chars (s ∷ []) each = ap (λ (line : Line). line ∷ []) (each zero (omega arith))
+  lines_are infos levels ltov vtol chars (s ∷ t ∷ starts) each =
+      ap₂ ◌∷◌ (each zero (omega arith)) (lines_are infos levels ltov vtol chars (t ∷ starts) (λ j below. each (suc j) (omega (arith, below))))
 
-  pub all_shown : (places : List Place) (levels ltov vtol chars starts : List ℕ) (parts : List Shown) → parts ≡ shown_from (length text) places starts
+  pub all_shown : (infos : List CharInfo) (levels ltov vtol chars starts : List ℕ) (parts : List Shown) → parts ≡ shown_from (length text) infos starts
       → AreShown tables options base text old starts (length starts) parts levels ltov vtol chars
-      → lines_in starts parts levels ltov vtol chars ≡ lines_from tables options base text old places starts
-  all_shown places levels ltov vtol chars starts parts e each =
+      → lines_in starts parts levels ltov vtol chars ≡ lines_from tables options base text old infos starts
+  all_shown infos levels ltov vtol chars starts parts e each =
       ap (λ (ps : List Shown). lines_in starts ps levels ltov vtol chars) e
-      ∙ lines_are places levels ltov vtol chars starts
+      ∙ lines_are infos levels ltov vtol chars starts
       (λ j below. (subst (λ (ps : List Shown). AreShown tables options base text old starts (length starts) ps levels ltov vtol chars) e each j below).line_is)
 
   -- the part of a line within the lists has the length of the line

@@ -12,11 +12,11 @@ use Rattle.lines.specs.Clusters.{cluster_ends}
 use Rattle.lines.specs.Filling.{line_starts_of}
 use Rattle.lines.specs.Layouts.{IsParagraph, Rules, base_of, lines_of}
 use Rattle.lines.specs.Pages.{paragraph_bytes}
-use Rattle.lines.specs.Places.{places, places_of}
+use Rattle.lines.specs.CharInfos.{infos, infos_of}
 use Rattle.lines.specs.Printing.{skips_lines}
 use Rattle.lines.specs.Visual.{Line, Visual, lines_from, visual_of}
 use Rattle.lines.specs.declared.options.Options.{Options}
-use Rattle.lines.specs.declared.places.Place.{Place}
+use Rattle.lines.specs.declared.char_info.CharInfo.{CharInfo}
 use Rattle.lines.specs.declared.print.Print.{Print}
 use Rattle.lines.proofs.ClusterLemmas.{length-cluster_ends}
 
@@ -70,19 +70,19 @@ module _ (width : ℕ) (print : Print) (skips : skips_lines print ≡ true) wher
 
 -- ---- a paragraph has a line
 
-pub length-places : (t : Tables) (text : List ℕ) (marks : List Mark) (clusters : List Bool) → length text ≤ length marks → length clusters ≡ length text
-    → length (places t text marks clusters) ≡ length text
-length-places t [] marks clusters m c = refl
-length-places t (x ∷ text) [] clusters m c = absurd (omega (arith, m))
-length-places t (x ∷ text) (mark ∷ marks) [] m c = absurd (omega (arith, c))
-length-places t (x ∷ text) (mark ∷ marks) (ends ∷ clusters) m c = ap suc (length-places t text marks clusters (omega (arith, m)) (omega (arith, c)))
+pub length-infos : (t : Tables) (text : List ℕ) (marks : List Mark) (clusters : List Bool) → length text ≤ length marks → length clusters ≡ length text
+    → length (infos t text marks clusters) ≡ length text
+length-infos t [] marks clusters m c = refl
+length-infos t (x ∷ text) [] clusters m c = absurd (omega (arith, m))
+length-infos t (x ∷ text) (mark ∷ marks) [] m c = absurd (omega (arith, c))
+length-infos t (x ∷ text) (mark ∷ marks) (ends ∷ clusters) m c = ap suc (length-infos t text marks clusters (omega (arith, m)) (omega (arith, c)))
 
-some_starts : (nobreak : Bool) (width : ℕ) (ps : List Place) → 0 < length ps → 0 < length (line_starts_of nobreak width ps)
+some_starts : (nobreak : Bool) (width : ℕ) (ps : List CharInfo) → 0 < length ps → 0 < length (line_starts_of nobreak width ps)
 unfolding line_starts_of
 some_starts nobreak width [] some = some
 some_starts nobreak width (p ∷ ps) some = omega arith
 
-some_from : (tables : Tables) (options : Options) (base : ℕ) (text levels : List ℕ) (ps : List Place) (starts : List ℕ)
+some_from : (tables : Tables) (options : Options) (base : ℕ) (text levels : List ℕ) (ps : List CharInfo) (starts : List ℕ)
     → 0 < length starts → 0 < length (lines_from tables options base text levels ps starts)
 some_from tables options base text levels ps [] some = some
 some_from tables options base text levels ps (s ∷ []) some = omega arith
@@ -94,10 +94,10 @@ some_text rules (x ∷ text) paragraph = omega arith
 
 some_lines : (rules : Rules) (width : ℕ) (text : List ℕ) → IsParagraph rules text
     → length (marks_of rules.tables rules.options.whole_numbers text) ≡ length text → 0 < length (lines_of rules width text)
-unfolding places_of
+unfolding infos_of
 some_lines rules width text paragraph marks =
-    let ps : List Place = places_of rules.tables rules.options.whole_numbers text in
-    let size = length-places rules.tables text (marks_of rules.tables rules.options.whole_numbers text) (cluster_ends text) (omega (arith, marks)) (length-cluster_ends text) in
+    let ps : List CharInfo = infos_of rules.tables rules.options.whole_numbers text in
+    let size = length-infos rules.tables text (marks_of rules.tables rules.options.whole_numbers text) (cluster_ends text) (omega (arith, marks)) (length-cluster_ends text) in
     let some : 0 < length ps = omega (arith, size, some_text rules text paragraph) in
     some_from rules.tables rules.options (base_of rules text) text (levels_of rules.tables text rules.options.base) ps (line_starts_of rules.options.nobreak width ps)
     (some_starts rules.options.nobreak width ps some)

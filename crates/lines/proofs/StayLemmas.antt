@@ -16,13 +16,13 @@ use Rattle.lines.specs.Clusters.{cluster_ends}
 use Rattle.lines.specs.Filling.{by_break, by_cluster, cluster_ends_at, columns, first_end, fits, fits_to, is_break, is_must, line_end}
 use Rattle.lines.specs.Filling.{line_len, line_starts_of, may_end, must_end, or_else, place_at, shown, starts, stop}
 use Rattle.lines.specs.Layouts.{IsLaidOut, Layout, Rules, base_of, is_line_within, lines_of}
-use Rattle.lines.specs.Places.{place, places, places_of}
+use Rattle.lines.specs.CharInfos.{info, infos, infos_of}
 use Rattle.lines.specs.Visual.{lines_from}
 use Rattle.lines.specs.declared.options.Options.{Options}
-use Rattle.lines.specs.declared.places.Place.{Place}
+use Rattle.lines.specs.declared.char_info.CharInfo.{CharInfo}
 use Rattle.lines.proofs.ClusterLemmas.{length-cluster_ends}
 use Rattle.lines.proofs.FillingLemmas.{least_within, stop_from}
-use Rattle.lines.proofs.SkippedLemmas.{length-places, some_text}
+use Rattle.lines.proofs.SkippedLemmas.{length-infos, some_text}
 
 -- ---- where the first line ends
 
@@ -53,7 +53,7 @@ must_may Never ends h = cc
 must_may May ends h = cc
 must_may Must ends h = refl
 
-first_low : (rest : List Place) → 0 < length rest → first_end rest ≤ stop rest
+first_low : (rest : List CharInfo) → 0 < length rest → first_end rest ≤ stop rest
 first_low rest some =
     least_low (λ k. may_end rest k || cluster_ends_at rest k) (must_end rest) 0 (length rest) (length rest - 1) (omega (arith, some))
     (λ m h. must_may (place_at rest m).mark (place_at rest m).ends_cluster h)
@@ -65,7 +65,7 @@ either_low None (Some k) first last one two three = two k refl
 either_low None None first last one two three = three
 
 -- no line goes on after a position at which it must end
-end_low : (width : ℕ) (rest : List Place) → 0 < length rest → line_end width rest ≤ stop rest
+end_low : (width : ℕ) (rest : List CharInfo) → 0 < length rest → line_end width rest ≤ stop rest
 end_low width rest some =
     either_low (by_break width rest) (by_cluster width rest) (first_end rest) (stop rest)
     (λ k e. omega (arith, (greatest_found (λ j. may_end rest j && fits_to width rest j) (suc (stop rest)) k e).0))
@@ -76,7 +76,7 @@ may_at : (mark : Mark) → mark ≡ Must → is_break mark ≡ true
 may_at mark e = ap is_break e
 
 -- a line that may take all characters, and fits, does
-end_whole : (width : ℕ) (rest : List Place) (last : ℕ) → length rest ≡ suc last → (place_at rest last).mark ≡ Must → columns (shown rest) ≤ width → stop rest ≡ last
+end_whole : (width : ℕ) (rest : List CharInfo) (last : ℕ) → length rest ≡ suc last → (place_at rest last).mark ≡ Must → columns (shown rest) ≤ width → stop rest ≡ last
     → line_end width rest ≡ last
 end_whole width rest last size ends fit stops =
     let all : take (suc last) rest ≡ rest = take_all (suc last) rest (omega (arith, size)) in
@@ -87,19 +87,19 @@ end_whole width rest last size ends fit stops =
 
 -- ---- where lines start
 
-none_left : (nobreak : Bool) (width place left : ℕ) (rest : List Place) → starts nobreak width place left rest ≡ [] → length rest ≤ left
+none_left : (nobreak : Bool) (width place left : ℕ) (rest : List CharInfo) → starts nobreak width place left rest ≡ [] → length rest ≤ left
 none_left nobreak width place left [] e = omega arith
 none_left nobreak width place zero (p ∷ rest) e = cc
 none_left nobreak width place (suc left) (p ∷ rest) e = omega (arith, none_left nobreak width (suc place) left rest e)
 
-all_left : (nobreak : Bool) (width place left : ℕ) (rest : List Place) → length rest ≤ left → starts nobreak width place left rest ≡ []
+all_left : (nobreak : Bool) (width place left : ℕ) (rest : List CharInfo) → length rest ≤ left → starts nobreak width place left rest ≡ []
 all_left nobreak width place zero [] within = refl
 all_left nobreak width place (suc left) [] within = refl
 all_left nobreak width place zero (p ∷ rest) within = absurd (omega (arith, within))
 all_left nobreak width place (suc left) (p ∷ rest) within = all_left nobreak width (suc place) left rest (omega (arith, within))
 
 -- the first line takes all characters at another width, if it does at one
-whole_again : (nobreak : Bool) (old width : ℕ) (p : Place) (rest : List Place) → (place_at (p ∷ rest) (length rest)).mark ≡ Must → columns (shown (p ∷ rest)) ≤ width
+whole_again : (nobreak : Bool) (old width : ℕ) (p : CharInfo) (rest : List CharInfo) → (place_at (p ∷ rest) (length rest)).mark ≡ Must → columns (shown (p ∷ rest)) ≤ width
     → length rest ≤ line_len nobreak old (p ∷ rest) - 1 → length rest ≤ line_len nobreak width (p ∷ rest) - 1
 whole_again true old width p rest ends fit was = was
 whole_again false old width p rest ends fit was =
@@ -107,7 +107,7 @@ whole_again false old width p rest ends fit was =
     let stops : stop (p ∷ rest) ≡ length rest = omega (arith, within, was, end_low old (p ∷ rest) (omega arith)) in
     omega (arith, end_whole width (p ∷ rest) (length rest) (omega arith) ends fit stops)
 
-same_starts : (nobreak : Bool) (old width s : ℕ) (rest : List Place) → 0 < length rest → line_starts_of nobreak old rest ≡ s ∷ []
+same_starts : (nobreak : Bool) (old width s : ℕ) (rest : List CharInfo) → 0 < length rest → line_starts_of nobreak old rest ≡ s ∷ []
     → (place_at rest (length rest - 1)).mark ≡ Must → columns (shown (slice_range rest s (length rest))) ≤ width
     → line_starts_of nobreak width rest ≡ line_starts_of nobreak old rest
 unfolding line_starts_of
@@ -127,7 +127,7 @@ same_starts nobreak old width s (p ∷ rest) some e ends fit =
 -- ---- the last place
 
 mark_at : (t : Tables) (text : List ℕ) (marks : List Mark) (clusters : List Bool) (k : ℕ) (mark : Mark) → slice_get marks k ≡ Some mark → k < length text
-    → length clusters ≡ length text → (place_at (places t text marks clusters) k).mark ≡ mark
+    → length clusters ≡ length text → (place_at (infos t text marks clusters) k).mark ≡ mark
 mark_at t [] marks clusters k mark e within c = absurd (omega (arith, within))
 mark_at t (x ∷ text) [] clusters k mark e within c = absurd (omega (arith, slice_get_within {A = Mark} [] k mark e))
 mark_at t (x ∷ text) (m ∷ marks) [] k mark e within c = absurd (omega (arith, c))
@@ -140,7 +140,7 @@ mark_at t (x ∷ text) (m ∷ marks) (ends ∷ clusters) (suc k) mark e within c
 abbrev pub EndsAtMust : Type 0
 EndsAtMust = (tables : Tables) (whole_numbers : Bool) (text : List ℕ) → 0 < length text → slice_get (marks_of tables whole_numbers text) (length text - 1) ≡ Some Must
 
-module _ (tables : Tables) (options : Options) (base : ℕ) (text levels : List ℕ) (ps : List Place) (width : ℕ) where
+module _ (tables : Tables) (options : Options) (base : ℕ) (text levels : List ℕ) (ps : List CharInfo) (width : ℕ) where
   one_start : (starts : List ℕ) → is_line_within width (lines_from tables options base text levels ps starts) ≡ true
       → (s : ℕ) × (starts ≡ s ∷ []) × (columns (shown (slice_range ps s (length text))) ≤ width)
   one_start [] h = cc
@@ -150,13 +150,13 @@ module _ (tables : Tables) (options : Options) (base : ℕ) (text levels : List 
 
 lines_stay : EndsAtMust → (rules : Rules) (old width : ℕ) (text : List ℕ) → 0 < length text → is_line_within width (lines_of rules old text) ≡ true
     → lines_of rules width text ≡ lines_of rules old text
-unfolding places_of
+unfolding infos_of
 lines_stay law rules old width text some h =
     let marks : List Mark = marks_of rules.tables rules.options.whole_numbers text in
-    let ps : List Place = places_of rules.tables rules.options.whole_numbers text in
+    let ps : List CharInfo = infos_of rules.tables rules.options.whole_numbers text in
     let last = law rules.tables rules.options.whole_numbers text some in
     let few = slice_get_within marks (length text - 1) Must last in
-    let size : length ps ≡ length text = length-places rules.tables text marks (cluster_ends text) (omega (arith, few)) (length-cluster_ends text) in
+    let size : length ps ≡ length text = length-infos rules.tables text marks (cluster_ends text) (omega (arith, few)) (length-cluster_ends text) in
     let ends : (place_at ps (length text - 1)).mark ≡ Must = mark_at rules.tables text marks (cluster_ends text) (length text - 1) Must last (omega (arith, some)) (length-cluster_ends text) in
     let base : ℕ = base_of rules text in
     let levels : List ℕ = levels_of rules.tables text rules.options.base in

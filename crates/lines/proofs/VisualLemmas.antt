@@ -13,11 +13,11 @@ use Rattle.lines.specs.Extents.{extents_of}
 use Rattle.lines.specs.Filling.{line_len, line_starts_of, shown, starts}
 use Rattle.lines.specs.Kept.{AreStarts}
 use Rattle.lines.specs.Layouts.{AreWithin, Rules, base_of, lines_of}
-use Rattle.lines.specs.Places.{places, places_of}
+use Rattle.lines.specs.CharInfos.{infos, infos_of}
 use Rattle.reorder.specs.Spaces.{line_levels}
 use Rattle.lines.specs.Visual.{Line, line_between, lines_from}
 use Rattle.lines.specs.declared.options.Options.{Options}
-use Rattle.lines.specs.declared.places.Place.{Place}
+use Rattle.lines.specs.declared.char_info.CharInfo.{CharInfo}
 use Rattle.bidi.specs.Levels.{levels_of}
 
 -- numbers from `low` on and below n, each above the one before
@@ -34,7 +34,7 @@ rise_to low n m [] below rise = tt
 rise_to low n m (x ∷ xs) below rise = (rise.0, omega (arith, below, rise.1), rise_to (suc x) n m xs below rise.2)
 
 -- lines start so
-starts_rise : (nobreak : Bool) (width place left n : ℕ) (rest : List Place) → place + length rest ≡ n → Rise (place + left) n (starts nobreak width place left rest)
+starts_rise : (nobreak : Bool) (width place left n : ℕ) (rest : List CharInfo) → place + length rest ≡ n → Rise (place + left) n (starts nobreak width place left rest)
 starts_rise nobreak width place zero n [] e = tt
 starts_rise nobreak width place (suc left) n [] e = tt
 starts_rise nobreak width place zero n (p ∷ rest) e = (
@@ -47,19 +47,19 @@ starts_rise nobreak width place (suc left) n (p ∷ rest) e =
     rise_from (place + suc left) (suc place + left) n (starts nobreak width (suc place) left rest) (omega arith) (starts_rise nobreak width (suc place) left n rest (omega (arith, e)))
 
 -- there are no more places than characters
-length-places : (t : Tables) (text : List ℕ) (marks : List Mark) (clusters : List Bool) → length (places t text marks clusters) ≤ length text
-length-places t [] marks clusters = omega arith
-length-places t (c ∷ text) [] clusters = omega arith
-length-places t (c ∷ text) (mark ∷ marks) [] = omega arith
-length-places t (c ∷ text) (mark ∷ marks) (ends ∷ clusters) = omega (arith, length-places t text marks clusters)
+length-infos : (t : Tables) (text : List ℕ) (marks : List Mark) (clusters : List Bool) → length (infos t text marks clusters) ≤ length text
+length-infos t [] marks clusters = omega arith
+length-infos t (c ∷ text) [] clusters = omega arith
+length-infos t (c ∷ text) (mark ∷ marks) [] = omega arith
+length-infos t (c ∷ text) (mark ∷ marks) (ends ∷ clusters) = omega (arith, length-infos t text marks clusters)
 
 length-take-most : {X : Type 0} (n : ℕ) (xs : List X) → length (take n xs) ≤ n
 length-take-most n xs = omega (arith, length-take n xs)
 
 -- what is shown between two places is no longer than what stands there
-levels_most : (tables : Tables) (options : Options) (base : ℕ) (text levels : List ℕ) (ps : List Place) (s e : ℕ) → length (line_between tables options base text levels ps s e).levels ≤ e - s
+levels_most : (tables : Tables) (options : Options) (base : ℕ) (text levels : List ℕ) (ps : List CharInfo) (s e : ℕ) → length (line_between tables options base text levels ps s e).levels ≤ e - s
 levels_most tables options base text levels ps s e =
-    let span : List Place = slice_range ps s e in
+    let span : List CharInfo = slice_range ps s e in
     omega (
       arith,
       length-take-most (length (shown span)) (line_levels base (map (class_of tables) (slice_range text s e)) (slice_range levels s e)),
@@ -67,7 +67,7 @@ levels_most tables options base text levels ps s e =
       length-take-most (e - s) (drop s ps),
     )
 
-from_within : (tables : Tables) (options : Options) (base : ℕ) (text levels : List ℕ) (ps : List Place) (low n : ℕ) (at : List ℕ) → n ≡ length text → Rise low n at
+from_within : (tables : Tables) (options : Options) (base : ℕ) (text levels : List ℕ) (ps : List CharInfo) (low n : ℕ) (at : List ℕ) → n ≡ length text → Rise low n at
     → AreWithin n (lines_from tables options base text levels ps at)
 from_within tables options base text levels ps low n [] e rise = All-nil (λ (line : Line). line.start + length line.levels ≤ n)
 from_within tables options base text levels ps low n (s ∷ []) e rise =
@@ -79,11 +79,11 @@ from_within tables options base text levels ps low n (s ∷ t ∷ at) e rise =
 
 -- the lines of a paragraph stand in it
 pub lines_within : (rules : Rules) (width : ℕ) (text : List ℕ) → AreWithin (length text) (lines_of rules width text)
-unfolding line_starts_of places_of
+unfolding line_starts_of infos_of
 lines_within rules width text =
-    let ps : List Place = places_of rules.tables rules.options.whole_numbers text in
+    let ps : List CharInfo = infos_of rules.tables rules.options.whole_numbers text in
     from_within rules.tables rules.options (base_of rules text) text (levels_of rules.tables text rules.options.base) ps 0 (length text) (line_starts_of rules.options.nobreak width ps) refl
-    (rise_to 0 (length ps) (length text) (line_starts_of rules.options.nobreak width ps) (length-places rules.tables text (marks_of rules.tables rules.options.whole_numbers text) (cluster_ends text))
+    (rise_to 0 (length ps) (length text) (line_starts_of rules.options.nobreak width ps) (length-infos rules.tables text (marks_of rules.tables rules.options.whole_numbers text) (cluster_ends text))
     (starts_rise rules.options.nobreak width 0 0 (length ps) ps (omega arith)))
 
 -- numbers that rise so are starts
@@ -102,11 +102,11 @@ rise_rising low n (x ∷ y ∷ xs) (suc k) rise below =
 
 -- so are those of a paragraph at a width
 pub starts_within : (rules : Rules) (width : ℕ) (text : List ℕ) → AreStarts (length text) (extents_of rules width text).starts
-unfolding line_starts_of places_of
+unfolding line_starts_of infos_of
 starts_within rules width text =
-    let ps : List Place = places_of rules.tables rules.options.whole_numbers text in
+    let ps : List CharInfo = infos_of rules.tables rules.options.whole_numbers text in
     let rise = rise_to 0 (length ps) (length text) (line_starts_of rules.options.nobreak width ps)
-    (length-places rules.tables text (marks_of rules.tables rules.options.whole_numbers text) (cluster_ends text))
+    (length-infos rules.tables text (marks_of rules.tables rules.options.whole_numbers text) (cluster_ends text))
     (starts_rise rules.options.nobreak width 0 0 (length ps) ps (omega arith)) in
     record {
       below = λ k h. rise_below 0 (length text) (line_starts_of rules.options.nobreak width ps) k rise h;

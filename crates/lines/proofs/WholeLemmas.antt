@@ -22,16 +22,16 @@ use Rattle.lines.specs.Clusters.{cluster_ends}
 use Rattle.lines.specs.Filling.{is_must, line_starts_of, must_end, nothing, place_at, shown, starts, stop}
 use Rattle.reorder.specs.Order.{ltov_of, vtol_of}
 use Rattle.lines.specs.Pages.{lines_bytes}
-use Rattle.lines.specs.Places.{is_trailing_in, places, places_of}
+use Rattle.lines.specs.CharInfos.{is_trailing_in, infos, infos_of}
 use Rattle.reorder.specs.Spaces.{line_levels}
 use Rattle.lines.specs.Visual.{Line, Visual, line_between, lines_from, visual_of}
 use Rattle.lines.specs.Whole.{IsShownLen, IsWhole}
 use Rattle.lines.specs.declared.options.Options.{Options}
-use Rattle.lines.specs.declared.places.Place.{Place}
+use Rattle.lines.specs.declared.char_info.CharInfo.{CharInfo}
 use Rattle.lines.specs.declared.print.Print.{Print}
 use Rattle.lines.proofs.ClusterLemmas.{length-cluster_ends}
 use Rattle.lines.proofs.FillingLemmas.{stop_at, stop_none}
-use Rattle.lines.proofs.SkippedLemmas.{length-places}
+use Rattle.lines.proofs.SkippedLemmas.{length-infos}
 
 -- ---- rules that give no mandatory break
 
@@ -185,27 +185,27 @@ quiet_marks t whole_numbers text is = tame_marks whole_numbers [] (bases_of (map
 
 -- ---- places with such marks
 
-tame_places : (t : Tables) (text : List ℕ) (marks : List Mark) (ends : List Bool) (j : ℕ) → Tame marks → j + 1 < length (places t text marks ends)
-    → must_end (places t text marks ends) j ≡ false
+tame_infos : (t : Tables) (text : List ℕ) (marks : List Mark) (ends : List Bool) (j : ℕ) → Tame marks → j + 1 < length (infos t text marks ends)
+    → must_end (infos t text marks ends) j ≡ false
 unfolding Tame
-tame_places t [] marks ends j quiet below = absurd (omega (arith, below))
-tame_places t (c ∷ text) [] ends j quiet below = absurd (omega (arith, below))
-tame_places t (c ∷ text) (m ∷ marks) [] j quiet below = absurd (omega (arith, below))
-tame_places t (c ∷ []) (m ∷ marks) (e ∷ ends) j quiet below = absurd (omega (arith, below))
-tame_places t (c ∷ d ∷ text) (m ∷ []) (e ∷ ends) j quiet below = absurd (omega (arith, below))
-tame_places t (c ∷ d ∷ text) (m ∷ n ∷ marks) (e ∷ ends) zero quiet below = quiet.0
-tame_places t (c ∷ d ∷ text) (m ∷ n ∷ marks) (e ∷ ends) (suc j) quiet below =
-    tame_places t (d ∷ text) (n ∷ marks) ends j quiet.1 (omega (arith, below))
+tame_infos t [] marks ends j quiet below = absurd (omega (arith, below))
+tame_infos t (c ∷ text) [] ends j quiet below = absurd (omega (arith, below))
+tame_infos t (c ∷ text) (m ∷ marks) [] j quiet below = absurd (omega (arith, below))
+tame_infos t (c ∷ []) (m ∷ marks) (e ∷ ends) j quiet below = absurd (omega (arith, below))
+tame_infos t (c ∷ d ∷ text) (m ∷ []) (e ∷ ends) j quiet below = absurd (omega (arith, below))
+tame_infos t (c ∷ d ∷ text) (m ∷ n ∷ marks) (e ∷ ends) zero quiet below = quiet.0
+tame_infos t (c ∷ d ∷ text) (m ∷ n ∷ marks) (e ∷ ends) (suc j) quiet below =
+    tame_infos t (d ∷ text) (n ∷ marks) ends j quiet.1 (omega (arith, below))
 
-trailing_place : (t : Tables) (text : List ℕ) (marks : List Mark) (ends : List Bool) (k : ℕ) → k < length (places t text marks ends)
-    → (place_at (places t text marks ends) k).is_trailing ≡ is_trailing_in t (get_or text k 0)
+trailing_place : (t : Tables) (text : List ℕ) (marks : List Mark) (ends : List Bool) (k : ℕ) → k < length (infos t text marks ends)
+    → (place_at (infos t text marks ends) k).is_trailing ≡ is_trailing_in t (get_or text k 0)
 trailing_place t [] marks ends k below = absurd (omega (arith, below))
 trailing_place t (c ∷ text) [] ends k below = absurd (omega (arith, below))
 trailing_place t (c ∷ text) (m ∷ marks) [] k below = absurd (omega (arith, below))
 trailing_place t (c ∷ text) (m ∷ marks) (e ∷ ends) zero below = refl
 trailing_place t (c ∷ text) (m ∷ marks) (e ∷ ends) (suc k) below = trailing_place t text marks ends k (omega (arith, below))
 
-stop_last : (rest : List Place) → 0 < length rest → ((j : ℕ) → j + 1 < length rest → must_end rest j ≡ false) → stop rest ≡ length rest - 1
+stop_last : (rest : List CharInfo) → 0 < length rest → ((j : ℕ) → j + 1 < length rest → must_end rest j ≡ false) → stop rest ≡ length rest - 1
 stop_last rest some fails =
     let last : ℕ = length rest - 1 in
     elim (cases_Bool (must_end rest last)) [
@@ -214,12 +214,12 @@ stop_last rest some fails =
           elim (cases_eq j last) [ inl e ↦ ap (must_end rest) e ∙ not_must | inr ne ↦ fails j (omega arith) ])
     ]
 
-passed : (nobreak : Bool) (width place left : ℕ) (rest : List Place) → length rest ≤ left → starts nobreak width place left rest ≡ []
+passed : (nobreak : Bool) (width place left : ℕ) (rest : List CharInfo) → length rest ≤ left → starts nobreak width place left rest ≡ []
 passed nobreak width place left [] within = refl
 passed nobreak width place zero (p ∷ rest) within = absurd (omega (arith, within))
 passed nobreak width place (suc left) (p ∷ rest) within = passed nobreak width (suc place) left rest (omega (arith, within))
 
-one_start : (width : ℕ) (rest : List Place) → 0 < length rest → ((j : ℕ) → j + 1 < length rest → must_end rest j ≡ false)
+one_start : (width : ℕ) (rest : List CharInfo) → 0 < length rest → ((j : ℕ) → j + 1 < length rest → must_end rest j ≡ false)
     → line_starts_of true width rest ≡ 0 ∷ []
 unfolding line_starts_of
 one_start width [] some fails = absurd (omega (arith, some))
@@ -232,17 +232,17 @@ one_start width (p ∷ rest) some fails =
 whole_range : {X : Type 0} (xs : List X) (n : ℕ) → n ≡ length xs → slice_range xs 0 n ≡ xs
 whole_range xs n e = take_all (n - 0) xs (omega arith)
 
-shown_is : (t : Tables) (text : List ℕ) (marks : List Mark) (ends : List Bool) (len : ℕ) → length (places t text marks ends) ≡ length text
-    → IsShownLen t text len → len ≡ length (shown (slice_range (places t text marks ends) 0 (length text)))
+shown_is : (t : Tables) (text : List ℕ) (marks : List Mark) (ends : List Bool) (len : ℕ) → length (infos t text marks ends) ≡ length text
+    → IsShownLen t text len → len ≡ length (shown (slice_range (infos t text marks ends) 0 (length text)))
 shown_is t text marks ends len size is =
-    let all : List Place = places t text marks ends in
-    let tail : suffix_len (λ (p : Place). p.is_trailing) all ≡ length all - len =
-    suffix_len_is (λ (p : Place). p.is_trailing) all len nothing (omega (arith, is.within, size))
+    let all : List CharInfo = infos t text marks ends in
+    let tail : suffix_len (λ (p : CharInfo). p.is_trailing) all ≡ length all - len =
+    suffix_len_is (λ (p : CharInfo). p.is_trailing) all len nothing (omega (arith, is.within, size))
     (λ k from below. trailing_place t text marks ends k below ∙ is.tail k from (omega (arith, below, size)))
     (λ some. trailing_place t text marks ends (len - 1) (omega (arith, is.within, size)) ∙ is.last some) in
     let whole : length (shown all) ≡ len =
-    length-take-le (length all - suffix_len (λ (p : Place). p.is_trailing) all) all (omega arith) ∙ omega (arith, tail, is.within, size) in
-    sym (ap (λ (ps : List Place). length (shown ps)) (whole_range all (length text) (sym size)) ∙ whole)
+    length-take-le (length all - suffix_len (λ (p : CharInfo). p.is_trailing) all) all (omega arith) ∙ omega (arith, tail, is.within, size) in
+    sym (ap (λ (ps : List CharInfo). length (shown ps)) (whole_range all (length text) (sym size)) ∙ whole)
 
 unseen : (width : ℕ) (print : Print) (a b : Visual) → print.novisual ≡ true → a.is_first ≡ b.is_first → a.base ≡ b.base → a.ltov ≡ b.ltov → a.vtol ≡ b.vtol
     → a.levels ≡ b.levels → line_bytes width print a ≡ line_bytes width print b
@@ -259,18 +259,18 @@ unseen width print a b off first base ltov vtol levels =
 pub whole_bytes : (t : Tables) (options : Options) (base width : ℕ) (print : Print) (text levels : List ℕ) (len : ℕ) → print.novisual ≡ true → options.nobreak ≡ true
     → 0 < length text → length levels ≡ length text → length (marks_of t options.whole_numbers text) ≡ length text → IsWhole t text → IsShownLen t text len
     → line_bytes width print (visual_shown t options base true text levels (record { len = len; columns = 0 }))
-    ≡ lines_bytes width print base text (lines_from t options base text levels (places_of t options.whole_numbers text)
-    (line_starts_of options.nobreak width (places_of t options.whole_numbers text)))
-unfolding places_of
+    ≡ lines_bytes width print base text (lines_from t options base text levels (infos_of t options.whole_numbers text)
+    (line_starts_of options.nobreak width (infos_of t options.whole_numbers text)))
+unfolding infos_of
 whole_bytes t options base width print text levels len off nobreak some sizes many is shown_len =
     let marks : List Mark = marks_of t options.whole_numbers text in
     let ends : List Bool = cluster_ends text in
-    let all : List Place = places t text marks ends in
+    let all : List CharInfo = infos t text marks ends in
     let n : ℕ = length text in
-    let size : length all ≡ n = length-places t text marks ends (omega (arith, many)) (length-cluster_ends text) in
+    let size : length all ≡ n = length-infos t text marks ends (omega (arith, many)) (length-cluster_ends text) in
     let starts_are : line_starts_of options.nobreak width all ≡ 0 ∷ [] =
     ap (λ (b : Bool). line_starts_of b width all) nobreak
-    ∙ one_start width all (omega (arith, size, some)) (λ j below. tame_places t text marks ends j (quiet_marks t options.whole_numbers text is) below) in
+    ∙ one_start width all (omega (arith, size, some)) (λ j below. tame_infos t text marks ends j (quiet_marks t options.whole_numbers text is) below) in
     let line : Line = line_between t options base text levels all 0 n in
     let levels_by : List ℕ → List ℕ → ℕ → List ℕ = λ cs ls m. take m (line_levels base (map (class_of t) cs) ls) in
     let view : List ℕ → List ℕ → ℕ → Visual =

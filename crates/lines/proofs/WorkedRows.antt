@@ -5,23 +5,23 @@ use Rattle.lines.specs.Engine.{counted}
 use Rattle.lines.specs.Filling.{line_starts_of, shown}
 use Rattle.lines.specs.declared.bytes.TheConstants.{CHARACTERS_AT_ONCE, ROW_BYTES_AT_ONCE}
 use Rattle.lines.specs.declared.engine.TheConstants.{PARAGRAPH_LIMIT}
-use Rattle.lines.specs.declared.places.Place.{Place}
+use Rattle.lines.specs.declared.char_info.CharInfo.{CharInfo}
 
 -- a letter, a space, and a letter at the end of the paragraph
-abbrev letter : Place
+abbrev letter : CharInfo
 letter = record { columns = 1; is_trailing = false; mark = Never; ends_cluster = true }
 
-abbrev space : Place
+abbrev space : CharInfo
 space = record { columns = 1; is_trailing = true; mark = Never; ends_cluster = true }
 
-abbrev last_space : Place
+abbrev last_space : CharInfo
 last_space = record space { mark = May }
 
-abbrev last : Place
+abbrev last : CharInfo
 last = record letter { mark = Must }
 
-abbrev starts : ℕ → List Place → List ℕ
-starts width places = line_starts_of false width places
+abbrev starts : ℕ → List CharInfo → List ℕ
+starts width infos = line_starts_of false width infos
 
 letters : starts 3 (letter ∷ letter ∷ letter ∷ letter ∷ letter ∷ letter ∷ letter ∷ last ∷ []) ≡ 0 ∷ 3 ∷ 6 ∷ []
 unfolding line_starts_of
@@ -31,7 +31,7 @@ spaces : starts 3 (letter ∷ letter ∷ letter ∷ space ∷ space ∷ last_spa
 unfolding line_starts_of
 spaces = refl
 
-abbrev words : List Place
+abbrev words : List CharInfo
 words = letter ∷ letter ∷ last_space ∷ letter ∷ letter ∷ last_space ∷ letter ∷ last ∷ []
 
 five : starts 5 words ≡ 0 ∷ 6 ∷ []
@@ -69,7 +69,7 @@ unfolding line_starts_of
 nobreak = refl
 
 -- two wide characters, neither of which fits
-abbrev wide : Place
+abbrev wide : CharInfo
 wide = record { columns = 2; is_trailing = false; mark = May; ends_cluster = true }
 
 too_wide : starts 1 (wide ∷ record wide { mark = Must } ∷ []) ≡ 0 ∷ 1 ∷ []

@@ -24,19 +24,19 @@ Took-append old mid new xs ys first second = record {
 }
 
 -- all of one part, and then
-module _ {old mid : Device} {xs : List ℕ} {done n : ℕ} (first : PassedOn xs done old mid n) {new : Device} {ys : List ℕ} where
+module _ {old mid : Device} {xs : List ℕ} {before n : ℕ} (first : PassedOn xs before old mid n) {new : Device} {ys : List ℕ} where
   -- all of another
-  pub passed-append : {m : ℕ} → PassedOn ys n mid new m → PassedOn (xs ++ ys) done old new m
+  pub passed-append : {m : ℕ} → PassedOn ys n mid new m → PassedOn (xs ++ ys) before old new m
   passed-append second = record {
     count = omega (arith, first.count, second.count, length-append xs ys);
     wrote = (Took-append old mid new xs ys first.wrote.0 second.wrote.0, second.wrote.1 ∙ first.wrote.1);
   }
 
   -- a front of another
-  pub stopped-after : {w : ℕ} → StoppedIn ys n mid new w → StoppedIn (xs ++ ys) done old new w
+  pub stopped-after : {w : ℕ} → StoppedIn ys n mid new w → StoppedIn (xs ++ ys) before old new w
   stopped-after {w = w} second =
-      let count : w - done ≡ length xs + (w - n) = omega (arith, first.count, second.after) in
-      let front : take (w - done) (xs ++ ys) ≡ xs ++ take (w - n) ys = ap (λ k. take k (xs ++ ys)) count ∙ take-append-add xs ys (w - n) in
+      let count : w - before ≡ length xs + (w - n) = omega (arith, first.count, second.after) in
+      let front : take (w - before) (xs ++ ys) ≡ xs ++ take (w - n) ys = ap (λ k. take k (xs ++ ys)) count ∙ take-append-add xs ys (w - n) in
       record {
         after = omega (arith, first.count, second.after);
         stopped = (
@@ -50,23 +50,23 @@ module _ {old mid : Device} {xs : List ℕ} {done n : ℕ} (first : PassedOn xs 
       }
 
 -- a front of a part is one of what begins with it
-pub stopped-before : {old new : Device} {xs : List ℕ} {done w : ℕ} (ys : List ℕ) → StoppedIn xs done old new w → StoppedIn (xs ++ ys) done old new w
-stopped-before {old = old} {new = new} {xs = xs} {done = done} {w = w} ys stopped = record {
+pub stopped-before : {old new : Device} {xs : List ℕ} {before w : ℕ} (ys : List ℕ) → StoppedIn xs before old new w → StoppedIn (xs ++ ys) before old new w
+stopped-before {old = old} {new = new} {xs = xs} {before = before} {w = w} ys stopped = record {
   after = stopped.after;
   stopped = (
     omega (arith, stopped.stopped.0, length-append xs ys),
-    rw (take-append-le (w - done) xs ys (omega (arith, stopped.stopped.0))) stopped.stopped.1,
+    rw (take-append-le (w - before) xs ys (omega (arith, stopped.stopped.0))) stopped.stopped.1,
     stopped.stopped.2,
   );
 }
 
 -- the last part of all
-module _ {old mid : Device} {xs : List ℕ} {done n : ℕ} (first : PassedOn xs done old mid n) (new : Device) (ys : List ℕ) where
-  pub last_passed : (r : Result ℕ WriteFault) → IfOk r (λ m. PassedOn ys n mid new m) → IfOk r (λ m. PassedOn (xs ++ ys) done old new m)
+module _ {old mid : Device} {xs : List ℕ} {before n : ℕ} (first : PassedOn xs before old mid n) (new : Device) (ys : List ℕ) where
+  pub last_passed : (r : Result ℕ WriteFault) → IfOk r (λ m. PassedOn ys n mid new m) → IfOk r (λ m. PassedOn (xs ++ ys) before old new m)
   last_passed (Ok m) second = passed-append first second
   last_passed (Err fault) second = tt
 
-  pub last_stopped : (r : Result ℕ WriteFault) → IfErr r (λ fault. StoppedIn ys n mid new fault.written) → IfErr r (λ fault. StoppedIn (xs ++ ys) done old new fault.written)
+  pub last_stopped : (r : Result ℕ WriteFault) → IfErr r (λ fault. StoppedIn ys n mid new fault.written) → IfErr r (λ fault. StoppedIn (xs ++ ys) before old new fault.written)
   last_stopped (Ok m) second = tt
   last_stopped (Err fault) second = stopped-after first second
 
@@ -89,11 +89,11 @@ concat-next xs k x within x_is =
 
 -- the first k of some lists, and then the next one
 module _ (xs : List (List ℕ)) (k : ℕ) {x : List ℕ} (within : k < length xs) (x_is : x ≡ get_or xs k [])
-    {old mid : Device} {done n : ℕ} (front : PassedOn (concat (take k xs)) done old mid n) {new : Device} where
-  pub pieces-more : {m : ℕ} → PassedOn x n mid new m → PassedOn (concat (take (k + 1) xs)) done old new m
+    {old mid : Device} {before n : ℕ} (front : PassedOn (concat (take k xs)) before old mid n) {new : Device} where
+  pub pieces-more : {m : ℕ} → PassedOn x n mid new m → PassedOn (concat (take (k + 1) xs)) before old new m
   pieces-more next = rw (concat-next xs k x within x_is) (passed-append front next)
 
-  pub pieces-stopped : {w : ℕ} → StoppedIn x n mid new w → StoppedIn (concat xs) done old new w
+  pub pieces-stopped : {w : ℕ} → StoppedIn x n mid new w → StoppedIn (concat xs) before old new w
   pieces-stopped next =
       rw (concat-parts xs (k + 1) ∙ ap (λ ys. ys ++ concat (drop (k + 1) xs)) (concat-next xs k x within x_is))
       (stopped-before (concat (drop (k + 1) xs)) (stopped-after front next))

@@ -1,7 +1,8 @@
 -- Lines that are written as they are shown are those of the paragraph.
-use Rattle.std.proofs.Common.{◌≡◌, ℕ, zero, suc, ◌+◌, ◌-◌, ◌<◌, ◌≤◌, ◌==◌, Bool, List, [], ◌∷◌, length, map, take, drop, get_or, Some, refl, sym, ap, ap₂, ◌∙◌, arith}
+use Rattle.std.proofs.Common.{◌≡◌, ℕ, zero, suc, ◌+◌, ◌-◌, ◌<◌, ◌≤◌, ◌==◌, ◌++◌, Bool, List, [], ◌∷◌, length, map, take, drop, get_or, Some, refl, sym, ap, ap₂, ◌∙◌, arith}
 use Rattle.std.specs.Prelude.{option_map, slice_get, slice_range}
 use Rattle.std.proofs.lemmas.List.{length-map, length-take-le, take-take}
+use Rattle.std.proofs.Math.Seq.{take-append_seam}
 use Rattle.ucd.specs.Tables.{class_of}
 use Rattle.ucd.specs.declared.bidi_class.BidiClass.{BidiClass}
 use Rattle.ucd.specs.declared.tables.Tables.{Tables}
@@ -12,18 +13,28 @@ use Rattle.bidi.specs.Levels.{levels_of}
 use Rattle.lines.specs.Filling.{line_starts_of}
 use Rattle.lines.specs.Layouts.{Rules, base_of}
 use Rattle.lines.specs.Pages.{lines_bytes, paragraph_bytes}
-use Rattle.lines.specs.Places.{places_of}
+use Rattle.lines.specs.CharInfos.{infos_of}
 use Rattle.reorder.specs.Mirroring.{visual_chars}
 use Rattle.reorder.specs.Order.{ltov_of, vtol_of}
 use Rattle.lines.specs.Showing.{line_showing, lines_shown, nothing_shown}
 use Rattle.reorder.specs.Spaces.{line_levels}
 use Rattle.lines.specs.Visual.{Line, Visual, end_of, lines_from, visual_of}
 use Rattle.lines.specs.declared.options.Options.{Options}
-use Rattle.lines.specs.declared.places.Place.{Place}
+use Rattle.lines.specs.declared.char_info.CharInfo.{CharInfo}
 use Rattle.lines.specs.declared.fill.Shown.{Shown}
 use Rattle.lines.specs.declared.print.Print.{Print}
 use Rattle.lines.proofs.PageLemmas.{piece_at, pieces}
 use Rattle.lines.proofs.ShowLemmas.{length_range}
+
+-- the front of a list, once it is written
+pub front_is : (n : ℕ) (new rest : List ℕ) → length new ≡ n → take n (new ++ rest) ≡ new
+front_is n new rest size = ap (λ (m : ℕ). take m (new ++ rest)) (sym size) ∙ take-append_seam new rest
+
+pub front_of_zeros : (n : ℕ) (levels : List ℕ) → ((k : ℕ) → get_or levels k 0 ≡ 0) → (k : ℕ) → get_or (take n levels) k 0 ≡ 0
+front_of_zeros zero levels all k = refl
+front_of_zeros (suc n) [] all k = refl
+front_of_zeros (suc n) (level ∷ levels) all zero = all zero
+front_of_zeros (suc n) (level ∷ levels) all (suc k) = front_of_zeros n levels (λ j. all (suc j)) k
 
 length-line_levels : (base : ℕ) (classes : List BidiClass) (levels : List ℕ) → length levels ≡ length classes → length (line_levels base classes levels) ≡ length levels
 length-line_levels base [] levels same = sym same
@@ -68,11 +79,11 @@ module _ (tables : Tables) (options : Options) (base : ℕ) where
     length-lines_shown (s ∷ t ∷ starts) (part ∷ parts) same = ap suc (length-lines_shown (t ∷ starts) parts (omega (arith, same)))
 
     -- so much is shown of each as its places say
-    pub shown_lines : (places : List Place) (starts : List ℕ)
-        → lines_shown tables options base text old starts (shown_from (length text) places starts) ≡ lines_from tables options base text old places starts
-    shown_lines places [] = refl
-    shown_lines places (s ∷ []) = refl
-    shown_lines places (s ∷ t ∷ starts) = ap (λ (lines : List Line). line_showing tables options base text old (shown_between places s t) s t ∷ lines) (shown_lines places (t ∷ starts))
+    pub shown_lines : (infos : List CharInfo) (starts : List ℕ)
+        → lines_shown tables options base text old starts (shown_from (length text) infos starts) ≡ lines_from tables options base text old infos starts
+    shown_lines infos [] = refl
+    shown_lines infos (s ∷ []) = refl
+    shown_lines infos (s ∷ t ∷ starts) = ap (λ (lines : List Line). line_showing tables options base text old (shown_between infos s t) s t ∷ lines) (shown_lines infos (t ∷ starts))
 
     -- the bytes of the k-th line
     pub piece_is : (width : ℕ) (print : Print) (starts : List ℕ) (parts : List Shown) (k e : ℕ) (part : Shown) → length parts ≡ length starts → k < length starts
@@ -116,12 +127,12 @@ module _ (tables : Tables) (options : Options) (base : ℕ) where
 -- the bytes of the paragraph are those of its lines, by what is found of it
 pub page_is : (rules : Rules) (width : ℕ) (print : Print) (text : List ℕ) (base : ℕ) (levels starts : List ℕ) → base ≡ base_of rules text
     → levels ≡ levels_of rules.tables text rules.options.base
-    → starts ≡ line_starts_of rules.options.nobreak width (places_of rules.tables rules.options.whole_numbers text)
-    → lines_bytes width print base text (lines_from rules.tables rules.options base text levels (places_of rules.tables rules.options.whole_numbers text) starts)
+    → starts ≡ line_starts_of rules.options.nobreak width (infos_of rules.tables rules.options.whole_numbers text)
+    → lines_bytes width print base text (lines_from rules.tables rules.options base text levels (infos_of rules.tables rules.options.whole_numbers text) starts)
     ≡ paragraph_bytes rules width print text
 page_is rules width print text base levels starts b l s =
-    let places : List Place = places_of rules.tables rules.options.whole_numbers text in
-    let bytes : ℕ → List ℕ → List ℕ → List ℕ = λ b l s. lines_bytes width print b text (lines_from rules.tables rules.options b text l places s) in
+    let infos : List CharInfo = infos_of rules.tables rules.options.whole_numbers text in
+    let bytes : ℕ → List ℕ → List ℕ → List ℕ = λ b l s. lines_bytes width print b text (lines_from rules.tables rules.options b text l infos s) in
     ap (λ (x : ℕ). bytes x levels starts) b
     ∙ ap (λ (ls : List ℕ). bytes (base_of rules text) ls starts) l
     ∙ ap (bytes (base_of rules text) (levels_of rules.tables text rules.options.base)) s

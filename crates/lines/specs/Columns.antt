@@ -2,7 +2,7 @@
 use Rattle.std.specs.Prelude.{ℕ, ◌+◌, ◌-◌, nat_lt, List, length, map, take, sum_by, slice_index, Option, if◌then◌else◌}
 use Rattle.ucd.specs.Least.{least}
 use Rattle.reorder.specs.Order.{is_odd}
-use Rattle.lines.specs.Places.{columns_of}
+use Rattle.lines.specs.CharInfos.{columns_of}
 use Rattle.lines.specs.Visual.{Visual}
 
 -- the characters in visual order, as they are

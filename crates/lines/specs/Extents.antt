@@ -2,9 +2,9 @@
 use Rattle.std.specs.Prelude.{ℕ, List, [], ◌∷◌, length, map, slice_range}
 use Rattle.lines.specs.Filling.{columns, line_starts_of, shown}
 use Rattle.lines.specs.Layouts.{Layout, Rules, start_of}
-use Rattle.lines.specs.Places.{places_of}
+use Rattle.lines.specs.CharInfos.{infos_of}
 use Rattle.lines.specs.Visual.{Line, lines_from}
-use Rattle.lines.specs.declared.places.Place.{Place}
+use Rattle.lines.specs.declared.char_info.CharInfo.{CharInfo}
 use Rattle.lines.specs.declared.fill.Shown.{Shown}
 
 pub record LineExtents : Type 0 where
@@ -12,23 +12,23 @@ pub record LineExtents : Type 0 where
   pub shown : List Shown
 
 -- how many characters, and in how many columns, are shown of the line from s up to e
-abbrev pub shown_between : List Place → ℕ → ℕ → Shown
-shown_between places s e =
-    let part = shown (slice_range places s e) in
+abbrev pub shown_between : List CharInfo → ℕ → ℕ → Shown
+shown_between infos s e =
+    let part = shown (slice_range infos s e) in
     record { len = length part; columns = columns part }
 
 -- each line ends where the next one starts, the last one with the paragraph of n characters
-abbrev pub shown_from : ℕ → List Place → List ℕ → List Shown
-shown_from n places [] = []
-shown_from n places (s ∷ []) = shown_between places s n ∷ []
-shown_from n places (s ∷ t ∷ starts) = shown_between places s t ∷ shown_from n places (t ∷ starts)
+abbrev pub shown_from : ℕ → List CharInfo → List ℕ → List Shown
+shown_from n infos [] = []
+shown_from n infos (s ∷ []) = shown_between infos s n ∷ []
+shown_from n infos (s ∷ t ∷ starts) = shown_between infos s t ∷ shown_from n infos (t ∷ starts)
 
 -- those of a paragraph at a width
 abbrev pub extents_of : Rules → ℕ → List ℕ → LineExtents
 extents_of rules width text =
-    let places = places_of rules.tables rules.options.whole_numbers text in
-    let starts = line_starts_of rules.options.nobreak width places in
-    record { starts = starts; shown = shown_from (length text) places starts }
+    let infos = infos_of rules.tables rules.options.whole_numbers text in
+    let starts = line_starts_of rules.options.nobreak width infos in
+    record { starts = starts; shown = shown_from (length text) infos starts }
 
 -- those of lines
 abbrev pub shown_in : Line → Shown
@@ -40,10 +40,10 @@ extents_in lines = record { starts = map start_of lines; shown = map shown_in li
 -- a paragraph with the lines that start there in place of its own
 abbrev pub reflowed : Rules → Layout → LineExtents → Layout
 reflowed rules l extents =
-    let places = places_of rules.tables rules.options.whole_numbers l.text in
-    record l { lines = lines_from rules.tables rules.options l.base l.text l.levels places extents.starts }
+    let infos = infos_of rules.tables rules.options.whole_numbers l.text in
+    record l { lines = lines_from rules.tables rules.options l.base l.text l.levels infos extents.starts }
 
--- room in which lines are written: for how many characters, and of how many the lines were written in it
-pub record RoomState : Type 0 where
+-- scratch space: for how many characters, and of how many the lines were written with it
+pub record ScratchState : Type 0 where
   pub len : ℕ
   pub written : ℕ

@@ -5,18 +5,18 @@ use Rattle.bidi.specs.Brackets.{greatest}
 use Rattle.ucd.specs.Least.{least}
 use Rattle.breaks.specs.declared.mark.Mark.{Mark}
 use Rattle.breaks.specs.declared.mark.Mark.TheVariants.{Never, Must}
-use Rattle.lines.specs.declared.places.Place.{Place}
+use Rattle.lines.specs.declared.char_info.CharInfo.{CharInfo}
 
 -- the columns of a piece are the sum of those of its characters
-abbrev pub columns : List Place → ℕ
+abbrev pub columns : List CharInfo → ℕ
 columns piece = sum_by (λ p. p.columns) piece
 
 -- The tail of a piece is its longest ending of characters that count for nothing there, and the shown part is the rest.
-abbrev pub shown : List Place → List Place
+abbrev pub shown : List CharInfo → List CharInfo
 shown piece = take (length piece - suffix_len (λ p. p.is_trailing) piece) piece
 
 -- a piece fits if its shown part takes at most the width
-abbrev pub fits : ℕ → List Place → Bool
+abbrev pub fits : ℕ → List CharInfo → Bool
 fits width piece = nat_le (columns (shown piece)) width
 
 abbrev pub is_must : Mark → Bool
@@ -28,10 +28,10 @@ is_break Never = false
 is_break mark = true
 
 -- the place at an index, and nothing after the last
-abbrev pub nothing : Place
+abbrev pub nothing : CharInfo
 nothing = record { columns = 0; is_trailing = false; mark = Never; ends_cluster = false }
 
-abbrev pub place_at : List Place → ℕ → Place
+abbrev pub place_at : List CharInfo → ℕ → CharInfo
 place_at rest k = slice_index_or rest k nothing
 
 -- the first answer that there is
@@ -40,7 +40,7 @@ or_else (Some k) other = Some k
 or_else None other = other
 
 -- A line begins at the first of these characters, and others follow. Positions are named by the character that they lie after.
-module _ (rest : List Place) where
+module _ (rest : List CharInfo) where
   -- a line must end after a character, or may; a cluster ends there
   abbrev pub must_end : ℕ → Bool
   must_end k = is_must (place_at rest k).mark
@@ -60,29 +60,29 @@ module _ (rest : List Place) where
   first_end = unwrap_or (least (λ k. may_end k || cluster_ends_at k) 0 (length rest)) (length rest - 1)
 
 -- the line up to a position fits
-abbrev pub fits_to : ℕ → List Place → ℕ → Bool
+abbrev pub fits_to : ℕ → List CharInfo → ℕ → Bool
 fits_to width rest k = fits width (take (suc k) rest)
 
 -- The line ends at the greatest position, up to the first at which it must end, at which it may end and up to which it fits; without one
 -- at the greatest such at which a cluster ends; and without one of these at the first position at which it may end or a cluster ends.
-abbrev pub by_break : ℕ → List Place → Option ℕ
+abbrev pub by_break : ℕ → List CharInfo → Option ℕ
 by_break width rest = greatest (λ k. may_end rest k && fits_to width rest k) (suc (stop rest))
 
-abbrev pub by_cluster : ℕ → List Place → Option ℕ
+abbrev pub by_cluster : ℕ → List CharInfo → Option ℕ
 by_cluster width rest = greatest (λ k. cluster_ends_at rest k && fits_to width rest k) (suc (stop rest))
 
-abbrev pub line_end : ℕ → List Place → ℕ
+abbrev pub line_end : ℕ → List CharInfo → ℕ
 line_end width rest = unwrap_or (or_else (by_break width rest) (by_cluster width rest)) (first_end rest)
 
 -- how many characters the first line takes; where lines end at mandatory breaks only, it ends at the first of these
-abbrev pub line_len : Bool → ℕ → List Place → ℕ
+abbrev pub line_len : Bool → ℕ → List CharInfo → ℕ
 line_len nobreak width rest = suc (if nobreak then stop rest else line_end width rest)
 
 -- where lines start, from a place on, where the first `left` characters of the rest belong to an earlier line
-abbrev pub starts : Bool → ℕ → ℕ → ℕ → List Place → List ℕ
+abbrev pub starts : Bool → ℕ → ℕ → ℕ → List CharInfo → List ℕ
 starts nobreak width place left [] = []
 starts nobreak width place zero (p ∷ rest) = place ∷ starts nobreak width (suc place) (line_len nobreak width (p ∷ rest) - 1) rest
 starts nobreak width place (suc left) (p ∷ rest) = starts nobreak width (suc place) left rest
 
-unfoldable pub line_starts_of : Bool → ℕ → List Place → List ℕ
-line_starts_of nobreak width places = starts nobreak width 0 0 places
+unfoldable pub line_starts_of : Bool → ℕ → List CharInfo → List ℕ
+line_starts_of nobreak width infos = starts nobreak width 0 0 infos

@@ -9,7 +9,7 @@ use Rattle.bidi.specs.Levels.{levels_of}
 use Rattle.breaks.specs.Marks.{marks_of}
 use Rattle.breaks.specs.declared.mark.Mark.{Mark}
 use Rattle.lines.specs.Filling.{line_starts_of}
-use Rattle.lines.specs.Places.{places_of}
+use Rattle.lines.specs.CharInfos.{infos_of}
 use Rattle.lines.specs.Visual.{Line, Visual, lines_from, visual_of}
 use Rattle.lines.specs.declared.engine.TheConstants.{PARAGRAPH_LIMIT}
 use Rattle.lines.specs.declared.options.Options.{Options}
@@ -32,8 +32,8 @@ base_of rules text = base_level_of (map (class_of rules.tables) text) rules.opti
 
 abbrev pub lines_of : Rules → ℕ → List ℕ → List Line
 lines_of rules width text =
-    let places = places_of rules.tables rules.options.whole_numbers text in
-    lines_from rules.tables rules.options (base_of rules text) text (levels_of rules.tables text rules.options.base) places (line_starts_of rules.options.nobreak width places)
+    let infos = infos_of rules.tables rules.options.whole_numbers text in
+    lines_from rules.tables rules.options (base_of rules text) text (levels_of rules.tables text rules.options.base) infos (line_starts_of rules.options.nobreak width infos)
 
 -- the layout of a paragraph from scratch
 abbrev pub layout_of : Rules → ℕ → List ℕ → Layout

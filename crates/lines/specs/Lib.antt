@@ -1,8 +1,10 @@
 pub mod Asked
 pub mod Bare
-pub mod BarePlaces
+pub mod BareInfos
 pub mod Beginnings
+pub mod Buffers
 pub mod Bytes
+pub mod CharInfos
 pub mod Clusters
 pub mod Columns
 pub mod Counts
@@ -11,13 +13,12 @@ pub mod Extents
 pub mod Filling
 pub mod Kept
 pub mod Layouts
-pub mod Lists
 pub mod Pages
 pub mod Paragraphs
 pub mod Parts
-pub mod Places
 pub mod Printing
 pub mod Showing
+pub mod Spans
 pub mod Sums
 pub mod Visual
 pub mod Whole

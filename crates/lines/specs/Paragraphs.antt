@@ -1,24 +1,77 @@
--- What is known of a paragraph before its lines are. Only the code speaks of these.
-use Rattle.std.specs.Prelude.{◌≡◌, ℕ, List, map}
+-- What is known of a paragraph, or of one of its lines, before the lines are ordered. Only the code uses these definitions.
+use Rattle.std.specs.Prelude.{◌≡◌, ℕ, ◌≤◌, List, length, map, take}
 use Rattle.ucd.specs.Properties.{properties_of}
+use Rattle.ucd.specs.Tables.{class_of}
+use Rattle.reorder.specs.Spaces.{line_levels}
+use Rattle.bidi.specs.Levels.{levels_of}
+use Rattle.breaks.specs.Marks.{marks_of}
+use Rattle.lines.specs.Asked.{visual_part}
+use Rattle.lines.specs.CharInfos.{infos_of}
 use Rattle.lines.specs.Filling.{line_starts_of}
-use Rattle.lines.specs.Layouts.{Rules}
-use Rattle.lines.specs.Places.{places_of}
-use Rattle.lines.specs.Visual.{Line, lines_from}
+use Rattle.lines.specs.Layouts.{Rules, base_of}
+use Rattle.lines.specs.Visual.{Line, Visual, lines_from}
+use Rattle.lines.specs.declared.buffers.VisualBuffers.{VisualBuffers}
+use Rattle.lines.specs.declared.engine.TheConstants.{PARAGRAPH_LIMIT}
 use Rattle.lines.specs.declared.paragraph.LentRules.{LentRules}
+use Rattle.lines.specs.declared.paragraph.LogicalLine.{LogicalLine}
+use Rattle.lines.specs.declared.paragraph.Paragraph.{Paragraph}
 use Rattle.lines.specs.declared.paragraph.Text.{Text}
 
 abbrev pub rules_in : LentRules → Rules
 rules_in rules = record { tables = rules.tables.now; options = rules.options }
 
--- it is known what the tables say of each character
+-- the properties are those of the characters
 abbrev pub IsLookedUp : Text → Type 0
 IsLookedUp text = text.properties.now ≡ map (properties_of text.rules.tables.now) text.characters.now
+
+-- a text of at most PARAGRAPH_LIMIT characters, with its base level and the levels of its characters before L1
+pub record IsResolved (text : Text) (levels : List ℕ) : Type 0 where
+  pub looked_up : IsLookedUp text
+  pub limit : length text.characters.now ≤ PARAGRAPH_LIMIT
+  pub base : text.base ≡ base_of (rules_in text.rules) text.characters.now
+  pub levels_are : levels ≡ levels_of text.rules.tables.now text.characters.now text.rules.options.base
+  pub len : length levels ≡ length text.characters.now
+
+-- and with its break marks
+pub record IsPrepared (paragraph : Paragraph) : Type 0 where
+  pub text : IsResolved paragraph.text paragraph.levels.now
+  pub marks : paragraph.marks.now ≡ marks_of paragraph.text.rules.tables.now paragraph.text.rules.options.whole_numbers paragraph.text.characters.now
 
 -- its lines at a width, by the levels that its characters have before L1
 abbrev pub lines_at : Text → List ℕ → ℕ → List Line
 lines_at text levels width =
     let tables = text.rules.tables.now in
     let options = text.rules.options in
-    let places = places_of tables options.whole_numbers text.characters.now in
-    lines_from tables options text.base text.characters.now levels places (line_starts_of options.nobreak width places)
+    let infos = infos_of tables options.whole_numbers text.characters.now in
+    lines_from tables options text.base text.characters.now levels infos (line_starts_of options.nobreak width infos)
+
+-- what is shown of a line, by the levels of its shown part after L1
+abbrev pub shown_by : LogicalLine → List ℕ → Visual
+shown_by line levels =
+    visual_part line.text.rules.tables.now line.text.rules.options line.text.base line.is_first line.text.characters.now line.shown.columns levels
+
+-- these levels
+abbrev pub shown_levels : LogicalLine → List ℕ
+shown_levels line =
+    take line.shown.len (line_levels line.text.base (map (class_of line.text.rules.tables.now) line.text.characters.now) line.levels.now)
+
+-- what is shown of a line
+abbrev pub shown_of : LogicalLine → Visual
+shown_of line = shown_by line (shown_levels line)
+
+-- a line that buffers hold
+abbrev pub held_line : LogicalLine → VisualBuffers → Visual
+held_line line visual =
+    let n = line.shown.len in
+    let levels = take n visual.levels.items in
+    record {
+      is_first = line.is_first;
+      base = line.text.base;
+      len = length line.text.characters.now;
+      text = take (length levels) line.text.characters.now;
+      columns = line.shown.columns;
+      levels = levels;
+      ltov = take n visual.ltov.items;
+      vtol = take n visual.vtol.items;
+      chars = take n visual.chars.items;
+    }

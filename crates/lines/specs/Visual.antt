@@ -7,7 +7,7 @@ use Rattle.reorder.specs.Mirroring.{visual_chars}
 use Rattle.reorder.specs.Order.{ltov_of, vtol_of}
 use Rattle.reorder.specs.Spaces.{line_levels}
 use Rattle.lines.specs.declared.options.Options.{Options}
-use Rattle.lines.specs.declared.places.Place.{Place}
+use Rattle.lines.specs.declared.char_info.CharInfo.{CharInfo}
 
 -- A line of a paragraph, by the character that it starts at. All else is of its shown part, whose positions count from its start: the
 -- columns, the levels after L1 in logical order, of each position the visual one and of each visual position the logical one, and the
@@ -21,11 +21,11 @@ pub record Line : Type 0 where
   pub chars : List ℕ
 
 -- a paragraph of which all is known but its lines
-module _ (tables : Tables) (options : Options) (base : ℕ) (text levels : List ℕ) (places : List Place) where
+module _ (tables : Tables) (options : Options) (base : ℕ) (text levels : List ℕ) (infos : List CharInfo) where
   -- L1 is applied to the whole line from s up to e, L2, L3 and L4 to its shown part
   abbrev pub line_between : ℕ → ℕ → Line
   line_between s e =
-      let part = shown (slice_range places s e) in
+      let part = shown (slice_range infos s e) in
       let line = slice_range text s e in
       let classes = map (class_of tables) line in
       let part_levels = take (length part) (line_levels base classes (slice_range levels s e)) in

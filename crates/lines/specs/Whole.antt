@@ -6,7 +6,7 @@ use Rattle.ucd.specs.declared.line_class.LineClass.TheVariants.{BK, CR, LF, NL}
 use Rattle.ucd.specs.declared.tables.Tables.{Tables}
 use Rattle.breaks.specs.Bases.{base_class, character}
 use Rattle.breaks.specs.Classes.{is_one_of}
-use Rattle.lines.specs.Places.{is_trailing_in}
+use Rattle.lines.specs.CharInfos.{is_trailing_in}
 
 -- a line must end after a character of a class, after LB1, unless another one is between CR and LF
 abbrev pub ends_line : LineClass → Bool

@@ -3,11 +3,11 @@ use Rattle.std.specs.Prelude.{◌≡◌, ℕ, ◌+◌, ◌-◌, ◌≤◌, List,
 use Rattle.device.specs.Device.{Device, Wrote, StoppedAt}
 
 -- the part was written after so many bytes, which makes n
-pub record PassedOn (part : List ℕ) (done : ℕ) (old new : Device) (n : ℕ) : Type 0 where
-  pub count : n ≡ done + length part
+pub record PassedOn (part : List ℕ) (before : ℕ) (old new : Device) (n : ℕ) : Type 0 where
+  pub count : n ≡ before + length part
   pub wrote : Wrote part old new
 
 -- the sink failed within the part, after so many bytes of all
-pub record StoppedIn (part : List ℕ) (done : ℕ) (old new : Device) (written : ℕ) : Type 0 where
-  pub after : done ≤ written
-  pub stopped : StoppedAt (written - done) part old new
+pub record StoppedIn (part : List ℕ) (before : ℕ) (old new : Device) (written : ℕ) : Type 0 where
+  pub after : before ≤ written
+  pub stopped : StoppedAt (written - before) part old new

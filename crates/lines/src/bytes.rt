@@ -1,5 +1,5 @@
 //! The bytes of a line, passed to a sink as they are made. Each function writes a part of them after
-//! `done` bytes, and answers how many are written then.
+//! `before` bytes, and answers how many are written then.
 ghost use Rattle.std.specs.Prelude.{◌≡◌, [], ◌∷◌, ◌++◌, ◌≤◌, ◌&&◌, IfOk, IfErr, if◌then◌else◌};
 ghost use Rattle.std.specs.Prelude.{◌+◌, ◌*◌, ◌<◌, take, codes};
 ghost use Rattle.std.specs.Prelude.{length, map, replicate, encode_utf8, encode_utf8_all, slice_index};
@@ -24,18 +24,18 @@ pub struct WriteFault {
 // Spaces before a line.
 static SPACES: [u8; 64] = [b' '; 64];
 
-fn write_part<W: Sink>(writer: &mut W, done: u64, part: &[u8]) -> Result<u64, WriteFault>
-    requires { done ≤ (W.state writer.old).passed }
+fn write_part<W: Sink>(writer: &mut W, before: u64, part: &[u8]) -> Result<u64, WriteFault>
+    requires { before ≤ (W.state writer.old).passed }
     ensures ok { IfOk result (λ n.
-        PassedOn part.now done (W.state writer.old) (W.state writer.new) n) }
+        PassedOn part.now before (W.state writer.old) (W.state writer.new) n) }
     ensures err { IfErr result (λ fault.
-        StoppedIn part.now done (W.state writer.old) (W.state writer.new) fault.written) }
+        StoppedIn part.now before (W.state writer.old) (W.state writer.new) fault.written) }
     ensures counted { IfOk result (λ n. n ≤ (W.state writer.new).passed) }
 {
     match write_all(writer, part) {
-        Ok(()) => Ok(done + part.len() as u64),
+        Ok(()) => Ok(before + part.len() as u64),
         Err(written) => Err(WriteFault {
-            written: done + written as u64,
+            written: before + written as u64,
         }),
     }
 }
@@ -43,21 +43,21 @@ fn write_part<W: Sink>(writer: &mut W, done: u64, part: &[u8]) -> Result<u64, Wr
 // How many characters are written at a time.
 const CHARACTERS_AT_ONCE: usize = 64;
 
-/// Writes characters as UTF-8 after `done` bytes that the sink passed before, and says how many bytes that
+/// Writes characters as UTF-8 after `before` bytes that the sink passed before, and says how many bytes that
 /// makes; a fault counts these too. It takes no memory.
-pub fn write_chars<W: Sink>(writer: &mut W, done: u64, chars: &[char]) -> Result<u64, WriteFault>
-    requires { done ≤ (W.state writer.old).passed }
-    ensures ok { IfOk result (λ n. PassedOn (encode_utf8_all chars.now) done
+pub fn write_chars<W: Sink>(writer: &mut W, before: u64, chars: &[char]) -> Result<u64, WriteFault>
+    requires { before ≤ (W.state writer.old).passed }
+    ensures ok { IfOk result (λ n. PassedOn (encode_utf8_all chars.now) before
         (W.state writer.old) (W.state writer.new) n) }
-    ensures err { IfErr result (λ fault. StoppedIn (encode_utf8_all chars.now) done
+    ensures err { IfErr result (λ fault. StoppedIn (encode_utf8_all chars.now) before
         (W.state writer.old) (W.state writer.new) fault.written) }
     ensures counted { IfOk result (λ n. n ≤ (W.state writer.new).passed) }
 {
     if chars.is_empty() {
-        return Ok(done);
+        return Ok(before);
     }
     let mut buffer = [0; 4 * CHARACTERS_AT_ONCE];
-    let mut written = done;
+    let mut written = before;
     let mut at = 0;
     while at < chars.len() {
         let end = chars.len().min(at + CHARACTERS_AT_ONCE);
@@ -104,22 +104,22 @@ fn put(buffer: &mut [u8], at: usize, byte: u8) -> usize
 // The characters of a text at some places, in their order.
 fn write_places<W: Sink>(
     writer: &mut W,
-    done: u64,
+    before: u64,
     text: &[char],
     places: &[u32],
 ) -> Result<u64, WriteFault>
-    requires done { done ≤ (W.state writer.old).passed }
+    requires before { before ≤ (W.state writer.old).passed }
     requires within { AreWithin (length text.now) places.now }
     ensures ok { IfOk result (λ n.
-        PassedOn (encode_utf8_all (map (slice_index text.now) places.now)) done
+        PassedOn (encode_utf8_all (map (slice_index text.now) places.now)) before
         (W.state writer.old) (W.state writer.new) n) }
     ensures err { IfErr result (λ fault.
-        StoppedIn (encode_utf8_all (map (slice_index text.now) places.now)) done
+        StoppedIn (encode_utf8_all (map (slice_index text.now) places.now)) before
         (W.state writer.old) (W.state writer.new) fault.written) }
     ensures counted { IfOk result (λ n. n ≤ (W.state writer.new).passed) }
 {
     let mut buffer = [0; 4 * CHARACTERS_AT_ONCE];
-    let mut written = done;
+    let mut written = before;
     let mut at = 0;
     while at < places.len() {
         let (next, len) = encode_places(text, places, at, &mut buffer);
@@ -150,15 +150,15 @@ fn encode_places(text: &[char], places: &[u32], from: usize, buffer: &mut [u8]) 
     (next, len)
 }
 
-fn write_spaces<W: Sink>(writer: &mut W, done: u64, count: usize) -> Result<u64, WriteFault>
-    requires { done ≤ (W.state writer.old).passed }
+fn write_spaces<W: Sink>(writer: &mut W, before: u64, count: usize) -> Result<u64, WriteFault>
+    requires { before ≤ (W.state writer.old).passed }
     ensures ok { IfOk result (λ n.
-        PassedOn (replicate count 32) done (W.state writer.old) (W.state writer.new) n) }
+        PassedOn (replicate count 32) before (W.state writer.old) (W.state writer.new) n) }
     ensures err { IfErr result (λ fault.
-        StoppedIn (replicate count 32) done (W.state writer.old) (W.state writer.new) fault.written) }
+        StoppedIn (replicate count 32) before (W.state writer.old) (W.state writer.new) fault.written) }
     ensures counted { IfOk result (λ n. n ≤ (W.state writer.new).passed) }
 {
-    let mut written = done;
+    let mut written = before;
     let mut left = count;
     while left > 0 {
         let some = left.min(SPACES.len());
@@ -178,19 +178,19 @@ const NUMBER_LEN: usize = 41;
 #[inline(never)]
 fn write_row<W: Sink, I: Integer>(
     writer: &mut W,
-    done: u64,
+    before: u64,
     numbers: &[I],
 ) -> Result<u64, WriteFault>
-    requires { done ≤ (W.state writer.old).passed }
-    ensures ok { IfOk result (λ n. PassedOn (join_with_byte 32 (map I.text numbers.now)) done
+    requires { before ≤ (W.state writer.old).passed }
+    ensures ok { IfOk result (λ n. PassedOn (join_with_byte 32 (map I.text numbers.now)) before
         (W.state writer.old) (W.state writer.new) n) }
     ensures err { IfErr result (λ fault.
-        StoppedIn (join_with_byte 32 (map I.text numbers.now)) done
+        StoppedIn (join_with_byte 32 (map I.text numbers.now)) before
         (W.state writer.old) (W.state writer.new) fault.written) }
     ensures counted { IfOk result (λ n. n ≤ (W.state writer.new).passed) }
 {
     let mut buffer = [0; ROW_BYTES_AT_ONCE];
-    let mut written = done;
+    let mut written = before;
     let mut at = 0;
     while at < numbers.len() {
         let (next, len) = encode_row(numbers, at, &mut buffer);
@@ -273,24 +273,24 @@ fn put_all(buffer: &mut [u8], at: usize, bytes: &[u8]) -> usize
 // The padding of a line, its characters in visual order, and its end.
 pub(crate) fn write_shown<W: Sink>(
     writer: &mut W,
-    done: u64,
+    before: u64,
     line: &VisualLine<'_>,
     width: u16,
     print: &Print,
 ) -> Result<u64, WriteFault>
-    requires { done ≤ (W.state writer.old).passed }
+    requires { before ≤ (W.state writer.old).passed }
     ensures ok { IfOk result (λ n.
-        PassedOn (if print.now.novisual then [] else visual_line width print.now line.now) done
+        PassedOn (if print.now.novisual then [] else visual_line width print.now line.now) before
         (W.state writer.old) (W.state writer.new) n) }
     ensures err { IfErr result (λ fault.
-        StoppedIn (if print.now.novisual then [] else visual_line width print.now line.now) done
+        StoppedIn (if print.now.novisual then [] else visual_line width print.now line.now) before
         (W.state writer.old) (W.state writer.new) fault.written) }
     ensures counted { IfOk result (λ n. n ≤ (W.state writer.new).passed) }
 {
     if print.novisual {
-        return Ok(done);
+        return Ok(before);
     }
-    let padded = write_spaces(writer, done, padding(line, width, print))?;
+    let padded = write_spaces(writer, before, padding(line, width, print))?;
     let shown = write_shown_chars(writer, padded, line, print)?;
     write_part(writer, shown, b"\n")
 }
@@ -298,23 +298,23 @@ pub(crate) fn write_shown<W: Sink>(
 // The characters of a line in visual order, mirrored or as they are.
 fn write_shown_chars<W: Sink>(
     writer: &mut W,
-    done: u64,
+    before: u64,
     line: &VisualLine<'_>,
     print: &Print,
 ) -> Result<u64, WriteFault>
-    requires { done ≤ (W.state writer.old).passed }
+    requires { before ≤ (W.state writer.old).passed }
     ensures ok { IfOk result (λ n.
-        PassedOn (encode_utf8_all (shown_chars print.now line.now)) done
+        PassedOn (encode_utf8_all (shown_chars print.now line.now)) before
         (W.state writer.old) (W.state writer.new) n) }
     ensures err { IfErr result (λ fault.
-        StoppedIn (encode_utf8_all (shown_chars print.now line.now)) done
+        StoppedIn (encode_utf8_all (shown_chars print.now line.now)) before
         (W.state writer.old) (W.state writer.new) fault.written) }
     ensures counted { IfOk result (λ n. n ≤ (W.state writer.new).passed) }
 {
     if print.nomirror {
-        write_places(writer, done, line.text, line.vtol)
+        write_places(writer, before, line.text, line.vtol)
     } else {
-        write_chars(writer, done, line.chars)
+        write_chars(writer, before, line.chars)
     }
 }
 
@@ -332,119 +332,119 @@ fn padding(line: &VisualLine<'_>, width: u16, print: &Print) -> usize
 // The direction of a paragraph, on its first line.
 pub(crate) fn write_direction<W: Sink>(
     writer: &mut W,
-    done: u64,
+    before: u64,
     line: &VisualLine<'_>,
     print: &Print,
 ) -> Result<u64, WriteFault>
-    requires { done ≤ (W.state writer.old).passed }
+    requires { before ≤ (W.state writer.old).passed }
     ensures ok { IfOk result (λ n. PassedOn
-        (if print.now.basedir && line.now.is_first then direction_line line.now.base else []) done
+        (if print.now.basedir && line.now.is_first then direction_line line.now.base else []) before
         (W.state writer.old) (W.state writer.new) n) }
     ensures err { IfErr result (λ fault. StoppedIn
-        (if print.now.basedir && line.now.is_first then direction_line line.now.base else []) done
+        (if print.now.basedir && line.now.is_first then direction_line line.now.base else []) before
         (W.state writer.old) (W.state writer.new) fault.written) }
     ensures counted { IfOk result (λ n. n ≤ (W.state writer.new).passed) }
 {
-    write_base(writer, done, print.basedir && line.is_first, line.base)
+    write_base(writer, before, print.basedir && line.is_first, line.base)
 }
 
 // The direction of a paragraph of a base level, if it is asked for.
 pub(crate) fn write_base<W: Sink>(
     writer: &mut W,
-    done: u64,
+    before: u64,
     asked: bool,
     base: u8,
 ) -> Result<u64, WriteFault>
-    requires { done ≤ (W.state writer.old).passed }
-    ensures ok { IfOk result (λ n. PassedOn (if asked then direction_line base else []) done
+    requires { before ≤ (W.state writer.old).passed }
+    ensures ok { IfOk result (λ n. PassedOn (if asked then direction_line base else []) before
         (W.state writer.old) (W.state writer.new) n) }
-    ensures err { IfErr result (λ fault. StoppedIn (if asked then direction_line base else []) done
+    ensures err { IfErr result (λ fault. StoppedIn (if asked then direction_line base else []) before
         (W.state writer.old) (W.state writer.new) fault.written) }
     ensures counted { IfOk result (λ n. n ≤ (W.state writer.new).passed) }
 {
     if !asked {
-        return Ok(done);
+        return Ok(before);
     }
     let direction = if base % 2 == 1 { b"RTL\n" } else { b"LTR\n" };
-    write_part(writer, done, direction)
+    write_part(writer, before, direction)
 }
 
 // A line of numbers, if it is asked for.
 fn write_numbers<W: Sink, I: Integer>(
     writer: &mut W,
-    done: u64,
+    before: u64,
     asked: bool,
     numbers: &[I],
 ) -> Result<u64, WriteFault>
-    requires { done ≤ (W.state writer.old).passed }
+    requires { before ≤ (W.state writer.old).passed }
     ensures ok { IfOk result (λ n. PassedOn
-        (if asked then join_with_byte 32 (map I.text numbers.now) ++ codes "\n" else []) done
+        (if asked then join_with_byte 32 (map I.text numbers.now) ++ codes "\n" else []) before
         (W.state writer.old) (W.state writer.new) n) }
     ensures err { IfErr result (λ fault. StoppedIn
-        (if asked then join_with_byte 32 (map I.text numbers.now) ++ codes "\n" else []) done
+        (if asked then join_with_byte 32 (map I.text numbers.now) ++ codes "\n" else []) before
         (W.state writer.old) (W.state writer.new) fault.written) }
     ensures counted { IfOk result (λ n. n ≤ (W.state writer.new).passed) }
 {
     if !asked {
-        return Ok(done);
+        return Ok(before);
     }
-    let written = write_row(writer, done, numbers)?;
+    let written = write_row(writer, before, numbers)?;
     write_part(writer, written, b"\n")
 }
 
 // Of each logical position the visual one.
 pub(crate) fn write_ltov<W: Sink>(
     writer: &mut W,
-    done: u64,
+    before: u64,
     line: &VisualLine<'_>,
     print: &Print,
 ) -> Result<u64, WriteFault>
-    requires { done ≤ (W.state writer.old).passed }
+    requires { before ≤ (W.state writer.old).passed }
     ensures ok { IfOk result (λ n.
-        PassedOn (if print.now.ltov then numbers_line line.now.ltov else []) done
+        PassedOn (if print.now.ltov then numbers_line line.now.ltov else []) before
         (W.state writer.old) (W.state writer.new) n) }
     ensures err { IfErr result (λ fault.
-        StoppedIn (if print.now.ltov then numbers_line line.now.ltov else []) done
+        StoppedIn (if print.now.ltov then numbers_line line.now.ltov else []) before
         (W.state writer.old) (W.state writer.new) fault.written) }
     ensures counted { IfOk result (λ n. n ≤ (W.state writer.new).passed) }
 {
-    write_numbers(writer, done, print.ltov, line.ltov)
+    write_numbers(writer, before, print.ltov, line.ltov)
 }
 
 // Of each visual position the logical one.
 pub(crate) fn write_vtol<W: Sink>(
     writer: &mut W,
-    done: u64,
+    before: u64,
     line: &VisualLine<'_>,
     print: &Print,
 ) -> Result<u64, WriteFault>
-    requires { done ≤ (W.state writer.old).passed }
+    requires { before ≤ (W.state writer.old).passed }
     ensures ok { IfOk result (λ n.
-        PassedOn (if print.now.vtol then numbers_line line.now.vtol else []) done
+        PassedOn (if print.now.vtol then numbers_line line.now.vtol else []) before
         (W.state writer.old) (W.state writer.new) n) }
     ensures err { IfErr result (λ fault.
-        StoppedIn (if print.now.vtol then numbers_line line.now.vtol else []) done
+        StoppedIn (if print.now.vtol then numbers_line line.now.vtol else []) before
         (W.state writer.old) (W.state writer.new) fault.written) }
     ensures counted { IfOk result (λ n. n ≤ (W.state writer.new).passed) }
 {
-    write_numbers(writer, done, print.vtol, line.vtol)
+    write_numbers(writer, before, print.vtol, line.vtol)
 }
 
 // The level of each character.
 pub(crate) fn write_levels<W: Sink>(
     writer: &mut W,
-    done: u64,
+    before: u64,
     line: &VisualLine<'_>,
     print: &Print,
 ) -> Result<u64, WriteFault>
-    requires { done ≤ (W.state writer.old).passed }
+    requires { before ≤ (W.state writer.old).passed }
     ensures ok { IfOk result (λ n.
-        PassedOn (if print.now.levels then numbers_line line.now.levels else []) done
+        PassedOn (if print.now.levels then numbers_line line.now.levels else []) before
         (W.state writer.old) (W.state writer.new) n) }
     ensures err { IfErr result (λ fault.
-        StoppedIn (if print.now.levels then numbers_line line.now.levels else []) done
+        StoppedIn (if print.now.levels then numbers_line line.now.levels else []) before
         (W.state writer.old) (W.state writer.new) fault.written) }
     ensures counted { IfOk result (λ n. n ≤ (W.state writer.new).passed) }
 {
-    write_numbers(writer, done, print.levels, line.levels)
+    write_numbers(writer, before, print.levels, line.levels)
 }

@@ -5,7 +5,7 @@ ghost use Rattle.std.specs.List.{list_all};
 ghost use Rattle.lines.specs.Bare.{with_ends};
 ghost use Rattle.lines.specs.Clusters.{cluster_ends, ends_of, is_alone};
 
-use crate::places::Place;
+use crate::char_info::CharInfo;
 use std::alloc::{AllocError, Global};
 use unicode_segmentation::UnicodeSegmentation;
 
@@ -29,13 +29,13 @@ pub fn cluster_ends(alloc: Global, text: &[char]) -> Result<Vec<bool>, AllocErro
     Ok(ends)
 }
 
-/// Marks the places of a paragraph after which a cluster ends.
-pub fn mark_clusters(alloc: Global, text: &[char], places: &mut [Place]) -> Result<(), AllocError>
-    requires { length places.old ≡ length text.now }
-    ensures { OnOk result (places.new ≡ with_ends places.old (cluster_ends text.now)) }
+/// Marks the characters of a paragraph after which a grapheme cluster ends.
+pub fn mark_clusters(alloc: Global, text: &[char], infos: &mut [CharInfo]) -> Result<(), AllocError>
+    requires { length infos.old ≡ length text.now }
+    ensures { OnOk result (infos.new ≡ with_ends infos.old (cluster_ends text.now)) }
 {
     let ends = cluster_ends(alloc, text)?;
-    put_ends(places, &ends);
+    put_ends(infos, &ends);
     Ok(())
 }
 
@@ -60,13 +60,13 @@ fn is_alone(c: char) -> bool
     )
 }
 
-fn put_ends(places: &mut [Place], ends: &[bool])
-    requires { length ends.now ≡ length places.old }
-    ensures { places.new ≡ with_ends places.old ends.now }
+fn put_ends(infos: &mut [CharInfo], ends: &[bool])
+    requires { length ends.now ≡ length infos.old }
+    ensures { infos.new ≡ with_ends infos.old ends.now }
 {
-    for k in 0..places.len() {
-        let place = &mut places[k];
-        place.ends_cluster = ends[k];
+    for k in 0..infos.len() {
+        let info = &mut infos[k];
+        info.ends_cluster = ends[k];
     }
 }
 

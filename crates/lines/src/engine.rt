@@ -8,19 +8,21 @@ ghost use Rattle.bidi.specs.Levels.{levels_of};
 ghost use Rattle.breaks.specs.Marks.{marks_of};
 ghost use Rattle.lines.specs.Bytes.{direction_line};
 ghost use Rattle.lines.specs.Layouts.{AreWithin, base_of};
-ghost use Rattle.lines.specs.Lists.{held_lines, AreSound};
+ghost use Rattle.lines.specs.Buffers.{held_lines, AreSound};
 ghost use Rattle.lines.specs.Pages.{lines_bytes, paragraph_bytes};
 ghost use Rattle.lines.specs.Printing.{FailedAs, skips_lines};
 
+use crate::buffers::LayoutBuffers;
 use crate::bytes::write_base;
 use crate::counts::Counts;
-use crate::extents::{Extents, Room};
+use crate::extents::Extents;
 use crate::fill::Fill;
 use crate::laid::Laid;
 use crate::options::Options;
 use crate::paragraph::LentRules;
 use crate::print::{Print, PrintFault};
-use crate::work::{LayoutLists, Parts, Workspace};
+use crate::reflow::ReflowScratch;
+use crate::workspace::Workspace;
 use crate::writing::Form;
 use bidi::{base_level, first_cut, is_cut};
 use breaks::{Mark, marks_are_as_many};
@@ -40,8 +42,15 @@ pub struct Engine {
     counts: Counts,
     // Made for the first paragraph, and kept for the next ones.
     work: Option<Workspace>,
-    // What the last paragraph that was written consisted of.
-    kept: Option<LayoutLists>,
+}
+
+// The layout of a paragraph, but for its text.
+#[derive(Debug, Drop)]
+struct Parts {
+    base: u8,
+    levels: Vec<u8>,
+    marks: Vec<Mark>,
+    lines: Fill,
 }
 
 impl Drop for Engine {
@@ -51,7 +60,6 @@ impl Drop for Engine {
             options: _,
             counts,
             work: _,
-            kept: _,
         } = self;
         counts.end(tables);
     }
@@ -94,7 +102,6 @@ impl Engine {
             options,
             counts: Counts::zero(),
             work: None,
-            kept: None,
         }
     }
 
@@ -261,45 +268,45 @@ impl Engine {
         self.find_extents(alloc, laid.text(), laid.marks(), width)
     }
 
-    /// Room in which the lines of any paragraph of at most so many characters can be written.
-    pub fn room(&self, alloc: Global, len: usize) -> Result<Room, AllocError>
-        ensures ok { IfOk result (λ room. room ≡ record { len = len; written = 0 }) }
+    /// Allocates scratch space for [`Engine::reflow`], for paragraphs of at most `len` characters.
+    pub fn reflow_scratch(&self, alloc: Global, len: usize) -> Result<ReflowScratch, AllocError>
+        ensures ok { IfOk result (λ scratch. scratch ≡ record { len = len; written = 0 }) }
         ensures memory { OnErr result (0 < len) }
     {
-        Room::new(alloc, &self.tables, len)
+        ReflowScratch::new(alloc, &self.tables, len)
     }
 
-    /// Writes the lines of a paragraph at another width over those that it has: by their extents at that
-    /// width, which are handed out as those of the old lines. The paragraph is laid out by this engine's
-    /// rules, and there is room for it, which counts the characters. No memory is taken.
-    pub fn reflow(&self, laid: &mut Laid, extents: &mut Extents, room: &mut Room)
+    /// Replaces the lines of a paragraph with those at another width, by their extents at that width.
+    /// `extents` then holds those of the old lines. The paragraph is laid out by this engine's rules. `scratch`
+    /// has space for it, and counts the characters. Allocates nothing.
+    pub fn reflow(&self, laid: &mut Laid, extents: &mut Extents, scratch: &mut ReflowScratch)
         requires laid { IsLaidOut (rules_of self.now) laid.old }
         requires extents { (width : ℕ)
             × (extents.old ≡ extents_of (rules_of self.now) width laid.old.text) }
-        requires room { length laid.old.text ≤ room.old.len }
+        requires scratch { length laid.old.text ≤ scratch.old.len }
         ensures laid { laid.new ≡ reflowed (rules_of self.now) laid.old extents.old }
         ensures laid_out { IsLaidOut (rules_of self.now) laid.new }
         ensures extents { extents.new ≡ extents_in laid.old.lines }
-        ensures room { room.new ≡ record room.old {
-          written = counted room.old.written (length laid.old.text);
+        ensures scratch { scratch.new ≡ record scratch.old {
+          written = counted scratch.old.written (length laid.old.text);
         } }
-        ensures least { room.old.written ≤ room.new.written }
+        ensures least { scratch.old.written ≤ scratch.new.written }
     {
-        let Room {
+        let ReflowScratch {
             properties,
             written,
-        } = room;
+        } = scratch;
         laid.reflow(&self.tables, self.options, extents, properties, written);
     }
 
-    /// Takes room back, and counts the characters whose lines were written in it. There is no other way to
-    /// let go of it.
-    pub fn take_back(&mut self, room: Room)
-        ensures counts { Rewrites room.written self.old self.new }
-        ensures at_most { RewritesAtMost room.written self.old self.new }
+    /// Frees scratch space, and counts the characters whose lines were written with it. There is no other way to
+    /// free it.
+    pub fn take_back(&mut self, scratch: ReflowScratch)
+        ensures counts { Rewrites scratch.written self.old self.new }
+        ensures at_most { RewritesAtMost scratch.written self.old self.new }
         ensures rules { SameRules self.old self.new }
     {
-        self.counts.written.add(room.end());
+        self.counts.written.add(scratch.end());
     }
 
     // Writes the lines of a paragraph.
@@ -326,14 +333,13 @@ impl Engine {
         ensures rules { SameRules self.old self.new }
     {
         let work = self.work.get_or_insert_with(|| Workspace::new(alloc));
-        let kept = self.kept.get_or_insert_with(|| LayoutLists::new(alloc));
         let counts = &mut self.counts;
         let rules = LentRules {
             tables: &self.tables,
             options: self.options,
         };
         let form = Form { width, print };
-        work.write(alloc, &rules, text, &form, kept, counts, writer)
+        work.write(alloc, &rules, text, &form, counts, writer)
     }
 
     // The base level of a paragraph. Counts the characters.
@@ -395,7 +401,7 @@ impl Engine {
         ensures rules { SameRules self.old self.new }
     {
         let work = self.work.get_or_insert_with(|| Workspace::new(alloc));
-        let mut kept = LayoutLists::new(alloc);
+        let mut kept = LayoutBuffers::new(alloc);
         let counts = &mut self.counts;
         let rules = LentRules {
             tables: &self.tables,

@@ -1,16 +1,23 @@
-//! What there is to find of the lines of a paragraph at a width before they are written, and the room in
-//! which they can be written without memory.
-ghost use Rattle.std.specs.Prelude.{◌≡◌, ◌<◌, ◌≤◌, length, map, IfOk, OnErr};
-ghost use Rattle.ucd.specs.Properties.{properties_of};
+//! Where the lines of a paragraph start at a width, and how much of each is shown.
+ghost use Rattle.std.specs.Prelude.{◌≡◌, ◌≤◌, length, OnOk};
+ghost use Rattle.lines.specs.Bare.{with_ends};
+ghost use Rattle.lines.specs.Clusters.{cluster_ends};
+ghost use Rattle.lines.specs.Extents.{shown_from};
+ghost use Rattle.lines.specs.Filling.{line_starts_of};
+ghost use Rattle.lines.specs.Kept.{AreStarts};
+ghost use Rattle.lines.specs.declared.engine.TheConstants.{PARAGRAPH_LIMIT};
 
-use crate::counts::Count;
+use crate::buffers::LineBuffers;
+use crate::char_info::CharInfo;
+use crate::counts::Counted;
 use crate::fill::Shown;
+use crate::filling::line_starts;
+use crate::showing::fill_shown;
 use std::alloc::{AllocError, Global};
 use std::marker::Model;
-use ucd::{Properties, Tables};
 
-/// Where the lines of a paragraph start at some width, and how much of each is shown: from these and what is
-/// known of the paragraph its lines can be written.
+/// Where the lines of a paragraph start at some width, and how much of each is shown. By the extents and the
+/// paragraph its lines can be written without allocation.
 #[derive(Debug, Drop)]
 pub struct Extents {
     pub(crate) starts: Vec<u32>,
@@ -25,55 +32,27 @@ impl Model for Extents {
     ghost view = { λ e. record { starts = e.starts.items; shown = e.shown.items } };
 }
 
-/// Room for what the tables say of each character of a paragraph. It counts the characters whose lines are
-/// written in it, so it is no `Drop`: it goes back to an engine.
-#[derive(Debug)]
-pub struct Room {
-    pub(crate) properties: Vec<Properties>,
-    pub(crate) written: Count,
-}
-
-impl Model for Room {
-    ghost use Rattle.std.specs.Prelude.{length};
-    ghost use Rattle.lines.specs.Extents.{RoomState};
-
-    ghost Value = { RoomState };
-
-    ghost view = { λ r. record { len = length r.properties.items; written = r.written } };
-}
-
-impl Room {
-    /// Room for so many characters.
-    pub(crate) fn new(alloc: Global, tables: &Tables, len: usize) -> Result<Room, AllocError>
-        ensures ok { IfOk result (λ room. room ≡ record { len = len; written = 0 }) }
-        ensures memory { OnErr result (0 < len) }
-    {
-        let mut properties = Vec::new(alloc);
-        properties.resize(len, tables.properties('\0'))?;
-        Ok(Room {
-            properties,
-            written: Count::zero(),
-        })
-    }
-
-    /// Lets go of it but for the count of the characters whose lines were written.
-    pub(crate) fn end(self) -> Count
-        ensures { result ≡ self.written }
-    {
-        let Room {
-            properties: _,
-            written,
-        } = self;
-        written
-    }
-}
-
-/// Writes what the tables say of each character over what a list has.
-pub(crate) fn look_up(tables: &Tables, text: &[char], properties: &mut [Properties])
-    requires { length properties.old ≡ length text.now }
-    ensures { properties.new ≡ map (properties_of tables.now) text.now }
+/// Finds where the lines of a paragraph start, and how much of each is shown, by what is known of each
+/// character but for the ends of clusters.
+pub(crate) fn fill_spans_by(
+    alloc: Global,
+    text: &[char],
+    infos: &mut [CharInfo],
+    width: u16,
+    nobreak: bool,
+    lines: &mut LineBuffers,
+    filled: Counted,
+) -> Result<(), AllocError>
+    requires counted { filled ≡ length text.now }
+    requires len { length infos.old ≡ length text.now }
+    requires within { length text.now ≤ PARAGRAPH_LIMIT }
+    ensures starts { OnOk result (lines.new.starts.items
+        ≡ line_starts_of nobreak width (with_ends infos.old (cluster_ends text.now))) }
+    ensures shown { OnOk result (lines.new.shown.items
+        ≡ shown_from (length text.now) (with_ends infos.old (cluster_ends text.now)) lines.new.starts.items) }
+    ensures ordered { OnOk result (AreStarts (length text.now) lines.new.starts.items) }
+    ensures visual { lines.new.visual ≡ lines.old.visual }
 {
-    for (k, c) in text.iter().enumerate() {
-        properties[k] = tables.properties(*c);
-    }
+    line_starts(alloc, text, infos, width, nobreak, &mut lines.starts, filled)?;
+    fill_shown(infos, &lines.starts, &mut lines.shown)
 }

@@ -10,9 +10,10 @@ ghost use Rattle.lines.specs.Layouts;
 ghost use Rattle.lines.specs.Paragraphs.{IsLookedUp};
 ghost use Rattle.lines.specs.Parts.{line_of};
 ghost use Rattle.lines.specs.Visual.{lines_from};
-ghost use Rattle.lines.specs.declared.places.Place.{Place};
+ghost use Rattle.lines.specs.declared.char_info.CharInfo.{CharInfo};
 ghost use Rattle.lines.specs.declared.engine.TheConstants.{PARAGRAPH_LIMIT};
 
+use crate::buffers::{LineBuffers, VisualBuffers};
 use crate::bytes::WriteFault;
 use crate::counts::Count;
 use crate::extents::Extents;
@@ -21,7 +22,6 @@ use crate::print::Print;
 use crate::showing::{end_of, show_each};
 use crate::visual_line::VisualLine;
 use device::Sink;
-use std::alloc::Global;
 use std::marker::Model;
 
 /// How much of a line is shown.
@@ -75,25 +75,31 @@ impl Model for Fill {
 }
 
 impl Fill {
-    ghost use Rattle.lines.specs.Lists.{held_in, AreSound};
+    ghost use Rattle.lines.specs.Buffers.{held_in, AreSound};
     ghost use Rattle.lines.specs.Layouts.{is_line_within, start_of};
     ghost use Rattle.lines.specs.Pages.{lines_bytes};
     ghost use Rattle.lines.specs.Parts.{line_of};
     ghost use Rattle.lines.specs.Visual.{visual_of};
     ghost use Rattle.lines.specs.Writing.{PassedOn, StoppedIn};
 
-    /// The lines that some lists hold.
-    pub(crate) fn of(lists: Lists) -> Fill
-        requires { AreSound lists }
-        ensures { result ≡ held_in lists }
+    /// The lines that buffers hold.
+    pub(crate) fn of(lines: LineBuffers) -> Fill
+        requires { AreSound lines }
+        ensures { result ≡ held_in lines }
     {
+        let VisualBuffers {
+            levels,
+            ltov,
+            vtol,
+            chars,
+        } = lines.visual;
         Fill {
-            starts: lists.starts,
-            shown: lists.shown,
-            levels: lists.levels,
-            ltov: lists.ltov,
-            vtol: lists.vtol,
-            chars: lists.chars,
+            starts: lines.starts,
+            shown: lines.shown,
+            levels,
+            ltov,
+            vtol,
+            chars,
         }
     }
 
@@ -111,12 +117,12 @@ impl Fill {
         requires limit { length text.now.characters.now ≤ PARAGRAPH_LIMIT }
         requires levels { length levels.now ≡ length text.now.characters.now }
         requires starts { AreStarts (length text.now.characters.now) extents.old.starts }
-        requires shown { (places : List Place) × (extents.old.shown
-            ≡ shown_from (length text.now.characters.now) places extents.old.starts) }
-        ensures lines { (places : List Place)
-            → extents.old.shown ≡ shown_from (length text.now.characters.now) places extents.old.starts
+        requires shown { (infos : List CharInfo) × (extents.old.shown
+            ≡ shown_from (length text.now.characters.now) infos extents.old.starts) }
+        ensures lines { (infos : List CharInfo)
+            → extents.old.shown ≡ shown_from (length text.now.characters.now) infos extents.old.starts
             → self.new.lines ≡ lines_from text.now.rules.tables.now text.now.rules.options text.now.base
-            text.now.characters.now levels.now places extents.old.starts }
+            text.now.characters.now levels.now infos extents.old.starts }
         ensures len { self.new.len ≡ length text.now.characters.now }
         ensures within { Layouts.AreWithin (length text.now.characters.now) self.new.lines }
         ensures extents { extents.new ≡ extents_in self.old.lines }
@@ -206,21 +212,21 @@ impl Fill {
         text: &[char],
         base: u8,
         writer: &mut W,
-        done: u64,
+        before: u64,
         width: u16,
         print: &Print,
     ) -> Result<u64, WriteFault>
         requires within { Layouts.AreWithin (length text.now) self.now.lines }
-        requires done { done ≤ (W.state writer.old).passed }
+        requires before { before ≤ (W.state writer.old).passed }
         ensures ok { IfOk result (λ n.
-            PassedOn (lines_bytes width print.now base text.now self.now.lines) done
+            PassedOn (lines_bytes width print.now base text.now self.now.lines) before
             (W.state writer.old) (W.state writer.new) n) }
         ensures err { IfErr result (λ fault.
-            StoppedIn (lines_bytes width print.now base text.now self.now.lines) done
+            StoppedIn (lines_bytes width print.now base text.now self.now.lines) before
             (W.state writer.old) (W.state writer.new) fault.written) }
         ensures counted { IfOk result (λ n. n ≤ (W.state writer.new).passed) }
     {
-        let mut written = done;
+        let mut written = before;
         for n in 0..self.starts().len() {
             let Some(line) = self.line(text, base, n) else {
                 unreachable!()
@@ -228,31 +234,6 @@ impl Fill {
             written = line.write_after(writer, written, width, print)?;
         }
         Ok(written)
-    }
-}
-
-/// Lists that a fill is put into, whatever they hold.
-#[derive(Debug, Drop)]
-pub(crate) struct Lists {
-    pub(crate) starts: Vec<u32>,
-    pub(crate) shown: Vec<Shown>,
-    pub(crate) levels: Vec<u8>,
-    pub(crate) ltov: Vec<u32>,
-    pub(crate) vtol: Vec<u32>,
-    pub(crate) chars: Vec<char>,
-}
-
-impl Lists {
-    /// Empty ones, which take no memory.
-    pub(crate) fn new(alloc: Global) -> Lists {
-        Lists {
-            starts: Vec::new(alloc),
-            shown: Vec::new(alloc),
-            levels: Vec::new(alloc),
-            ltov: Vec::new(alloc),
-            vtol: Vec::new(alloc),
-            chars: Vec::new(alloc),
-        }
     }
 }
 

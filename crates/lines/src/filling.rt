@@ -7,12 +7,12 @@ ghost use Rattle.lines.specs.Filling.{by_break, by_cluster, first_end, line_end}
 ghost use Rattle.lines.specs.Filling.{is_break, is_must, line_len, line_starts_of, stop};
 ghost use Rattle.lines.specs.Kept.{AreStarts};
 ghost use Rattle.lines.specs.Sums.{sums_after};
-ghost use Rattle.lines.specs.declared.places.Place.{Place};
+ghost use Rattle.lines.specs.declared.char_info.CharInfo.{CharInfo};
 ghost use Rattle.lines.specs.declared.engine.TheConstants.{PARAGRAPH_LIMIT};
 
 use crate::clusters::mark_clusters;
 use crate::counts::Counted;
-use crate::places::Place;
+use crate::char_info::CharInfo;
 use breaks::Mark;
 use std::alloc::{AllocError, Global};
 
@@ -22,26 +22,26 @@ use std::alloc::{AllocError, Global};
 pub fn line_starts(
     alloc: Global,
     text: &[char],
-    places: &mut [Place],
+    infos: &mut [CharInfo],
     width: u16,
     nobreak: bool,
     starts: &mut Vec<u32>,
     _filled: Counted,
 ) -> Result<(), AllocError>
     requires counted { _filled ≡ length text.now }
-    requires len { length places.old ≡ length text.now }
-    requires within { length places.old ≤ PARAGRAPH_LIMIT }
+    requires len { length infos.old ≡ length text.now }
+    requires within { length infos.old ≤ PARAGRAPH_LIMIT }
     ensures lines { OnOk result (starts.new.items
-        ≡ line_starts_of nobreak width (with_ends places.old (cluster_ends text.now))) }
+        ≡ line_starts_of nobreak width (with_ends infos.old (cluster_ends text.now))) }
     ensures starts { OnOk result (AreStarts (length text.now) starts.new.items) }
-    ensures alike { OnOk result (AreAlike places.new places.old) }
+    ensures alike { OnOk result (AreAlike infos.new infos.old) }
 {
     starts.clear();
     let mut start = 0;
     let mut is_known = false;
-    while start < places.len() {
+    while start < infos.len() {
         starts.push(start as u32)?;
-        let (len, known) = line_len(alloc, text, places, is_known, start, width, nobreak)?;
+        let (len, known) = line_len(alloc, text, infos, is_known, start, width, nobreak)?;
         start += len;
         is_known = known;
     }
@@ -53,36 +53,36 @@ pub fn line_starts(
 fn line_len(
     alloc: Global,
     text: &[char],
-    places: &mut [Place],
+    infos: &mut [CharInfo],
     is_known: bool,
     start: usize,
     width: u16,
     nobreak: bool,
 ) -> Result<(usize, bool), AllocError>
-    requires start { (start < length places.old) × (length places.old ≤ PARAGRAPH_LIMIT) }
-    requires len { length places.old ≡ length text.now }
-    requires known { IsTrue is_known → places.old ≡ with_ends places.old (cluster_ends text.now) }
+    requires start { (start < length infos.old) × (length infos.old ≤ PARAGRAPH_LIMIT) }
+    requires len { length infos.old ≡ length text.now }
+    requires known { IsTrue is_known → infos.old ≡ with_ends infos.old (cluster_ends text.now) }
     ensures line { IfOk result (λ line.
-        line.0 ≡ line_len nobreak width (drop start (with_ends places.old (cluster_ends text.now)))) }
-    ensures within { IfOk result (λ line. (0 < line.0) × (start + line.0 ≤ length places.old)) }
+        line.0 ≡ line_len nobreak width (drop start (with_ends infos.old (cluster_ends text.now)))) }
+    ensures within { IfOk result (λ line. (0 < line.0) × (start + line.0 ≤ length infos.old)) }
     ensures known { IfOk result (λ line.
-        IsTrue line.1 → places.new ≡ with_ends places.new (cluster_ends text.now)) }
-    ensures alike { OnOk result (AreAlike places.new places.old) }
-    ensures memory { OnErr result ((nobreak ≡ false) × (by_break width (drop start places.old) ≡ None)) }
+        IsTrue line.1 → infos.new ≡ with_ends infos.new (cluster_ends text.now)) }
+    ensures alike { OnOk result (AreAlike infos.new infos.old) }
+    ensures memory { OnErr result ((nobreak ≡ false) × (by_break width (drop start infos.old) ≡ None)) }
 {
-    if let Some(len) = broken_len(&places[start..], width, nobreak) {
+    if let Some(len) = broken_len(&infos[start..], width, nobreak) {
         return Ok((len, is_known));
     }
     if !is_known {
-        mark_clusters(alloc, text, places)?;
+        mark_clusters(alloc, text, infos)?;
     }
-    Ok((line_end(&places[start..], width) + 1, true))
+    Ok((line_end(&infos[start..], width) + 1, true))
 }
 
 // How many characters the first line takes, if it ends at a break: so clusters don't matter.
-fn broken_len(rest: &[Place], width: u16, nobreak: bool) -> Option<usize>
+fn broken_len(rest: &[CharInfo], width: u16, nobreak: bool) -> Option<usize>
     requires { (0 < length rest.now) × (length rest.now ≤ PARAGRAPH_LIMIT) }
-    ensures len { (known : List Place) → AreAlike rest.now known
+    ensures len { (known : List CharInfo) → AreAlike rest.now known
         → IfSome result (λ len. len ≡ line_len nobreak width known) }
     ensures within { IfSome result (λ len. (0 < len) × (len ≤ length rest.now)) }
     ensures none { result ≡ None → (nobreak ≡ false) × (by_break width rest.now ≡ None) }
@@ -111,20 +111,20 @@ fn is_break(mark: Mark) -> bool
 }
 
 // Whether a line may end after a character, or a cluster ends there.
-fn is_candidate(place: &Place) -> bool
-    ensures { result ≡ is_break place.now.mark || place.now.ends_cluster }
+fn is_candidate(info: &CharInfo) -> bool
+    ensures { result ≡ is_break info.now.mark || info.now.ends_cluster }
 {
-    is_break(place.mark) || place.ends_cluster
+    is_break(info.mark) || info.ends_cluster
 }
 
 // The first character after which a line must end.
-fn first_must(rest: &[Place]) -> usize
+fn first_must(rest: &[CharInfo]) -> usize
     requires { 0 < length rest.now }
     ensures end { result ≡ stop rest.now }
     ensures within { result < length rest.now }
 {
-    for (k, place) in rest.iter().enumerate() {
-        if is_must(place.mark) {
+    for (k, info) in rest.iter().enumerate() {
+        if is_must(info.mark) {
             return k;
         }
     }
@@ -132,13 +132,13 @@ fn first_must(rest: &[Place]) -> usize
 }
 
 // The first character after which a line may end, or a cluster ends.
-fn first_end(rest: &[Place]) -> usize
+fn first_end(rest: &[CharInfo]) -> usize
     requires { 0 < length rest.now }
     ensures end { result ≡ first_end rest.now }
     ensures within { result < length rest.now }
 {
-    for (k, place) in rest.iter().enumerate() {
-        if is_candidate(place) {
+    for (k, info) in rest.iter().enumerate() {
+        if is_candidate(info) {
             return k;
         }
     }
@@ -146,7 +146,7 @@ fn first_end(rest: &[Place]) -> usize
 }
 
 // The last character of the first line.
-fn line_end(rest: &[Place], width: u16) -> usize
+fn line_end(rest: &[CharInfo], width: u16) -> usize
     requires { (0 < length rest.now) × (length rest.now ≤ PARAGRAPH_LIMIT) }
     ensures end { result ≡ line_end width rest.now }
     ensures within { result < length rest.now }
@@ -160,7 +160,7 @@ fn line_end(rest: &[Place], width: u16) -> usize
 
 // The last characters, up to the first after which a line must end, up to which a line fits: of
 // those after which it may end, and of those after which a cluster ends.
-fn fitting_ends(rest: &[Place], width: u16) -> (Option<usize>, Option<usize>)
+fn fitting_ends(rest: &[CharInfo], width: u16) -> (Option<usize>, Option<usize>)
     requires { (0 < length rest.now) × (length rest.now ≤ PARAGRAPH_LIMIT) }
     ensures by_break { result.0 ≡ by_break width rest.now }
     ensures by_cluster { result.1 ≡ by_cluster width rest.now }
@@ -173,14 +173,14 @@ fn fitting_ends(rest: &[Place], width: u16) -> (Option<usize>, Option<usize>)
     };
     let mut k = 0;
     while k < rest.len() {
-        let place = rest[k];
-        sums = sums.after(place);
+        let info = rest[k];
+        sums = sums.after(info);
         if sums.shown > width as usize {
             return (by_break, by_cluster);
         }
-        by_break = later(by_break, k, is_break(place.mark));
-        by_cluster = later(by_cluster, k, place.ends_cluster);
-        if is_must(place.mark) {
+        by_break = later(by_break, k, is_break(info.mark));
+        by_cluster = later(by_cluster, k, info.ends_cluster);
+        if is_must(info.mark) {
             return (by_break, by_cluster);
         }
         k += 1;
@@ -197,13 +197,13 @@ struct Sums {
 
 impl Sums {
     // Those of the piece with one more character.
-    fn after(self, place: Place) -> Sums
+    fn after(self, info: CharInfo) -> Sums
         requires { self.columns < 2 ^ 40 }
-        ensures sums { result ≡ sums_after self place }
+        ensures sums { result ≡ sums_after self info }
         ensures most { result.columns ≤ self.columns + 255 }
     {
-        let columns = self.columns + place.columns as usize;
-        if place.is_trailing {
+        let columns = self.columns + info.columns as usize;
+        if info.is_trailing {
             Sums {
                 columns,
                 shown: self.shown,

@@ -5,11 +5,12 @@ ghost use Rattle.device.specs.Device.{StoppedAt, Wrote};
 
 use crate::bytes::WriteFault;
 use crate::counts::Count;
-use crate::extents::{Extents, look_up};
+use crate::extents::Extents;
 use crate::fill::Fill;
 use crate::options::Options;
 use crate::paragraph::{LentRules, Text};
 use crate::print::Print;
+use crate::properties::look_up;
 use crate::visual_line::VisualLine;
 use breaks::{Mark, paragraphs_end_at_must};
 use device::Sink;
@@ -148,24 +149,24 @@ impl Laid {
         Ok(())
     }
 
-    /// Writes them after `done` bytes that the sink passed before, and says how many bytes that makes;
+    /// Writes the lines after `before` bytes, and returns the number of bytes written then;
     /// a fault counts these too.
     pub fn write_after<W: Sink>(
         &self,
         writer: &mut W,
-        done: u64,
+        before: u64,
         width: u16,
         print: &Print,
     ) -> Result<u64, WriteFault>
-        requires { done ≤ (W.state writer.old).passed }
-        ensures ok { IfOk result (λ n. PassedOn (layout_bytes width print.now self.now) done
+        requires { before ≤ (W.state writer.old).passed }
+        ensures ok { IfOk result (λ n. PassedOn (layout_bytes width print.now self.now) before
             (W.state writer.old) (W.state writer.new) n) }
-        ensures err { IfErr result (λ fault. StoppedIn (layout_bytes width print.now self.now) done
+        ensures err { IfErr result (λ fault. StoppedIn (layout_bytes width print.now self.now) before
             (W.state writer.old) (W.state writer.new) fault.written) }
         ensures counted { IfOk result (λ n. n ≤ (W.state writer.new).passed) }
     {
         self.lines
-            .write_after(&self.text, self.base, writer, done, width, print)
+            .write_after(&self.text, self.base, writer, before, width, print)
     }
 
     // Writes the lines at another width over those that it has, by their extents.

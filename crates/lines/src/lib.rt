@@ -26,7 +26,9 @@
 //! another width in place (`extents`, `reflow`). A text of many paragraphs is a session's matter.
 #![tactic(auto)]
 
+mod buffers;
 mod bytes;
+mod char_info;
 mod clusters;
 mod counts;
 mod engine;
@@ -35,23 +37,27 @@ mod fill;
 mod filling;
 mod laid;
 mod laws;
+mod layout;
 mod options;
 mod paragraph;
-mod places;
 mod print;
+mod printing;
+mod properties;
+mod reflow;
 mod reserve;
 mod showing;
 mod visual_line;
 mod whole;
-mod work;
+mod workspace;
 mod writing;
 
 pub use bytes::{WriteFault, write_chars};
 pub use engine::{Engine, PARAGRAPH_LIMIT};
-pub use extents::{Extents, Room};
+pub use extents::Extents;
 pub use fill::Fill;
 pub use laid::Laid;
 pub use laws::{lines_are_few, lines_have_all_characters, paragraphs_print_their_lines};
 pub use options::Options;
 pub use print::{Print, PrintFault};
+pub use reflow::ReflowScratch;
 pub use visual_line::VisualLine;

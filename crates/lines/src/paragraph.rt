@@ -1,17 +1,17 @@
-//! What is known of a paragraph before its lines are, in records that are handed on.
+//! What is known of a paragraph, or of one of its lines, before the lines are ordered.
 use crate::fill::Shown;
 use crate::options::Options;
 use breaks::Mark;
 use ucd::{Properties, Tables};
 
-/// What a layout goes by beside the width, lent by an engine.
+/// The tables and the options of a layout.
 #[derive(Clone, Copy)]
 pub(crate) struct LentRules<'a> {
     pub(crate) tables: &'a Tables,
     pub(crate) options: Options,
 }
 
-/// The characters of a paragraph or of a line of it, with what the tables say of each, and the base level.
+/// The characters of a paragraph or of one of its lines, with their properties and the base level.
 #[derive(Clone, Copy)]
 pub(crate) struct Text<'a> {
     pub(crate) rules: LentRules<'a>,
@@ -20,7 +20,7 @@ pub(crate) struct Text<'a> {
     pub(crate) base: u8,
 }
 
-/// A paragraph of which all is known but its lines: also the level of each character before L1, and the
+/// A paragraph that is prepared for finding its lines: the level of each character before L1, and the break
 /// mark after it.
 #[derive(Clone, Copy)]
 pub(crate) struct Paragraph<'a> {
@@ -34,4 +34,13 @@ pub(crate) struct Paragraph<'a> {
 pub(crate) struct Spans<'a> {
     pub(crate) starts: &'a [u32],
     pub(crate) shown: &'a [Shown],
+}
+
+/// A line in logical order: the level of each character before L1, and how much of the line is shown.
+#[derive(Clone, Copy)]
+pub(crate) struct LogicalLine<'a> {
+    pub(crate) text: Text<'a>,
+    pub(crate) levels: &'a [u8],
+    pub(crate) shown: Shown,
+    pub(crate) is_first: bool,
 }

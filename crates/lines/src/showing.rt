@@ -12,19 +12,20 @@ ghost use Rattle.lines.specs.Extents.{shown_from};
 ghost use Rattle.lines.specs.Filling.{columns, shown};
 ghost use Rattle.lines.specs.Kept.{AreStarts};
 ghost use Rattle.lines.specs.Layouts;
-ghost use Rattle.lines.specs.Lists.{held_lines, AreSound};
+ghost use Rattle.lines.specs.Buffers.{held_lines, AreSound};
 ghost use Rattle.reorder.specs.Mirroring.{visual_chars};
 ghost use Rattle.reorder.specs.Order.{is_odd, ltov_of, vtol_of};
 ghost use Rattle.lines.specs.Paragraphs.{IsLookedUp};
 ghost use Rattle.lines.specs.Showing.{AreShown, IsShown};
 ghost use Rattle.lines.specs.Visual.{end_of, lines_from};
-ghost use Rattle.lines.specs.declared.places.Place.{Place};
+ghost use Rattle.lines.specs.declared.char_info.CharInfo.{CharInfo};
 ghost use Rattle.lines.specs.declared.engine.TheConstants.{PARAGRAPH_LIMIT};
 
 use crate::counts::Count;
-use crate::fill::{Lists, Shown};
+use crate::buffers::LineBuffers;
+use crate::fill::Shown;
 use crate::paragraph::{Paragraph, Spans, Text};
-use crate::places::Place;
+use crate::char_info::CharInfo;
 use crate::reserve::reserve;
 use reorder::{
     identity, order_runs, reset_levels, visual_chars, visual_order, visual_places, visual_runs,
@@ -32,50 +33,51 @@ use reorder::{
 use std::alloc::AllocError;
 use ucd::{KnownClasses, Properties};
 
-/// The lines of a paragraph, put into lists of which the first says where they start: L1 on each line, and L2
-/// and L4 on its shown part.
+/// Fills in the lines of a paragraph, which start where `lines.starts` says: L1 on each line, and L2 and L4 on
+/// its shown part.
 pub(crate) fn show_lines(
     paragraph: &Paragraph<'_>,
-    places: &[Place],
-    lists: &mut Lists,
+    infos: &[CharInfo],
+    lines: &mut LineBuffers,
     written: &mut Count,
 ) -> Result<(), AllocError>
     requires text { IsLookedUp paragraph.now.text }
-    requires places { length paragraph.now.text.characters.now ≡ length places.now }
+    requires infos { length paragraph.now.text.characters.now ≡ length infos.now }
     requires limit { length paragraph.now.text.characters.now ≤ PARAGRAPH_LIMIT }
     requires levels { length paragraph.now.levels.now ≡ length paragraph.now.text.characters.now }
-    requires starts { AreStarts (length paragraph.now.text.characters.now) lists.old.starts.items }
-    ensures sound { OnOk result (AreSound lists.new) }
-    ensures lines { OnOk result (held_lines lists.new
+    requires starts { AreStarts (length paragraph.now.text.characters.now) lines.old.starts.items }
+    ensures sound { OnOk result (AreSound lines.new) }
+    ensures lines { OnOk result (held_lines lines.new
         ≡ lines_from paragraph.now.text.rules.tables.now paragraph.now.text.rules.options
-        paragraph.now.text.base paragraph.now.text.characters.now paragraph.now.levels.now places.now
-        lists.old.starts.items) }
+        paragraph.now.text.base paragraph.now.text.characters.now paragraph.now.levels.now infos.now
+        lines.old.starts.items) }
     ensures within { OnOk result
-        (Layouts.AreWithin (length paragraph.now.text.characters.now) (held_lines lists.new)) }
+        (Layouts.AreWithin (length paragraph.now.text.characters.now) (held_lines lines.new)) }
     ensures lines_len { OnOk result
-        (length lists.new.levels.items ≡ length paragraph.now.text.characters.now) }
+        (length lines.new.visual.levels.items ≡ length paragraph.now.text.characters.now) }
     ensures counts { OnOk result
         (written.new ≡ counted written.old (length paragraph.now.text.characters.now)) }
     ensures unwritten { OnErr result (written.new ≡ written.old) }
     ensures at_most { RisesBy (length paragraph.now.text.characters.now) written.old written.new }
 {
     let len = paragraph.text.characters.len();
-    take_shown(places, &lists.starts, &mut lists.shown)?;
-    copy(paragraph.levels, &mut lists.levels)?;
-    make_numbers(&mut lists.ltov, len)?;
-    make_numbers(&mut lists.vtol, len)?;
-    make_characters(&mut lists.chars, len)?;
+    fill_shown(infos, &lines.starts, &mut lines.shown)?;
+    let visual = &mut lines.visual;
+    copy(paragraph.levels, &mut visual.levels)?;
+    make_numbers(&mut visual.ltov, len)?;
+    make_numbers(&mut visual.vtol, len)?;
+    make_characters(&mut visual.chars, len)?;
     let spans = Spans {
-        starts: &lists.starts,
-        shown: &lists.shown,
+        starts: &lines.starts,
+        shown: &lines.shown,
     };
     show_each(
         &paragraph.text,
         &spans,
-        &mut lists.levels,
-        &mut lists.ltov,
-        &mut lists.vtol,
-        &mut lists.chars,
+        &mut visual.levels,
+        &mut visual.ltov,
+        &mut visual.vtol,
+        &mut visual.chars,
         written,
     );
     Ok(())
@@ -106,23 +108,23 @@ fn make_characters(list: &mut Vec<char>, len: usize) -> Result<(), AllocError>
     list.resize(len, '\0')
 }
 
-/// How much of each line is shown, put in place of what a list has.
-pub(crate) fn take_shown(
-    places: &[Place],
+/// Replaces `shown` with how much of each line is shown.
+pub(crate) fn fill_shown(
+    infos: &[CharInfo],
     starts: &[u32],
     shown: &mut Vec<Shown>,
 ) -> Result<(), AllocError>
-    requires len { length places.now ≤ PARAGRAPH_LIMIT }
-    requires starts { AreStarts (length places.now) starts.now }
-    ensures { OnOk result (shown.new.items ≡ shown_from (length places.now) places.now starts.now) }
+    requires len { length infos.now ≤ PARAGRAPH_LIMIT }
+    requires starts { AreStarts (length infos.now) starts.now }
+    ensures { OnOk result (shown.new.items ≡ shown_from (length infos.now) infos.now starts.now) }
 {
     shown.clear();
     reserve(shown, starts.len())?;
     let mut k = 0;
     while k < starts.len() {
         let start = starts[k] as usize;
-        let end = end_of(starts, k, places.len());
-        shown.push(shown_of(&places[start..end]))?;
+        let end = end_of(starts, k, infos.len());
+        shown.push(shown_of(&infos[start..end]))?;
         k += 1;
     }
     Ok(())
@@ -141,8 +143,8 @@ pub(crate) fn show_each(
     requires text { IsLookedUp text.now }
     requires limit { length text.now.characters.now ≤ PARAGRAPH_LIMIT }
     requires starts { AreStarts (length text.now.characters.now) spans.now.starts.now }
-    requires shown { (places : List Place) × (spans.now.shown.now
-        ≡ shown_from (length text.now.characters.now) places spans.now.starts.now) }
+    requires shown { (infos : List CharInfo) × (spans.now.shown.now
+        ≡ shown_from (length text.now.characters.now) infos spans.now.starts.now) }
     requires levels { length levels.old ≡ length text.now.characters.now }
     requires ltov { length ltov.old ≡ length text.now.characters.now }
     requires vtol { length vtol.old ≡ length text.now.characters.now }
@@ -362,7 +364,7 @@ pub(crate) fn show_chars(line: &Text<'_>, levels: &[u8], places: &mut [u32], cha
 }
 
 // How much of a line is shown: all but its tail.
-fn shown_of(line: &[Place]) -> Shown
+fn shown_of(line: &[CharInfo]) -> Shown
     requires { length line.now ≤ PARAGRAPH_LIMIT }
     ensures len { result.len ≡ length (shown line.now) }
     ensures columns { result.columns ≡ columns (shown line.now) }
@@ -376,7 +378,7 @@ fn shown_of(line: &[Place]) -> Shown
 }
 
 // How many of its characters: all but the trailing ones at its end.
-fn shown_len(line: &[Place]) -> usize
+fn shown_len(line: &[CharInfo]) -> usize
     ensures { result ≡ length line.now - suffix_len (λ p. p.is_trailing) line.now }
 {
     let mut len = line.len();
@@ -387,13 +389,13 @@ fn shown_len(line: &[Place]) -> usize
 }
 
 // The columns of a piece.
-fn columns(piece: &[Place]) -> u32
+fn columns(piece: &[CharInfo]) -> u32
     requires { length piece.now ≤ PARAGRAPH_LIMIT }
     ensures { result ≡ columns piece.now }
 {
     let mut columns = 0;
-    for place in piece {
-        columns += place.columns as u32;
+    for info in piece {
+        columns += info.columns as u32;
     }
     columns
 }

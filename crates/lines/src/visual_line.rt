@@ -4,7 +4,7 @@ ghost use Rattle.device.specs.Device.{Wrote, StoppedAt};
 ghost use Rattle.ucd.specs.Within.{AreWithin};
 ghost use Rattle.lines.specs.Bytes.{line_bytes, padding};
 ghost use Rattle.lines.specs.Columns.{columns_at, columns_left, covering, padding_of};
-ghost use Rattle.lines.specs.Places.{columns_of};
+ghost use Rattle.lines.specs.CharInfos.{columns_of};
 ghost use Rattle.lines.specs.Writing.{PassedOn, StoppedIn};
 ghost use Rattle.lines.specs.declared.print.Print.{Print};
 
@@ -181,23 +181,23 @@ impl<'a> VisualLine<'a> {
         Ok(())
     }
 
-    /// Writes it after `done` bytes that the sink passed before, and says how many bytes that makes; a
+    /// Writes the line after `before` bytes, and returns the number of bytes written then; a
     /// fault counts these too.
     pub fn write_after<W: Sink>(
         &self,
         writer: &mut W,
-        done: u64,
+        before: u64,
         width: u16,
         print: &Print,
     ) -> Result<u64, WriteFault>
-        requires { done ≤ (W.state writer.old).passed }
-        ensures ok { IfOk result (λ n. PassedOn (line_bytes width print.now self.now) done
+        requires { before ≤ (W.state writer.old).passed }
+        ensures ok { IfOk result (λ n. PassedOn (line_bytes width print.now self.now) before
             (W.state writer.old) (W.state writer.new) n) }
-        ensures err { IfErr result (λ fault. StoppedIn (line_bytes width print.now self.now) done
+        ensures err { IfErr result (λ fault. StoppedIn (line_bytes width print.now self.now) before
             (W.state writer.old) (W.state writer.new) fault.written) }
         ensures counted { IfOk result (λ n. n ≤ (W.state writer.new).passed) }
     {
-        let shown = write_shown(writer, done, self, width, print)?;
+        let shown = write_shown(writer, before, self, width, print)?;
         let direction = write_direction(writer, shown, self, print)?;
         let ltov = write_ltov(writer, direction, self, print)?;
         let vtol = write_vtol(writer, ltov, self, print)?;

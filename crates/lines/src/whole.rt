@@ -2,6 +2,7 @@
 //! characters are printed: it is one line, of which neither break marks nor columns are found.
 ghost use Rattle.std.specs.Prelude.{◌≡◌, ◌<◌, ◌≤◌, Bool, true, false, length, IfOk, IfErr};
 ghost use Rattle.breaks.specs.Bases.{resolved};
+ghost use Rattle.lines.specs.Buffers.{CanHold};
 ghost use Rattle.lines.specs.Engine.{counted};
 ghost use Rattle.lines.specs.Pages.{lines_bytes};
 ghost use Rattle.lines.specs.Paragraphs.{IsLookedUp, lines_at};
@@ -9,11 +10,12 @@ ghost use Rattle.lines.specs.Whole.{ends_line, IsShownLen, IsWhole};
 ghost use Rattle.lines.specs.Writing.{PassedOn, StoppedIn};
 ghost use Rattle.lines.specs.declared.engine.TheConstants.{PARAGRAPH_LIMIT};
 
+use crate::buffers::VisualBuffers;
 use crate::bytes::WriteFault;
 use crate::counts::{Count, Counted};
 use crate::fill::Shown;
-use crate::paragraph::Text;
-use crate::places::is_trailing;
+use crate::paragraph::{LogicalLine, Text};
+use crate::char_info::is_trailing;
 use crate::writing::{Form, write_line};
 use breaks::marks_are_as_many;
 use device::Sink;
@@ -63,17 +65,14 @@ fn shown_len(text: &Text<'_>) -> usize
     len
 }
 
-/// Writes such a paragraph, by its levels before L1, and says how many bytes it is. What belongs to it is put
-/// to the front of lists that are long enough. Counts the characters.
+/// Writes such a paragraph, by its levels before L1, and returns the number of bytes. Uses the front of the
+/// buffers. Counts the characters.
 pub(crate) fn write_whole<W: Sink>(
     writer: &mut W,
     form: &Form<'_>,
     text: &Text<'_>,
     levels: &[u8],
-    row: &mut [u8],
-    ltov: &mut [u32],
-    vtol: &mut [u32],
-    chars: &mut [char],
+    visual: &mut VisualBuffers,
     _filled: Counted,
     written: &mut Count,
 ) -> Result<u64, WriteFault>
@@ -85,10 +84,7 @@ pub(crate) fn write_whole<W: Sink>(
     requires nobreak { text.now.rules.options.nobreak ≡ true }
     requires unseen { form.now.print.now.novisual ≡ true }
     requires levels { length levels.now ≡ length text.now.characters.now }
-    requires row { length text.now.characters.now ≤ length row.old }
-    requires ltov { length text.now.characters.now ≤ length ltov.old }
-    requires vtol { length text.now.characters.now ≤ length vtol.old }
-    requires chars { length text.now.characters.now ≤ length chars.old }
+    requires visual { CanHold (length text.now.characters.now) visual.old }
     ensures ok { IfOk result (λ n. PassedOn (lines_bytes form.now.width form.now.print.now text.now.base
         text.now.characters.now (lines_at text.now levels.now form.now.width)) 0
         (W.state writer.old) (W.state writer.new) n) }
@@ -101,11 +97,14 @@ pub(crate) fn write_whole<W: Sink>(
     written.raise(text.characters.len());
     let whole_numbers = text.rules.options.whole_numbers;
     marks_are_as_many(text.rules.tables, text.characters, whole_numbers);
-    let shown = Shown {
-        len: shown_len(text) as u32,
-        columns: 0,
+    let line = LogicalLine {
+        text: *text,
+        levels,
+        shown: Shown {
+            len: shown_len(text) as u32,
+            columns: 0,
+        },
+        is_first: true,
     };
-    write_line(
-        writer, 0, form, text, true, shown, levels, row, ltov, vtol, chars,
-    )
+    write_line(writer, 0, form, &line, visual)
 }

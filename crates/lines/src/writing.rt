@@ -1,23 +1,23 @@
-//! The lines of a paragraph, written one after another as they are shown: of each line no more is found than
-//! what is printed of it, and nothing is kept.
-ghost use Rattle.std.specs.Prelude.{◌≡◌, ◌≤◌, ℕ, List, true, false, length, map, slice_index, IfOk, IfErr};
-ghost use Rattle.ucd.specs.Tables.{class_of};
-ghost use Rattle.lines.specs.Asked.{asks_places, visual_part, visual_shown};
+//! The lines of a paragraph, written one after another and not kept. Of each line only what is printed is found.
+ghost use Rattle.std.specs.Prelude.{◌≡◌, ◌≤◌, ℕ, List, true, false, length, slice_index, take, IfOk, IfErr};
+ghost use Rattle.ucd.specs.Within.{AreWithin};
+ghost use Rattle.lines.specs.Asked.{asks_places};
+ghost use Rattle.lines.specs.Buffers.{CanHold, SameLengths};
 ghost use Rattle.lines.specs.Bytes.{line_bytes};
 ghost use Rattle.lines.specs.Engine.{counted};
 ghost use Rattle.lines.specs.Extents.{shown_from};
 ghost use Rattle.lines.specs.Kept.{AreStarts};
 ghost use Rattle.lines.specs.Pages.{lines_bytes};
-ghost use Rattle.lines.specs.Paragraphs.{IsLookedUp};
+ghost use Rattle.lines.specs.Paragraphs.{IsLookedUp, held_line, shown_by, shown_levels, shown_of};
 ghost use Rattle.lines.specs.Showing.{lines_shown};
 ghost use Rattle.lines.specs.Writing.{PassedOn, StoppedIn};
-ghost use Rattle.lines.specs.declared.places.Place.{Place};
+ghost use Rattle.lines.specs.declared.char_info.CharInfo.{CharInfo};
 ghost use Rattle.lines.specs.declared.engine.TheConstants.{PARAGRAPH_LIMIT};
 
+use crate::buffers::VisualBuffers;
 use crate::bytes::WriteFault;
 use crate::counts::Count;
-use crate::fill::Shown;
-use crate::paragraph::{Spans, Text};
+use crate::paragraph::{LogicalLine, Spans, Text};
 use crate::print::Print;
 use crate::showing::{end_of, is_plain, reset_line, show_chars, show_part};
 use crate::visual_line::VisualLine;
@@ -30,30 +30,24 @@ pub(crate) struct Form<'a> {
     pub(crate) print: &'a Print,
 }
 
-/// Writes all lines of a paragraph, by the levels before L1, and says how many bytes they are. What belongs
-/// to a line is put to the front of lists that are long enough. Counts the characters.
+/// Writes all lines of a paragraph, by the levels before L1, and returns the number of bytes. Uses the front of
+/// the buffers for each line. Counts the characters.
 pub(crate) fn write_each<W: Sink>(
     writer: &mut W,
     form: &Form<'_>,
     text: &Text<'_>,
     spans: &Spans<'_>,
     levels: &[u8],
-    row: &mut [u8],
-    ltov: &mut [u32],
-    vtol: &mut [u32],
-    chars: &mut [char],
+    visual: &mut VisualBuffers,
     count: &mut Count,
 ) -> Result<u64, WriteFault>
     requires text { IsLookedUp text.now }
     requires limit { length text.now.characters.now ≤ PARAGRAPH_LIMIT }
     requires starts { AreStarts (length text.now.characters.now) spans.now.starts.now }
-    requires shown { (places : List Place) × (spans.now.shown.now
-        ≡ shown_from (length text.now.characters.now) places spans.now.starts.now) }
+    requires shown { (infos : List CharInfo) × (spans.now.shown.now
+        ≡ shown_from (length text.now.characters.now) infos spans.now.starts.now) }
     requires levels { length levels.now ≡ length text.now.characters.now }
-    requires row { length text.now.characters.now ≤ length row.old }
-    requires ltov { length text.now.characters.now ≤ length ltov.old }
-    requires vtol { length text.now.characters.now ≤ length vtol.old }
-    requires chars { length text.now.characters.now ≤ length chars.old }
+    requires visual { CanHold (length text.now.characters.now) visual.old }
     ensures ok { IfOk result (λ n. PassedOn (lines_bytes form.now.width form.now.print.now text.now.base
         text.now.characters.now (lines_shown text.now.rules.tables.now text.now.rules.options text.now.base
         text.now.characters.now levels.now spans.now.starts.now spans.now.shown.now)) 0
@@ -75,177 +69,234 @@ pub(crate) fn write_each<W: Sink>(
     while k < starts.len() {
         let start = starts[k] as usize;
         let end = end_of(starts, k, characters.len());
-        let line = Text {
-            rules: text.rules,
-            characters: &characters[start..end],
-            properties: &properties[start..end],
-            base: text.base,
+        let line = LogicalLine {
+            text: Text {
+                rules: text.rules,
+                characters: &characters[start..end],
+                properties: &properties[start..end],
+                base: text.base,
+            },
+            levels: &levels[start..end],
+            shown: shown[k],
+            is_first: k == 0,
         };
-        written = write_line(
-            writer,
-            written,
-            form,
-            &line,
-            k == 0,
-            shown[k],
-            &levels[start..end],
-            row,
-            ltov,
-            vtol,
-            chars,
-        )?;
+        written = write_line(writer, written, form, &line, visual)?;
         k += 1;
     }
     Ok(written)
 }
 
-/// Writes a line, by its levels before L1.
+/// Writes a line after `before` bytes, and returns the number of bytes written then.
 pub(crate) fn write_line<W: Sink>(
     writer: &mut W,
-    done: u64,
+    before: u64,
     form: &Form<'_>,
-    line: &Text<'_>,
-    is_first: bool,
-    shown: Shown,
+    line: &LogicalLine<'_>,
+    visual: &mut VisualBuffers,
+) -> Result<u64, WriteFault>
+    requires before { before ≤ (W.state writer.old).passed }
+    requires line { IsLookedUp line.now.text }
+    requires limit { length line.now.text.characters.now ≤ PARAGRAPH_LIMIT }
+    requires shown { line.now.shown.len ≤ length line.now.text.characters.now }
+    requires levels { length line.now.levels.now ≡ length line.now.text.characters.now }
+    requires visual { CanHold (length line.now.text.characters.now) visual.old }
+    ensures ok { IfOk result (λ n.
+        PassedOn (line_bytes form.now.width form.now.print.now (shown_of line.now)) before
+        (W.state writer.old) (W.state writer.new) n) }
+    ensures err { IfErr result (λ fault.
+        StoppedIn (line_bytes form.now.width form.now.print.now (shown_of line.now)) before
+        (W.state writer.old) (W.state writer.new) fault.written) }
+    ensures counted { IfOk result (λ n. n ≤ (W.state writer.new).passed) }
+    ensures visual { SameLengths visual.old visual.new }
+{
+    if line.shown.len == 0 && !form.print.asks_places() {
+        return write_ordered(writer, before, form, line, &[], &[]);
+    }
+    let is_flat = reset_front(line, &mut visual.levels);
+    write_part(writer, before, form, line, is_flat, visual)
+}
+
+// Writes what is shown of a line, whose levels after L1 are in the buffers.
+fn write_part<W: Sink>(
+    writer: &mut W,
+    before: u64,
+    form: &Form<'_>,
+    line: &LogicalLine<'_>,
+    is_flat: bool,
+    visual: &mut VisualBuffers,
+) -> Result<u64, WriteFault>
+    requires before { before ≤ (W.state writer.old).passed }
+    requires line { IsLookedUp line.now.text }
+    requires limit { length line.now.text.characters.now ≤ PARAGRAPH_LIMIT }
+    requires shown { line.now.shown.len ≤ length line.now.text.characters.now }
+    requires visual { CanHold (length line.now.text.characters.now) visual.old }
+    requires flat { is_flat ≡ true
+        → (k : ℕ) → slice_index (take line.now.shown.len visual.old.levels.items) k ≡ 0 }
+    ensures ok { IfOk result (λ n. PassedOn (line_bytes form.now.width form.now.print.now
+        (shown_by line.now (take line.now.shown.len visual.old.levels.items))) before
+        (W.state writer.old) (W.state writer.new) n) }
+    ensures err { IfErr result (λ fault. StoppedIn (line_bytes form.now.width form.now.print.now
+        (shown_by line.now (take line.now.shown.len visual.old.levels.items))) before
+        (W.state writer.old) (W.state writer.new) fault.written) }
+    ensures counted { IfOk result (λ n. n ≤ (W.state writer.new).passed) }
+    ensures visual { SameLengths visual.old visual.new }
+{
+    let n = line.shown.len as usize;
+    if form.print.asks_places() {
+        order_front(
+            line,
+            is_flat,
+            &visual.levels,
+            &mut visual.ltov,
+            &mut visual.vtol,
+            &mut visual.chars,
+        );
+        return write_visual(writer, before, form, line, visual);
+    }
+    if form.print.novisual || is_plain(&visual.levels[..n], is_flat) {
+        let part = &line.text.characters[..n];
+        return write_ordered(writer, before, form, line, &visual.levels[..n], part);
+    }
+    let (vtol, chars) = (&mut visual.vtol, &mut visual.chars);
+    chars_front(line, &visual.levels, vtol, chars);
+    write_ordered(writer, before, form, line, &visual.levels[..n], &visual.chars[..n])
+}
+
+// L1 on a line, whose levels are put to the front of `levels`; true only if all of them are 0 then.
+fn reset_front(line: &LogicalLine<'_>, levels: &mut [u8]) -> bool
+    requires line { IsLookedUp line.now.text }
+    requires shown { line.now.shown.len ≤ length line.now.text.characters.now }
+    requires levels { length line.now.levels.now ≡ length line.now.text.characters.now }
+    requires len { length line.now.levels.now ≤ length levels.old }
+    ensures levels { take line.now.shown.len levels.new ≡ shown_levels line.now }
+    ensures flat { result ≡ true → (k : ℕ) → slice_index (take line.now.shown.len levels.new) k ≡ 0 }
+{
+    let front = &mut levels[..line.levels.len()];
+    front.copy_from_slice(line.levels);
+    reset_line(line.text.properties, line.text.base, front)
+}
+
+// L2 and L4 on what is shown of a line, by its levels after L1, which are at the front of `levels`. The results
+// are put to the front of the other lists.
+fn order_front(
+    line: &LogicalLine<'_>,
+    is_flat: bool,
     levels: &[u8],
-    row: &mut [u8],
     ltov: &mut [u32],
     vtol: &mut [u32],
     chars: &mut [char],
-) -> Result<u64, WriteFault>
-    requires done { done ≤ (W.state writer.old).passed }
-    requires line { IsLookedUp line.now }
-    requires limit { length line.now.characters.now ≤ PARAGRAPH_LIMIT }
-    requires shown { shown.len ≤ length line.now.characters.now }
-    requires levels { length levels.now ≡ length line.now.characters.now }
-    requires row { length line.now.characters.now ≤ length row.old }
-    requires ltov { length line.now.characters.now ≤ length ltov.old }
-    requires vtol { length line.now.characters.now ≤ length vtol.old }
-    requires chars { length line.now.characters.now ≤ length chars.old }
-    ensures ok { IfOk result (λ n. PassedOn (line_bytes form.now.width form.now.print.now
-        (visual_shown line.now.rules.tables.now line.now.rules.options line.now.base is_first
-        line.now.characters.now levels.now shown)) done
-        (W.state writer.old) (W.state writer.new) n) }
-    ensures err { IfErr result (λ fault. StoppedIn (line_bytes form.now.width form.now.print.now
-        (visual_shown line.now.rules.tables.now line.now.rules.options line.now.base is_first
-        line.now.characters.now levels.now shown)) done
-        (W.state writer.old) (W.state writer.new) fault.written) }
-    ensures counted { IfOk result (λ n. n ≤ (W.state writer.new).passed) }
+)
+    requires line { IsLookedUp line.now.text }
+    requires limit { length line.now.text.characters.now ≤ PARAGRAPH_LIMIT }
+    requires shown { line.now.shown.len ≤ length line.now.text.characters.now }
+    requires levels { line.now.shown.len ≤ length levels.now }
+    requires flat { is_flat ≡ true → (k : ℕ) → slice_index (take line.now.shown.len levels.now) k ≡ 0 }
+    requires ltov { line.now.shown.len ≤ length ltov.old }
+    requires vtol { line.now.shown.len ≤ length vtol.old }
+    requires chars { line.now.shown.len ≤ length chars.old }
+    ensures ltov { take line.now.shown.len ltov.new
+        ≡ (shown_by line.now (take line.now.shown.len levels.now)).ltov }
+    ensures vtol { take line.now.shown.len vtol.new
+        ≡ (shown_by line.now (take line.now.shown.len levels.now)).vtol }
+    ensures chars { take line.now.shown.len chars.new
+        ≡ (shown_by line.now (take line.now.shown.len levels.now)).chars }
+    ensures within { AreWithin line.now.shown.len (take line.now.shown.len vtol.new) }
 {
-    if shown.len == 0 && !form.print.asks_places() {
-        return write_ordered(writer, done, form, line, is_first, shown.columns, &[], &[]);
-    }
-    let row = &mut row[..levels.len()];
-    row.copy_from_slice(levels);
-    let is_flat = reset_line(line.properties, line.base, row);
-    let n = shown.len as usize;
-    write_part(
-        writer,
-        done,
-        form,
-        line,
-        is_first,
-        shown.columns,
-        &row[..n],
+    let n = line.shown.len as usize;
+    show_part(
+        &line.text,
+        &levels[..n],
         is_flat,
         &mut ltov[..n],
         &mut vtol[..n],
         &mut chars[..n],
-    )
+    );
 }
 
-// Writes what is shown of a line, which is as long as these levels, those after L1.
-fn write_part<W: Sink>(
+// Puts the characters of what is shown of a line, in visual order, to the front of `chars`, by its levels after
+// L1, which are at the front of `levels`.
+fn chars_front(line: &LogicalLine<'_>, levels: &[u8], places: &mut [u32], chars: &mut [char])
+    requires line { IsLookedUp line.now.text }
+    requires limit { length line.now.text.characters.now ≤ PARAGRAPH_LIMIT }
+    requires shown { line.now.shown.len ≤ length line.now.text.characters.now }
+    requires levels { line.now.shown.len ≤ length levels.now }
+    requires places { line.now.shown.len ≤ length places.old }
+    requires chars { line.now.shown.len ≤ length chars.old }
+    ensures { take line.now.shown.len chars.new
+        ≡ (shown_by line.now (take line.now.shown.len levels.now)).chars }
+{
+    let n = line.shown.len as usize;
+    show_chars(&line.text, &levels[..n], &mut places[..n], &mut chars[..n]);
+}
+
+// Writes a line that the buffers hold.
+fn write_visual<W: Sink>(
     writer: &mut W,
-    done: u64,
+    before: u64,
     form: &Form<'_>,
-    line: &Text<'_>,
-    is_first: bool,
-    columns: u32,
-    levels: &[u8],
-    is_flat: bool,
-    ltov: &mut [u32],
-    vtol: &mut [u32],
-    chars: &mut [char],
+    line: &LogicalLine<'_>,
+    visual: &VisualBuffers,
 ) -> Result<u64, WriteFault>
-    requires done { done ≤ (W.state writer.old).passed }
-    requires line { IsLookedUp line.now }
-    requires limit { length line.now.characters.now ≤ PARAGRAPH_LIMIT }
-    requires levels { length levels.now ≤ length line.now.characters.now }
-    requires flat { is_flat ≡ true → (k : ℕ) → slice_index levels.now k ≡ 0 }
-    requires ltov { length ltov.old ≡ length levels.now }
-    requires vtol { length vtol.old ≡ length levels.now }
-    requires chars { length chars.old ≡ length levels.now }
-    ensures ok { IfOk result (λ n. PassedOn (line_bytes form.now.width form.now.print.now
-        (visual_part line.now.rules.tables.now line.now.rules.options line.now.base is_first
-        line.now.characters.now columns levels.now)) done
+    requires before { before ≤ (W.state writer.old).passed }
+    requires shown { line.now.shown.len ≤ length line.now.text.characters.now }
+    requires visual { CanHold (length line.now.text.characters.now) visual.now }
+    requires within { AreWithin line.now.shown.len (take line.now.shown.len visual.now.vtol.items) }
+    ensures ok { IfOk result (λ n.
+        PassedOn (line_bytes form.now.width form.now.print.now (held_line line.now visual.now)) before
         (W.state writer.old) (W.state writer.new) n) }
-    ensures err { IfErr result (λ fault. StoppedIn (line_bytes form.now.width form.now.print.now
-        (visual_part line.now.rules.tables.now line.now.rules.options line.now.base is_first
-        line.now.characters.now columns levels.now)) done
+    ensures err { IfErr result (λ fault.
+        StoppedIn (line_bytes form.now.width form.now.print.now (held_line line.now visual.now)) before
         (W.state writer.old) (W.state writer.new) fault.written) }
     ensures counted { IfOk result (λ n. n ≤ (W.state writer.new).passed) }
 {
-    let part = &line.characters[..levels.len()];
-    if form.print.asks_places() {
-        show_part(line, levels, is_flat, ltov, vtol, chars);
-        let view = VisualLine {
-            is_first,
-            base: line.base,
-            len: line.characters.len(),
-            text: part,
-            columns,
-            levels,
-            ltov,
-            vtol,
-            chars,
-        };
-        return view.write_after(writer, done, form.width, form.print);
-    }
-    if form.print.novisual || is_plain(levels, is_flat) {
-        return write_ordered(writer, done, form, line, is_first, columns, levels, part);
-    }
-    show_chars(line, levels, vtol, chars);
-    write_ordered(writer, done, form, line, is_first, columns, levels, chars)
+    let n = line.shown.len as usize;
+    let levels = &visual.levels[..n];
+    let view = VisualLine {
+        is_first: line.is_first,
+        base: line.text.base,
+        len: line.text.characters.len(),
+        text: &line.text.characters[..levels.len()],
+        columns: line.shown.columns,
+        levels,
+        ltov: &visual.ltov[..n],
+        vtol: &visual.vtol[..n],
+        chars: &visual.chars[..n],
+    };
+    view.write_after(writer, before, form.width, form.print)
 }
 
-// Writes a line of which no places are printed, by its characters in visual order.
+// Writes a line by its characters in visual order. No positions are printed of it.
 fn write_ordered<W: Sink>(
     writer: &mut W,
-    done: u64,
+    before: u64,
     form: &Form<'_>,
-    line: &Text<'_>,
-    is_first: bool,
-    columns: u32,
+    line: &LogicalLine<'_>,
     levels: &[u8],
     chars: &[char],
 ) -> Result<u64, WriteFault>
-    requires done { done ≤ (W.state writer.old).passed }
-    requires levels { length levels.now ≤ length line.now.characters.now }
+    requires before { before ≤ (W.state writer.old).passed }
+    requires levels { length levels.now ≤ length line.now.text.characters.now }
     requires places { asks_places form.now.print.now ≡ false }
     requires chars { form.now.print.now.novisual ≡ false
-        → chars.now ≡ (visual_part line.now.rules.tables.now line.now.rules.options line.now.base is_first
-        line.now.characters.now columns levels.now).chars }
-    ensures ok { IfOk result (λ n. PassedOn (line_bytes form.now.width form.now.print.now
-        (visual_part line.now.rules.tables.now line.now.rules.options line.now.base is_first
-        line.now.characters.now columns levels.now)) done
+        → chars.now ≡ (shown_by line.now levels.now).chars }
+    ensures ok { IfOk result (λ n.
+        PassedOn (line_bytes form.now.width form.now.print.now (shown_by line.now levels.now)) before
         (W.state writer.old) (W.state writer.new) n) }
-    ensures err { IfErr result (λ fault. StoppedIn (line_bytes form.now.width form.now.print.now
-        (visual_part line.now.rules.tables.now line.now.rules.options line.now.base is_first
-        line.now.characters.now columns levels.now)) done
+    ensures err { IfErr result (λ fault.
+        StoppedIn (line_bytes form.now.width form.now.print.now (shown_by line.now levels.now)) before
         (W.state writer.old) (W.state writer.new) fault.written) }
     ensures counted { IfOk result (λ n. n ≤ (W.state writer.new).passed) }
 {
     let view = VisualLine {
-        is_first,
-        base: line.base,
-        len: line.characters.len(),
-        text: &line.characters[..levels.len()],
-        columns,
+        is_first: line.is_first,
+        base: line.text.base,
+        len: line.text.characters.len(),
+        text: &line.text.characters[..levels.len()],
+        columns: line.shown.columns,
         levels,
         ltov: &[],
         vtol: &[],
         chars,
     };
-    view.write_after(writer, done, form.width, form.print)
+    view.write_after(writer, before, form.width, form.print)
 }

@@ -24,5 +24,5 @@ returns-in_err-written-clause-err g c =
     let bytes : encode_utf8_all chars ≡ (encode_utf8_all (take at chars) ++ take c.encode-len.result c.encode-len.new.buffer) ++ encode_utf8_all (drop «end» chars) =
     encoded-rest chars «end» ∙ ap (λ front. front ++ encode_utf8_all (drop «end» chars))
     (encoded-part chars at «end» (omega (arith, c.min-end.ensures, c.loop-at-test.true)) ∙ ap (λ part. encode_utf8_all (take at chars) ++ part) (sym c.encode-len.ensures.bytes)) in
-    same_fault _ _ (StoppedIn _ c.args.done _ _) c.from_residual.ensures.1
+    same_fault _ _ (StoppedIn _ c.args.before _ _) c.from_residual.ensures.1
     (rw bytes (stopped-before (encode_utf8_all (drop «end» chars)) (stopped-after c.loop-at.invariant.passed c.in_err-written.ensures.err)))

@@ -7,7 +7,7 @@ invariant-loop-at g l =
     let state = g.W.Sink.state in
     record {
       within : l.at ≤ length l.chars;
-      passed : PassedOn (encode_utf8_all (take l.at l.chars)) l.fn.done (state l.fn.writer) (state l.writer) l.written;
+      passed : PassedOn (encode_utf8_all (take l.at l.chars)) l.fn.before (state l.fn.writer) (state l.writer) l.written;
       counted : l.written ≤ (state l.writer).passed;
     }
 

@@ -17,7 +17,7 @@ returns-in_err-written-clause-err g c =
     let chars = map (slice_index c.args.text.now) c.args.places.now in
     let rest = encode_utf8_all (drop c.encode_places-next.result.0 chars) in
     let bytes = encoded-rest chars c.encode_places-next.result.0 ∙ ap (λ front. front ++ rest) (sym c.encode_places-next.ensures.bytes) in
-    same_fault _ _ (StoppedIn _ c.args.done _ _) c.from_residual.ensures.1
+    same_fault _ _ (StoppedIn _ c.args.before _ _) c.from_residual.ensures.1
     (rw bytes (stopped-before rest (stopped-after c.loop-at.invariant.passed c.in_err-written.ensures.err)))
 
 pub returns-clause-ok : goal.returns-clause-ok

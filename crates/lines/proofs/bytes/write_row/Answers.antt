@@ -18,7 +18,7 @@ returns-in_err-written-clause-err g c =
     let row = map g.I.Integer.text c.args.numbers.now in
     let rest = concat (drop c.encode_row-next.result.0 (spaced row)) in
     let bytes = joined-rest row c.encode_row-next.result.0 ∙ ap (λ front. front ++ rest) (sym c.encode_row-next.ensures.bytes) in
-    same_fault _ _ (StoppedIn _ c.args.done _ _) c.from_residual.ensures.1
+    same_fault _ _ (StoppedIn _ c.args.before _ _) c.from_residual.ensures.1
     (rw bytes (stopped-before rest (stopped-after c.loop-at.invariant.passed c.in_err-written.ensures.err)))
 
 pub returns-clause-ok : goal.returns-clause-ok

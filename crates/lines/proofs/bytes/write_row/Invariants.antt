@@ -8,7 +8,7 @@ invariant-loop-at g l =
     let state = g.W.Sink.state in
     record {
       within : l.at ≤ length l.numbers;
-      passed : PassedOn (join_with_byte 32 (take l.at (map g.I.Integer.text l.numbers))) l.fn.done (state l.fn.writer) (state l.writer) l.written;
+      passed : PassedOn (join_with_byte 32 (take l.at (map g.I.Integer.text l.numbers))) l.fn.before (state l.fn.writer) (state l.writer) l.written;
       counted : l.written ≤ (state l.writer).passed;
     }
 

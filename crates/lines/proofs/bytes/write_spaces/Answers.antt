@@ -27,5 +27,5 @@ returns-in_err-written-clause-err g c =
     let part : some ≤ left = omega (arith, m) in
     let few : some ≤ 64 = omega (arith, m) in
     let stopped = stopped-before _ (stopped-after c.loop-left.invariant.passed c.in_err-written.ensures.err) in
-    same_fault _ _ (StoppedIn _ c.args.done _ _) c.from_residual.ensures.1
+    same_fault _ _ (StoppedIn _ c.args.before _ _) c.from_residual.ensures.1
     (rw (all_spaces c.args.count left some c.loop-left.invariant.within part, sym (some_spaces some few)) stopped)

@@ -7,7 +7,7 @@ invariant-loop-left g l =
     let state = g.W.Sink.state in
     record {
       within : l.left ≤ l.count;
-      passed : PassedOn (replicate (l.count - l.left) 32) l.fn.done (state l.fn.writer) (state l.writer) l.written;
+      passed : PassedOn (replicate (l.count - l.left) 32) l.fn.before (state l.fn.writer) (state l.writer) l.written;
       counted : l.written ≤ (state l.writer).passed;
     }
 

@@ -4,4 +4,4 @@ use Rattle.lines.proofs.clusters.put_ends.Given as goal
 
 -- the places so far have their ends, and the others are as they were
 abbrev pub invariant-loop-k : goal.invariant-loop-k
-invariant-loop-k l = l.places ≡ with_ends (take l.k l.fn.places) (take l.k l.ends) ++ drop l.k l.fn.places
+invariant-loop-k l = l.infos ≡ with_ends (take l.k l.fn.infos) (take l.k l.ends) ++ drop l.k l.fn.infos

@@ -9,30 +9,30 @@ use Rattle.lines.proofs.filling.line_len.Goals.{After-line_end, then-not-is_know
 
 pub returns-in-Some-clause-line : goal.returns-in-Some-clause-line
 returns-in-Some-clause-line c =
-    let places = c.args.places.now in
+    let infos = c.args.infos.now in
     let start = c.args.start in
-    let known = with_ends places (cluster_ends c.args.text.now) in
-    let rest = take (length places - start) (drop start places) in
-    let is : rest ≡ drop start places = take_all (length places - start) (drop start places) (omega (arith, length-drop start places)) in
+    let known = with_ends infos (cluster_ends c.args.text.now) in
+    let rest = take (length infos - start) (drop start infos) in
+    let is : rest ≡ drop start infos = take_all (length infos - start) (drop start infos) (omega (arith, length-drop start infos)) in
     let alike : AreAlike rest (drop start known) =
-    ap (map bare) is ∙ alike_drop places known start (sym (with_alike places (cluster_ends c.args.text.now) (length-cluster_ends c.args.text.now ∙ sym c.requires.len))) in
+    ap (map bare) is ∙ alike_drop infos known start (sym (with_alike infos (cluster_ends c.args.text.now) (length-cluster_ends c.args.text.now ∙ sym c.requires.len))) in
     c.in-Some.ensures.len (drop start known) alike
 
 -- as many ends as places
-sizes : (c : After-line_end) → length (cluster_ends c.args.text.now) ≡ length c.args.places.now
+sizes : (c : After-line_end) → length (cluster_ends c.args.text.now) ≡ length c.args.infos.now
 sizes c = length-cluster_ends c.args.text.now ∙ sym c.requires.len
 
 -- it is known where clusters end
-known : (c : After-line_end) → c.if-not-is_known.places ≡ with_ends c.args.places.now (cluster_ends c.args.text.now)
+known : (c : After-line_end) → c.if-not-is_known.infos ≡ with_ends c.args.infos.now (cluster_ends c.args.text.now)
 known c = elim c.if-not-is_known.branch [
-  | then-not-is_known+in_ok-mark_clusters w ↦ w.places-is ∙ w.in_ok-mark_clusters.ensures
-  | else-not-is_known w ↦ w.places-is ∙ c.requires.known w.if-not-is_known.false
+  | then-not-is_known+in_ok-mark_clusters w ↦ w.infos-is ∙ w.in_ok-mark_clusters.ensures
+  | else-not-is_known w ↦ w.infos-is ∙ c.requires.known w.if-not-is_known.false
 ]
 
 pub returns-clause-known : goal.returns-clause-known
 returns-clause-known c _ =
     let ends = cluster_ends c.args.text.now in
-    known c ∙ sym (ap (λ ps. with_ends ps ends) (known c) ∙ same_with (with_ends c.args.places.now ends) c.args.places.now ends (with_alike c.args.places.now ends (sizes c)))
+    known c ∙ sym (ap (λ ps. with_ends ps ends) (known c) ∙ same_with (with_ends c.args.infos.now ends) c.args.infos.now ends (with_alike c.args.infos.now ends (sizes c)))
 
 pub returns-clause-alike : goal.returns-clause-alike
-returns-clause-alike c = ap (map bare) (known c) ∙ with_alike c.args.places.now (cluster_ends c.args.text.now) (sizes c)
+returns-clause-alike c = ap (map bare) (known c) ∙ with_alike c.args.infos.now (cluster_ends c.args.text.now) (sizes c)

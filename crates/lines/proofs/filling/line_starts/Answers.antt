@@ -14,7 +14,7 @@ unfolding line_starts_of
 loop-start-init c = record {
   alike = refl;
   known_is = λ no. cc;
-  whole = ap (λ xs. xs ++ starts c.args.nobreak c.args.width 0 0 (with_ends c.args.places.now (cluster_ends c.args.text.now))) (sym c.clear.ensures.items);
+  whole = ap (λ xs. xs ++ starts c.args.nobreak c.args.width 0 0 (with_ends c.args.infos.now (cluster_ends c.args.text.now))) (sym c.clear.ensures.items);
   within = omega arith;
   rising = subst (AreStarts 0) (sym c.clear.ensures.items) (no_starts 0);
 }
@@ -23,19 +23,19 @@ pub loop-start-preserved : goal.loop-start-preserved
 loop-start-preserved c =
     let w = c.loop-start.invariant in
     let ends = cluster_ends c.args.text.now in
-    let known = with_ends c.args.places.now ends in
+    let known = with_ends c.args.infos.now ends in
     let start = c.loop-start.start in
     let len = c.in_ok-len.len in
-    let same : with_ends c.loop-start.places ends ≡ known = same_with c.loop-start.places c.args.places.now ends w.alike in
-    let size : length known ≡ length c.args.places.now =
-    alike_length known c.args.places.now (with_alike c.args.places.now ends (length-cluster_ends c.args.text.now ∙ sym c.requires.len)) in
+    let same : with_ends c.loop-start.infos ends ≡ known = same_with c.loop-start.infos c.args.infos.now ends w.alike in
+    let size : length known ≡ length c.args.infos.now =
+    alike_length known c.args.infos.now (with_alike c.args.infos.now ends (length-cluster_ends c.args.text.now ∙ sym c.requires.len)) in
     let rest = drop start known in
     let nobreak = c.args.nobreak in
     let width = c.args.width in
     let n : len ≡ line_len nobreak width rest = c.in_ok-len.ensures.line ∙ ap (λ xs. line_len nobreak width (drop start xs)) same in
     let left = length-drop start known in
     let fits = c.in_ok-len.ensures.within in
-    let sizes = c.loop-start.auto.places in
+    let sizes = c.loop-start.auto.infos in
     let line = starts_line nobreak width start rest (omega (arith, left, size, sizes, c.loop-start-test.true)) (omega (arith, n, left, size, sizes, fits.1)) in
     let after : drop (line_len nobreak width rest) rest ≡ drop (start + len) known = ap (λ k. drop k rest) (sym n) ∙ drop-drop len start known in
     let next : starts nobreak width (start + line_len nobreak width rest) 0 (drop (line_len nobreak width rest) rest) ≡ starts nobreak width (start + len) 0 (drop (start + len) known) =
@@ -45,15 +45,15 @@ loop-start-preserved c =
       known_is = c.in_ok-len.ensures.known;
       whole = rw c.in_ok-push.ensures.items (w.whole ∙ ap (λ xs. c.loop-start.starts.items ++ xs) (line ∙ ap (λ xs. start ∷ xs) next)
           ∙ sym (append_assoc c.loop-start.starts.items (start ∷ []) (starts nobreak width (start + len) 0 (drop (start + len) known))));
-      within = omega (arith, fits.1, c.line_len.auto.places);
+      within = omega (arith, fits.1, c.line_len.auto.infos);
       rising = subst (AreStarts (start + len)) (sym c.in_ok-push.ensures.items) (starts_more start (start + len) c.loop-start.starts.items w.rising (omega (arith, fits.0)));
     }
 
 pub returns-clause-lines : goal.returns-clause-lines
 returns-clause-lines c =
     let w = c.loop-start.invariant in
-    let known = with_ends c.args.places.now (cluster_ends c.args.text.now) in
-    let size : length known ≡ length c.args.places.now =
-    alike_length known c.args.places.now (with_alike c.args.places.now (cluster_ends c.args.text.now) (length-cluster_ends c.args.text.now ∙ sym c.requires.len)) in
-    let none : drop c.loop-start.start known ≡ [] = drop_all c.loop-start.start known (omega (arith, size, c.loop-start.auto.places, c.loop-start-test.false)) in
+    let known = with_ends c.args.infos.now (cluster_ends c.args.text.now) in
+    let size : length known ≡ length c.args.infos.now =
+    alike_length known c.args.infos.now (with_alike c.args.infos.now (cluster_ends c.args.text.now) (length-cluster_ends c.args.text.now ∙ sym c.requires.len)) in
+    let none : drop c.loop-start.start known ≡ [] = drop_all c.loop-start.start known (omega (arith, size, c.loop-start.auto.infos, c.loop-start-test.false)) in
     sym (w.whole ∙ ap (λ xs. c.loop-start.starts.items ++ starts c.args.nobreak c.args.width c.loop-start.start 0 xs) none ∙ append-nil c.loop-start.starts.items)

@@ -7,13 +7,13 @@ use Rattle.lines.proofs.filling.line_starts.Given as goal
 
 -- the lines so far, and those of what is left, are the lines of the paragraph with its clusters
 abbrev pub invariant-loop-start : goal.invariant-loop-start
-invariant-loop-start l = let known = with_ends l.fn.places (cluster_ends l.text) in record {
-  alike : AreAlike l.places l.fn.places;
-  known_is : IsTrue l.is_known → l.places ≡ with_ends l.places (cluster_ends l.text);
+invariant-loop-start l = let known = with_ends l.fn.infos (cluster_ends l.text) in record {
+  alike : AreAlike l.infos l.fn.infos;
+  known_is : IsTrue l.is_known → l.infos ≡ with_ends l.infos (cluster_ends l.text);
   whole : line_starts_of l.nobreak l.width known ≡ l.starts.items ++ starts l.nobreak l.width l.start 0 (drop l.start known);
-  within : l.start ≤ length l.places;
+  within : l.start ≤ length l.infos;
   rising : AreStarts l.start l.starts.items;
 }
 
 abbrev pub decreases-loop-start : goal.decreases-loop-start
-decreases-loop-start l = length l.places - l.start
+decreases-loop-start l = length l.infos - l.start

@@ -6,10 +6,10 @@ use Rattle.lines.proofs.showing.show_lines.Goals as goal
 -- how much of each line is shown is that of these places
 pub show_each-requires-clause-shown : goal.show_each-requires-clause-shown
 show_each-requires-clause-shown c = (
-  c.args.places.now,
+  c.args.infos.now,
   c.deref-3.ensures.value
-      ∙ taken_shown (length c.args.paragraph.now.text.characters.now) (length c.args.places.now) c.args.places.now c.deref-2.result.now c.deref.result.now c.requires.places
-      (c.deref.ensures.value ∙ sym c.deref-2.ensures.value) c.in_ok-take_shown.ensures,
+      ∙ taken_shown (length c.args.paragraph.now.text.characters.now) (length c.args.infos.now) c.args.infos.now c.deref-2.result.now c.deref.result.now c.requires.infos
+      (c.deref.ensures.value ∙ sym c.deref-2.ensures.value) c.in_ok-fill_shown.ensures,
 )
 
 pub returns : goal.returns
@@ -18,12 +18,12 @@ returns c =
     let t = with_items_is c.make_numbers.new.list c.show_each.new.ltov (omega arith) in
     let v = with_items_is c.make_numbers-2.new.list c.show_each.new.vtol (omega arith) in
     let h = with_items_is c.make_characters.new.list c.show_each.new.chars (omega arith) in
-    let parts = taken_shown (length c.args.paragraph.now.text.characters.now) (length c.args.places.now) c.args.places.now c.args.lists.now.starts.items c.deref.result.now c.requires.places
-    c.deref.ensures.value c.in_ok-take_shown.ensures in
-    let count = ap length parts ∙ length-shown_from (length c.args.paragraph.now.text.characters.now) c.args.places.now c.args.lists.now.starts.items in
+    let parts = taken_shown (length c.args.paragraph.now.text.characters.now) (length c.args.infos.now) c.args.infos.now c.args.lines.now.starts.items c.deref.result.now c.requires.infos
+    c.deref.ensures.value c.in_ok-fill_shown.ensures in
+    let count = ap length parts ∙ length-shown_from (length c.args.paragraph.now.text.characters.now) c.args.infos.now c.args.lines.now.starts.items in
     let shown = shown_as c.args.paragraph.now.text.rules.tables.now c.args.paragraph.now.text.rules.options c.args.paragraph.now.text.base
-    c.args.paragraph.now.text.characters.now c.args.paragraph.now.levels.now c.deref_mut.result.now c.args.lists.now.starts.items c.deref-2.result.now
-    c.take_shown.new.shown.items c.deref-3.result.now (c.deref_mut.ensures.value ∙ c.in_ok-copy.ensures) c.deref-2.ensures.value c.deref-3.ensures.value c.show_each.ensures.shown in
+    c.args.paragraph.now.text.characters.now c.args.paragraph.now.levels.now c.deref_mut.result.now c.args.lines.now.starts.items c.deref-2.result.now
+    c.fill_shown.new.shown.items c.deref-3.result.now (c.deref_mut.ensures.value ∙ c.in_ok-copy.ensures) c.deref-2.ensures.value c.deref-3.ensures.value c.show_each.ensures.shown in
     record {
       sound = rw (l, t, v, h) (sound _ _ _ _ _ _ _ _ _ _ _ c.requires.starts count (omega (arith, ap length c.in_ok-copy.ensures))
           (omega (arith, c.in_ok-make_numbers.ensures)) (omega (arith, c.in_ok-make_numbers-2.ensures)) (omega (arith, c.in_ok-make_characters.ensures)) shown);

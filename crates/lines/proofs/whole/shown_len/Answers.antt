@@ -7,7 +7,7 @@ use Rattle.ucd.specs.declared.properties.Properties.{Properties}
 use Rattle.std.proofs.Common.{[], ◌∷◌}
 use Rattle.breaks.specs.Bases.{resolved}
 use Rattle.breaks.specs.Classes.{is_one_of}
-use Rattle.lines.specs.Places.{is_trailing_in}
+use Rattle.lines.specs.CharInfos.{is_trailing_in}
 use Rattle.lines.proofs.WholeLemmas.{looked_up}
 use Rattle.lines.proofs.whole.shown_len.Goals as goal
 

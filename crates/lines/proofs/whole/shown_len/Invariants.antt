@@ -1,5 +1,5 @@
 use Rattle.std.proofs.Common.{◌≡◌, ℕ, ◌<◌, ◌≤◌, true, get_or, length}
-use Rattle.lines.specs.Places.{is_trailing_in}
+use Rattle.lines.specs.CharInfos.{is_trailing_in}
 use Rattle.lines.proofs.whole.shown_len.Given as goal
 
 abbrev pub invariant-loop-len : goal.invariant-loop-len

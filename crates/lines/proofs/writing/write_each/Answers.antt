@@ -52,6 +52,12 @@ loop-k-preserved g c =
       within = omega (arith, c.loop-k-test.true);
       passed = pieces-more (pieces form.width form.print.now text.base text.characters.now lines) c.loop-k.k
           (piece_within form.width form.print.now text.base text.characters.now lines c.loop-k.k inside) next c.loop-k.invariant.passed c.in_ok-written.ensures.ok;
+      visual = record {
+        levels = omega (arith, c.loop-k.invariant.visual.levels, c.write_line.ensures.visual.levels);
+        ltov = omega (arith, c.loop-k.invariant.visual.ltov, c.write_line.ensures.visual.ltov);
+        vtol = omega (arith, c.loop-k.invariant.visual.vtol, c.write_line.ensures.visual.vtol);
+        chars = omega (arith, c.loop-k.invariant.visual.chars, c.write_line.ensures.visual.chars);
+      };
       counted = c.in_ok-written.ensures.counted;
     }
 

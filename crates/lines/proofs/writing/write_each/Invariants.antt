@@ -1,5 +1,6 @@
 use Rattle.std.proofs.Common.{◌≤◌, ◌-◌, length, take}
 use Rattle.std.specs.List.{concat}
+use Rattle.lines.specs.Buffers.{CanHold}
 use Rattle.lines.specs.Showing.{lines_shown}
 use Rattle.lines.specs.Writing.{PassedOn}
 use Rattle.lines.proofs.PageLemmas.{pieces}
@@ -14,6 +15,7 @@ invariant-loop-k g l =
       passed : PassedOn (concat (take l.k (pieces l.form.width l.form.print.now l.text.base text
           (lines_shown l.text.rules.tables.now l.text.rules.options l.text.base text l.levels l.spans.starts.now l.spans.shown.now)))) 0
           (state l.fn.writer) (state l.writer) l.written;
+      visual : CanHold (length text) l.visual;
       counted : l.written ≤ (state l.writer).passed;
     }
 

@@ -1,7 +1,7 @@
 use Rattle.std.proofs.Common.{◌≡◌, ◌∙◌, ap, subst}
 use Rattle.lines.specs.Engine.{rules_of}
 use Rattle.lines.specs.Layouts.{Rules, layout_of}
-use Rattle.lines.specs.Lists.{held_lines}
+use Rattle.lines.specs.Buffers.{held_lines}
 use Rattle.lines.proofs.LayoutLemmas.{filled_as}
 use Rattle.lines.proofs.engine.Engine.parts.Goals as goal
 

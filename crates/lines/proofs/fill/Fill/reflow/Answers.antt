@@ -32,7 +32,7 @@ invariant_of-self c =
     rw (l, t, v, h, starts, parts) (sound _ _ _ _ _ _ _ _ _ _ _ c.requires.starts count levels_len ltov_len vtol_len chars_len shown)
 
 pub returns-clause-lines : goal.returns-clause-lines
-returns-clause-lines c places is =
+returns-clause-lines c infos is =
     let starts : c.swap.new.x.items ≡ c.args.extents.now.starts = ap (λ (v : Vec ℕ Global). v.items) c.swap.ensures.x_after ∙ ap (λ (s : LineExtents). s.starts) c.extents.view_is in
     let parts : c.swap-2.new.x.items ≡ c.args.extents.now.shown = ap (λ (v : Vec Shown Global). v.items) c.swap-2.ensures.x_after ∙ ap (λ (s : LineExtents). s.shown) c.extents.view_is in
     let len : length c.self.inside.levels.items ≡ length c.args.text.now.characters.now = ap (λ (f : Filled). f.len) c.self.view_is ∙ c.requires.len in

@@ -8,7 +8,7 @@ returns-clause-ok g c =
     let l = c.self.inside in
     let same : lines_bytes c.args.width c.args.print.now l.base c.deref.result.now l.lines.lines ≡ layout_bytes c.args.width c.args.print.now c.args.self.now =
     ap (λ xs. lines_bytes c.args.width c.args.print.now l.base xs l.lines.lines) c.deref.ensures.value ∙ ap (layout_bytes c.args.width c.args.print.now) c.self.view_is in
-    subst (λ bytes. IfOk c.write_after.result (λ n. PassedOn bytes c.args.done (g.W.Sink.state c.args.writer.now) (g.W.Sink.state c.write_after.new.writer) n)) same c.write_after.ensures.ok
+    subst (λ bytes. IfOk c.write_after.result (λ n. PassedOn bytes c.args.before (g.W.Sink.state c.args.writer.now) (g.W.Sink.state c.write_after.new.writer) n)) same c.write_after.ensures.ok
 
 pub returns-clause-err : goal.returns-clause-err
 returns-clause-err g c =
@@ -16,5 +16,5 @@ returns-clause-err g c =
     let same : lines_bytes c.args.width c.args.print.now l.base c.deref.result.now l.lines.lines ≡ layout_bytes c.args.width c.args.print.now c.args.self.now =
     ap (λ xs. lines_bytes c.args.width c.args.print.now l.base xs l.lines.lines) c.deref.ensures.value ∙ ap (layout_bytes c.args.width c.args.print.now) c.self.view_is in
     subst (λ bytes. IfErr c.write_after.result
-    (λ fault. StoppedIn bytes c.args.done (g.W.Sink.state c.args.writer.now) (g.W.Sink.state c.write_after.new.writer) fault.written))
+    (λ fault. StoppedIn bytes c.args.before (g.W.Sink.state c.args.writer.now) (g.W.Sink.state c.write_after.new.writer) fault.written))
     same c.write_after.ensures.err

@@ -1,5 +1,5 @@
 use Rattle.std.proofs.Common.{ℕ, List, length, get_or, ap, ap₂, ◌∙◌, arith}
-use Rattle.lines.specs.Places.{columns_of}
+use Rattle.lines.specs.CharInfos.{columns_of}
 use Rattle.lines.specs.Visual.{Visual}
 use Rattle.lines.proofs.ColumnLemmas.{left_more, left_to}
 use Rattle.lines.proofs.visual_line.VisualLine.columns_left.Goals as goal

@@ -1,5 +1,5 @@
 use Rattle.std.proofs.Common.{◌<◌, ℕ, List, length, get_or, ap, ap₂, ◌∙◌, arith}
-use Rattle.lines.specs.Places.{columns_of}
+use Rattle.lines.specs.CharInfos.{columns_of}
 use Rattle.lines.specs.Visual.{Visual}
 use Rattle.lines.proofs.ColumnLemmas.{covers, covers_none, covers_not, left_more}
 use Rattle.lines.proofs.visual_line.VisualLine.covering.Goals as goal

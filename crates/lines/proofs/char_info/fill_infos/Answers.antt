@@ -1,0 +1,19 @@
+use Rattle.std.proofs.Common.{length, ap, ◌∙◌, arith}
+use Rattle.std.proofs.lemmas.List.{with_items_is}
+use Rattle.lines.specs.Bare.{with_ends}
+use Rattle.lines.specs.Clusters.{cluster_ends}
+use Rattle.lines.specs.CharInfos.{infos, infos_of}
+use Rattle.lines.proofs.BareLemmas.{with_infos, length-bare_infos}
+use Rattle.lines.proofs.char_info.fill_infos.Goals as goal
+
+pub returns-clause-infos : goal.returns-clause-infos
+unfolding infos_of
+returns-clause-infos c =
+    ap (λ ps. with_ends ps (cluster_ends c.args.text.now.characters.now)) (with_items_is c.resize.new.self c.put_infos.new.infos (omega arith) ∙ c.put_infos.ensures)
+    ∙ with_infos c.args.text.now.rules.tables.now c.args.text.now.characters.now c.args.marks.now (cluster_ends c.args.text.now.characters.now)
+    ∙ ap (λ ms. infos c.args.text.now.rules.tables.now c.args.text.now.characters.now ms (cluster_ends c.args.text.now.characters.now)) c.requires.marks
+
+pub returns-clause-len : goal.returns-clause-len
+returns-clause-len c =
+    ap length (with_items_is c.resize.new.self c.put_infos.new.infos (omega arith) ∙ c.put_infos.ensures)
+    ∙ length-bare_infos c.args.text.now.rules.tables.now c.args.text.now.characters.now c.args.marks.now (ap length c.requires.marks ∙ c.marks_are_as_many.ensures)

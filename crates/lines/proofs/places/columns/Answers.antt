@@ -1,6 +1,0 @@
-use Rattle.std.proofs.Common.{arith}
-use Rattle.lines.proofs.PlaceLemmas.{printable_columns}
-use Rattle.lines.proofs.places.columns.Goals as goal
-
-pub returns-then-code-lt127 : goal.returns-then-code-lt127
-returns-then-code-lt127 c = printable_columns c.args.c (omega (arith, c.if-code-ge32.true)) (omega (arith, c.if-code-lt127.true))

@@ -1,9 +1,0 @@
-use Rattle.std.proofs.Common.{◌-◌, length}
-use Rattle.lines.proofs.BareLemmas.{PlacesPut}
-use Rattle.lines.proofs.places.put_places.Given as goal
-
-abbrev pub invariant-loop-k : goal.invariant-loop-k
-invariant-loop-k l = PlacesPut l.tables l.text l.marks l.places l.k
-
-abbrev pub decreases-loop-k : goal.decreases-loop-k
-decreases-loop-k l = length l.text - l.k

@@ -1,9 +1,0 @@
-use Rattle.std.proofs.Common.{◌≡◌, ◌-◌, length, take}
-use Rattle.lines.specs.Extents.{shown_from}
-use Rattle.lines.proofs.showing.take_shown.Given as goal
-
-abbrev pub invariant-loop-k : goal.invariant-loop-k
-invariant-loop-k l = l.shown.items ≡ take l.k (shown_from (length l.places) l.places l.starts)
-
-abbrev pub decreases-loop-k : goal.decreases-loop-k
-decreases-loop-k l = length l.starts - l.k

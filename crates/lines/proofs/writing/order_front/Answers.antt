@@ -1,0 +1,27 @@
+use Rattle.std.proofs.Common.{◌≡◌, ◌∙◌, ℕ, List, length, map, take, ap, subst, sym, arith}
+use Rattle.std.proofs.lemmas.List.{length-take-le}
+use Rattle.ucd.specs.Classes.{class_in}
+use Rattle.ucd.specs.Within.{AreWithin}
+use Rattle.reorder.specs.Mirroring.{visual_chars}
+use Rattle.reorder.specs.Order.{ltov_of, vtol_of}
+use Rattle.reorder.proofs.PlainLemmas.{classes_are}
+use Rattle.lines.proofs.WrittenLemmas.{front_is}
+use Rattle.lines.proofs.writing.order_front.Goals as goal
+
+pub returns : goal.returns
+returns c =
+    let text = c.args.line.now.text in
+    let nsm = text.rules.options.reordernsm in
+    let n = c.args.line.now.shown.len in
+    let levels = take n c.args.levels.now in
+    let classes = ap (map class_in) c.requires.line ∙ classes_are text.rules.tables.now text.characters.now in
+    let size : length levels ≡ n = length-take-le n c.args.levels.now c.requires.levels in
+    let ltov = front_is n c.show_part.new.ltov _ (omega (arith, length-take-le n c.args.ltov.now c.requires.ltov)) in
+    let vtol = front_is n c.show_part.new.vtol _ (omega (arith, length-take-le n c.args.vtol.now c.requires.vtol)) in
+    let chars = front_is n c.show_part.new.chars _ (omega (arith, length-take-le n c.args.chars.now c.requires.chars)) in
+    record {
+      ltov = ltov ∙ c.show_part.ensures.ltov ∙ ap (λ cs. ltov_of nsm cs levels) classes;
+      vtol = vtol ∙ c.show_part.ensures.vtol ∙ ap (λ cs. vtol_of nsm cs levels) classes;
+      chars = chars ∙ c.show_part.ensures.chars ∙ ap (λ cs. visual_chars text.rules.tables.now levels (take (length levels) text.characters.now) (vtol_of nsm cs levels)) classes;
+      within = subst (AreWithin n) (sym vtol) (subst (λ (m : ℕ). AreWithin m c.show_part.new.vtol) size c.show_part.ensures.within);
+    }

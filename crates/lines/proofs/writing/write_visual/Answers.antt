@@ -1,0 +1,14 @@
+use Rattle.std.proofs.Common.{◌≡◌, ◌<◌, ℕ, List, length, take, ap, subst, sym, arith}
+use Rattle.std.proofs.lemmas.List.{length-take-le}
+use Rattle.ucd.specs.Within.{AreWithin}
+use Rattle.lines.proofs.writing.write_visual.Goals as goal
+
+pub invariant_of-view : goal.invariant_of-view
+invariant_of-view g c k below =
+    let n = c.args.line.now.shown.len in
+    let chars = c.args.line.now.text.characters.now in
+    let levels = take n c.deref.result.now in
+    let size : length levels ≡ n = length-take-le n c.deref.result.now (omega (arith, c.requires.visual.levels, c.requires.shown, ap length c.deref.ensures.value)) in
+    let text : length (take (length levels) chars) ≡ length levels = length-take-le (length levels) chars (omega (arith, size, c.requires.shown)) in
+    let within = subst (λ (xs : List ℕ). AreWithin n (take n xs)) (sym c.deref-3.ensures.value) c.requires.within k below in
+    omega (arith, within, size, text)

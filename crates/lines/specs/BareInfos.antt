@@ -1,0 +1,10 @@
+-- The places of a paragraph without their clusters.
+use Rattle.std.specs.Prelude.{ℕ, false, List, [], ◌∷◌}
+use Rattle.ucd.specs.declared.tables.Tables.{Tables}
+use Rattle.breaks.specs.declared.mark.Mark.{Mark}
+use Rattle.lines.specs.CharInfos.{info}
+use Rattle.lines.specs.declared.char_info.CharInfo.{CharInfo}
+
+abbrev pub bare_infos : Tables → List ℕ → List Mark → List CharInfo
+bare_infos t (c ∷ text) (mark ∷ marks) = info t c mark false ∷ bare_infos t text marks
+bare_infos t text marks = []

@@ -1,0 +1,31 @@
+-- The lines that buffers hold, and when buffers are long enough.
+use Rattle.std.specs.Prelude.{◌≡◌, ℕ, ◌≤◌, List, length}
+use Rattle.lines.specs.Kept.{IsSound, lines_in}
+use Rattle.lines.specs.Layouts.{Filled}
+use Rattle.lines.specs.Visual.{Line}
+use Rattle.lines.specs.declared.buffers.LineBuffers.{LineBuffers}
+use Rattle.lines.specs.declared.buffers.VisualBuffers.{VisualBuffers}
+
+abbrev pub held_lines : LineBuffers → List Line
+held_lines b = lines_in b.starts.items b.shown.items b.visual.levels.items b.visual.ltov.items b.visual.vtol.items b.visual.chars.items
+
+abbrev pub held_in : LineBuffers → Filled
+held_in b = record { lines = held_lines b; len = length b.visual.levels.items }
+
+abbrev pub AreSound : LineBuffers → Type 0
+AreSound b = IsSound b.starts.items b.shown.items b.visual.levels.items b.visual.ltov.items b.visual.vtol.items b.visual.chars.items
+
+-- lengths stay
+pub record SameLengths (old new : VisualBuffers) : Type 0 where
+  pub levels : length new.levels.items ≡ length old.levels.items
+  pub ltov : length new.ltov.items ≡ length old.ltov.items
+  pub vtol : length new.vtol.items ≡ length old.vtol.items
+  pub chars : length new.chars.items ≡ length old.chars.items
+
+-- a line of n characters fits in
+pub record CanHold (n : ℕ) (v : VisualBuffers) : Type 0 where
+  pub levels : n ≤ length v.levels.items
+  pub ltov : n ≤ length v.ltov.items
+  pub vtol : n ≤ length v.vtol.items
+  pub chars : n ≤ length v.chars.items
+

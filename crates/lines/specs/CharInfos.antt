@@ -1,0 +1,32 @@
+-- What filling reads of each character of a paragraph: its columns, and what stands after it.
+use Rattle.std.specs.Prelude.{ℕ, Bool, false, List, [], ◌∷◌, unwrap_or}
+use Rattle.ucd.specs.Tables.{line_class_of, is_mark_in}
+use Rattle.ucd.specs.declared.line_class.LineClass.TheVariants.{BK, CR, LF, NL, SP}
+use Rattle.ucd.specs.declared.tables.Tables.{Tables}
+use Rattle.unicode_width.specs.Width.{char_width}
+use Rattle.breaks.specs.Bases.{resolved}
+use Rattle.breaks.specs.Classes.{is_one_of}
+use Rattle.breaks.specs.Marks.{marks_of}
+use Rattle.breaks.specs.declared.mark.Mark.{Mark}
+use Rattle.lines.specs.Clusters.{cluster_ends}
+use Rattle.lines.specs.declared.char_info.CharInfo.{CharInfo}
+
+-- the columns of a character are those of the crate `unicode_width`, 0 where it gives none
+abbrev pub columns_of : ℕ → ℕ
+columns_of c = unwrap_or (char_width false c) 0
+
+-- a character that counts for nothing at the end of a line: its class, after LB1, is SP, BK, CR, LF or NL
+abbrev pub is_trailing_in : Tables → ℕ → Bool
+is_trailing_in t c = is_one_of (SP ∷ BK ∷ CR ∷ LF ∷ NL ∷ []) (resolved (line_class_of t c) (is_mark_in t c))
+
+-- a character, with the mark after it, and whether a grapheme cluster ends after it
+abbrev pub info : Tables → ℕ → Mark → Bool → CharInfo
+info t c mark ends_cluster =
+    record { columns = columns_of c; is_trailing = is_trailing_in t c; mark = mark; ends_cluster = ends_cluster }
+
+abbrev pub infos : Tables → List ℕ → List Mark → List Bool → List CharInfo
+infos t (c ∷ text) (mark ∷ marks) (ends ∷ clusters) = info t c mark ends ∷ infos t text marks clusters
+infos t text marks clusters = []
+
+unfoldable pub infos_of : Tables → Bool → List ℕ → List CharInfo
+infos_of t whole_numbers text = infos t text (marks_of t whole_numbers text) (cluster_ends text)

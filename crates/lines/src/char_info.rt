@@ -1,0 +1,125 @@
+//! What filling reads of each character of a paragraph.
+ghost use Rattle.std.specs.Prelude.{◌≡◌, false, Bool, [], ◌∷◌, length, map, OnOk};
+ghost use Rattle.ucd.specs.Properties.{properties_of};
+ghost use Rattle.ucd.specs.declared.line_class.LineClass.TheVariants.{BK, CR, LF, NL, SP};
+ghost use Rattle.ucd.specs.declared.tables.Tables.{Tables};
+ghost use Rattle.breaks.specs.Bases.{resolved};
+ghost use Rattle.breaks.specs.Classes.{is_one_of};
+ghost use Rattle.breaks.specs.Marks.{marks_of};
+ghost use Rattle.lines.specs.Bare.{with_ends};
+ghost use Rattle.lines.specs.BareInfos.{bare_infos};
+ghost use Rattle.lines.specs.Clusters.{cluster_ends};
+ghost use Rattle.lines.specs.CharInfos.{columns_of, info, infos_of};
+ghost use Rattle.lines.specs.Paragraphs.{IsLookedUp};
+
+use crate::paragraph::Text;
+use breaks::{Mark, marks_are_as_many};
+use std::alloc::AllocError;
+use ucd::{LineClass, Properties, Tables};
+use unicode_width::UnicodeWidthChar;
+
+/// What filling reads of a character.
+#[derive(Clone, Copy, Debug)]
+pub struct CharInfo {
+    /// Its width in columns.
+    pub columns: u8,
+    /// Whether it takes no columns at the end of a line.
+    pub is_trailing: bool,
+    /// The break mark after it.
+    pub mark: Mark,
+    /// Whether a grapheme cluster ends after it.
+    pub ends_cluster: bool,
+}
+
+// Fills a new list, before the characters are known.
+const NOTHING: CharInfo = CharInfo {
+    columns: 0,
+    is_trailing: false,
+    mark: Mark::Never,
+    ends_cluster: false,
+};
+
+impl CharInfo {
+    // What is known of a character, but for the end of its cluster.
+    fn of(properties: Properties, c: char, mark: Mark) -> CharInfo
+        ensures { (t : Tables) → properties ≡ properties_of t c → result ≡ info t c mark false }
+    {
+        CharInfo {
+            columns: columns(c),
+            is_trailing: is_trailing(properties.line_class()),
+            mark,
+            ends_cluster: false,
+        }
+    }
+}
+
+// The width of a character in columns, 0 if `unicode_width` has none.
+fn columns(c: char) -> u8
+    ensures { result ≡ columns_of c }
+{
+    // Most characters are ASCII letters, which need no table.
+    let code = c as u32;
+    if code >= 0x20 && code < 0x7f {
+        return 1;
+    }
+    match c.width() {
+        Some(width) => width as u8,
+        None => 0,
+    }
+}
+
+/// Whether characters of a class take no columns at the end of a line.
+pub(crate) fn is_trailing(class: LineClass) -> bool
+    ensures { (is_mark : Bool) → result
+        ≡ is_one_of (SP ∷ BK ∷ CR ∷ LF ∷ NL ∷ []) (resolved class is_mark) }
+{
+    match class {
+        LineClass::SP => true,
+        LineClass::BK => true,
+        LineClass::CR => true,
+        LineClass::LF => true,
+        LineClass::NL => true,
+        _ => false,
+    }
+}
+
+/// Replaces `infos` with what filling reads of a paragraph's characters, but for the ends of clusters.
+pub(crate) fn fill_infos(
+    text: &Text<'_>,
+    marks: &[Mark],
+    infos: &mut Vec<CharInfo>,
+) -> Result<(), AllocError>
+    requires text { IsLookedUp text.now }
+    requires marks { marks.now ≡ marks_of text.now.rules.tables.now
+        text.now.rules.options.whole_numbers text.now.characters.now }
+    ensures infos { OnOk result (with_ends infos.new.items (cluster_ends text.now.characters.now)
+        ≡ infos_of text.now.rules.tables.now text.now.rules.options.whole_numbers
+        text.now.characters.now) }
+    ensures len { OnOk result (length infos.new.items ≡ length text.now.characters.now) }
+{
+    let (tables, characters) = (text.rules.tables, text.characters);
+    marks_are_as_many(tables, characters, text.rules.options.whole_numbers);
+    infos.resize(characters.len(), NOTHING)?;
+    put_infos(tables, characters, text.properties, marks, infos);
+    Ok(())
+}
+
+// Overwrites `infos` with what is known of each character.
+fn put_infos(
+    tables: &Tables,
+    text: &[char],
+    properties: &[Properties],
+    marks: &[Mark],
+    infos: &mut [CharInfo],
+)
+    requires marks { length marks.now ≡ length text.now }
+    requires properties { properties.now ≡ map (properties_of tables.now) text.now }
+    requires len { length infos.old ≡ length text.now }
+    ensures { infos.new ≡ bare_infos tables.now text.now marks.now }
+{
+    let mut k = 0;
+    while k < text.len() {
+        infos[k] = CharInfo::of(properties[k], text[k], marks[k]);
+        k += 1;
+    }
+}

@@ -1,0 +1,148 @@
+//! The layout of a paragraph that is kept.
+ghost use Rattle.std.specs.Prelude.{◌≡◌, ◌≤◌, length, IfOk, OnErr, OnOk};
+ghost use Rattle.lines.specs.Bare.{with_ends};
+ghost use Rattle.lines.specs.Buffers.{held_lines, AreSound};
+ghost use Rattle.lines.specs.CharInfos.{infos_of};
+ghost use Rattle.lines.specs.Clusters.{cluster_ends};
+ghost use Rattle.lines.specs.Engine.{counted, RisesBy};
+ghost use Rattle.lines.specs.Layouts.{AreWithin, lines_of};
+ghost use Rattle.lines.specs.Paragraphs.{IsLookedUp, IsPrepared, lines_at, rules_in};
+ghost use Rattle.lines.specs.declared.engine.TheConstants.{PARAGRAPH_LIMIT};
+
+use crate::buffers::{LayoutBuffers, LineBuffers};
+use crate::char_info::{CharInfo, fill_infos};
+use crate::counts::{Count, Counted, Counts};
+use crate::filling::line_starts;
+use crate::paragraph::{LentRules, Paragraph, Text};
+use crate::showing::show_lines;
+use crate::workspace::{Workspace, fill_marks};
+use std::alloc::{AllocError, Global};
+
+impl Workspace {
+    ghost use Rattle.lines.specs.Counts.{LaysOutAll, LaysOutSome};
+    ghost use Rattle.lines.specs.Engine.{counted};
+    ghost use Rattle.lines.specs.Layouts.{AreWithin, layout_of};
+    ghost use Rattle.lines.specs.Buffers.{held_lines, AreSound};
+    ghost use Rattle.lines.specs.Paragraphs.{rules_in};
+
+    /// Lays out a paragraph: returns its base level, and replaces what `kept` holds with the rest.
+    pub(crate) fn lay_out(
+        &mut self,
+        alloc: Global,
+        rules: &LentRules<'_>,
+        text: &[char],
+        width: u16,
+        kept: &mut LayoutBuffers,
+        counts: &mut Counts,
+    ) -> Result<u8, AllocError>
+        requires { length text.now ≤ PARAGRAPH_LIMIT }
+        ensures base { IfOk result (λ base.
+            base ≡ (layout_of (rules_in rules.now) width text.now).base) }
+        ensures levels { OnOk result
+            (kept.new.levels.items ≡ (layout_of (rules_in rules.now) width text.now).levels) }
+        ensures marks { OnOk result
+            (kept.new.marks.items ≡ (layout_of (rules_in rules.now) width text.now).marks) }
+        ensures lines { OnOk result
+            (held_lines kept.new.lines ≡ (layout_of (rules_in rules.now) width text.now).lines) }
+        ensures len { OnOk result (length kept.new.levels.items ≡ length text.now) }
+        ensures sound { OnOk result (AreSound kept.new.lines) }
+        ensures within { OnOk result (AreWithin (length text.now) (held_lines kept.new.lines)) }
+        ensures lines_len { OnOk result (length kept.new.lines.visual.levels.items ≡ length text.now) }
+        ensures counts { OnOk result (LaysOutAll (length text.now) counts.old counts.new) }
+        ensures unwritten { OnErr result (counts.new.written ≡ counts.old.written) }
+        ensures at_most { LaysOutSome (length text.now) counts.old counts.new }
+        ensures analysed { counts.new.analysed ≡ counted counts.old.analysed (length text.now) }
+        ensures filled { counts.new.filled ≡ counted counts.old.filled (length text.now) }
+    {
+        let filled = counts.take_filled(text.len());
+        let analysis = &mut self.analysis;
+        let base = analysis.resolve(rules, text, &mut kept.levels, &mut counts.analysed)?;
+        let text = Text {
+            rules: *rules,
+            characters: text,
+            properties: analysis.properties.as_slice(),
+            base,
+        };
+        fill_marks(&text, &mut kept.marks)?;
+        let paragraph = Paragraph {
+            text,
+            levels: &kept.levels,
+            marks: &kept.marks,
+        };
+        let (infos, lines) = (&mut self.infos, &mut kept.lines);
+        let written = &mut counts.written;
+        fill_lines(alloc, &paragraph, infos, width, lines, filled, written)?;
+        Ok(base)
+    }
+}
+
+/// Replaces what `lines` holds with the lines of a paragraph.
+pub(crate) fn fill_lines(
+    alloc: Global,
+    paragraph: &Paragraph<'_>,
+    infos: &mut Vec<CharInfo>,
+    width: u16,
+    lines: &mut LineBuffers,
+    filled: Counted,
+    written: &mut Count,
+) -> Result<(), AllocError>
+    requires counted { filled ≡ length paragraph.now.text.characters.now }
+    requires paragraph { IsPrepared paragraph.now }
+    ensures lines { OnOk result (held_lines lines.new
+        ≡ lines_of (rules_in paragraph.now.text.rules) width paragraph.now.text.characters.now) }
+    ensures sound { OnOk result (AreSound lines.new) }
+    ensures within { OnOk result
+        (AreWithin (length paragraph.now.text.characters.now) (held_lines lines.new)) }
+    ensures lines_len { OnOk result
+        (length lines.new.visual.levels.items ≡ length paragraph.now.text.characters.now) }
+    ensures counts { OnOk result
+        (written.new ≡ counted written.old (length paragraph.now.text.characters.now)) }
+    ensures unwritten { OnErr result (written.new ≡ written.old) }
+    ensures at_most { RisesBy (length paragraph.now.text.characters.now) written.old written.new }
+{
+    fill_infos(&paragraph.text, paragraph.marks, infos)?;
+    fill_lines_by(alloc, paragraph, infos, width, lines, filled, written)
+}
+
+// Fills them by what is known of each character, but for the ends of clusters.
+fn fill_lines_by(
+    alloc: Global,
+    paragraph: &Paragraph<'_>,
+    infos: &mut [CharInfo],
+    width: u16,
+    lines: &mut LineBuffers,
+    filled: Counted,
+    written: &mut Count,
+) -> Result<(), AllocError>
+    requires counted { filled ≡ length paragraph.now.text.characters.now }
+    requires text { IsLookedUp paragraph.now.text }
+    requires infos { with_ends infos.old (cluster_ends paragraph.now.text.characters.now)
+        ≡ infos_of paragraph.now.text.rules.tables.now
+        paragraph.now.text.rules.options.whole_numbers paragraph.now.text.characters.now }
+    requires infos_len { length infos.old ≡ length paragraph.now.text.characters.now }
+    requires levels_len { length paragraph.now.levels.now ≡ length paragraph.now.text.characters.now }
+    requires within { length paragraph.now.text.characters.now ≤ PARAGRAPH_LIMIT }
+    ensures lines { OnOk result (held_lines lines.new
+        ≡ lines_at paragraph.now.text paragraph.now.levels.now width) }
+    ensures sound { OnOk result (AreSound lines.new) }
+    ensures within { OnOk result
+        (AreWithin (length paragraph.now.text.characters.now) (held_lines lines.new)) }
+    ensures lines_len { OnOk result
+        (length lines.new.visual.levels.items ≡ length paragraph.now.text.characters.now) }
+    ensures counts { OnOk result
+        (written.new ≡ counted written.old (length paragraph.now.text.characters.now)) }
+    ensures unwritten { OnErr result (written.new ≡ written.old) }
+    ensures at_most { RisesBy (length paragraph.now.text.characters.now) written.old written.new }
+{
+    let text = &paragraph.text;
+    line_starts(
+        alloc,
+        text.characters,
+        infos,
+        width,
+        text.rules.options.nobreak,
+        &mut lines.starts,
+        filled,
+    )?;
+    show_lines(paragraph, infos, lines, written)
+}

@@ -1,0 +1,194 @@
+//! The lines of a paragraph that are printed and not kept.
+ghost use Rattle.std.specs.Prelude.{◌≡◌, ◌<◌, ◌≤◌, true, false, length, IfErr, IsErrOf, OnOk};
+ghost use Rattle.device.specs.Device.{Wrote};
+ghost use Rattle.lines.specs.Engine.{counted, RisesBy};
+ghost use Rattle.lines.specs.Pages.{paragraph_bytes};
+ghost use Rattle.lines.specs.Paragraphs.{IsLookedUp, IsPrepared, IsResolved, rules_in};
+ghost use Rattle.lines.specs.Printing.{FailedAs};
+ghost use Rattle.lines.specs.Spans.{AreSpansOf};
+ghost use Rattle.lines.specs.Whole.{IsWhole};
+ghost use Rattle.lines.specs.declared.engine.TheConstants.{PARAGRAPH_LIMIT};
+
+use crate::buffers::LineBuffers;
+use crate::char_info::{CharInfo, fill_infos};
+use crate::counts::{Count, Counted, Counts};
+use crate::extents::fill_spans_by;
+use crate::paragraph::{LentRules, Paragraph, Spans, Text};
+use crate::print::PrintFault;
+use crate::whole::{is_whole, write_whole};
+use crate::workspace::{Workspace, fill_marks};
+use crate::writing::{Form, write_each};
+use device::Sink;
+use std::alloc::{AllocError, Global};
+
+impl Workspace {
+    ghost use Rattle.device.specs.Device.{Wrote};
+    ghost use Rattle.lines.specs.Counts.{LaysOutAll, LaysOutSome};
+    ghost use Rattle.lines.specs.Engine.{counted};
+    ghost use Rattle.lines.specs.Pages.{paragraph_bytes};
+    ghost use Rattle.lines.specs.Paragraphs.{rules_in};
+    ghost use Rattle.lines.specs.Printing.{FailedAs};
+
+    /// Writes the lines of a paragraph. If an allocation fails, nothing is written.
+    pub(crate) fn write<W: Sink>(
+        &mut self,
+        alloc: Global,
+        rules: &LentRules<'_>,
+        text: &[char],
+        form: &Form<'_>,
+        counts: &mut Counts,
+        writer: &mut W,
+    ) -> Result<(), PrintFault>
+        requires { length text.now ≤ PARAGRAPH_LIMIT }
+        ensures ok { OnOk result (Wrote
+            (paragraph_bytes (rules_in rules.now) form.now.width form.now.print.now text.now)
+            (W.state writer.old) (W.state writer.new)) }
+        ensures err { IfErr result (λ fault. FailedAs fault
+            (paragraph_bytes (rules_in rules.now) form.now.width form.now.print.now text.now)
+            (W.state writer.old) (W.state writer.new)) }
+        ensures counts { ¬ (IsErrOf result PrintFault.Memory)
+            → LaysOutAll (length text.now) counts.old counts.new }
+        ensures unwritten { IsErrOf result PrintFault.Memory → counts.new.written ≡ counts.old.written }
+        ensures at_most { LaysOutSome (length text.now) counts.old counts.new }
+        ensures analysed { counts.new.analysed ≡ counted counts.old.analysed (length text.now) }
+        ensures filled { counts.new.filled ≡ counted counts.old.filled (length text.now) }
+    {
+        let filled = counts.take_filled(text.len());
+        let levels = &mut self.printed.levels;
+        let Ok(base) = self
+            .analysis
+            .resolve(rules, text, levels, &mut counts.analysed)
+        else {
+            return Err(PrintFault::Memory);
+        };
+        let text = Text {
+            rules: *rules,
+            characters: text,
+            properties: self.analysis.properties.as_slice(),
+            base,
+        };
+        let written = &mut counts.written;
+        if is_one_line(form, &text) {
+            let (levels, lines) = (&self.printed.levels, &mut self.printed.lines);
+            return write_one_line(writer, form, &text, levels, lines, filled, written);
+        }
+        let Ok(()) = fill_marks(&text, &mut self.printed.marks) else {
+            return Err(PrintFault::Memory);
+        };
+        let paragraph = Paragraph {
+            text,
+            levels: &self.printed.levels,
+            marks: &self.printed.marks,
+        };
+        let (infos, lines) = (&mut self.infos, &mut self.printed.lines);
+        let Ok(()) = fill_spans(alloc, &paragraph, infos, form.width, lines, filled) else {
+            return Err(PrintFault::Memory);
+        };
+        write_lines(writer, form, &paragraph, lines, written)
+    }
+}
+
+// Whether a paragraph is one line whose characters are not printed.
+fn is_one_line(form: &Form<'_>, text: &Text<'_>) -> bool
+    requires { IsLookedUp text.now }
+    ensures nobreak { result ≡ true → text.now.rules.options.nobreak ≡ true }
+    ensures unseen { result ≡ true → form.now.print.now.novisual ≡ true }
+    ensures some { result ≡ true → 0 < length text.now.characters.now }
+    ensures whole { result ≡ true → IsWhole text.now.rules.tables.now text.now.characters.now }
+    ensures no { result ≡ false → text.now.rules.options.nobreak ≡ true → form.now.print.now.novisual ≡ true
+        → 0 < length text.now.characters.now
+        → ¬ (IsWhole text.now.rules.tables.now text.now.characters.now) }
+{
+    if !text.rules.options.nobreak || !form.print.novisual || text.characters.is_empty() {
+        return false;
+    }
+    is_whole(text)
+}
+
+// Writes such a paragraph.
+fn write_one_line<W: Sink>(
+    writer: &mut W,
+    form: &Form<'_>,
+    text: &Text<'_>,
+    levels: &[u8],
+    lines: &mut LineBuffers,
+    filled: Counted,
+    written: &mut Count,
+) -> Result<(), PrintFault>
+    requires counted { filled ≡ length text.now.characters.now }
+    requires text { IsResolved text.now levels.now }
+    requires some { 0 < length text.now.characters.now }
+    requires whole { IsWhole text.now.rules.tables.now text.now.characters.now }
+    requires nobreak { text.now.rules.options.nobreak ≡ true }
+    requires unseen { form.now.print.now.novisual ≡ true }
+    ensures ok { OnOk result (Wrote (paragraph_bytes (rules_in text.now.rules)
+        form.now.width form.now.print.now text.now.characters.now)
+        (W.state writer.old) (W.state writer.new)) }
+    ensures err { IfErr result (λ fault. FailedAs fault (paragraph_bytes (rules_in text.now.rules)
+        form.now.width form.now.print.now text.now.characters.now)
+        (W.state writer.old) (W.state writer.new)) }
+    ensures counts { ¬ (IsErrOf result PrintFault.Memory)
+        → written.new ≡ counted written.old (length text.now.characters.now) }
+    ensures unwritten { IsErrOf result PrintFault.Memory → written.new ≡ written.old }
+    ensures at_most { RisesBy (length text.now.characters.now) written.old written.new }
+{
+    let Ok(()) = lines.visual.grow_to(text.characters.len()) else {
+        return Err(PrintFault::Memory);
+    };
+    match write_whole(writer, form, text, levels, &mut lines.visual, filled, written) {
+        Ok(_) => Ok(()),
+        Err(fault) => Err(PrintFault::Write(fault)),
+    }
+}
+
+// Finds where the lines of a paragraph start, and how much of each is shown. Grows the other buffers to the
+// length of the paragraph.
+fn fill_spans(
+    alloc: Global,
+    paragraph: &Paragraph<'_>,
+    infos: &mut Vec<CharInfo>,
+    width: u16,
+    lines: &mut LineBuffers,
+    filled: Counted,
+) -> Result<(), AllocError>
+    requires counted { filled ≡ length paragraph.now.text.characters.now }
+    requires paragraph { IsPrepared paragraph.now }
+    ensures { OnOk result (AreSpansOf paragraph.now.text width lines.new) }
+{
+    let text = &paragraph.text;
+    fill_infos(text, paragraph.marks, infos)?;
+    lines.visual.grow_to(text.characters.len())?;
+    let nobreak = text.rules.options.nobreak;
+    fill_spans_by(alloc, text.characters, infos, width, nobreak, lines, filled)
+}
+
+// Writes the lines of a paragraph, which start and are shown as the buffers say.
+fn write_lines<W: Sink>(
+    writer: &mut W,
+    form: &Form<'_>,
+    paragraph: &Paragraph<'_>,
+    lines: &mut LineBuffers,
+    written: &mut Count,
+) -> Result<(), PrintFault>
+    requires paragraph { IsPrepared paragraph.now }
+    requires spans { AreSpansOf paragraph.now.text form.now.width lines.old }
+    ensures ok { OnOk result (Wrote (paragraph_bytes (rules_in paragraph.now.text.rules)
+        form.now.width form.now.print.now paragraph.now.text.characters.now)
+        (W.state writer.old) (W.state writer.new)) }
+    ensures err { IfErr result (λ fault. FailedAs fault (paragraph_bytes
+        (rules_in paragraph.now.text.rules) form.now.width form.now.print.now
+        paragraph.now.text.characters.now) (W.state writer.old) (W.state writer.new)) }
+    ensures memory { ¬ (IsErrOf result PrintFault.Memory) }
+    ensures counts { written.new ≡ counted written.old (length paragraph.now.text.characters.now) }
+    ensures least { written.old ≤ written.new }
+{
+    let spans = Spans {
+        starts: &lines.starts,
+        shown: &lines.shown,
+    };
+    let (text, levels) = (&paragraph.text, paragraph.levels);
+    match write_each(writer, form, text, &spans, levels, &mut lines.visual, written) {
+        Ok(_) => Ok(()),
+        Err(fault) => Err(PrintFault::Write(fault)),
+    }
+}

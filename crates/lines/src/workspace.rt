@@ -1,0 +1,112 @@
+//! The buffers of an engine, and what is found of a paragraph before its lines.
+ghost use Rattle.std.specs.Prelude.{◌≡◌, ◌≤◌, length, map, IfOk, OnOk};
+ghost use Rattle.ucd.specs.Properties.{properties_of};
+ghost use Rattle.bidi.specs.Levels.{levels_of};
+ghost use Rattle.breaks.specs.Marks.{marks_of};
+ghost use Rattle.lines.specs.Engine.{counted};
+ghost use Rattle.lines.specs.Layouts.{base_of};
+ghost use Rattle.lines.specs.Paragraphs.{IsLookedUp, rules_in};
+
+use crate::buffers::LayoutBuffers;
+use crate::char_info::CharInfo;
+use crate::counts::Count;
+use crate::paragraph::{LentRules, Text};
+use crate::properties::fill_properties;
+use crate::reserve::reserve;
+use bidi::Resolver;
+use breaks::{Mark, marks_into};
+use std::alloc::{AllocError, Global};
+use ucd::Properties;
+
+/// The buffers of an engine. A paragraph that fits in allocates only what is kept of it.
+#[derive(Debug)]
+pub(crate) struct Workspace {
+    pub(crate) analysis: Analysis,
+    pub(crate) infos: Vec<CharInfo>,
+    // What is found of a paragraph that is printed and not kept.
+    pub(crate) printed: LayoutBuffers,
+}
+
+impl Drop for Workspace {
+    fn drop(self) {
+        let Workspace {
+            analysis: _,
+            infos: _,
+            printed: _,
+        } = self;
+    }
+}
+
+impl Workspace {
+    /// Empty buffers. Allocates nothing.
+    pub(crate) fn new(alloc: Global) -> Workspace {
+        Workspace {
+            analysis: Analysis {
+                properties: Vec::new(alloc),
+                resolver: Resolver::new(alloc),
+            },
+            infos: Vec::new(alloc),
+            printed: LayoutBuffers::new(alloc),
+        }
+    }
+}
+
+/// Finds the levels of paragraphs, and keeps the properties of the last one's characters.
+#[derive(Debug)]
+pub(crate) struct Analysis {
+    pub(crate) properties: Vec<Properties>,
+    resolver: Resolver,
+}
+
+impl Drop for Analysis {
+    fn drop(self) {
+        let Analysis {
+            properties: _,
+            resolver: _,
+        } = self;
+    }
+}
+
+impl Analysis {
+    /// Looks up the properties of a paragraph, replaces `levels` with its levels, and returns its base level.
+    /// Counts the characters.
+    pub(crate) fn resolve(
+        &mut self,
+        rules: &LentRules<'_>,
+        text: &[char],
+        levels: &mut Vec<u8>,
+        analysed: &mut Count,
+    ) -> Result<u8, AllocError>
+        ensures base { IfOk result (λ base. base ≡ base_of (rules_in rules.now) text.now) }
+        ensures levels { OnOk result
+            (levels.new.items ≡ levels_of rules.now.tables.now text.now rules.now.options.base) }
+        ensures len { OnOk result (length levels.new.items ≡ length text.now) }
+        ensures properties { OnOk result
+            (self.new.properties.items ≡ map (properties_of rules.now.tables.now) text.now) }
+        ensures counts { analysed.new ≡ counted analysed.old (length text.now) }
+        ensures least { analysed.old ≤ analysed.new }
+    {
+        analysed.raise(text.len());
+        fill_properties(rules.tables, text, &mut self.properties)?;
+        reserve(levels, text.len())?;
+        let base = rules.options.base;
+        self.resolver
+            .resolve(rules.tables, text, &self.properties, base, levels)
+    }
+}
+
+/// Replaces `marks` with the break marks of a paragraph.
+pub(crate) fn fill_marks(text: &Text<'_>, marks: &mut Vec<Mark>) -> Result<(), AllocError>
+    requires { IsLookedUp text.now }
+    ensures { OnOk result (marks.new.items ≡ marks_of text.now.rules.tables.now
+        text.now.rules.options.whole_numbers text.now.characters.now) }
+{
+    reserve(marks, text.characters.len())?;
+    marks_into(
+        text.rules.tables,
+        text.characters,
+        text.properties,
+        text.rules.options.whole_numbers,
+        marks,
+    )
+}
