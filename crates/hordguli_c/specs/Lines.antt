@@ -2,7 +2,7 @@
 use Rattle.std.specs.Prelude.{◌≡◌, ℕ, ◌&&◌, Bool, List, length, map, slice_index, Option, Some, None, MatchBool}
 use Rattle.lines.specs.Columns.{padding_of}
 use Rattle.lines.specs.Layouts.{Layout}
-use Rattle.lines.specs.Places.{columns_of}
+use Rattle.lines.specs.CharInfos.{columns_of}
 use Rattle.lines.specs.Visual.{Visual}
 use Rattle.hordguli_c.specs.Arrays.{has_room, put_if}
 use Rattle.hordguli_c.specs.Options.{has_bit}

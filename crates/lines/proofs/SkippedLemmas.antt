@@ -18,6 +18,9 @@ use Rattle.lines.specs.Visual.{Line, Visual, lines_from, visual_of}
 use Rattle.lines.specs.declared.options.Options.{Options}
 use Rattle.lines.specs.declared.char_info.CharInfo.{CharInfo}
 use Rattle.lines.specs.declared.print.Print.{Print}
+use Rattle.lines.specs.declared.print.PrintFault.{PrintFault}
+use Rattle.lines.specs.declared.print.PrintFault.TheVariants.{Memory}
+use Rattle.std.specs.Prelude.{IsErrOf, OnOk, Result, Ok, Err}
 use Rattle.lines.proofs.ClusterLemmas.{length-cluster_ends}
 
 -- ---- the bytes of a line
@@ -107,3 +110,8 @@ pub direction_only : (rules : Rules) (width : ℕ) (print : Print) (text : List 
     → (if print.basedir then direction_line (base_of rules text) else []) ≡ paragraph_bytes rules width print text
 direction_only rules width print text skips paragraph marks =
     sym (all_are width print skips (base_of rules text) text (lines_of rules width text) (lines_of rules width text) (some_lines rules width text paragraph marks))
+
+-- what holds unless memory ran out holds after Ok
+pub on_ok : (P : Type 0) (result : Result (Unit {0}) PrintFault) → (¬ (IsErrOf result Memory) → P) → OnOk result P
+on_ok P (Ok done) holds = holds (λ bad. cc)
+on_ok P (Err fault) holds = tt

@@ -5,7 +5,6 @@ ghost use Rattle.std.specs.Prelude.{if◌then◌else◌};
 ghost use Rattle.device.specs.Device.{Wrote};
 ghost use Rattle.ucd.specs.Separators.{may_separate};
 ghost use Rattle.bidi.specs.Levels.{levels_of};
-ghost use Rattle.breaks.specs.Marks.{marks_of};
 ghost use Rattle.lines.specs.Bytes.{direction_line};
 ghost use Rattle.lines.specs.Layouts.{AreWithin, base_of};
 ghost use Rattle.lines.specs.Buffers.{held_lines, AreSound};
@@ -81,8 +80,7 @@ impl Model for Engine {
 impl Engine {
     ghost use Rattle.bidi.specs.Cuts.{first_cut, SplitsAt};
     ghost use Rattle.bidi.specs.Levels.{levels_of};
-    ghost use Rattle.breaks.specs.Marks.{marks_of};
-    ghost use Rattle.lines.specs.Extents.{extents_in, extents_of, reflowed};
+        ghost use Rattle.lines.specs.Extents.{extents_in, extents_of, reflowed};
     ghost use Rattle.lines.specs.Layouts.{base_of, cut_by, fill_of, layout_of};
     ghost use Rattle.lines.specs.Layouts.{AreLinesOf, AreWithin, IsLaidOut, IsParagraph};
     ghost use Rattle.lines.specs.Engine.{rules_of, analysed_of, filled_of, written_of, counted};
@@ -206,7 +204,12 @@ impl Engine {
         ensures filled { filled_of self.new ≡ counted (filled_of self.old) (length laid.now.text) }
         ensures rules { SameRules self.old self.new }
     {
-        self.fill(alloc, laid, width)
+        let work = self.work.get_or_insert_with(|| Workspace::new(alloc));
+        let rules = LentRules {
+            tables: &self.tables,
+            options: self.options,
+        };
+        work.fill(alloc, &rules, laid, width, &mut self.counts)
     }
 
     /// Writes the lines of one paragraph at a width in columns, which is not 0, and keeps nothing of them.
@@ -249,7 +252,13 @@ impl Engine {
             marks_are_as_many(&self.tables, text, whole_numbers);
             return self.write_base(text, print, writer);
         }
-        self.write_lines(alloc, text, width, print, writer)
+        let work = self.work.get_or_insert_with(|| Workspace::new(alloc));
+        let rules = LentRules {
+            tables: &self.tables,
+            options: self.options,
+        };
+        let form = Form { width, print };
+        work.write(alloc, &rules, text, &form, &mut self.counts, writer)
     }
 
     /// Where the lines of a paragraph start at another width, which is not 0, and how much of each is shown.
@@ -265,7 +274,12 @@ impl Engine {
         ensures filled { filled_of self.new ≡ counted (filled_of self.old) (length laid.now.text) }
         ensures rules { SameRules self.old self.new }
     {
-        self.find_extents(alloc, laid.text(), laid.marks(), width)
+        let work = self.work.get_or_insert_with(|| Workspace::new(alloc));
+        let rules = LentRules {
+            tables: &self.tables,
+            options: self.options,
+        };
+        work.extents(alloc, &rules, laid, width, &mut self.counts)
     }
 
     /// Allocates scratch space for [`Engine::reflow`], for paragraphs of at most `len` characters.
@@ -307,39 +321,6 @@ impl Engine {
         ensures rules { SameRules self.old self.new }
     {
         self.counts.written.add(scratch.end());
-    }
-
-    // Writes the lines of a paragraph.
-    fn write_lines<W: Sink>(
-        &mut self,
-        alloc: Global,
-        text: &[char],
-        width: u16,
-        print: &Print,
-        writer: &mut W,
-    ) -> Result<(), PrintFault>
-        requires { length text.now ≤ PARAGRAPH_LIMIT }
-        ensures ok { OnOk result (Wrote (paragraph_bytes (rules_of self.old) width print.now text.now)
-            (W.state writer.old) (W.state writer.new)) }
-        ensures err { IfErr result (λ fault.
-            FailedAs fault (paragraph_bytes (rules_of self.old) width print.now text.now)
-            (W.state writer.old) (W.state writer.new)) }
-        ensures counts { ¬ (IsErrOf result PrintFault.Memory)
-            → LaysOut (length text.now) self.old self.new }
-        ensures unwritten { IsErrOf result PrintFault.Memory → written_of self.new ≡ written_of self.old }
-        ensures at_most { LaysOutAtMost (length text.now) self.old self.new }
-        ensures analysed { analysed_of self.new ≡ counted (analysed_of self.old) (length text.now) }
-        ensures filled { filled_of self.new ≡ counted (filled_of self.old) (length text.now) }
-        ensures rules { SameRules self.old self.new }
-    {
-        let work = self.work.get_or_insert_with(|| Workspace::new(alloc));
-        let counts = &mut self.counts;
-        let rules = LentRules {
-            tables: &self.tables,
-            options: self.options,
-        };
-        let form = Form { width, print };
-        work.write(alloc, &rules, text, &form, counts, writer)
     }
 
     // The base level of a paragraph. Counts the characters.
@@ -414,51 +395,5 @@ impl Engine {
             marks: kept.marks,
             lines: Fill::of(kept.lines),
         })
-    }
-
-    // The extents of a paragraph's lines.
-    fn find_extents(
-        &mut self,
-        alloc: Global,
-        text: &[char],
-        marks: &[Mark],
-        width: u16,
-    ) -> Result<Extents, AllocError>
-        requires marks { marks.now ≡ marks_of (rules_of self.old).tables
-            (rules_of self.old).options.whole_numbers text.now }
-        requires within { length text.now ≤ PARAGRAPH_LIMIT }
-        ensures extents { IfOk result (λ extents. extents
-            ≡ extents_of (rules_of self.old) width text.now) }
-        ensures counts { OnOk result (FindsExtents (length text.now) self.old self.new) }
-        ensures at_most { FindsExtentsAtMost (length text.now) self.old self.new }
-        ensures filled { filled_of self.new ≡ counted (filled_of self.old) (length text.now) }
-        ensures rules { SameRules self.old self.new }
-    {
-        let work = self.work.get_or_insert_with(|| Workspace::new(alloc));
-        let counts = &mut self.counts;
-        let rules = LentRules {
-            tables: &self.tables,
-            options: self.options,
-        };
-        work.extents(alloc, &rules, text, marks, width, counts)
-    }
-
-    // The lines of a paragraph that is laid out, at another width.
-    fn fill(&mut self, alloc: Global, laid: &Laid, width: u16) -> Result<Fill, AllocError>
-        requires { IsLaidOut (rules_of self.old) laid.now }
-        ensures lines { IfOk result (λ fill. fill ≡ fill_of (rules_of self.old) width laid.now.text) }
-        ensures within { IfOk result (λ fill. AreWithin (length laid.now.text) fill.lines) }
-        ensures counts { OnOk result (Fills (length laid.now.text) self.old self.new) }
-        ensures unwritten { OnErr result (written_of self.new ≡ written_of self.old) }
-        ensures at_most { FillsAtMost (length laid.now.text) self.old self.new }
-        ensures filled { filled_of self.new ≡ counted (filled_of self.old) (length laid.now.text) }
-        ensures rules { SameRules self.old self.new }
-    {
-        let work = self.work.get_or_insert_with(|| Workspace::new(alloc));
-        let rules = LentRules {
-            tables: &self.tables,
-            options: self.options,
-        };
-        work.fill(alloc, &rules, laid, width, &mut self.counts)
     }
 }

@@ -1,6 +1,5 @@
 //! The lines of a paragraph at another width.
 ghost use Rattle.std.specs.Prelude.{◌≡◌, ◌<◌, ◌≤◌, length, IfOk, OnErr, OnOk};
-ghost use Rattle.breaks.specs.Marks.{marks_of};
 ghost use Rattle.lines.specs.Bare.{with_ends};
 ghost use Rattle.lines.specs.Clusters.{cluster_ends};
 ghost use Rattle.lines.specs.Extents.{shown_from};
@@ -17,7 +16,6 @@ use crate::layout::fill_lines;
 use crate::paragraph::{LentRules, Paragraph, Text};
 use crate::properties::fill_properties;
 use crate::workspace::Workspace;
-use breaks::Mark;
 use std::alloc::{AllocError, Global};
 use std::marker::Model;
 use ucd::{Properties, Tables};
@@ -70,30 +68,29 @@ impl ReflowScratch {
 }
 
 impl Workspace {
-    ghost use Rattle.breaks.specs.Marks.{marks_of};
     ghost use Rattle.lines.specs.Counts.{FillsAll, FillsSome, FindsAll, FindsSome};
     ghost use Rattle.lines.specs.Engine.{counted};
     ghost use Rattle.lines.specs.Extents.{extents_of};
     ghost use Rattle.lines.specs.Layouts.{AreWithin, IsLaidOut, fill_of};
     ghost use Rattle.lines.specs.Paragraphs.{rules_in};
 
-    /// Finds the extents of the lines of a paragraph by its break marks.
+    /// Finds the extents of the lines of a laid-out paragraph at another width.
     pub(crate) fn extents(
         &mut self,
         alloc: Global,
         rules: &LentRules<'_>,
-        text: &[char],
-        marks: &[Mark],
+        laid: &Laid,
         width: u16,
         counts: &mut Counts,
     ) -> Result<Extents, AllocError>
-        requires marks { marks.now ≡ marks_of rules.now.tables.now rules.now.options.whole_numbers text.now }
-        requires within { length text.now ≤ PARAGRAPH_LIMIT }
-        ensures extents { IfOk result (λ extents. extents ≡ extents_of (rules_in rules.now) width text.now) }
-        ensures counts { OnOk result (FindsAll (length text.now) counts.old counts.new) }
-        ensures at_most { FindsSome (length text.now) counts.old counts.new }
-        ensures filled { counts.new.filled ≡ counted counts.old.filled (length text.now) }
+        requires { IsLaidOut (rules_in rules.now) laid.now }
+        ensures extents { IfOk result (λ extents.
+            extents ≡ extents_of (rules_in rules.now) width laid.now.text) }
+        ensures counts { OnOk result (FindsAll (length laid.now.text) counts.old counts.new) }
+        ensures at_most { FindsSome (length laid.now.text) counts.old counts.new }
+        ensures filled { counts.new.filled ≡ counted counts.old.filled (length laid.now.text) }
     {
+        let text = laid.text();
         let filled = counts.take_filled(text.len());
         let properties = &mut self.analysis.properties;
         fill_properties(rules.tables, text, properties)?;
@@ -101,10 +98,10 @@ impl Workspace {
             rules: *rules,
             characters: text,
             properties: properties.as_slice(),
-            base: 0,
+            base: laid.base(),
         };
         let infos = &mut self.infos;
-        fill_infos(&known, marks, infos)?;
+        fill_infos(&known, laid.marks(), infos)?;
         extents_by(alloc, text, infos, width, rules.options.nobreak, filled)
     }
 

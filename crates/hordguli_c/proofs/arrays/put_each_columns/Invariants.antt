@@ -1,5 +1,5 @@
 use Rattle.std.proofs.Common.{◌≡◌, map, slice_index, take}
-use Rattle.lines.specs.Places.{columns_of}
+use Rattle.lines.specs.CharInfos.{columns_of}
 use Rattle.hordguli_c.proofs.arrays.put_each_columns.Given as goal
 
 abbrev pub invariant-loop-at : goal.invariant-loop-at
