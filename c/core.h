@@ -1,13 +1,15 @@
-/* The calls of the proved crate hordguli_c, over which hordguli.c is written. Each does the whole of the call of the
- * same name; what is left to C is what they cannot test: that no pointer is null, that a width is below 65,536, that no
- * two arrays overlap. An array is a pointer, which is never null, and its length; one of length 0 may point anywhere but
- * to null, and is aligned for its type. A status is a number of hordguli.h, from 0 to 12. */
+/* The functions of the proved crate hordguli_c, on which hordguli.c is built. Each implements the public function of the
+ * same name, except for the checks that it cannot make: pointers that are not NULL, widths below 65,536, arrays that do
+ * not overlap.
+ *
+ * An array is a pointer and a length. The pointer is never NULL and is aligned for its type, even if the length is 0. A
+ * status is a number of hordguli.h, from 0 to 12. */
 #ifndef HORDGULI_CORE_H
 #define HORDGULI_CORE_H
 
 #include "hordguli.h"
 
-/* Here `fault` is never null. */
+/* `fault` is never NULL. */
 uint32_t hordguli_core_tables_read(hordguli_tables *tables, const uint8_t *bidi_class, size_t bidi_class_length,
                                    const uint8_t *bidi_brackets, size_t bidi_brackets_length,
                                    const uint8_t *bidi_mirroring, size_t bidi_mirroring_length,
@@ -37,7 +39,7 @@ uint32_t hordguli_core_caret_at(hordguli_session *session, size_t pos, hordguli_
 uint32_t hordguli_core_hit_at(hordguli_session *session, size_t line, size_t column, hordguli_hit *hit);
 uint32_t hordguli_core_cluster_at(hordguli_session *session, size_t pos, hordguli_cluster *cluster);
 
-/* Which arrays are wanted; one that is not is handed in with length 0, and is not looked at. */
+/* Bits of `wanted`: which arrays are requested. The others have length 0 and are ignored. */
 #define HORDGULI_CORE_CHARACTERS UINT32_C(1)
 #define HORDGULI_CORE_LEVELS UINT32_C(2)
 #define HORDGULI_CORE_LTOV UINT32_C(4)
@@ -54,7 +56,7 @@ uint32_t hordguli_core_text(hordguli_session *session, size_t pos, size_t count,
                             size_t *length);
 uint32_t hordguli_core_utf8_length(hordguli_session *session, size_t pos, size_t count, size_t *length);
 
-/* Which arrays are wanted, as above. */
+/* Bits of `wanted`, as above. */
 #define HORDGULI_CORE_PARAGRAPH_LEVELS UINT32_C(1)
 #define HORDGULI_CORE_PARAGRAPH_MARKS UINT32_C(2)
 uint32_t hordguli_core_paragraph(hordguli_session *session, size_t paragraph, hordguli_paragraph_info *info,

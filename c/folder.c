@@ -1,4 +1,4 @@
-/* Opens tables of the files of a folder. */
+/* Implements hordguli_tables_open_folder, which needs files and so is not in the proved crate. */
 #include "hordguli.h"
 
 #include <errno.h>
@@ -15,13 +15,13 @@ static const char *const names[HORDGULI_TABLE_FILES] = {
     "DerivedGeneralCategory.txt", "EastAsianWidth.txt", "emoji-data.txt",
 };
 
-/* Bytes on the heap. */
+/* The content of a file, on the heap. */
 typedef struct content {
     char *bytes;
     size_t length;
 } content;
 
-/* Reads all of what is open. */
+/* Reads an open file to its end. */
 static hordguli_status read_all(int file, content *into) {
     size_t room = 0;
     for (;;) {
@@ -60,7 +60,6 @@ static hordguli_status read_file(const char *folder, const char *name, content *
     return status;
 }
 
-/* Whether two arrays overlap. */
 static int overlaps(const void *one, size_t size, const void *other, size_t other_size) {
     uintptr_t a = (uintptr_t)one, b = (uintptr_t)other;
     return a < b ? b - a < size : a - b < other_size;

@@ -1,12 +1,13 @@
-/* A screen editor over libhordguli and termios: editor [--log FILE] [--ucd FOLDER] TEXT, built by
+/* A screen editor with libhordguli and termios: editor [--log FILE] [--ucd FOLDER] TEXT, built by
  *
  *     cc -o editor examples/editor.c $(pkg-config --cflags --libs hordguli) \
  *         -DUCDDIR=\"$(pkg-config --variable=ucddir hordguli)\"
  *
- * It knows nothing of directions, line breaks or columns. The text stands in a session as wide as the window; a key
- * changes it, the damage says which lines gave way to how many others, and these are drawn. Carets, clicks and clusters
- * are asked for. Keys: arrows, Home and End (the left and the right end of a line), Page Up and Page Down, Backspace,
- * Delete, Ctrl-S saves, Ctrl-Q leaves. */
+ * It knows nothing of directions, line breaks or columns. A session as wide as the window keeps the text. A key edits
+ * the session, and the damage tells which lines to draw again. The session also finds carets, clicks and clusters.
+ *
+ * Keys: arrows, Home and End (the left and the right end of a line), Page Up and Page Down, Backspace, Delete, Ctrl-S
+ * saves, Ctrl-Q quits. */
 #define _XOPEN_SOURCE 700
 #define _DEFAULT_SOURCE
 #include <errno.h>
@@ -20,10 +21,10 @@
 #include <unistd.h>
 
 static hordguli_session session = HORDGULI_SESSION_INIT;
-static size_t pos, top;              /* where the caret is, and the first line on the screen */
-static size_t height = 1, width = 1; /* of the text, above a row that tells of it */
-static char *stale;                  /* of each row whether it is to be drawn */
-static unsigned long drawn;          /* how many lines were drawn for a key */
+static size_t pos, top;              /* the caret's position, and the first line on the screen */
+static size_t height = 1, width = 1; /* of the text, which is above a status row */
+static char *stale;                  /* for each row, whether it must be drawn */
+static unsigned long drawn;          /* how many lines the last key drew */
 static const char *path, *note = "";
 static FILE *log_file;
 static struct termios before;
@@ -60,7 +61,7 @@ static hordguli_line_info info_of(size_t line) {
     return info;
 }
 
-/* ---- Places: lines and columns are those of the screen, where some lines have spaces on their left ---- */
+/* ---- Places: columns are those of the screen, with the padding to the left of some lines ---- */
 
 static hordguli_caret caret_at(size_t at) {
     hordguli_caret caret;
@@ -72,7 +73,7 @@ static hordguli_caret caret_at(size_t at) {
     return caret;
 }
 
-/* The position to which a column of a line belongs; none where there is no such line. */
+/* Finds the position at a column of a line. Returns 0 if there is no such line. */
 static int position_at(size_t line, size_t column, size_t *found) {
     hordguli_counts all = counts();
     hordguli_hit hit;
@@ -83,7 +84,7 @@ static int position_at(size_t line, size_t column, size_t *found) {
     }
     hordguli_line_info info = info_of(line);
     check(hordguli_hit_at(&session, line, column < info.padding ? 0 : column - info.padding, &hit));
-    /* left of a letter from right to left is the end of it */
+    /* a right-to-left letter ends on its left */
     if (column < info.padding && info.columns > 0) hit.trailing = caret_at(hit.pos).level % 2;
     if (hordguli_cluster_at(&session, hit.pos, &cluster) != HORDGULI_OK) {
         *found = hit.pos;
@@ -93,7 +94,7 @@ static int position_at(size_t line, size_t column, size_t *found) {
     return 1;
 }
 
-/* The next place to the right or to the left, as it is shown, on this line or a neighbour. */
+/* Moves the caret to the next place on the right or left of the screen, on this line or the next one. */
 static void sideways(int step) {
     hordguli_caret from = caret_at(pos);
     size_t to;
@@ -116,7 +117,7 @@ static void go(size_t line, size_t column) {
 
 /* ---- The screen ---- */
 
-/* Takes rows out of the screen at a row, and puts new ones in there; those below move. */
+/* Replaces rows of the screen by new ones; the rows below move. */
 static void shift(size_t row, size_t out, size_t in) {
     if (out > height - row) out = height - row;
     if (in > height - row) in = height - row;
@@ -131,11 +132,11 @@ static void shift(size_t row, size_t out, size_t in) {
     memset(stale + row, 1, in);
 }
 
-/* What an edit tells: these lines gave way to others. */
+/* Marks the lines that an edit replaced. */
 static void damaged(const hordguli_damage *damage) {
     size_t first = damage->first_line, end = first + damage->old_lines;
     if (end <= top && first < top) {
-        top += damage->new_lines - damage->old_lines; /* all of it is above the screen */
+        top += damage->new_lines - damage->old_lines; /* all above the screen */
     } else if (first < top) {
         top = first;
         memset(stale, 1, height);
@@ -144,7 +145,7 @@ static void damaged(const hordguli_damage *damage) {
     }
 }
 
-/* Brings a line onto the screen. */
+/* Scrolls until a line is on the screen. */
 static void scroll_to(size_t line) {
     if (line < top) {
         size_t by = top - line;
@@ -157,7 +158,7 @@ static void scroll_to(size_t line) {
     }
 }
 
-/* Takes control characters out, which a terminal obeys. They have no columns. */
+/* Removes control characters, which a terminal would execute. They have no columns. */
 static size_t without_controls(char *bytes, size_t length) {
     size_t kept = 0;
     for (size_t k = 0; k < length; k++) {
@@ -197,7 +198,7 @@ static void draw(void) {
     fflush(stdout);
 }
 
-/* Looks how large the window is. */
+/* Reads the size of the window. */
 static void measure(void) {
     struct winsize size;
     hordguli_damage damage;
@@ -208,7 +209,7 @@ static void measure(void) {
     stale = sure(realloc(stale, height));
     if (session.at != NULL) check(hordguli_set_width(&session, (uint32_t)width, &damage));
     memset(stale, 1, height);
-    printf("\33[1;%zur\33[2J", height); /* rows move above the last one */
+    printf("\33[1;%zur\33[2J", height); /* the scrolling region: all rows but the last */
 }
 
 /* ---- Changes ---- */
@@ -224,7 +225,7 @@ static void insert(const char *text, size_t length) {
     pos += count;
 }
 
-/* Takes the cluster of a character out. */
+/* Deletes the grapheme cluster of a character. */
 static void take_out(size_t at) {
     hordguli_cluster cluster;
     hordguli_damage damage;
@@ -252,7 +253,7 @@ static void save(void) {
 
 /* ---- Keys ---- */
 
-/* A byte of the keyboard, or -1 where the window has another size. */
+/* Reads a byte from the keyboard. Returns -1 if the window has changed its size. */
 static int next_byte(void) {
     unsigned char byte;
     for (;;) {
@@ -264,7 +265,7 @@ static int next_byte(void) {
     }
 }
 
-/* After an escape: `[` or `O`, a number that may be missing, and the letter of the key; a number and `~` is a letter too. */
+/* Executes an escape sequence: `[` or `O`, an optional number, and the key's letter. A number and `~` count as a letter. */
 static void escape(void) {
     hordguli_caret caret = caret_at(pos);
     size_t all = counts().lines;
@@ -286,7 +287,7 @@ static void escape(void) {
     }
 }
 
-/* Obeys a key, whose name is left in `name`; 0 at the last one. */
+/* Executes a key and stores its name in `name`. Returns 0 to quit. */
 static int obey(int byte, char *name) {
     int more = byte >= 0xF0 ? 3 : byte >= 0xE0 ? 2 : byte >= 0xC0 ? 1 : 0;
     size_t length = 1;
@@ -320,7 +321,7 @@ static void on_resize(int signal) {
     resized = 1;
 }
 
-/* The text of a file, tabs as spaces; one that isn't there is empty. */
+/* Reads a file, with tabs as spaces. A missing file is empty. */
 static char *read_text(size_t *length) {
     FILE *file = fopen(path, "rb");
     size_t room = 1 << 16;

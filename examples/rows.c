@@ -1,7 +1,7 @@
-/* A text in the rows of a terminal: rows COLUMNS < TEXT
+/* Prints a text in the rows of a terminal: rows COLUMNS < TEXT
  *
- * A terminal breaks a line where it is full, and not between words. So the levels are those of the whole paragraph, and
- * each row of it is then put in order by itself. The calls are FriBidi's; the library that is linked first answers them:
+ * A terminal breaks a line where it is full, not between words. So the levels are found for the whole paragraph, and then
+ * each row is reordered by itself. The functions are FriBidi's, from the library that is linked first:
  *
  *     cc -o rows examples/rows.c $(pkg-config --cflags fribidi) -Lbin -Wl,-rpath,$PWD/bin -lhordguli_fribidi -lfribidi
  */
@@ -12,7 +12,7 @@
 #include <stdlib.h>
 #include <wchar.h>
 
-/* A paragraph, and what is known of each of its characters. */
+/* A paragraph, with the properties of its characters. */
 static FriBidiChar *text, *visual;
 static FriBidiCharType *types;
 static FriBidiBracketType *brackets;
@@ -37,7 +37,7 @@ static void add(FriBidiChar c) {
     text[length++] = c;
 }
 
-/* A control character, which a terminal would obey, has none. */
+/* The columns of a character. Control characters, which a terminal would execute, have none. */
 static int cells(FriBidiChar c) {
     int width = wcwidth((wchar_t)c);
     return width < 0 ? 0 : width;

@@ -1,6 +1,6 @@
 #!/bin/sh
 # Installs this folder: install.sh PREFIX. Removes what it has installed: install.sh --uninstall PREFIX.
-# Before that it compares the files with SHA256SUMS. PREFIX/share/hordguli/installed lists the files and folders that were made.
+# Checks the files by SHA256SUMS before it installs them. PREFIX/share/hordguli/installed lists the installed files and new folders.
 set -eu
 LC_ALL=C
 export LC_ALL
@@ -24,7 +24,7 @@ list=$prefix/share/hordguli/installed
 
 if [ $task = uninstall ]; then
     [ -f "$list" ] || { echo "install.sh: there is no $list: nothing is installed there"; exit 1; }
-    # (what is in a folder comes before the folder, which stays if something else is in it)
+    # (files come before their folder, which stays if it has other files)
     sort -r "$list" | while IFS= read -r path; do
         case $path in
             */) rmdir "$path" 2> /dev/null || true ;;
@@ -37,7 +37,7 @@ fi
 
 made=$(mktemp)
 trap 'rm -f "$made"' EXIT
-make_folder() { # FOLDER: makes it and those above it, and notes which it has made
+make_folder() { # FOLDER: makes it and its parents, and records the new ones
     if [ -d "$1" ]; then return; fi
     make_folder "$(dirname "$1")"
     mkdir "$1"
@@ -49,7 +49,7 @@ sha256sum --quiet --check SHA256SUMS
 find bin include lib share ! -type d | sort | while IFS= read -r file; do
     folder=$(dirname "$prefix/$file")
     make_folder "$folder"
-    # (a file in use is not overwritten, but replaced)
+    # (a file may be in use, so it is replaced and not overwritten)
     cp -P "$file" "$folder/.new.$$"
     mv -f "$folder/.new.$$" "$prefix/$file"
     echo "$prefix/$file" >> "$made"

@@ -1,4 +1,4 @@
-/* What each of FriBidi's calls takes, by FriBidi's own library and by ours: callers OURS. */
+/* Measures FriBidi's functions, in FriBidi's library and in ours: callers OURS. */
 #include "both.h"
 #include <time.h>
 
@@ -21,7 +21,7 @@ static double now(void) {
     return 1e9 * (double)at.tv_sec + (double)at.tv_nsec;
 }
 
-/* One call on a text of a length. */
+/* Calls one function on the first `length` characters. */
 static void ask(const calls *of, int call, int length) {
     FriBidiParType asked = FRIBIDI_PAR_ON;
     FriBidiChar mirror;
@@ -50,7 +50,7 @@ static double took(const calls *of, int call, int length) {
     return (now() - begun) / (double)times;
 }
 
-/* Texts of words, of which each kind has its own; numbers, brackets and spaces stand among them. */
+/* Texts of words in the scripts of a kind, with numbers, brackets and spaces between them. */
 static const char *const kinds[] = {"Latin", "Hebrew", "Arabic", "mixed", "embedded"};
 static void make(int kind, int length) {
     state = 88172645463325252u + (uint64_t)kind;

@@ -1,5 +1,5 @@
-/* The direction of each paragraph over ICU4C: the work of `bin/fribidi --novisual --basedir`, as a user of ICU would do it.
- * Standard input is UTF-8. For each paragraph a line says LTR or RTL, by its first character that has a direction. */
+/* Does the work of `bin/fribidi --novisual --basedir` with ICU4C. Standard input is UTF-8. For each paragraph it prints LTR or
+ * RTL, by the first strong character. */
 #include "icu_text.h"
 
 int main(void) {

@@ -1,6 +1,6 @@
-/* The lines of a paragraph over ICU4C, as a user of ICU would find them: through ubidi and through ubrk's line breaks. A line
- * takes as many of the pieces between breaks as fit, where spaces at its end count for nothing; a piece that is longer than a
- * line is cut between grapheme clusters. Who includes it writes `put_line`, which is handed where a line begins and ends. */
+/* Finds the lines of a paragraph with ICU4C's ubidi and ubrk. A line ends at the last break up to which it fits, without the
+ * spaces at its end; a longer piece is broken between grapheme clusters. The including file defines `put_line`, which is called
+ * for each line. */
 #ifndef ICU_FILL_H
 #define ICU_FILL_H
 #include "icu_text.h"
@@ -9,7 +9,7 @@
 
 enum { WIDTH = 80 };
 
-/* The text of a paragraph, and what ICU knows of it. */
+/* The text of a paragraph, and ICU's objects for it. */
 static const UChar *text;
 static UBiDi *para, *line;
 static UBreakIterator *breaks, *clusters;
@@ -31,7 +31,7 @@ static int columns_of(UChar32 c) {
     return width == U_EA_WIDE || width == U_EA_FULLWIDTH ? 2 : 1;
 }
 
-/* Whether a character at a line's end is not shown: a space, or one that ends a line or a paragraph. */
+/* Whether a character is not shown at the end of a line: spaces and separators. */
 static UBool is_tail(UChar c) {
     return c == 0x20 || (c >= 0x0A && c <= 0x0D) || c == 0x85 || c == 0x2028 || c == 0x2029;
 }
@@ -51,7 +51,7 @@ static int columns_between(int32_t from, int32_t to) {
     return columns;
 }
 
-/* The lines of the paragraph, whose text is set: `start` is where the line begins, `end` the last break up to which it fits. */
+/* Finds the lines of the paragraph in `text`. `start` is the start of a line, `end` the last break up to which it fits. */
 static void fill_paragraph(int32_t length) {
     UErrorCode status = U_ZERO_ERROR;
     UBool has_clusters = false;
@@ -102,7 +102,7 @@ static void fill_paragraph(int32_t length) {
     put_line(start, length);
 }
 
-/* What ICU works with, made once. */
+/* Opens ICU's objects, once. */
 static void open_icu(void) {
     UErrorCode status = U_ZERO_ERROR;
     breaks = ubrk_open(UBRK_LINE, "en", NULL, 0, &status);

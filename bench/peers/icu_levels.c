@@ -1,6 +1,5 @@
-/* The levels of each line over ICU4C: the work of `bin/fribidi --novisual --levels`, as a user of ICU would do it. Standard input
- * is UTF-8. Lines have 80 columns (icu_fill.h), or with the word `nobreak` end at mandatory breaks alone. Of each line's shown
- * part the levels after L1, one for each character, are written on one line with spaces between them. */
+/* Does the work of `bin/fribidi --novisual --levels` with ICU4C. Standard input is UTF-8. Lines have 80 columns (icu_fill.h), or,
+ * with the argument `nobreak`, end at mandatory breaks only. For each line it prints the levels of the shown part after L1. */
 #include "icu_fill.h"
 #include <string.h>
 
@@ -14,7 +13,7 @@ static void put_level(UBiDiLevel level, UBool is_first) {
     out[out_length++] = (char)('0' + level % 10);
 }
 
-/* Whether a character takes the paragraph level where only such ones stand after it on its line (L1). */
+/* Whether L1 resets a character at the end of a line. */
 static UBool is_blank(UChar32 c) {
     switch (u_charDirection(c)) {
     case U_WHITE_SPACE_NEUTRAL: case U_SEGMENT_SEPARATOR: case U_BLOCK_SEPARATOR: case U_BOUNDARY_NEUTRAL:
@@ -27,8 +26,8 @@ static UBool is_blank(UChar32 c) {
     }
 }
 
-/* The levels of the whole paragraph are ICU's, with L1 before its separators and at its end. A line of it that ubidi_setLine
- * gives has other ones where all are even: 0 for those of a number after Hebrew. So L1 at the line's end is applied here. */
+/* ICU's levels of the whole paragraph include L1 before separators and at its end. ubidi_setLine changes levels if all are even:
+ * those of a number after Hebrew become 0. So L1 at the line's end is applied here. */
 static void put_line(int32_t from, int32_t to) {
     UErrorCode status = U_ZERO_ERROR;
     int32_t shown = shown_end(from, to), reset = shown;
@@ -50,7 +49,7 @@ static void put_line(int32_t from, int32_t to) {
     put('\n');
 }
 
-/* Whether a line must end after a character that ends no paragraph. */
+/* Whether a line must end after a character that is no paragraph separator. */
 static UBool ends_line(UChar c) {
     return c == 0x0B || c == 0x0C || c == 0x2028;
 }

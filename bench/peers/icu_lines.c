@@ -1,9 +1,8 @@
-/* Visual lines of 80 columns over ICU4C: the work of `bin/fribidi --width 80`, as a user of ICU would do it. Standard input is
- * UTF-8. A line (icu_fill.h) is written in visual order with mirrors, from a paragraph of right-to-left direction after so many
- * spaces that it ends at the last column. */
+/* Does the work of `bin/fribidi --width 80` with ICU4C. Standard input is UTF-8. Lines (icu_fill.h) are printed in visual order and
+ * mirrored; those of right-to-left paragraphs are padded on the left. */
 #include "icu_fill.h"
 
-/* What is known of the paragraph, and room for one of its lines. */
+/* Properties of the paragraph, and a buffer for one line. */
 static UBool is_plain, is_rtl;
 static UChar *visual;
 static int32_t visual_size;

@@ -1,4 +1,4 @@
-/* What the programs over ICU4C share: standard input as UTF-16, its paragraphs, and a page of output. */
+/* Shared by the ICU4C programs: standard input as UTF-16, its paragraphs, and an output buffer. */
 #ifndef ICU_TEXT_H
 #define ICU_TEXT_H
 #include <stdio.h>
@@ -36,7 +36,7 @@ static inline void put(char byte) {
     out[out_length++] = byte;
 }
 
-/* All of standard input, checked and decoded. */
+/* Reads and decodes standard input. Ends the program if it is not UTF-8. */
 static UChar *read_text(int32_t *length) {
     UErrorCode status = U_ZERO_ERROR;
     size_t size = 0, room = 1 << 20;
@@ -56,7 +56,7 @@ static inline UBool ends_paragraph(UChar c) {
     return c == 0x0A || c == 0x0D || (c >= 0x1C && c <= 0x1E) || c == 0x85 || c == 0x2029;
 }
 
-/* Where the paragraph that begins there ends: after a character of class B, and after both of CR and LF. */
+/* The end of the paragraph that contains `to`: after a character of class B; CR LF counts as one. */
 static inline int32_t paragraph_end(const UChar *all, int32_t to, int32_t length) {
     while (to < length && !ends_paragraph(all[to])) to++;
     if (to + 1 < length && all[to] == 0x0D && all[to + 1] == 0x0A) to++;

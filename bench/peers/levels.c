@@ -1,6 +1,6 @@
-/* The levels of each paragraph of standard input, by hordguli_levels, by FriBidi's library and by ICU's: the least time of
- * five runs of each, taken in turns, in nanoseconds a character, and how many paragraphs have the same levels by all, but
- * for spaces, which L1 changes in the others' answers. levels FOLDER, of the table files. */
+/* Measures the levels of each paragraph of standard input, by hordguli_levels, FriBidi's library and ICU: levels FOLDER, where
+ * FOLDER has the table files. Prints nanoseconds per character, the least of five runs in turn. Also prints how many paragraphs
+ * have the same levels in all three, except for spaces, which L1 changes in the others' results. */
 #define _POSIX_C_SOURCE 200809L
 #include <fribidi/fribidi.h>
 #include <hordguli.h>
@@ -28,7 +28,7 @@ static double now(void) {
     return (double)time.tv_sec * 1e9 + (double)time.tv_nsec;
 }
 
-/* The text as code points and as UTF-16, and where its paragraphs begin in both. */
+/* The text as code points and as UTF-16, and the starts of its paragraphs in both. */
 static uint32_t *text;
 static UChar *units;
 static size_t *starts, *unit_starts, paragraphs, longest;
@@ -65,7 +65,7 @@ static FriBidiBracketType *brackets;
 static FriBidiLevel *found;
 static UBiDi *bidi;
 
-/* The levels of a paragraph by a peer, one a character. */
+/* Finds the levels of a paragraph by one of the libraries, one per character. */
 static void levels_by(int peer, size_t paragraph, uint8_t *levels) {
     const uint32_t *at = text + starts[paragraph];
     size_t length = starts[paragraph + 1] - starts[paragraph];

@@ -1,5 +1,5 @@
-/* Visual lines of 80 columns by a session of libhordguli: the work of `bin/fribidi --width 80`, by C. Standard input is the
- * text. lines FOLDER, of the table files. */
+/* Does the work of `bin/fribidi --width 80` with a session of libhordguli: lines FOLDER, where FOLDER has the table files. Standard
+ * input is the text. */
 #include <hordguli.h>
 #include <stdio.h>
 #include <stdlib.h>

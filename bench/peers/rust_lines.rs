@@ -1,6 +1,5 @@
-// Visual lines of 80 columns over the crates unicode-bidi, unicode-linebreak and unicode-width: the work of
-// `bin/fribidi --width 80` as a user of these crates would do it. Standard input is UTF-8. It neither mirrors
-// characters nor pads right-to-left lines, so it does a little less.
+// Does the work of `bin/fribidi --width 80` with the crates unicode-bidi, unicode-linebreak and unicode-width. Standard input is
+// UTF-8. It neither mirrors characters nor pads right-to-left lines, so it does a little less.
 use std::io::{self, Read, Write};
 use unicode_bidi::{BidiInfo, ParagraphInfo};
 use unicode_linebreak::linebreaks;

@@ -1,13 +1,14 @@
-/* The calls of the proved crate hordguli_fribidi, over which fribidi.c is written. An array is a pointer, which is never
- * null, and its length; one of length 0 may point anywhere but to null, and is aligned for its type. No two arrays that are
- * handed in have a byte in common, if one of them is written to. */
+/* The functions of the proved crate hordguli_fribidi, on which fribidi.c is built.
+ *
+ * An array is a pointer and a length. The pointer is never NULL and is aligned for its type, even if the length is 0. An
+ * array that is written does not overlap another one. */
 #ifndef HORDGULI_FRIBIDI_CORE_H
 #define HORDGULI_FRIBIDI_CORE_H
 
 #include <stddef.h>
 #include <stdint.h>
 
-/* Of single characters, by tables of pages, which have the lengths that tools/generate_fribidi_tables gives them. */
+/* Lookups of single characters, in the tables of tools/generate_fribidi_tables. */
 uint32_t hordguli_fribidi_core_type(uint32_t character, const uint8_t index[static 4352], const uint32_t pages[static 65536]);
 void hordguli_fribidi_core_types(const uint8_t index[static 4352], const uint32_t pages[static 65536],
                                  const uint32_t *characters, size_t length, uint32_t *types, size_t room);
@@ -19,10 +20,10 @@ void hordguli_fribidi_core_brackets(const uint8_t index[static 4352], const uint
                                     const uint32_t numbers[static 512], const uint32_t *characters, size_t length,
                                     const uint32_t *types, size_t types_length, uint32_t *brackets, size_t room);
 
-/* Where the number of a type stands among those that have names; 26 for all others. */
+/* The index of a type's number among those that have names; 26 if it has none. */
 uint32_t hordguli_fribidi_core_name(uint32_t type);
 
-/* Of paragraphs and lines. 0 is want of memory, of which a line takes none, or arrays of other lengths: then no array has changed. */
+/* Paragraphs and lines. 0 means that an allocation failed or lengths differ, and changes nothing. Lines need no memory. */
 uint32_t hordguli_fribidi_core_direction(const uint32_t *types, size_t length);
 uint32_t hordguli_fribidi_core_levels(const uint32_t *types, size_t length, const uint32_t *brackets,
                                       size_t brackets_length, uint32_t *direction, uint8_t *levels, size_t room);

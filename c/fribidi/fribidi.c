@@ -1,12 +1,12 @@
-/* FriBidi's calls on types, levels and lines, over those of the proved crate hordguli_fribidi, and over the static numbers of
- * single characters that tools/generate_fribidi_tables makes. What is decided here is what that cannot test: that no pointer is null, and
- * that a length is not below 0. Written from FriBidi's header and manual; what it does otherwise stands in docs/fribidi-compat.md. */
+/* FriBidi's functions on types, levels and lines, on top of the proved crate hordguli_fribidi and the tables of
+ * tools/generate_fribidi_tables. This file checks what the crate cannot: NULL pointers and negative lengths. It is written from FriBidi's
+ * header and manual; docs/fribidi-compat.md lists the differences. */
 #include "core.h"
 #include "tables.h"
 
 #define PUBLIC __attribute__((visibility("default")))
 
-/* The types of FriBidi's header, by the numbers that its ABI has for them: its enumerations have 32 bits. */
+/* The types of FriBidi's header by their size in its ABI. Its enumerations have 32 bits. */
 typedef uint32_t type_number;
 typedef uint32_t direction_number;
 typedef uint32_t bracket_number;
@@ -18,7 +18,7 @@ typedef signed char level_number;
 #define BRACKETS sign_index, sign_pages, brackets
 #define MIRRORS sign_index, sign_pages, mirrors
 
-/* An array that may be missing: one of no elements stands for it. */
+/* Pointer and length of an array that may be NULL: then of an empty one. */
 static const uint32_t none[1];
 static uint32_t nothing[1];
 #define GIVEN(pointer, length) ((pointer) == NULL ? none : (pointer)), ((pointer) == NULL ? 0 : (length))

@@ -1,4 +1,4 @@
-/* Each call once with what it answers, and each status that it can answer: calls FOLDER, of the table files. */
+/* Tests each function's results, and each status that it returns: calls FOLDER, where FOLDER has the table files. */
 #include "test.h"
 
 #include <limits.h>
@@ -113,7 +113,7 @@ static void opened_by_folder(const char *folder) {
 
 /* ---- Sessions ---- */
 
-/* abc, a space and three Hebrew letters; a line that is right to left; a last paragraph without a separator. */
+/* abc, a space and three Hebrew letters; a right-to-left line; a last paragraph without a separator. */
 static const char text[] = "abc \u05d0\u05d1\u05d2\n(\u05d0) 12\nx y";
 
 static void opened(void) {
@@ -182,7 +182,7 @@ static void damaged(const hordguli_damage *damage, size_t first, size_t old, siz
 
 static void changed(void) {
     hordguli_damage damage = {7, 7, 7, 7, 7, 7};
-    /* refused, so that nothing changes */
+    /* refused edits change nothing */
     IS(hordguli_insert(NULL, 0, "a", 1, &damage), NULL);
     IS(hordguli_insert(&session, 0, NULL, 1, &damage), NULL);
     IS(hordguli_insert(&session, 0, "a", 1, NULL), NULL);
@@ -217,7 +217,7 @@ static void changed(void) {
     IS(hordguli_set_width(&session, UINT32_MAX, &damage), WIDTH_OUT_OF_RANGE);
     damaged(&damage, 7, 7, 7, 7, 7, 7);
     counted(18, 3, 3, 80);
-    /* and done: the second line is touched, then two are, then each line is */
+    /* accepted edits: of the second line, of two lines, of all lines */
     OK(hordguli_insert(&session, 9, "", 0, &damage));
     damaged(&damage, 1, 1, 1, 1, 1, 1);
     OK(hordguli_insert(&session, 9, NULL, 0, &damage));
@@ -292,11 +292,11 @@ static void places(void) {
     HOLDS(place.paragraph == 1 && place.line == 1 && place.offset == 4);
     OK(hordguli_place_of(&session, 18, &place));
     HOLDS(place.paragraph == 2 && place.line == 2 && place.offset == 3);
-    OK(hordguli_caret_at(&session, 5, &caret)); /* the middle one of three letters from right to left */
+    OK(hordguli_caret_at(&session, 5, &caret)); /* the second of three right-to-left letters */
     HOLDS(caret.line == 0 && caret.column == 6 && caret.level == 1 && caret.zero == 0);
     OK(hordguli_caret_at(&session, 18, &caret));
     HOLDS(caret.line == 2 && caret.column == 3 && caret.level == 0);
-    OK(hordguli_hit_at(&session, 0, 4, &hit)); /* the last of the three */
+    OK(hordguli_hit_at(&session, 0, 4, &hit)); /* the third of them */
     HOLDS(hit.pos == 6 && hit.trailing == 0 && hit.zero == 0);
     OK(hordguli_hit_at(&session, 0, 99, &hit));
     HOLDS(hit.pos == 4 && hit.trailing == 0);
@@ -523,7 +523,7 @@ static void without_session(void) {
     OK(hordguli_marks(&tables, 0, NULL, 0, 0, NULL));
 }
 
-/* The end of a text after a separator is on the line that would come. */
+/* After a final separator, the end of the text is on a line that does not exist yet. */
 static void end_of_text(void) {
     hordguli_damage damage;
     hordguli_caret caret;

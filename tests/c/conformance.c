@@ -1,9 +1,8 @@
-/* What the C calls find of the paragraphs that standard input names, one a line, for Unicode's conformance tests, in the
- * form of the program `conformance`: conformance marks-of FOLDER, or conformance lines-of FOLDER DIRECTION.
+/* Prints break marks or lines by the C library, in the format of the program `conformance`, for Unicode's conformance
+ * tests: conformance marks-of FOLDER, or conformance lines-of FOLDER DIRECTION. Each line of standard input is a paragraph.
  *
- * A paragraph is put into a session, whose one line is told. The tests also have texts with a separator inside, which are
- * taken as one paragraph there: a session cuts them, so for these the calls without a session give the levels, and L1 and
- * L2 are done here. */
+ * A paragraph is laid out in a session, in one line. In some tests a paragraph has a separator inside, where a session
+ * splits it. For these, hordguli_levels gives the levels, and this program applies L1 and L2. */
 #include "test.h"
 
 enum { MOST = 4096 };
@@ -20,7 +19,7 @@ static void check(hordguli_status status) {
     if (status != HORDGULI_OK) fail(hordguli_status_text(status));
 }
 
-/* The characters that a line names by their hexadecimal numbers. */
+/* Reads the hexadecimal code points of a line. Returns 0 at the end. */
 static int next(void) {
     static char line[MOST * 8];
     char *at = line, *end;
@@ -54,7 +53,7 @@ static void marks_of(hordguli_tables *tables) {
     }
 }
 
-/* ---- L1 and L2, for the characters of which the tests are made ---- */
+/* ---- L1 and L2, for the characters in the tests ---- */
 
 static int is_separator(uint32_t c) {
     return c == 0x2029 || c == 0x0A || c == 0x0D || c == 0x85 || (c >= 0x1C && c <= 0x1F) || c == 0x09 || c == 0x0B;

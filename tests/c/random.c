@@ -1,5 +1,5 @@
-/* Changes at random in a session, after each of which all that it keeps is what a session keeps that is opened anew on
- * the whole text: random FOLDER CHANGES, of the table files. */
+/* Makes random edits in a session. After each, the session must equal one that is opened on the whole text:
+ * random FOLDER CHANGES, where FOLDER has the table files. */
 #include "test.h"
 
 enum { MOST = 300, BYTES = 1 << 20 };
@@ -18,7 +18,7 @@ static char pages[2][BYTES];
 
 #define OK(call) HOLDS((call) == HORDGULI_OK)
 
-/* The bytes of all lines, or of the text, of both sessions. */
+/* Compares the printed lines of both sessions. */
 static void same_pages(hordguli_session *kept, hordguli_session *anew, const hordguli_counts *counts, uint32_t print) {
     size_t lengths[2];
     OK(hordguli_lines_utf8(kept, 0, counts->lines, print, BYTES, pages[0], &lengths[0]));
@@ -90,7 +90,7 @@ static void same_places(hordguli_session *kept, hordguli_session *anew, const ho
     }
 }
 
-/* The text as characters, beside what the session is told. */
+/* The text that the session should have. */
 static uint32_t text[MOST * 4];
 static size_t length;
 
@@ -147,7 +147,7 @@ int main(int count, char **words) {
         size_t piece_length = 0;
         char piece_bytes[256];
         hordguli_status status;
-        if (change % 500 == 0) { /* a session of other options */
+        if (change % 500 == 0) { /* a session with other options */
             hordguli_session_close(&kept);
             options = (uint32_t)below(32);
             size = encoded(text, length, bytes);

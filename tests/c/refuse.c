@@ -1,5 +1,5 @@
-/* Each allocation is refused in turn: a call for which there is no memory says so and changes nothing, the same call with
- * memory is done, and in the end all memory is given back. refuse FOLDER, of small table files; linked with
+/* Lets each allocation fail in turn: refuse FOLDER, where FOLDER has small table files. A call without memory must return
+ * NO_MEMORY and change nothing, and then succeed with memory. At the end all memory must be freed. Linked with
  * --wrap=malloc, --wrap=realloc and --wrap=free. */
 #include "test.h"
 
@@ -35,7 +35,7 @@ void __wrap_free(void *block) {
 
 enum { BYTES = 1 << 14 };
 
-/* All that a session keeps, as bytes: what is printed of it, its text, its counts. */
+/* The state of a session: its printed lines and its text as bytes, and its counts. */
 typedef struct shape {
     char bytes[BYTES];
     size_t length;
@@ -102,7 +102,7 @@ int main(int count, char **words) {
     uint8_t levels[9], marks[9];
     if (count != 2) return 2;
     folder = words[1];
-    for (long at = 0; at <= most + 1; at++, runs++) { /* the first run refuses none and counts, the last none either */
+    for (long at = 0; at <= most + 1; at++, runs++) { /* no allocation fails in the first run, which counts them, and in the last */
         int refusals = 0;
         long before = live;
         asked = 0;
@@ -134,7 +134,7 @@ int main(int count, char **words) {
             }
             HOLDS(step(k) == HORDGULI_OK);
         }
-        /* (a memory that can be done without may be refused) */
+        /* (the library does without some allocations) */
         HOLDS(refusals <= (at > 0 && at <= most));
         if (at == 0) {
             most = asked;

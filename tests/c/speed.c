@@ -1,6 +1,7 @@
-/* How long the calls take, for bench/c, beside `bench calls`: speed FOLDER FILE INSERTS prints how long in nanoseconds it
- * takes to open a session on the text of a file, to make so many inserts of a letter at places that look random, and to
- * read the starts, characters and levels of all lines; and the sum of these. */
+/* Measures the C library, as `bench calls` measures the Rattle crates, for bench/c: speed FOLDER FILE INSERTS.
+ *
+ * Prints nanoseconds for opening a session on the text of FILE, for INSERTS inserts of a letter at random positions, and
+ * for reading starts, characters and levels of all lines. The last number is a checksum of what was read. */
 #include "test.h"
 
 #include <time.h>

@@ -1,4 +1,4 @@
-/* What the tests of the C library have in common: checks that are counted, a text from a file, random numbers. */
+/* What the tests of the C library share. */
 #ifndef HORDGULI_TEST_H
 #define HORDGULI_TEST_H
 
@@ -10,7 +10,7 @@
 
 static long passed, failed;
 
-/* Counts a check, and says where one does not hold. */
+/* Counts a check, and reports where it fails. */
 #define HOLDS(condition) holds((condition), __FILE__, __LINE__, #condition)
 static inline int holds(int is_so, const char *file, int line, const char *what) {
     if (is_so) {
@@ -27,7 +27,7 @@ static inline int finish(const char *name) {
     return failed != 0;
 }
 
-/* A number that looks random, below a bound. */
+/* A pseudorandom number below a bound. */
 static uint64_t seed = 88172645463325252u;
 static inline size_t below(size_t bound) {
     seed ^= seed << 13;
@@ -36,7 +36,7 @@ static inline size_t below(size_t bound) {
     return (size_t)(seed % bound);
 }
 
-/* Memory that is there, or the end of the test. */
+/* Ends the test if an allocation has failed. */
 static inline void *sure(void *block) {
     if (block == NULL) {
         fprintf(stderr, "out of memory\n");

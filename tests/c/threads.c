@@ -1,6 +1,5 @@
-/* Different handles in calls at once on different threads, each of which makes the same changes: all end with the same
- * text and lines. And tables that go from one thread to the next, and that sessions of all are opened on under a lock.
- * threads FOLDER THREADS CHANGES. */
+/* Makes the same edits on several threads at the same time, each in a session of its own: threads FOLDER THREADS CHANGES.
+ * All must end with the same lines. Half of the sessions are opened, under a lock, on tables that the threads share. */
 #include "test.h"
 
 #include <pthread.h>
@@ -18,7 +17,7 @@ typedef struct work {
 
 static work works[MOST_THREADS];
 
-/* Those that are opened on one thread and closed on another. */
+/* Opened on one thread and closed on another. */
 static hordguli_tables shared = HORDGULI_TABLES_INIT;
 static pthread_mutex_t lock = PTHREAD_MUTEX_INITIALIZER;
 
@@ -30,7 +29,7 @@ static hordguli_status open_on_shared(hordguli_session *session) {
     return status;
 }
 
-/* A session on tables of its own or on those, by turns. */
+/* A thread. Every other one uses the shared tables. */
 static void *run(void *given) {
     work *at = given;
     hordguli_tables tables = HORDGULI_TABLES_INIT;

@@ -1,20 +1,20 @@
-/* Stands between the command and the C library's calls by which a program takes memory, reads, writes and opens (LD_PRELOAD).
- * FAULT_CALL  malloc, read, read-table (of a file named .txt), write or open: the call that fails
- * FAULT_AT    which one of these calls it is, counted from 1
- * FAULT_AS    the error, as a number; with 0 the call passes no byte; with -1 it passes one byte alone
- * FAULT_MOST  how many bytes a read or a write passes at most, but of files named .txt
- * FAULT_COUNT a file that is told what was counted, a name and a number a line:
- *             calls   how many calls of that kind there were
- *             takes   how often memory was asked for, by malloc and realloc
- *             bytes   and how many bytes of it
- *             opens   how many files were opened
- *             reads   how many reads there were
- *             ends    how many of them passed no byte
- *             late    how many of them came after one of the same file that passed none
- *             writes  how many writes there were
- *             start   how many bytes of the stack were used before the first read of a file that isn't named .txt
- *             stack   and how many from then on
- * Of writes those to the standard output count. */
+/* Makes a chosen call of the C library fail, and counts calls (LD_PRELOAD). Only writes to standard output count.
+ *
+ * FAULT_CALL  the call that fails: malloc, read, read-table (of a file named .txt), write or open
+ * FAULT_AT    the number of the call, from 1
+ * FAULT_AS    the error number; 0: the call transfers no byte; -1: it transfers one byte
+ * FAULT_MOST  the most bytes that a read or write transfers, except of files named .txt
+ * FAULT_COUNT a file for the counts, one name and number per line:
+ *             calls   calls of FAULT_CALL
+ *             takes   calls of malloc and realloc
+ *             bytes   bytes that these requested
+ *             opens   opened files
+ *             reads   reads
+ *             ends    reads that transferred no byte
+ *             late    reads of a file after one that transferred no byte
+ *             writes  writes
+ *             start   bytes of the stack that were used before the first read of a file not named .txt
+ *             stack   bytes of the stack that were used from then on */
 #define _GNU_SOURCE
 #include <dlfcn.h>
 #include <errno.h>
@@ -57,7 +57,7 @@ static const char *word(const char *name, const char *otherwise) {
     return value ? value : otherwise;
 }
 
-/* Writes over the stack below, so that what is used of it afterwards can be told. */
+/* Fills the stack below, so that later use of it can be measured. */
 static __attribute__((noinline)) void mark_stack(void) {
     volatile uint64_t below[WORDS];
     for (size_t k = 0; k < WORDS; k++)
@@ -115,7 +115,7 @@ static size_t at_most(int file, size_t size) {
     return is_table[file & (FILES - 1)] || size < most ? size : most;
 }
 
-/* A read that fails as it is told to, or that of the C library. */
+/* Fails as requested, or calls the C library's read. */
 static ssize_t read_or_fail(int file, void *to, size_t size) {
     if (!real_read)
         find_calls();

@@ -1,5 +1,5 @@
-/* FriBidi's calls twice: those of libfribidi.so.0 and ours, each by its own handle of the loader, so that neither stands in for
- * the other; the 23 types, and numbers at random. */
+/* FriBidi's functions, of libfribidi.so.0 and of our library. Each has a dlopen handle of its own, so that neither replaces the
+ * other. Also the 23 types, and pseudorandom numbers. */
 #ifndef TESTS_BOTH_H
 #define TESTS_BOTH_H
 
@@ -34,7 +34,7 @@ static void *found(void *handle, const char *name) {
     return call;
 }
 
-/* The calls of a library, by its path. */
+/* The functions of the library at a path. */
 static calls calls_of(const char *path) {
     void *handle = dlopen(path, RTLD_NOW | RTLD_LOCAL);
     calls all;
@@ -61,11 +61,11 @@ static const FriBidiCharType all_types[23] = {
     FRIBIDI_TYPE_ET,  FRIBIDI_TYPE_CS,  FRIBIDI_TYPE_NSM, FRIBIDI_TYPE_BS,  FRIBIDI_TYPE_SS,  FRIBIDI_TYPE_WS,
     FRIBIDI_TYPE_ON,  FRIBIDI_TYPE_LRI, FRIBIDI_TYPE_RLI, FRIBIDI_TYPE_FSI, FRIBIDI_TYPE_PDI, FRIBIDI_TYPE_BN,
     FRIBIDI_TYPE_LRE, FRIBIDI_TYPE_RLE, FRIBIDI_TYPE_LRO, FRIBIDI_TYPE_RLO, FRIBIDI_TYPE_PDF};
-#define STAYING 17 /* the first of them are those that X9 leaves */
+#define STAYING 17 /* so many of them, the first ones, are not removed by X9 */
 
 static const FriBidiParType all_bases[5] = {FRIBIDI_PAR_LTR, FRIBIDI_PAR_RTL, FRIBIDI_PAR_ON, FRIBIDI_PAR_WLTR, FRIBIDI_PAR_WRTL};
 
-/* A generator of numbers (xorshift64*), which begins anew with each seed. */
+/* A pseudorandom number (xorshift64*) below a bound. */
 static uint64_t state;
 static inline uint32_t below(uint32_t bound) {
     state ^= state >> 12;

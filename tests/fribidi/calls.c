@@ -1,5 +1,5 @@
-/* Each call as FriBidi's header has it, with what a caller may hand in otherwise: calls, linked with the library. Each allocation
- * is refused in turn where the program is linked with --wrap of malloc, realloc and free and -DREFUSES. */
+/* Tests each function through FriBidi's header, also with unusual arguments: calls, linked with the library. With -DREFUSES, and
+ * linked with --wrap of malloc, realloc and free, it lets each allocation fail in turn. */
 #include <fribidi.h>
 #include <stdint.h>
 #include <stdio.h>
@@ -18,7 +18,7 @@ static void so(int is, const char *what) {
 }
 #define SO(condition) so(condition, #condition)
 
-static long left = -1, alive; /* how many allocations succeed, if not all; how many are not given back */
+static long left = -1, alive; /* how many allocations succeed before one fails, or -1; how many are not freed */
 #ifdef REFUSES
 void *__real_malloc(size_t);
 void *__real_realloc(void *, size_t);
@@ -118,7 +118,7 @@ static void lines(void) {
 }
 
 #ifdef REFUSES
-/* After want of memory the answer is 0, and nothing has changed. A line is reordered without any. */
+/* If an allocation fails, the result is 0 and nothing has changed. Reordering a line allocates nothing. */
 static void refusals(void) {
     const FriBidiCharType types[] = {R, FRIBIDI_TYPE_RLI, L, ON, R, ON, FRIBIDI_TYPE_LRE, FRIBIDI_TYPE_AN, FRIBIDI_TYPE_PDF, FRIBIDI_TYPE_PDI, FRIBIDI_TYPE_EN, WS};
     const FriBidiBracketType brackets[12] = {0, 0, 0, FRIBIDI_BRACKET_OPEN_MASK | '(', 0, '('};

@@ -1,7 +1,7 @@
-/* FriBidi's calls beside ours, on lists of types at random: compare OURS COUNT [SEED]. Each list is 1 to 200 long, has types of all
- * 23 kinds and brackets, and is asked for in one of the five base directions; half of the lists have no type that X9 takes out.
- * Where none of the predicates of docs/fribidi-compat.md holds the two agree, call by call. Each predicate is a function below of the
- * name that it has there. Of the inputs that meet one alone at least half differ. */
+/* Compares FriBidi's functions with ours, on COUNT random lists of types: compare OURS COUNT [SEED]. A list has 1 to 200 of the 23
+ * types, brackets, and one of the five base directions. Half of the lists have no type that X9 removes.
+ *
+ * Both must agree if no predicate of docs/fribidi-compat.md holds. Of the inputs that meet exactly one, at least half must differ. */
 #include "both.h"
 
 #define MOST 200
@@ -11,13 +11,13 @@ typedef struct input {
     FriBidiCharType types[MOST];
     FriBidiBracketType brackets[MOST];
     FriBidiParType base;
-    int off, part; /* a line of it, of these levels and in this direction */
+    int off, part; /* a line, with the levels and the direction that are passed */
     FriBidiFlags flags;
     FriBidiLevel levels[MOST];
     FriBidiParType resolved;
 } input;
 
-/* What is compared. */
+/* The compared results. */
 enum { DIRECTION, RESOLVED, LEVELS, TOP, LINE, CALLS };
 static const char *const call_names[CALLS] = {"direction", "base written", "levels", "greatest level", "line"};
 
@@ -27,7 +27,7 @@ static calls theirs, ours;
 
 #include "predicates.h"
 
-/* ---- What each answers ---- */
+/* ---- Results ---- */
 
 typedef struct answer {
     FriBidiParType direction, resolved;
@@ -74,10 +74,10 @@ static unsigned met(int call, const input *one) {
     return bits;
 }
 
-/* ---- Lists at random ---- */
+/* ---- Random lists ---- */
 
-/* The first separator at which an isolate is open, or -1. FriBidi writes into memory there that it has given back, and may end the
- * program, as where embeddings and isolates are nested too deep, so it is asked for no such list. */
+/* The first separator at which an isolate is open, or -1. FriBidi writes to freed memory for such lists, so they are not passed to
+ * it. Nor are those that nest too deep, for which it may end the program. */
 static int open_at_separator(const input *one) {
     for (int k = 0, open = 0; k < one->length; k++) {
         if (one->types[k] == FRIBIDI_TYPE_BS && open > 0) return k;
@@ -87,7 +87,7 @@ static int open_at_separator(const input *one) {
     return -1;
 }
 
-/* The levels of a line's paragraph are those of ours, so that both order the same. */
+/* A line's levels are those of our library for both, so that both reorder the same. */
 static void prepare(input *one) {
     one->resolved = one->base;
     memset(one->levels, 0, sizeof one->levels);
@@ -117,7 +117,7 @@ static void draw(input *one) {
     prepare(one);
 }
 
-/* ---- An input that differs, made shorter ---- */
+/* ---- Shortening an input that differs ---- */
 
 static void drop(input *one, int at) {
     memmove(one->types + at, one->types + at + 1, sizeof *one->types * (size_t)(one->length - at - 1));
@@ -178,7 +178,7 @@ int main(int argc, char **argv) {
         input one;
         memset(&one, 0, sizeof one);
         draw(&one);
-        if (!separator_inside(&one)) { /* the predicates' own levels are the annex's */
+        if (!separator_inside(&one)) { /* the levels of reference.h are the annex's */
             int annex[MOST], same = 1;
             plain_levels(&one, 0, annex);
             for (int k = 0; k < one.length; k++) same = same && annex[k] == one.levels[k];

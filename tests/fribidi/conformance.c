@@ -1,6 +1,6 @@
-/* Unicode's cases of BidiTest.txt and of BidiCharacterTest.txt: conformance LIBRARY FOLDER. The levels are those of
- * fribidi_get_par_embedding_levels_ex after fribidi_reorder_line, whose map, made of 0, 1, .., is the order. Characters that X9
- * takes out, whose level is an `x`, are passed over. */
+/* Runs Unicode's BidiTest.txt and BidiCharacterTest.txt: conformance LIBRARY FOLDER. Levels are those of
+ * fribidi_get_par_embedding_levels_ex after fribidi_reorder_line. The order is the map that fribidi_reorder_line makes of 0, 1, ..
+ * Characters that X9 removes, whose level is an `x`, are skipped. */
 #include "both.h"
 
 #define MOST 256
@@ -30,7 +30,7 @@ static int numbers(const char *text, int *into, int base) {
     return count;
 }
 
-/* One paragraph, in one direction, and its paragraph level, if one is wanted (else -1). */
+/* Checks one paragraph in one direction. `level` is the expected paragraph level, or -1 if none is. */
 static void check(const char *name, long line, const FriBidiCharType *types, const FriBidiBracketType *brackets, int count, FriBidiParType base,
                   int level, const wanted *want) {
     FriBidiLevel levels[MOST];

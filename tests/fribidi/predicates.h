@@ -1,5 +1,5 @@
-/* The lines of the table of docs/fribidi-compat.md, each a predicate on the input alone: the types, the brackets and the base direction that
- * is asked for, and of a line the levels and the direction that are handed in. */
+/* The rows of the table in docs/fribidi-compat.md. Each is a predicate on the input alone: types, brackets, the requested base direction,
+ * and the levels and direction that are passed for a line. */
 typedef struct predicate {
     const char *name;
     int call;
@@ -14,7 +14,7 @@ static int is_removed(FriBidiCharType type) {
         || type == FRIBIDI_TYPE_PDF;
 }
 
-/* The direction of the first strong type, of all or of those that stand outside of all isolates; 0 where there is none. */
+/* The direction of the first strong type, of all or of those outside all isolates; 0 if there is none. */
 static unsigned first_direction(const input *one, int outside) {
     int depth = 0;
     for (int k = 0; k < one->length; k++) {
@@ -26,13 +26,13 @@ static unsigned first_direction(const input *one, int outside) {
     return 0;
 }
 
-/* P2 passes over isolates; FriBidi's fribidi_get_par_direction does not, and an isolate gives another direction. */
+/* P2 skips isolates. FriBidi's fribidi_get_par_direction does not, and an isolate gives another direction. */
 static int first_strong_in_isolate(const input *one) { return first_direction(one, 0) != first_direction(one, 1); }
 
-/* P3 gives a paragraph without strong characters a level; FriBidi leaves the weak direction as it was asked for. */
+/* P3 gives a paragraph without strong characters a level. FriBidi leaves the requested weak direction. */
 static int no_strong(const input *one) { return one->base != FRIBIDI_PAR_LTR && one->base != FRIBIDI_PAR_RTL && first_direction(one, 1) == 0; }
 
-/* P1: a separator ends a paragraph; ours takes all as one, FriBidi goes on at level 0 after it, with nothing open. */
+/* P1: a separator ends a paragraph. Our library treats the list as one paragraph; FriBidi continues at level 0, with nothing open. */
 static int separator_inside(const input *one) {
     for (int k = 0; k + 1 < one->length; k++)
         if (one->types[k] == FRIBIDI_TYPE_BS) return 1;
@@ -41,9 +41,9 @@ static int separator_inside(const input *one) {
 
 #include "reference.h"
 
-/* Whether one of the ways of reference.h changes a level, alone or beside the others, or the greatest level. */
+/* Whether one of FriBidi's ways in reference.h, alone or with the others, changes a level, or the greatest level. */
 static int changes(const input *one, int way, int greatest) {
-    input plain = *one; /* the call that takes no brackets */
+    input plain = *one; /* for the function without brackets */
     memset(plain.brackets, 0, sizeof plain.brackets);
     for (int k = 0; k < 4; k++) {
         int with[MOST], without[MOST], others = k & 1 ? ALL & ~way : 0;
@@ -54,9 +54,9 @@ static int changes(const input *one, int way, int greatest) {
     return 0;
 }
 
-/* A bracket that is opened in one isolate, and one of its number that closes it in a later isolate of the depth, where not all that stands
- * in this depth from the one to the other is at one level, or where what stands between the isolates is not all neutral; at a level at
- * least. */
+/* Whether an opening bracket in one isolate and a closing bracket of its number in a later isolate of the same depth may pair. Either the
+ * characters of this depth between them are not all at one level, or those between the isolates are not all neutral. One of the two
+ * brackets is at level `least` or above. */
 static int pair_over_isolates(const input *one, int least) {
     static plain p;
     int isolate[MOST];
@@ -73,8 +73,8 @@ static int pair_over_isolates(const input *one, int least) {
     return 0;
 }
 
-/* BD13: each isolate is a sequence of its own, and P2 looks for the direction of an FSI in its own isolate; FriBidi takes all isolates of
- * a depth as one sequence. */
+/* BD13: each isolate is a sequence of its own, and an FSI takes its direction from its own isolate (X5c). FriBidi treats all isolates of a
+ * depth as one sequence. */
 static int joined(const input *one, int greatest) {
     return changes(one, AS_ONE, greatest) || changes(one, LATER, greatest) || changes(one, AS_ONE | LATER, greatest);
 }
@@ -84,7 +84,7 @@ static int isolates_as_one_top(const input *one) {
     return joined(one, 1) || pair_over_isolates(one, greatest);
 }
 
-/* X1 to X8: whether an embedding, override or isolate is one too many, at base level 1 or 0. */
+/* X1 to X8: whether an embedding, override or isolate overflows at base level 1 or 0. */
 static int too_deep(const input *one) {
     static plain p;
     for (int base = 0; base < 2; base++) {
@@ -95,21 +95,21 @@ static int too_deep(const input *one) {
     return 0;
 }
 
-/* N0: what stands before a pair is sought in its sequence, and is sos where there is nothing; FriBidi looks on before it. */
+/* N0: the strong type before a pair is sought in its sequence, and else is sos. FriBidi also looks before the sequence. */
 static int context_before_run(const input *one) { return changes(one, CONTEXT, 0); }
 static int context_before_run_top(const input *one) { return changes(one, CONTEXT, 1); }
 
-/* BD14: FriBidi takes no bracket that stands right after a mark of a neutral character as one. */
+/* BD14: FriBidi ignores a bracket right after a mark of a neutral character. */
 static int bracket_after_mark(const input *one) { return changes(one, MERGED, 0); }
 static int bracket_after_mark_top(const input *one) { return changes(one, MERGED, 1); }
 
-/* X6a: an override changes the type of each PDI; FriBidi leaves that of one that closes nothing, which then has the direction of the runs
- * beside it. */
+/* X6a: an override changes the type of each PDI. In FriBidi an unmatched PDI keeps its type, and then has the direction of the runs next
+ * to it. */
 static int pdi_between_runs(const input *one) { return changes(one, BARE, 0); }
 static int pdi_between_runs_top(const input *one) { return changes(one, BARE, 1); }
 
-/* L1: isolate initiators and PDI at a line's end have the paragraph level too; FriBidi's fribidi_reorder_line leaves these, and what
- * stands before them. */
+/* L1: isolate initiators and PDI at a line's end have the paragraph level too. FriBidi's fribidi_reorder_line resets neither these nor
+ * what precedes them. */
 static int isolate_at_end(const input *one) {
     int level = (int)one->resolved & 1, seen = 0;
     for (int k = one->off + one->part - 1; k >= one->off; k--) {
@@ -121,7 +121,7 @@ static int isolate_at_end(const input *one) {
     return 0;
 }
 
-/* L3 speaks of marks and their base: FriBidi puts marks that have none in reading order too. */
+/* L3 is about marks with a base. FriBidi puts marks without one into reading order too. */
 static int has_base(const input *one, const FriBidiLevel *levels, int k) {
     for (; k > one->off && levels[k] == levels[k - 1] && (levels[k] & 1); k--)
         if (one->types[k - 1] != FRIBIDI_TYPE_NSM) return 1;
@@ -136,7 +136,7 @@ static int marks_without_base(const input *one) {
     return 0;
 }
 
-/* L3: a mark's base stands before it; FriBidi passes over characters that X9 takes out. */
+/* L3: a mark's base directly precedes it. FriBidi skips characters that X9 removes. */
 static int mark_after_removed(const input *one) {
     if (!(one->flags & FRIBIDI_FLAG_REORDER_NSM)) return 0;
     for (int k = one->off; k + 1 < one->off + one->part; k++)

@@ -1,5 +1,5 @@
-/* What a library says of each code point that has another type than LTR, a bracket or a mirror: properties LIBRARY. A difference
- * between a call on one character and that on a string is told as a failure. */
+/* Prints the type of each code point that is not LTR, its bracket and its mirror: properties LIBRARY. Fails if a function on one
+ * character and that on a string differ. */
 #include "both.h"
 
 int main(int argc, char **argv) {

@@ -1,24 +1,23 @@
-/* The levels of UAX #9 rule by rule, as a predicate needs them, with what FriBidi does otherwise where a bit asks for it:
+/* The levels of UAX #9, rule by rule, for the predicates. Each bit selects a way in which FriBidi differs:
  *
- * - AS_ONE: all isolates of a depth are one sequence, in the order in which they stand. Brackets pair over its runs, but for runs that
- *   stand right beside one another, by the level of the opening one; and a mark that begins an isolate after another one is ON and
- *   keeps what follows from being of the type that ended the isolate before, is AN after EN that W2 changes, and stays a mark, which
- *   counts as L, where an override changes the initiator;
- * - LATER: an FSI whose isolate has no strong type takes its direction from a later isolate of its depth;
- * - DEEP: an isolate that is one too many counts as a depth of its own, and what is one too many before it is no hindrance to an isolate;
- * - CONTEXT: what stands before a pair of brackets is sought beyond the level run too;
- * - MERGED: a neutral right after a mark that follows a neutral is one with it: no bracket, and of the direction of a bracket before it;
- * - BARE: a PDI that closes nothing keeps its type under an override.
+ * - AS_ONE: all isolates of a depth are one sequence, in logical order. Brackets pair across its runs, by the level of the opening one,
+ *   except across runs that are adjacent. A mark at the start of a later isolate is ON, so what follows does not take the type that ended
+ *   the isolate before. After an EN that W2 changes, the mark is AN. If an override changes the initiator, it stays a mark and counts as L.
+ * - LATER: an FSI whose isolate has no strong type takes its direction from a later isolate of its depth.
+ * - DEEP: an isolate that overflows counts as a depth of its own, and an overflow before it does not prevent an isolate.
+ * - CONTEXT: the strong type before a pair of brackets is sought beyond the level run too.
+ * - MERGED: a neutral right after a mark of a neutral joins it: it is no bracket, and takes the direction of a bracket before it.
+ * - BARE: an unmatched PDI keeps its type under an override.
  *
- * Lists with a separator before their end are not meant. */
+ * A list has no separator except at its end. */
 #ifndef TESTS_PLAIN_H
 #define TESTS_PLAIN_H
 
 enum { DEEPEST = 125, AS_ONE = 1, DEEP = 2, CONTEXT = 4, MERGED = 8, BARE = 16, LATER = 32, ALL = 63 };
 
 typedef struct plain {
-    int too_deep; /* whether an embedding, override or isolate is one too many */
-    int level[MOST], depth[MOST], opened[MOST], match[MOST]; /* of each character; of an initiator its PDI, and of that the initiator, or -1 */
+    int too_deep; /* whether an embedding, override or isolate overflows */
+    int level[MOST], depth[MOST], opened[MOST], match[MOST]; /* per character; `match` is the PDI of an initiator, the initiator of a PDI, or -1 */
     FriBidiCharType type[MOST];
 } plain;
 
@@ -34,7 +33,7 @@ static void find_matches(const input *one, plain *p) {
     }
 }
 
-/* The level that the first strong type from a place on gives, up to the isolate's end, or further on in other isolates of its depth. */
+/* The level by the first strong type from a position on, up to the isolate's end, or also in later isolates of its depth. */
 static int first_level(const input *one, const plain *p, int from, int joined) {
     int depth = 0, end = from > 0 && p->match[from - 1] >= 0 ? p->match[from - 1] : one->length;
     for (int k = from; k < (joined ? one->length : end); k++) {
@@ -94,7 +93,7 @@ static void find_explicit(const input *one, int base, int ways, plain *p) {
 
 typedef struct sequence {
     int count, at[MOST], level;
-    FriBidiCharType sos, eos, before; /* `before`: what brackets see last in the runs before, or 0 */
+    FriBidiCharType sos, eos, before; /* `before`: the last strong type for brackets in the runs before, or 0 */
     FriBidiCharType was[MOST], marked[MOST], type[MOST]; /* before W1, after it, and now */
     FriBidiCharType opener[MOST]; /* the type of the initiator right before it, or 0 */
 } sequence;
@@ -104,7 +103,7 @@ static int is_neutral(FriBidiCharType type) {
 }
 static int is_any(FriBidiCharType type, FriBidiCharType a, FriBidiCharType b, FriBidiCharType c) { return type == a || type == b || type == c; }
 
-/* W1 of a mark that begins an isolate which is joined with the one before it, and of what follows that is of the type that ended it. */
+/* W1 for a mark that begins an isolate which is joined with the one before it, and for what follows with the type that ended that one. */
 static void join_mark(sequence *s, int k, int after_arabic) {
     FriBidiCharType *t = s->type, before = t[k - 1];
     FriBidiCharType own = before == FRIBIDI_TYPE_EN && after_arabic ? FRIBIDI_TYPE_AN : s->opener[k] != FRIBIDI_TYPE_ON ? FRIBIDI_TYPE_NSM : FRIBIDI_TYPE_ON;
@@ -149,7 +148,7 @@ static void weak(sequence *s, int ways) {
     }
 }
 
-/* L or R for what neutral types see as that, else 0. */
+/* L or R if neutral types treat the type as that, else 0. */
 static FriBidiCharType seen(FriBidiCharType type) {
     if (type == FRIBIDI_TYPE_LTR) return type;
     return is_any(type, FRIBIDI_TYPE_RTL, FRIBIDI_TYPE_EN, FRIBIDI_TYPE_AN) ? FRIBIDI_TYPE_RTL : 0;
@@ -162,7 +161,7 @@ static void set_bracket(const input *one, sequence *s, int k, FriBidiCharType ty
     for (int first = 1; ways & MERGED && marks && k < s->count && s->was[k] == FRIBIDI_TYPE_ON && (first || one->brackets[s->at[k]] == 0); k++) s->type[k] = type, first = 0;
 }
 
-/* N0, over some runs. */
+/* N0, across some runs. */
 static void pair_brackets(const input *one, sequence *runs, int many, int ways) {
     int open[63], opened = 0, count = 0, closer[MOST], place[MOST];
     sequence *of[MOST];
@@ -201,7 +200,7 @@ static void pair_brackets(const input *one, sequence *runs, int many, int ways) 
     }
 }
 
-/* What stands beside neutral types: a mark that is left is of no direction. */
+/* The type next to neutral types. A mark that is left has no direction. */
 static FriBidiCharType side_of(FriBidiCharType type) { return type == FRIBIDI_TYPE_NSM ? type : seen(type); }
 
 static void resolve(sequence *s, int *levels) {
@@ -217,11 +216,11 @@ static void resolve(sequence *s, int *levels) {
     }
 }
 
-/* ---- All of them ---- */
+/* ---- All sequences ---- */
 
 static int higher(int a, int b) { return a > b ? a : b; }
 
-/* The neighbour of a place, of those that stay, or -1. */
+/* The nearest neighbour that X9 does not remove, or -1. */
 static int beside(const input *one, int k, int step) {
     for (k += step; k >= 0 && k < one->length; k += step)
         if (!is_removed(one->types[k])) return k;
@@ -237,8 +236,7 @@ static void put(sequence *s, const input *one, const plain *p, int k) {
     s->count++;
 }
 
-/* The sequences of an isolate, or of all of a depth. Of those that X9 leaves each character has the isolate that it stands in: that of the
- * annex is the last initiator before it that has opened one which has not ended before it. */
+/* The isolate of each character: the last initiator before it whose isolate has not ended. With AS_ONE, the depth. */
 static void find_isolates(const input *one, const plain *p, int ways, int *isolate) {
     int open[MOST + 1] = {-1}, count = 0;
     for (int k = 0; k < one->length; k++) {
@@ -250,7 +248,7 @@ static void find_isolates(const input *one, const plain *p, int ways, int *isola
     }
 }
 
-/* A run with all that is known of it before N0, and what stands last in it and the runs before it. */
+/* Applies the weak rules to a run. Returns the last strong type in it or in the runs before it. */
 static FriBidiCharType end_run(sequence *s, FriBidiCharType last, int before, int after, int ways) {
     s->sos = direction(higher(s->level, before)), s->eos = direction(higher(s->level, after)), s->before = last;
     weak(s, ways);
@@ -259,7 +257,7 @@ static FriBidiCharType end_run(sequence *s, FriBidiCharType last, int before, in
     return last;
 }
 
-/* Whether a run stands right behind another one. */
+/* Whether a run directly follows another one. */
 static int follows(const input *one, const sequence *s, const sequence *next) { return beside(one, s->at[s->count - 1], 1) == next->at[0]; }
 
 static void resolve_runs(const input *one, const plain *p, int base, int ways, int *levels) {
@@ -292,7 +290,7 @@ static void resolve_runs(const input *one, const plain *p, int base, int ways, i
     for (int r = 0; r < count; r++) resolve(&runs[r], levels);
 }
 
-/* The levels before L1 of the characters that X9 leaves, and those after it; the greatest of the first. */
+/* Finds the levels after L1. Returns the greatest level before it. */
 static int plain_levels(const input *one, int ways, int *levels) {
     static plain p;
     int base = one->base == FRIBIDI_PAR_RTL, first, greatest, resets = 1;

@@ -1,5 +1,5 @@
-/* Calls from several threads at once: threads THREADS CALLS, linked with the library. Each makes the same lists at random and sums
- * up what it is answered; all sums have to be that of one thread alone. */
+/* Calls the library from several threads at the same time: threads THREADS CALLS. Each uses the same random lists and adds up the
+ * results. All sums must equal that of a single thread. */
 #include <fribidi.h>
 #include <pthread.h>
 #include <stdint.h>

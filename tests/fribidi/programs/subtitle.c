@@ -1,4 +1,4 @@
-/* One subtitle by libass, as the sums of what it draws: subtitle TEXT. */
+/* Draws one subtitle with libass, and prints checksums of its images: subtitle TEXT. */
 #include <ass/ass.h>
 #include <stdio.h>
 #include <string.h>

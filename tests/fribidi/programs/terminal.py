@@ -1,5 +1,5 @@
 #!/usr/bin/env python3
-"""A terminal of VTE's that shows a text, as a picture: terminal.py TEXT PICTURE, within Xvfb."""
+"""Shows a text in a VTE terminal, and saves a picture of it: terminal.py TEXT PICTURE, in Xvfb."""
 import sys
 import gi
 gi.require_version("Gtk", "3.0")

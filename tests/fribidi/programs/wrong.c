@@ -1,4 +1,4 @@
-/* Levels that are wrong on purpose, all 0, so that it is seen that other people's programs ask for them. */
+/* Wrong levels, all 0. They show that a program really uses the preloaded function. */
 int fribidi_get_par_embedding_levels_ex(const unsigned *, const unsigned *, int, unsigned *, signed char *);
 int fribidi_get_par_embedding_levels_ex(const unsigned *types, const unsigned *brackets, int length, unsigned *base, signed char *levels) {
     (void)types, (void)brackets;
