@@ -2,9 +2,9 @@
 use Rattle.std.specs.Prelude.{◌≡◌, ℕ, ◌+◌, ◌-◌, ◌^◌, ◌<◌, ◌≤◌, ◌==◌, min, List, length, take, Option, Result, MatchResult, MatchBool}
 use Rattle.std.specs.Io.KnownBytes.{Keeps, Appends, Consumes, IsAtEnd}
 
--- The state of a source or sink. The fields are, in order: the bytes that a source still has or a sink holds, if it
--- reports them; how many bytes passed in all; how many calls failed, which stays at the greatest number of 64 bits once
--- there; how many bytes had passed at the last failure.
+-- The state of a source or sink. `bytes` are those that a source still has or a sink holds, if it reports them.
+-- `passed` counts the bytes that passed in all. `failures` counts failed calls, and stays at the greatest number of 64
+-- bits once there. `failed_at` is `passed` at the last failure.
 pub record Device : Type 0 where
   pub bytes : Option (List ℕ)
   pub passed : ℕ

@@ -46,8 +46,8 @@ bidi_class_at place = slice_index_or bidi.all_classes place L
 abbrev pub line_class_at : ℕ → LineClass
 line_class_at place = slice_index_or line.all_classes place BK
 
--- The bits, from the lowest: five for the bidi class; one each for a bracket, a mirror, a future pictograph, a mark and
--- a wide character; six for the line breaking class. All 16 are used.
+-- The bits, from the lowest: five for the bidi class, five flags, and six for the line breaking class. All 16 are used.
+-- The flags are, in order, those of a bracket, a mirror, a future pictograph, a mark and a wide character.
 abbrev pub bit : Bool → ℕ
 bit b = if b then 1 else 0
 

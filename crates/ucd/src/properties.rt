@@ -12,9 +12,10 @@ pub const LINE_INDEX_COUNT: usize = 512;
 
 /// The properties of one character, except which bracket it pairs with and which mirror it has.
 ///
-/// From the lowest bit: five for the bidi class; one each for a bracket, a mirror, a future pictograph, a
-/// mark and a wide character; six for the line breaking class. So 32 bidi classes and 64 line breaking
-/// classes fit, and all 16 bits are used. Another property would need a `u32`, and pages of twice the size.
+/// From the lowest bit: five for the bidi class, five flags, and six for the line breaking class. The flags
+/// are, in order, those of a bracket, a mirror, a future pictograph, a mark and a wide character. So 32 bidi
+/// classes and 64 line breaking classes fit, and all 16 bits are used. Another property would need a `u32`,
+/// and pages of twice the size.
 #[derive(Clone, Copy, Debug)]
 pub struct Properties {
     bits: u16,
@@ -182,7 +183,8 @@ impl Properties {
     }
 
     /// All that line breaking needs, as one number: 8 times the index of the line breaking class in
-    /// `LineClass`, plus 4 for a wide character, 2 for a mark and 1 for a future pictograph.
+    /// `LineClass`, plus three flags. These are 4 for a wide character, 2 for a mark and 1 for a future
+    /// pictograph.
     pub fn line_index(self) -> usize
         ensures index { result ≡ line_index self }
         ensures within { result < LINE_INDEX_COUNT }
