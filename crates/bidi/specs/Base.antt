@@ -8,7 +8,7 @@ use Rattle.bidi.specs.declared.base.Base.TheVariants.{Rtl, Ltr, WeakRtl, WeakLtr
 use Rattle.ucd.specs.Classes.{class_at, is_initiator, is_pdi, is_strong}
 use Rattle.ucd.specs.Least.{least}
 
--- from i to j there are as many initiators as PDIs, both ends counted
+-- from i to j, both included, there are as many initiators as PDIs
 abbrev pub is_balanced : List BidiClass → ℕ → ℕ → Bool
 is_balanced classes i j =
     let part = slice_range classes i (j + 1) in count_by is_initiator part == count_by is_pdi part
@@ -17,7 +17,7 @@ is_balanced classes i j =
 abbrev pub match_of : List BidiClass → ℕ → Option ℕ
 match_of classes i = least (is_balanced classes i) (i + 1) (length classes - (i + 1))
 
--- k lies in the span of the initiator at i: between it and its match, or after it where it has none
+-- k is inside the isolate of the initiator at i: between it and its match, or after it if it has none
 abbrev pub is_before : ℕ → Option ℕ → Bool
 is_before k (Some j) = nat_lt k j
 is_before k None = true
@@ -25,15 +25,15 @@ is_before k None = true
 abbrev pub is_in_span : List BidiClass → ℕ → ℕ → Bool
 is_in_span classes k i = is_initiator (class_at classes i) && (nat_lt i k && is_before k (match_of classes i))
 
--- k lies in the span of no initiator
+-- k is inside no isolate
 abbrev pub is_outside : List BidiClass → ℕ → Bool
 is_outside classes k = list_all (λ i. not (is_in_span classes k i)) (range_with_len 0 k)
 
--- P2: the first strong character, of those that lie in no span
+-- P2: the first strong character that is inside no isolate
 abbrev pub first_strong : List BidiClass → Option ℕ
 first_strong classes = least (λ k. is_strong (class_at classes k) && is_outside classes k) 0 (length classes)
 
--- P3: the level that it gives
+-- P3: its level
 abbrev pub strong_level : BidiClass → ℕ
 strong_level L = 0
 strong_level _ = 1

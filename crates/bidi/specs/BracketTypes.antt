@@ -1,15 +1,15 @@
--- What the characters of a text are as brackets, apart from the characters (UAX #9, BD14 and BD15).
+-- The characters of a text as brackets, independent of the characters themselves (UAX #9, BD14 and BD15).
 use Rattle.std.specs.Prelude.{ℕ, Bool, true, false, List, map, slice_index_or, Option, Some, None, if◌then◌else◌}
 use Rattle.ucd.specs.declared.bracket.Bracket.{Bracket}
 use Rattle.bidi.specs.declared.bracket_type.BracketType.{BracketType}
 use Rattle.bidi.specs.declared.bracket_type.BracketType.TheVariants.{Other, Opening, Closing}
 
--- an opening bracket by the closing one that it pairs with, and a closing one by itself
+-- an opening bracket is named by the closing one of its pair, and a closing one by itself
 abbrev pub type_by : Option Bracket → ℕ → BracketType
 type_by (Some bracket) c = if bracket.opens then Opening bracket.pair else Closing c
 type_by None c = Other
 
--- of each character, by a look-up
+-- the bracket type of each character, by a lookup
 abbrev pub bracket_types : (ℕ → Option Bracket) → List ℕ → List BracketType
 bracket_types look text = map (λ c. type_by (look c) c) text
 

@@ -1,4 +1,4 @@
--- Bracket pairs and the directions that they take (UAX #9, BD14 to BD16 and N0), in one isolating run sequence, by indexes into it.
+-- Bracket pairs and their directions (UAX #9, BD14 to BD16 and N0), in one isolating run sequence, by indices into it.
 use Rattle.std.specs.Prelude.{ℕ, zero, suc, ◌+◌, ◌==◌, nat_lt, nat_le, Bool, true, false, ◌&&◌, ◌||◌, not, List, [], ◌∷◌, ◌++◌, length, map, fold, reverse, take, slice_index, slice_range, Option, Some, None, unwrap_or, count_by, if◌then◌else◌}
 use Rattle.std.specs.List.{list_any, list_all, range_with_len}
 use Rattle.ucd.specs.declared.bidi_class.BidiClass.{BidiClass}
@@ -27,7 +27,7 @@ abbrev pub is_closing : Option Bracket → Bool
 is_closing (Some bracket) = not bracket.opens
 is_closing None = false
 
--- a closer matches an opener if it is the pair of that one
+-- a closing bracket matches an opening one if it is the pair of that one
 abbrev pub is_pair_of : Option Bracket → ℕ → Bool
 is_pair_of (Some bracket) c = canonical bracket.pair == canonical c
 is_pair_of None c = false
@@ -37,7 +37,7 @@ abbrev pub greatest : (ℕ → Bool) → ℕ → Option ℕ
 greatest test zero = None
 greatest test (suc k) = if test k then Some k else greatest test k
 
--- an opener and its closer
+-- an opening bracket and its closing bracket
 pub record Pair : Type 0 where
   pub opener : ℕ
   pub closer : ℕ
@@ -54,30 +54,30 @@ module _ (bracket_of : ℕ → Option Bracket) (characters : List ℕ) (types : 
   abbrev pub fits : ℕ → ℕ → Bool
   fits i j = is_pair_of (bracket_of (slice_index characters i)) (slice_index characters j)
 
-  -- an opener is live at j if no pair of those before j begins at it or before it, and ends after it
+  -- an opening bracket is live at j if no pair of those before j begins at it or before it, and ends after it
   abbrev pub is_live : List Pair → ℕ → Bool
   is_live pairs i = is_opener i && not (list_any (λ pair. nat_le pair.opener i && nat_lt i pair.closer) pairs)
 
-  -- a closer makes a pair with the greatest live opener that it matches
+  -- a closing bracket makes a pair with the last live opening bracket that it matches
   abbrev pub paired_with : Option ℕ → ℕ → List Pair
   paired_with (Some i) j = record { opener = i; closer = j } ∷ []
   paired_with None j = []
 
-  -- the pairs whose closer stands before j
+  -- the pairs whose closing bracket is before j
   abbrev pub pairs_before : ℕ → List Pair
   pairs_before zero = []
   pairs_before (suc j) =
       let pairs = pairs_before j in
       pairs ++ (if is_closer j then paired_with (greatest (λ i. is_live pairs i && fits i j) j) j else [])
 
-  -- BD16: at the first opener at which 63 are live, the pairing stops
+  -- BD16: at the first opening bracket at which 63 are live, pairing stops
   abbrev pub is_full : ℕ → Bool
   is_full j = is_opener j && nat_le 63 (count_by (is_live (pairs_before j)) (range_with_len 0 j))
 
   abbrev pub pairs_of : List Pair
   pairs_of = pairs_before (unwrap_or (least is_full 0 (length types)) (length types))
 
--- the closer of an opener that has one
+-- the closing bracket of an opening one that has one
 abbrev pub closer_of : List Pair → ℕ → Option ℕ
 closer_of [] i = None
 closer_of (pair ∷ pairs) i = if pair.opener == i then Some pair.closer else closer_of pairs i
@@ -95,22 +95,23 @@ is_direction type = false
 abbrev pub is_toward : Bool → BidiClass → Bool
 is_toward left type = is_direction type && agree left (is_left type)
 
--- whether a strong type of a direction stands between two places
+-- whether a strong type of a direction is between two indices
 abbrev pub stands : Bool → List BidiClass → ℕ → ℕ → Bool
 stands left types a b = list_any (is_toward left) (slice_range types (a + 1) b)
 
--- the nearest strong type before a place, or sos
+-- the nearest strong type before an index, or sos
 abbrev pub context : BidiClass → List BidiClass → ℕ → BidiClass
 context sos types a = nearest is_direction sos (reverse (take a types))
 
--- N0: the direction that a pair takes, if it takes one. It is the embedding direction where a strong type of that stands inside; else,
--- where one of the opposite stands inside, the opposite if that stands before it too, and the embedding direction if not.
+-- N0: the direction of a pair, if it gets one. If a strong type of the embedding direction is inside, it is that
+-- direction. Else, if one of the opposite direction is inside, it is the opposite direction if the nearest strong type
+-- before has that too, and else the embedding direction.
 abbrev pub pair_direction : Bool → BidiClass → List BidiClass → ℕ → ℕ → Option BidiClass
 pair_direction left sos types a b =
     if stands left types a b then Some (side left)
     else (if stands (not left) types a b then Some (side (if agree left (is_left (context sos types a)) then left else not left)) else None)
 
--- whether a place is that of a set bracket, or of a mark directly after it, which was NSM before W1
+-- whether an index is that of a set bracket, or of a mark directly after it, which was NSM before W1
 abbrev pub is_set_with : List Bool → ℕ → ℕ → Bool
 is_set_with marks p k = (p == k) || (nat_lt p k && list_all (λ mark. mark) (slice_range marks (p + 1) (k + 1)))
 
@@ -127,11 +128,11 @@ module _ (embedding : BidiClass) (sos : BidiClass) (marks : List Bool) where
   pair_step types a (Some b) = set_pair marks types a b (pair_direction (is_left embedding) sos types a b)
   pair_step types a None = types
 
-  -- the pairs in order of their openers, each by the types as the earlier ones left them
+  -- the pairs in the order of their opening brackets, each by the types that the earlier ones left
   abbrev pub resolve_pairs : (ℕ → Option ℕ) → List BidiClass → List BidiClass
   resolve_pairs closer types = fold (λ current a. pair_step current a (closer a)) types (range_with_len 0 (length types))
 
--- N0 over a sequence: by its characters, its types before W1 and its types now
+-- N0 on a sequence: by its characters, its types before W1 and its current types
 abbrev pub brackets : (ℕ → Option Bracket) → BidiClass → BidiClass → List ℕ → List BidiClass → List BidiClass → List BidiClass
 brackets bracket_of embedding sos characters explicit types =
     resolve_pairs embedding sos (map is_mark explicit) (closer_of (pairs_of bracket_of characters types)) types

@@ -1,4 +1,4 @@
--- Bracket pairs as a list: at each place that of its closer, or the length where it opens no pair.
+-- Bracket pairs as a list: at each index that of its closing bracket, or the length if no pair opens there.
 use Rattle.std.specs.Prelude.{◌≡◌, ℕ, ◌<◌, ◌⊎◌, ◌==◌, nat_lt, List, length, map, take, slice_index, slice_set, Option, Some, None, unwrap_or, if◌then◌else◌}
 use Rattle.std.specs.List.{range_with_len}
 use Rattle.ucd.specs.declared.bidi_class.BidiClass.{BidiClass}
@@ -13,14 +13,15 @@ closers_of pairs len = map (λ i. unwrap_or (closer_of pairs i) len) (range_with
 abbrev pub closer_in : List ℕ → ℕ → Option ℕ
 closer_in closers i = if nat_lt (slice_index closers i) (length closers) then Some (slice_index closers i) else None
 
--- pairs stand at characters of type ON, each closer after its opener, and of two pairs one is before the other or inside it
+-- brackets of pairs have type ON, each closing bracket is after its opening one, and of two pairs one is before the
+-- other or inside it
 pub record AreNested (types : List BidiClass) (closers : List ℕ) : Type 0 where
   pub other : (a : ℕ) → a < length closers → slice_index closers a < length closers → class_at types a ≡ ON
   pub after : (a : ℕ) → a < length closers → a < slice_index closers a
   pub apart : (a b : ℕ) → a < b → b < length closers → slice_index closers a < length closers → slice_index closers b < length closers
       → (slice_index closers a < b) ⊎ (slice_index closers b < slice_index closers a)
 
--- The walk that finds the pairs holds the openers that are live, the newest last.
+-- The pass that finds the pairs keeps the live opening brackets, the newest last.
 
 abbrev pub place_of : List Opener → ℕ → ℕ
 place_of openers m = slice_index (map (λ (o : Opener). o.place) openers) m
@@ -28,16 +29,16 @@ place_of openers m = slice_index (map (λ (o : Opener). o.place) openers) m
 abbrev pub pair_of : List Opener → ℕ → ℕ
 pair_of openers m = slice_index (map (λ (o : Opener). o.pair) openers) m
 
--- the newest of them that a closer matches
+-- the newest of them that a closing bracket matches
 abbrev pub newest : List Opener → ℕ → Option ℕ
 newest openers c = greatest (λ m. canonical (pair_of openers m) == canonical c) (length openers)
 
--- what a closer leaves of them
+-- what remains of them after a closing bracket
 abbrev pub left_by : Option ℕ → List Opener → List Opener
 left_by (Some m) openers = take m openers
 left_by None openers = openers
 
--- the closers after one at a place
+-- the list of closing brackets after one at an index
 abbrev pub closed_by : Option ℕ → List Opener → List ℕ → ℕ → List ℕ
 closed_by (Some m) openers closers place = slice_set closers (place_of openers m) place
 closed_by None openers closers place = closers

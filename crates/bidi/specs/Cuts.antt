@@ -5,23 +5,25 @@ use Rattle.ucd.specs.declared.bidi_class.BidiClass.{BidiClass}
 use Rattle.ucd.specs.Least.{least}
 use Rattle.ucd.specs.Classes.{is_separator}
 
--- There is a cut after a separator, but not between U+000D and U+000A where both are separators.
+-- There is a paragraph boundary (a cut) after a separator, but not between U+000D and U+000A if both are separators.
 abbrev pub cut : (ℕ → BidiClass) → ℕ → ℕ → Bool
 cut class_of before after =
     is_separator (class_of before) && not (before == 13 && (after == 10 && is_separator (class_of after)))
 
--- the pieces of a text between its cuts: a character goes onto the first piece of what follows it, unless a cut stands after it
+-- the parts of a text between its cuts: a character belongs to the first part of what follows it, unless there is a cut
+-- after it
 abbrev pub paragraphs : (ℕ → ℕ → Bool) → List ℕ → List (List ℕ)
 paragraphs is_cut [] = []
 paragraphs is_cut (a ∷ []) = (a ∷ []) ∷ []
 paragraphs is_cut (a ∷ b ∷ text) =
     if is_cut a b then (a ∷ []) ∷ paragraphs is_cut (b ∷ text) else onto_first a (paragraphs is_cut (b ∷ text))
 
--- the least place in a text at which there is a cut
+-- the least index in a text at which there is a cut
 abbrev pub first_cut : (ℕ → ℕ → Bool) → List ℕ → Option ℕ
 first_cut is_cut text = least (λ k. is_cut (slice_index text (k - 1)) (slice_index text k)) 1 (length text - 1)
 
--- The first paragraph of a text ends at that place, and the others are those of the rest. Without one the text is one paragraph, or empty.
+-- The first paragraph of a text ends at that index, and the others are those of the rest. Without one the text is one
+-- paragraph, or empty.
 abbrev pub SplitsAt : (ℕ → ℕ → Bool) → List ℕ → Option ℕ → Type 0
 SplitsAt is_cut text (Some k) =
     (0 < k) × (k < length text) × (paragraphs is_cut text ≡ take k text ∷ paragraphs is_cut (drop k text))

@@ -6,11 +6,11 @@ use Rattle.ucd.specs.declared.bidi_class.BidiClass.TheVariants.{L, R, RLE, LRE, 
 use Rattle.ucd.specs.Classes.{class_at, is_initiator, is_pdi, is_separator}
 use Rattle.bidi.specs.Base.{match_of, first_strong_level}
 
--- the classes between the initiator at k and its match, or after it where it has none
+-- the classes between the initiator at k and its match, or after it if it has none
 abbrev pub span_of : List BidiClass → ℕ → List BidiClass
 span_of classes k = slice_range classes (k + 1) (unwrap_or (match_of classes k) (length classes))
 
--- X5c: an FSI acts as RLI where P2 and P3 give level 1 over its span, and else as LRI
+-- X5c: an FSI acts as RLI if P2 and P3 give level 1 for the characters inside it, and else as LRI
 abbrev pub is_first_strong : BidiClass → Bool
 is_first_strong FSI = true
 is_first_strong class = false
@@ -23,8 +23,8 @@ directed_at classes k class = class
 abbrev pub directed : List BidiClass → List BidiClass
 directed classes = map (λ k. directed_at classes k (class_at classes k)) (range_with_len 0 (length classes))
 
--- The openers that are open, the innermost first: an embedding, an override or an isolate initiator opens itself.
--- PDF closes the innermost one if it is no isolate, and PDI the innermost isolate with all that was opened inside it.
+-- The openers that are open, the innermost first. An opener is an embedding, an override or an isolate initiator. PDF
+-- closes the innermost one if it is not an isolate. PDI closes the innermost isolate and all that was opened inside it.
 abbrev pub close_embedding : List BidiClass → List BidiClass
 close_embedding [] = []
 close_embedding (opener ∷ outer) = if is_initiator opener then opener ∷ outer else outer
@@ -58,14 +58,14 @@ opens_odd class = false
 abbrev pub level_above : BidiClass → ℕ → ℕ
 level_above opener level = if opens_odd opener then level + 1 + level % 2 else level + 2 - level % 2
 
--- the class that an override gives to what stands inside it
+-- the class that an override gives to what is inside it
 abbrev pub override_of : BidiClass → Option BidiClass
 override_of RLO = Some R
 override_of LRO = Some L
 override_of opener = None
 
--- What holds inside openers: the level and the override of the innermost one that isn't void, and whether the innermost is void.
--- The first opener whose level would pass 125 is void, and so are all inside it.
+-- The state inside openers: the level and the override of the innermost one that is not void, and whether the innermost
+-- is void. An opener is void if its level would be above 125, or if it is inside a void one.
 pub record Inside : Type 0 where
   pub level : ℕ
   pub override : Option BidiClass
@@ -80,7 +80,7 @@ abbrev pub inside : ℕ → List BidiClass → Inside
 inside base [] = record { level = base; override = None; is_void = false }
 inside base (opener ∷ outer) = enter (inside base outer) opener
 
--- the openers that a character stands in: a PDI stands after those that it closes
+-- the openers that apply to a character: a PDI is outside of those that it closes
 abbrev pub inside_at : ℕ → List BidiClass → ℕ → Inside
 inside_at base classes k = inside base (open_chain classes (if is_pdi (class_at classes k) then k + 1 else k))
 

@@ -1,4 +1,4 @@
--- What was looked up of two characters.
+-- The bracket types of two characters, as looked up.
 use Rattle.std.specs.Prelude.{◌≡◌}
 use Rattle.ucd.specs.Tables.{bracket_of}
 use Rattle.ucd.specs.declared.tables.Tables.{Tables}

@@ -14,18 +14,19 @@ use Rattle.bidi.specs.Sequences.{stayed, sequences, first_of, sos, eos, directio
 use Rattle.bidi.specs.Weak.{weak}
 use Rattle.bidi.specs.Neutral.{neutral, implicit_level}
 
--- the levels of one sequence: the weak rules, bracket pairs, the neutral rules and the implicit rules, at the level of its first character
+-- the levels of one sequence: the weak rules, bracket pairs, the neutral rules and the implicit rules, at the level of
+-- its first character
 abbrev pub sequence_levels : (ℕ → Option Bracket) → ℕ → BidiClass → BidiClass → List ℕ → List BidiClass → List ℕ
 sequence_levels bracket_of level sos eos characters types =
     map (implicit_level level) (neutral (direction level) sos eos (brackets bracket_of (direction level) sos characters types (weak sos types)))
 
--- values put at their places in a list
+-- values written to their indices in a list
 abbrev pub put : List ℕ → List ℕ → List ℕ → List ℕ
 put levels (place ∷ places) (value ∷ values) = put (slice_set levels place value) places values
 put levels places values = levels
 
--- of the list that X9 leaves, by its characters, their classes, explicit levels and explicit types: the levels of all sequences, each
--- at its places
+-- of the list that X9 leaves, by its characters, their classes, explicit levels and explicit types: the levels of all
+-- sequences, each at its indices
 module _ (bracket_of : ℕ → Option Bracket) (base : ℕ) (characters : List ℕ) (classes : List BidiClass) (levels : List ℕ) (types : List BidiClass) where
   abbrev pub levels_in : List ℕ → List ℕ
   levels_in sequence = sequence_levels bracket_of (slice_index levels (first_of sequence))
@@ -34,14 +35,15 @@ module _ (bracket_of : ℕ → Option Bracket) (base : ℕ) (characters : List �
   abbrev pub resolved : List ℕ
   resolved = fold (λ done sequence. put done sequence (levels_in sequence)) levels (sequences classes levels)
 
--- a character that X9 took out has the level of the nearest one before it that stayed, else the paragraph level
+-- a character that X9 removed has the level of the nearest kept one before it, else the paragraph level
 abbrev pub put_back : ℕ → List BidiClass → List ℕ → List ℕ
 put_back before [] levels = []
 put_back before (class ∷ classes) [] = before ∷ put_back before classes []
 put_back before (class ∷ classes) (level ∷ levels) =
     if is_removed class then before ∷ put_back before classes (level ∷ levels) else level ∷ put_back level classes levels
 
--- the levels of a paragraph, by its characters, their classes and the paragraph level; each FSI stands as the initiator that it acts as
+-- the levels of a paragraph, by its characters, their classes and the paragraph level; each FSI is replaced by the
+-- initiator that it acts as
 abbrev pub levels_by : (ℕ → Option Bracket) → List ℕ → List BidiClass → ℕ → List ℕ
 levels_by bracket_of text classes base =
     let places = stayed classes in

@@ -26,7 +26,7 @@ abbrev pub side : Bool → BidiClass
 side true = L
 side false = R
 
--- N1 and N2: neutrals in a row take the direction of both sides where the sides agree, and else the embedding direction
+-- N1 and N2: a run of neutrals has the direction of both sides if they agree, and else the embedding direction
 abbrev pub between : BidiClass → BidiClass → BidiClass → BidiClass
 between embedding before after = if agree (is_left before) (is_left after) then side (is_left before) else embedding
 

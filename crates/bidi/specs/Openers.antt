@@ -1,4 +1,5 @@
--- How the walk of X1 to X8 keeps the openers that are open: an entry of a stack for each that isn't void, over one for the paragraph, and counts.
+-- How the pass of X1 to X8 keeps the open openers: a stack, and counts. The stack has an entry for the paragraph and
+-- one for each opener that is not void.
 use Rattle.std.specs.Prelude.{◌≡◌, ℕ, ◌+◌, ◌==◌, ◌≤◌, ◌<◌, ◌^◌, Bool, true, false, ◌&&◌, not, List, [], ◌∷◌, ◌++◌, length, if◌then◌else◌}
 use Rattle.std.specs.List.{list_any}
 use Rattle.ucd.specs.declared.bidi_class.BidiClass.{BidiClass}
@@ -7,12 +8,12 @@ use Rattle.bidi.specs.declared.explicit.Status.{Status}
 use Rattle.ucd.specs.Classes.{is_initiator}
 use Rattle.bidi.specs.Explicit.{Inside, inside}
 
--- what holds inside an opener, or in the paragraph outside of all
+-- the state inside an opener, or in the paragraph outside of all
 abbrev pub entry_of : Inside → Bool → Status
 entry_of inside is_isolate = record { level = inside.level; overriding = inside.override; is_isolate = is_isolate }
 
 module _ (base : ℕ) where
-  -- the entry of the innermost opener that isn't void
+  -- the entry of the innermost opener that is not void
   abbrev pub innermost : List BidiClass → Status
   innermost [] = entry_of (inside base []) false
   innermost (opener ∷ outer) =
@@ -24,7 +25,7 @@ module _ (base : ℕ) where
   statuses (opener ∷ outer) =
       if (inside base (opener ∷ outer)).is_void then statuses outer else statuses outer ++ innermost (opener ∷ outer) ∷ []
 
-  -- how many isolates aren't void, and how many are
+  -- how many isolates are not void, and how many are
   abbrev pub isolates : List BidiClass → ℕ
   isolates [] = 0
   isolates (opener ∷ outer) =
@@ -42,18 +43,18 @@ module _ (base : ℕ) where
       if not (is_initiator opener) && ((inside base (opener ∷ outer)).is_void && overflowed_isolates outer == 0) then overflowed_embeddings outer + 1
       else overflowed_embeddings outer
 
-  -- these are kept for a chain of openers
+  -- the state of the pass for a chain of openers
   pub record Holds (openers : Openers) (chain : List BidiClass) : Type 0 where
     pub statuses_are : openers.statuses.items ≡ statuses chain
     pub isolates_are : openers.isolates ≡ isolates chain
     pub overflowed_isolates_are : openers.overflowed_isolates ≡ overflowed_isolates chain
     pub overflowed_embeddings_are : openers.overflowed_embeddings ≡ overflowed_embeddings chain
 
--- of whatever chain the openers are, this is its innermost entry
+-- this is the innermost entry of any chain that the state belongs to
 abbrev pub IsInnermost : Openers → Status → Type 0
 IsInnermost openers status = (base : ℕ) (chain : List BidiClass) → Holds base openers chain → status ≡ innermost base chain
 
--- what is kept follows a step of the chain
+-- the new state belongs to the chain after the step, for any chain that the old state belongs to
 abbrev pub Follows : Openers → Openers → (List BidiClass → List BidiClass) → Type 0
 Follows old new step = (base : ℕ) (chain : List BidiClass) → Holds base old chain → Holds base new (step chain)
 

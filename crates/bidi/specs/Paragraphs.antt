@@ -1,4 +1,4 @@
--- What is found of the characters that X9 leaves before their sequences are resolved, and what is then written.
+-- What is known of the characters that X9 keeps before their sequences are resolved, and what is then written.
 use Rattle.std.specs.Prelude.{◌≡◌, ℕ, ◌<◌, max, true, false, Option, None, All, List, length, map, slice_index}
 use Rattle.ucd.specs.declared.bracket.Bracket.{Bracket}
 use Rattle.bidi.specs.BracketTypes.{bracket_at, bracket_types}
@@ -14,21 +14,21 @@ use Rattle.bidi.specs.declared.sequence_levels.Sequence.{Sequence}
 use Rattle.bidi.specs.declared.sequence_levels.Sides.{Sides}
 use Rattle.bidi.specs.declared.sequence_levels.Brackets.{Brackets}
 
--- a list that says something says it of each character
+-- if some characters are brackets, the list has an item for each character
 abbrev pub AreFor : Brackets → ℕ → Type 0
 AreFor brackets n = brackets.has_any ≡ true → length brackets.types.now ≡ n
 
--- these are the brackets of a text of so many characters, by a look-up
+-- these are the bracket types of a text of n characters, by a lookup
 pub record AreBracketsOf (brackets : Brackets) (n : ℕ) (look : ℕ → Option Bracket) (text : List ℕ) : Type 0 where
   pub size : length text ≡ n
   pub types : brackets.has_any ≡ true → brackets.types.now ≡ bracket_types look text
   pub none : brackets.has_any ≡ false → All (λ c. look c ≡ None) text
 
--- what holds of each text and look-up of which these are the brackets
+-- a statement holds for each text and lookup with these bracket types
 abbrev pub OfAllTexts : Brackets → ℕ → ((ℕ → Option Bracket) → List ℕ → Type 0) → Type 0
 OfAllTexts brackets n holds = (look : ℕ → Option Bracket) (text : List ℕ) → AreBracketsOf brackets n look text → holds look text
 
--- of each character that stays all is known, and of each initiator its match
+-- all is known of each kept character, and the match of each initiator
 pub record IsReady (p : Paragraph) : Type 0 where
   pub stayed : HasAll p.stayed.now
   pub matches : p.matches.now ≡ matches_of p.stayed.now.classes.items
@@ -38,7 +38,7 @@ pub record IsReady (p : Paragraph) : Type 0 where
 abbrev pub sequence_in : Paragraph → ℕ → List ℕ
 sequence_in p start = sequence_at p.stayed.now.classes.items p.stayed.now.levels.items start
 
--- the levels with those of the sequence that begins at a place
+-- the levels with those of the sequence that begins at an index
 abbrev pub write_by : (ℕ → Option Bracket) → List ℕ → Paragraph → List ℕ → ℕ → List ℕ
 write_by look text p done start =
     put done (sequence_in p start)
@@ -48,7 +48,7 @@ write_by look text p done start =
 abbrev pub resolved_by : (ℕ → Option Bracket) → List ℕ → Paragraph → List ℕ
 resolved_by look text p = resolved look p.base text p.stayed.now.classes.items p.stayed.now.levels.items p.stayed.now.types.items
 
--- the level of a sequence from one place to another, and the directions at its ends
+-- the level of a sequence from one index to another, and the directions at its ends
 pub record AreSidesBetween (p : Paragraph) (first last : ℕ) (sides : Sides) : Type 0 where
   pub level_is : sides.level ≡ slice_index p.stayed.now.levels.items first
   pub sos_is : sides.sos ≡ direction (max (slice_index p.stayed.now.levels.items first) (level_before p.base p.stayed.now.levels.items first))
@@ -57,7 +57,7 @@ pub record AreSidesBetween (p : Paragraph) (first last : ℕ) (sides : Sides) : 
 abbrev pub AreSides : Paragraph → List ℕ → Sides → Type 0
 AreSides p places sides = AreSidesBetween p (first_of places) (last_of places) sides
 
--- a sequence of the paragraph, at a place
+-- a sequence of the paragraph, at an index
 pub record Takes (p : Paragraph) (start : ℕ) (sequence : Sequence) : Type 0 where
   pub places_are : sequence.places.items ≡ sequence_in p start
   pub within : AreWithin (length p.stayed.now.levels.items) sequence.places.items

@@ -4,7 +4,8 @@ use Rattle.ucd.specs.declared.bidi_class.BidiClass.{BidiClass}
 use Rattle.ucd.specs.declared.properties.Properties.{Properties}
 use Rattle.ucd.specs.declared.bidi_class.BidiClass.TheVariants.{R, AL, AN, BN, LRE, LRO, RLE, RLO, PDF, LRI, RLI, FSI, PDI}
 
--- A character that opens nothing, closes nothing and stays: a paragraph of such is one isolating run sequence as it stands.
+-- A character that opens nothing, closes nothing and is kept by X9. A paragraph of such characters is one isolating run
+-- sequence.
 abbrev pub is_plain : BidiClass → Bool
 is_plain BN = false
 is_plain LRE = false
@@ -18,7 +19,7 @@ is_plain FSI = false
 is_plain PDI = false
 is_plain class = true
 
--- A character that raises no level above 0: in a paragraph of such, at paragraph level 0, all levels are 0.
+-- A character that raises no level above 0. In a paragraph of such characters, at paragraph level 0, all levels are 0.
 abbrev pub is_flat : BidiClass → Bool
 is_flat R = false
 is_flat AL = false
@@ -34,6 +35,6 @@ is_flat FSI = false
 is_flat PDI = false
 is_flat class = true
 
--- whether a character is a bracket, in what tables say of it
+-- whether a character is a bracket, by its properties
 abbrev pub has_bracket_in : Properties → Bool
 has_bracket_in properties = properties.has_bracket

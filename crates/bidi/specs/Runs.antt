@@ -1,22 +1,22 @@
--- Level runs by their places, as a walk over a list of levels finds them.
+-- Level runs by their indices, as a pass over a list of levels finds them.
 use Rattle.std.specs.Prelude.{◌≡◌, ◌≢◌, ℕ, ◌-◌, ◌<◌, ◌≤◌, Bool, true, nat_lt, ◌==◌, ◌&&◌, not, List, [], ◌∷◌, length, slice_index, slice_set, Option, Some, None, if◌then◌else◌}
 use Rattle.std.specs.List.{range_with_len}
 use Rattle.ucd.specs.declared.bidi_class.BidiClass.{BidiClass}
 use Rattle.bidi.specs.Cuts.{paragraphs}
 use Rattle.bidi.specs.Sequences.{changes, joined}
 
--- the places from `start` up to `end` have one level, and that at `end` has another
+-- the indices from `start` up to `end` have one level, and that at `end` has another
 pub record IsRunEnd (levels : List ℕ) (start end : ℕ) : Type 0 where
   pub above : start < end
   pub within : end ≤ length levels
   pub same : (k : ℕ) → start < k → k < end → slice_index levels (k - 1) ≡ slice_index levels k
   pub other : end < length levels → slice_index levels (end - 1) ≢ slice_index levels end
 
--- the runs from a place on
+-- the runs from an index on
 abbrev pub runs_from : List ℕ → ℕ → List (List ℕ)
 runs_from levels start = paragraphs (changes levels) (range_with_len start (length levels - start))
 
--- the sequence that goes on with the first of the runs from a place on
+-- the first of the runs, with those that it continues in
 abbrev pub joined_first : List BidiClass → List (List ℕ) → List ℕ
 joined_first classes [] = []
 joined_first classes (run ∷ later) = joined classes run later
@@ -24,11 +24,11 @@ joined_first classes (run ∷ later) = joined classes run later
 abbrev pub sequence_at : List BidiClass → List ℕ → ℕ → List ℕ
 sequence_at classes levels start = joined_first classes (runs_from levels start)
 
--- a place, if a run begins there
+-- an index, if a run begins there
 abbrev pub next_start : List ℕ → ℕ → Option ℕ
 next_start levels k = if nat_lt k (length levels) && not (slice_index levels k == slice_index levels (k - 1)) then Some k else None
 
--- marks with one more, if there is a place to mark
+-- marks with one more, if there is an index to mark
 abbrev pub marked : List Bool → Option ℕ → List Bool
 marked marks None = marks
 marked marks (Some place) = slice_set marks place true

@@ -1,5 +1,5 @@
--- Level runs and isolating run sequences (UAX #9, X9, X10, BD7 and BD13). A character is named by its index in the list that
--- X9 leaves, which has all initiators and PDIs of the paragraph, so that matches are the paragraph's.
+-- Level runs and isolating run sequences (UAX #9, X9, X10, BD7 and BD13). A character is named by its index in the list
+-- that X9 leaves. This list has all initiators and PDIs of the paragraph, so their matches are the paragraph's.
 use Rattle.std.specs.Prelude.{ℕ, ◌+◌, ◌-◌, ◌%◌, ◌==◌, max, Bool, true, false, ◌&&◌, not, List, [], ◌∷◌, ◌++◌, length, filter, slice_index, Option, Some, None, is_none, if◌then◌else◌}
 use Rattle.std.specs.List.{list_any, range_with_len}
 use Rattle.ucd.specs.declared.bidi_class.BidiClass.{BidiClass}
@@ -8,11 +8,11 @@ use Rattle.ucd.specs.Classes.{class_at, is_initiator, is_removed}
 use Rattle.bidi.specs.Base.{match_of}
 use Rattle.bidi.specs.Cuts.{paragraphs}
 
--- the indexes of a paragraph's characters that stay
+-- the indices of a paragraph's characters that X9 keeps
 abbrev pub stayed : List BidiClass → List ℕ
 stayed classes = filter (λ k. not (is_removed (class_at classes k))) (range_with_len 0 (length classes))
 
--- BD7: level runs, the pieces between changes of the level
+-- BD7: level runs, the parts between changes of the level
 abbrev pub changes : List ℕ → ℕ → ℕ → Bool
 changes levels j k = not (slice_index levels j == slice_index levels k)
 
@@ -62,7 +62,7 @@ module _ (base : ℕ) (levels : List ℕ) where
   sos sequence = direction (max (slice_index levels (first_of sequence)) (level_before (first_of sequence)))
 
 module _ (base : ℕ) (classes : List BidiClass) (levels : List ℕ) where
-  -- after an initiator without a match stands the paragraph level
+  -- an initiator without a match is followed by the paragraph level
   abbrev pub level_after : ℕ → ℕ
   level_after k =
       if is_initiator (class_at classes k) && is_none (match_of classes k) then base

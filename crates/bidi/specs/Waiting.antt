@@ -1,4 +1,5 @@
--- What the one walk of the weak rules keeps: types that wait for what stands after them, and what W1 to W3 and W7 look back at.
+-- The state of the single pass for the weak rules: types that wait for what follows them, and what W1 to W3 and W7 look
+-- back at.
 use Rattle.std.specs.Prelude.{◌≡◌, ℕ, ◌+◌, ◌-◌, ◌≤◌, Bool, true, false, ◌&&◌, not, List, [], ◌∷◌, ◌++◌, length, map, take, drop, replicate, if◌then◌else◌}
 use Rattle.ucd.specs.declared.bidi_class.BidiClass.{BidiClass}
 use Rattle.ucd.specs.declared.bidi_class.BidiClass.TheVariants.{L, EN, ES, ET, AN, CS, NSM, ON}
@@ -8,28 +9,28 @@ use Rattle.ucd.specs.Classes.{is_strong}
 use Rattle.ucd.specs.Classes.{is_mark}
 use Rattle.bidi.specs.Weak.{mark_after, is_number, is_arabic, is_left, w3_type}
 
--- a rule that looks back at the nearest item that passes a test alone: the list that it makes, after such an item
+-- a rule that looks back only at the nearest item that passes a test: the list that it makes, after such an item
 abbrev pub carry : {T : Type 0} → (T → T → List T → T) → (T → Bool) → T → List T → List T
 carry rule test before [] = []
 carry rule test before (item ∷ after) = rule before item after ∷ carry rule test (if test item then item else before) after
 
--- W1 and W2 of one type
+-- W1 and W2 for one type
 abbrev pub mark_type : BidiClass → BidiClass → BidiClass
 mark_type before type = if is_mark type then mark_after before else type
 
 abbrev pub digit_type : BidiClass → BidiClass → BidiClass
 digit_type strong type = if is_number type && is_arabic strong then AN else type
 
--- W1 to W3 of a list of types, after a type that is no mark and a strong type
+-- W1 to W3 for a list of types, after a type that is not NSM and a strong type
 abbrev pub read_types : BidiClass → BidiClass → List BidiClass → List BidiClass
 read_types before strong types =
     map w3_type (carry (λ s type after. digit_type s type) is_strong strong (carry (λ b type after. mark_type b type) (λ type. not (is_mark type)) before types))
 
--- W7 of a European number
+-- W7 for a European number
 abbrev pub number_type : Bool → BidiClass
 number_type left = if left then L else EN
 
--- whether W4 to W7 make anything of a type
+-- whether W4 to W7 can change a type
 abbrev pub is_weak : BidiClass → Bool
 is_weak EN = true
 is_weak ES = true
@@ -38,25 +39,25 @@ is_weak AN = true
 is_weak CS = true
 is_weak type = false
 
--- whether W1, W2 and W4 to W7 make nothing of a type
+-- whether W1, W2 and W4 to W7 leave a type as it is
 abbrev pub is_settled : BidiClass → Bool
 is_settled NSM = false
 is_settled type = not (is_weak type)
 
--- whether a row of ET that begins here stands after a European number
+-- whether a run of ET that begins here is after a European number
 abbrev pub is_after_number : Row → Bool
 is_after_number European = true
 is_after_number EuropeanTerminators = true
 is_after_number row = false
 
--- whether the types of a row wait
+-- whether the types of a run wait
 abbrev pub waits : Row → Bool
 waits EuropeanSeparator = true
 waits ArabicSeparator = true
 waits Terminators = true
 waits row = false
 
--- whether a type takes its place in the row that waits
+-- whether a type joins the run that waits
 abbrev pub lengthens : Row → BidiClass → Bool
 lengthens Terminators ET = true
 lengthens row type = false
@@ -76,7 +77,7 @@ written row left ES = ON
 written row left CS = ON
 written row left type = type
 
--- what stands before the next type
+-- what is before the next type
 abbrev pub after_comma : Row → Row
 after_comma European = EuropeanSeparator
 after_comma Arabic = ArabicSeparator
@@ -94,11 +95,11 @@ row_after row ES = after_sign row
 row_after row CS = after_comma row
 row_after row type = Nothing
 
--- where the row begins after a type
+-- where the run begins after a type
 abbrev pub start_after : Row → BidiClass → ℕ → ℕ → ℕ
 start_after row type start at = if lengthens row type then start else (if waits (row_after row type) then at else at + 1)
 
--- W4 to W7 of n types that wait and of the types after them, by the strong type before them
+-- W4 to W7 for n types that wait and for the types after them, by the strong type before them
 abbrev pub types_after : Row → ℕ → BidiClass → List BidiClass → List BidiClass
 types_after row n strong [] = replicate n ON
 types_after row n strong (type ∷ types) =
@@ -107,7 +108,8 @@ types_after row n strong (type ∷ types) =
     ++ (if waits (row_after row type) then types_after (row_after row type) 1 (if is_strong type then type else strong) types
     else written row (is_left strong) type ∷ types_after (row_after row type) 0 (if is_strong type then type else strong) types)
 
--- what the walk knows at a place: before `start` all types stand, those from there on wait and are ON, and the others are as they were
+-- what the pass knows at an index: before `start` all types are final, those from there on wait and are ON, and the
+-- others are unchanged
 pub record AreTypesSoFar (sos : BidiClass) (old current : List BidiClass) (before strong : BidiClass) (row : Row) (start at : ℕ) : Type 0 where
   pub sizes : length current ≡ length old
   pub order : start ≤ at
@@ -116,7 +118,7 @@ pub record AreTypesSoFar (sos : BidiClass) (old current : List BidiClass) (befor
   pub whole : take start current ++ types_after row (at - start) (w3_type strong) (read_types before strong (drop at old))
       ≡ types_after Nothing 0 (w3_type sos) (read_types sos sos old)
 
--- whatever the walk knew at a place, it then knows the same of its types with those of a row settled
+-- whatever the pass knew at an index, it then knows for its types with those of a run settled
 abbrev pub SettlesRow : List BidiClass → ℕ → BidiClass → List BidiClass → ℕ → Type 0
 SettlesRow current at class settled next =
     (sos : BidiClass) (old : List BidiClass) (before strong : BidiClass) (row : Row) (start : ℕ) → AreTypesSoFar sos old current before strong row start at

@@ -1,4 +1,5 @@
--- The weak rules (UAX #9, W1 to W7): each makes a list of types of a list of types, and decides every item by the list that it is given.
+-- The weak rules (UAX #9, W1 to W7). Each makes a list of types from a list of types, and decides every item by the
+-- list that it is given.
 use Rattle.std.specs.Prelude.{Bool, true, false, ◌||◌, not, List, [], ◌∷◌, map, if◌then◌else◌}
 use Rattle.ucd.specs.declared.bidi_class.BidiClass.{BidiClass}
 use Rattle.ucd.specs.declared.bidi_class.BidiClass.TheVariants.{L, R, AL, EN, ES, ET, AN, CS, NSM, ON, LRI, RLI, FSI, PDI}
@@ -21,7 +22,8 @@ abbrev pub is_left : BidiClass → Bool
 is_left L = true
 is_left type = false
 
--- W1: a mark takes the type before it, which is that of the nearest character that is no mark; after an isolate's ends it is ON
+-- W1: NSM gets the type before it, which is that of the nearest character that is not NSM; after the ends of an isolate
+-- it becomes ON
 abbrev pub mark_after : BidiClass → BidiClass
 mark_after LRI = ON
 mark_after RLI = ON
@@ -62,7 +64,7 @@ w4_at before type after = type
 abbrev pub w4 : List BidiClass → List BidiClass
 w4 types = each_by w4_at [] types
 
--- W5: European terminators in a row, next to a European number on either side, become European numbers
+-- W5: a run of European terminators next to a European number, on either side, becomes European numbers
 abbrev pub w5_at : List BidiClass → BidiClass → List BidiClass → BidiClass
 w5_at before ET after =
     if is_number (nearest (λ type. not (is_terminator type)) ON before) || is_number (nearest (λ type. not (is_terminator type)) ON after) then EN else ET

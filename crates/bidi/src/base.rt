@@ -9,20 +9,20 @@ use ucd::{BidiClass, Classes, KnownClasses, ListedClasses, Properties, Tables, T
 /// How the base level of a paragraph is found.
 #[derive(Clone, Copy, Debug, PartialEq, Eq)]
 pub enum Base {
-    /// Level 1, whatever the text.
+    /// Always level 1.
     Rtl,
-    /// Level 0, whatever the text.
+    /// Always level 0.
     Ltr,
-    /// By the first strong character, and level 1 where there is none.
+    /// By the first strong character; level 1 if there is none.
     WeakRtl,
-    /// By the first strong character, and level 0 where there is none.
+    /// By the first strong character; level 0 if there is none.
     WeakLtr,
 }
 
 impl Default for Base {
     ghost use Rattle.bidi.specs.declared.base.Base.TheVariants.{WeakLtr};
 
-    // That of a command line that names no direction.
+    // The default of the command line.
     ghost is_default = { λ base. base ≡ WeakLtr };
 
     fn default() -> Base {
@@ -30,21 +30,21 @@ impl Default for Base {
     }
 }
 
-/// The base level of one paragraph, 0 or 1.
+/// Returns the base level of one paragraph, 0 or 1.
 pub fn base_level(tables: &Tables, text: &[char], base: Base) -> u8
     ensures { result ≡ base_level_of (map (class_of tables.now) text.now) base }
 {
     base_level_in(&TextClasses { tables, text }, base)
 }
 
-/// The base level of one paragraph, 0 or 1, by what the tables say of its characters.
+/// Returns the base level of one paragraph, 0 or 1, from the properties of its characters.
 pub fn base_level_by(properties: &[Properties], base: Base) -> u8
     ensures { result ≡ base_level_of (map class_in properties.now) base }
 {
     base_level_in(&KnownClasses { properties }, base)
 }
 
-/// The base level of one paragraph, 0 or 1, by the classes of its characters.
+/// Returns the base level of one paragraph, 0 or 1, from the classes of its characters.
 pub fn base_level_of(classes: &[BidiClass], base: Base) -> u8
     ensures { result ≡ base_level_of classes.now base }
 {
@@ -62,11 +62,11 @@ fn base_level_in<C: Classes>(classes: &C, base: Base) -> u8
     }
 }
 
-/// The level that the first strong character outside all isolates gives (P2 and P3), or `None`.
+/// Returns the level of the first strong character outside all isolates (P2 and P3).
 pub fn first_strong_level<C: Classes>(classes: &C) -> Option<u8>
     ensures { result ≡ first_strong_level (C.all classes.now) }
 {
-    // How many isolates are open: a character is outside all of them if none is.
+    // The number of open isolates. A character is outside all of them if it is 0.
     let mut depth = 0;
     for k in 0..classes.len() {
         let class = classes.class_at(k);
@@ -79,7 +79,7 @@ pub fn first_strong_level<C: Classes>(classes: &C) -> Option<u8>
     None
 }
 
-/// The level that a strong character gives.
+/// Returns the level of a strong class.
 pub(crate) fn strong_level(class: BidiClass) -> Option<u8>
     ensures { result ≡ (if is_strong class then Some (strong_level class) else None) }
 {
@@ -90,8 +90,8 @@ pub(crate) fn strong_level(class: BidiClass) -> Option<u8>
     }
 }
 
-// How many isolates are open after a character of this class, where `depth` are open before it.
-// A PDI with none open closes none.
+// The number of open isolates after a character of this class, if `depth` are open before it. A PDI closes
+// one, if any is open.
 fn depth_after(class: BidiClass, depth: usize) -> usize
     requires { depth < usize.MAX }
     ensures { result ≡ (if is_initiator class then depth + 1 else

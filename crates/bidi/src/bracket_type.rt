@@ -1,28 +1,26 @@
-//! What a character is as a bracket, apart from the character itself (UAX #9, BD14 and BD15).
+//! Characters as brackets (UAX #9, BD14 and BD15), independent of the characters themselves.
 ghost use Rattle.std.specs.Prelude.{◌≡◌};
 ghost use Rattle.ucd.specs.Tables.{bracket_of};
 ghost use Rattle.bidi.specs.BracketTypes.{is_bracket, type_by};
 
 use ucd::Tables;
 
-/// What a character is as a bracket. A closing bracket makes a pair with an opening one of its number:
-/// that of an opening bracket is the code point of the closing one that it pairs with, and that of a
-/// closing bracket its own. Who has numbers of his own for pairs gives the same to both; U+2329 counts as
-/// U+3008, and U+232A as U+3009.
+/// A character as a bracket. A closing bracket makes a pair with an opening one of the same number. From
+/// tables, the number of a closing bracket is its own code point, and that of an opening bracket the code
+/// point of its pair. U+2329 counts as U+3008, and U+232A as U+3009. Other callers may use any numbers, the
+/// same for both brackets of a pair.
 #[derive(Clone, Copy, Debug, PartialEq, Eq)]
 pub enum BracketType {
     /// No bracket.
     Other,
-    /// An opening bracket.
     Opening(u32),
-    /// A closing bracket.
     Closing(u32),
 }
 
 impl Default for BracketType {
     ghost use Rattle.bidi.specs.declared.bracket_type.BracketType.TheVariants.{Other};
 
-    // That of most characters.
+    // Most characters are no brackets.
     ghost is_default = { λ bracket. bracket ≡ Other };
 
     fn default() -> BracketType {
@@ -30,7 +28,7 @@ impl Default for BracketType {
     }
 }
 
-/// What the tables say that a character is.
+/// Returns a character's bracket type by the tables.
 pub(crate) fn bracket_type(tables: &Tables, character: char) -> BracketType
     ensures { result ≡ type_by (bracket_of tables.now character) character }
 {
@@ -46,7 +44,7 @@ pub(crate) fn bracket_type(tables: &Tables, character: char) -> BracketType
     }
 }
 
-/// Whether it is one.
+/// Whether it is a bracket.
 pub(crate) fn is_bracket(bracket: BracketType) -> bool
     ensures { result ≡ is_bracket bracket }
 {

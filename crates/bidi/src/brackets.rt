@@ -1,5 +1,5 @@
-//! Bracket pairs and the directions that they take (UAX #9, BD14 to BD16 and N0), over what the characters
-//! of one isolating run sequence are as brackets.
+//! Bracket pairs and their directions (UAX #9, BD14 to BD16 and N0), from the bracket types of the characters
+//! of one isolating run sequence.
 ghost use Rattle.std.specs.Prelude.{◌≡◌, ℕ, ◌<◌, ◌≤◌, ◌&&◌, [], map, length, slice_index, List, OnOk, Option};
 ghost use Rattle.std.specs.Prelude.{Some, None};
 ghost use Rattle.std.specs.Prelude.{if◌then◌else◌, true, false, not};
@@ -22,10 +22,10 @@ use arrayvec::ArrayVec;
 use std::alloc::{AllocError, Global};
 use ucd::BidiClass;
 
-/// How many openers are held at most (BD16).
+/// The greatest number of open brackets on the stack (BD16).
 const MAX_OPENERS: usize = 63;
 
-// An opener that is held, and the closer that it makes a pair with.
+// An opening bracket on the stack, and the closing bracket of its pair.
 #[derive(Clone, Copy, Debug, Default, PartialEq, Eq)]
 struct Opener {
     place: usize,
@@ -43,7 +43,7 @@ fn canonical(character: u32) -> u32
     }
 }
 
-// What a character is as a bracket, which only a character of type ON is.
+// A character's bracket type in N0: only characters of type ON are brackets.
 fn bracket_in(bracket: BracketType, class: BidiClass) -> BracketType
     ensures { result ≡ (if is_other class then bracket else Other) }
 {
@@ -53,7 +53,7 @@ fn bracket_in(bracket: BracketType, class: BidiClass) -> BracketType
     }
 }
 
-// The newest of the openers held that a closer matches, if there is one.
+// The newest opening bracket on the stack that a closing bracket matches, if there is one.
 fn matching(openers: &[Opener], closer: u32) -> Option<usize>
     ensures { result ≡ newest openers.now closer }
 {
@@ -68,8 +68,8 @@ fn matching(openers: &[Opener], closer: u32) -> Option<usize>
     None
 }
 
-// Makes a pair of the closer at `place` and the newest opener that it matches, if there is one. That
-// opener is dropped, and so are the newer ones.
+// Pairs the closing bracket at `place` with the newest opening bracket that it matches, if there is one.
+// Removes that one and the newer ones.
 fn close(
     openers: &mut ArrayVec<Opener, MAX_OPENERS>,
     closers: &mut [usize],
@@ -87,7 +87,7 @@ fn close(
     }
 }
 
-// Puts the length into each place.
+// Sets each item to the length.
 fn fill(closers: &mut Vec<usize>, len: usize) -> Result<(), AllocError>
     ensures { OnOk result (closers.new.items ≡ closers_of [] len) }
 {
@@ -95,8 +95,8 @@ fn fill(closers: &mut Vec<usize>, len: usize) -> Result<(), AllocError>
     closers.resize(len, len)
 }
 
-/// What the pairs of a sequence are found in: its types before N0, and at each place that of its
-/// closer. It is used again for each sequence.
+/// Reused lists for the pairs of a sequence: its types before N0, and for each index that of its closing
+/// bracket.
 #[derive(Debug, Drop)]
 pub(crate) struct Pairs {
     before: Vec<BidiClass>,
@@ -111,7 +111,7 @@ impl Pairs {
         }
     }
 
-    /// N0 over the types of a sequence, by what its characters are as brackets and by its types before W1.
+    /// Applies N0 to the types of a sequence, from its bracket types and its types before W1.
     pub fn resolve(
         &mut self,
         kinds: &[BracketType],
@@ -136,7 +136,7 @@ impl Pairs {
     }
 }
 
-/// Puts types into another list, in place of what it has.
+/// Replaces the contents of a list by types.
 pub(crate) fn copy_types(from: &[BidiClass], to: &mut Vec<BidiClass>) -> Result<(), AllocError>
     ensures { OnOk result (to.new.items ≡ from.now) }
 {
@@ -144,7 +144,8 @@ pub(crate) fn copy_types(from: &[BidiClass], to: &mut Vec<BidiClass>) -> Result<
     to.extend_from_slice(from)
 }
 
-// Puts the place of its closer for each opener into `closers`, and the length for each other place.
+// For each opening bracket of a pair, sets its item of `closers` to the index of the closing bracket. Sets
+// all other items to the length.
 fn find_pairs(
     kinds: &[BracketType],
     types: &[BidiClass],
@@ -175,7 +176,7 @@ fn find_pairs(
     Ok(())
 }
 
-// The least place from `from` on at which a bracket stands, or else the length.
+// The least index of a bracket from `from` on, or else the length.
 fn next_bracket(kinds: &[BracketType], from: usize) -> usize
     requires { from ≤ length kinds.now }
     ensures reached { from ≤ result }
@@ -189,8 +190,8 @@ fn next_bracket(kinds: &[BracketType], from: usize) -> usize
     at
 }
 
-// The least place from `from` on, and before a limit, with a strong type of direction L, or of direction R;
-// or else the limit, or `from` where that is after it.
+// The least index from `from` on, and before a limit, of a strong type of direction L, or of direction R.
+// Otherwise the limit, or `from` if that is greater.
 fn next_toward(types: &[BidiClass], left: bool, from: usize, limit: usize) -> usize
     requires from { from ≤ length types.now }
     requires limit { limit ≤ length types.now }
@@ -217,7 +218,7 @@ fn is_toward(left: bool, class: BidiClass) -> bool
     }
 }
 
-// N0: gives each pair its direction, in order of the openers. `before` are the types as they were.
+// N0: gives each pair its direction, in the order of the opening brackets. `before` are the types before N0.
 fn resolve_brackets(
     types: &mut [BidiClass],
     before: &[BidiClass],
@@ -234,7 +235,7 @@ fn resolve_brackets(
         ≡ resolve_pairs embedding sos (map is_mark explicit.now) (closer_in closers.now) types.old }
 {
     let left = is_left(embedding);
-    // Up to where no strong type of a direction stands after the place, as the types were before N0.
+    // Before N0, there is no strong type of the direction from the pair's opening bracket up to the index.
     let mut same = 0;
     let mut other = 0;
     let mut place = next_pair(closers, 0);
@@ -248,7 +249,7 @@ fn resolve_brackets(
     }
 }
 
-// The least place from `from` on at which a pair opens, or else the length.
+// The least index of an opening bracket of a pair from `from` on, or else the length.
 fn next_pair(closers: &[usize], from: usize) -> usize
     requires { from ≤ length closers.now }
     ensures reached { from ≤ result }
@@ -264,8 +265,8 @@ fn next_pair(closers: &[usize], from: usize) -> usize
     at
 }
 
-// Whether a strong type of a direction stands inside a pair. `next` moves to the next place after
-// the opener that had such a type before N0, or to the closer.
+// Whether a strong type of a direction is inside a pair. `next` moves to the next index after the opening
+// bracket that had such a type before N0, or to the closing bracket.
 fn stands_inside(
     types: &[BidiClass],
     before: &[BidiClass],
@@ -288,13 +289,13 @@ fn stands_inside(
     if is_other(types[place]) {
         *next < closer
     } else {
-        // Marks in a row after an earlier bracket, of which this one is one, have changed.
+        // This bracket is one of the marks after an earlier bracket, and these have changed.
         next_toward(types, left, place + 1, closer) < closer
     }
 }
 
-// The direction of a pair, by whether a strong type of the embedding direction stands inside, and
-// one of the other.
+// The direction of a pair, by whether a strong type of the embedding direction is inside, and one of the
+// other direction.
 fn pair_direction(
     types: &[BidiClass],
     place: usize,
@@ -317,8 +318,8 @@ fn pair_direction(
     }
 }
 
-// The nearest strong type before a place, or `sos`. It is asked for only of a pair that then is strong
-// itself, so that of a later one is sought no farther back.
+// The nearest strong type before an index, or `sos`. It is needed only for a pair that is then strong itself,
+// so the search for a later pair stops there.
 fn strong_before(types: &[BidiClass], place: usize, sos: BidiClass) -> BidiClass
     requires { place ≤ length types.now }
     ensures { result ≡ context sos types.now place }
@@ -367,7 +368,7 @@ fn is_direction(class: BidiClass) -> bool
     )
 }
 
-// Sets the types of a pair, if it takes a direction.
+// Sets the types of a pair, if it has a direction.
 fn set_pair(
     types: &mut [BidiClass],
     explicit: &[BidiClass],

@@ -1,4 +1,4 @@
-//! Kinds of bidirectional classes.
+//! Kinds of bidi classes.
 ghost use Rattle.std.specs.Prelude.{◌≡◌};
 ghost use Rattle.ucd.specs.Classes.{is_initiator, is_pdi};
 ghost use Rattle.ucd.specs.Classes.{is_removed};
@@ -19,7 +19,7 @@ pub(crate) fn is_pdi(class: BidiClass) -> bool
     matches!(class, BidiClass::PDI)
 }
 
-/// Whether X9 takes the characters of a class out.
+/// Whether X9 removes the characters of a class.
 pub(crate) fn is_removed(class: BidiClass) -> bool
     ensures { result ≡ is_removed class }
 {

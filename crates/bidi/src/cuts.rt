@@ -1,4 +1,4 @@
-//! Where one paragraph ends and the next begins (UAX #9, P1).
+//! Paragraph boundaries (UAX #9, P1).
 ghost use Rattle.std.specs.Prelude.{◌≡◌};
 ghost use Rattle.ucd.specs.Tables.{class_of};
 ghost use Rattle.bidi.specs.Cuts.{cut, first_cut, SplitsAt};
@@ -6,8 +6,8 @@ ghost use Rattle.bidi.specs.Pieces.{ParagraphsArePieces};
 
 use ucd::{BidiClass, Tables};
 
-/// Whether a paragraph ends between two neighbours: after each character of class B, but not
-/// between U+000D and U+000A where both have it.
+/// Whether there is a paragraph boundary between two adjacent characters: after each character of class B,
+/// but not between U+000D and U+000A if both have class B.
 pub fn is_cut(tables: &Tables, before: char, after: char) -> bool
     ensures { result ≡ cut (class_of tables.now) before after }
 {
@@ -17,7 +17,7 @@ pub fn is_cut(tables: &Tables, before: char, after: char) -> bool
     before != '\r' || after != '\n' || tables.bidi_class(after) != BidiClass::B
 }
 
-/// The least place above 0 and below the length between whose two neighbours a paragraph ends.
+/// Returns the first paragraph boundary of a text, greater than 0 and less than the length.
 pub fn first_cut(tables: &Tables, text: &[char]) -> Option<usize>
     ensures place { result ≡ first_cut (cut (class_of tables.now)) text.now }
     ensures paragraphs { SplitsAt (cut (class_of tables.now)) text.now result }
@@ -30,8 +30,8 @@ pub fn first_cut(tables: &Tables, text: &[char]) -> Option<usize>
     None
 }
 
-/// The paragraphs of a text are its pieces between cuts, whatever the cuts are, and no other pieces
-/// are: a law, which takes no time.
+/// States, as a theorem, that the paragraphs of a text are exactly its parts between boundaries, whatever the
+/// boundaries are. Costs nothing at run time.
 pub fn paragraphs_are_pieces()
     ensures { ParagraphsArePieces }
 {}

@@ -1,4 +1,4 @@
-//! Explicit levels and types (UAX #9, X1 to X9), in one walk with a stack of the openers that are open.
+//! Explicit levels and types (UAX #9, X1 to X9), in one pass with a stack of what is open.
 ghost use Rattle.std.specs.Prelude.{◌≡◌, ◌≤◌, ◌∷◌, [], ◌++◌, OnOk, unwrap_or, if◌then◌else◌};
 ghost use Rattle.ucd.specs.Classes.{is_pdi, is_separator};
 ghost use Rattle.bidi.specs.Explicit.{level_above, override_of, close_embedding, close_isolate, open_after};
@@ -13,11 +13,11 @@ use ucd::BidiClass;
 /// The greatest explicit level (BD2).
 const MAX_DEPTH: u8 = 125;
 
-/// How many entries the stack of X1 has at most: one for each explicit level, and two more.
+/// The capacity of the stack of X1: one entry for each explicit level, and two more.
 const MAX_ENTRIES: usize = 127;
 
-/// What X9 leaves of a paragraph: of each character that stays, in order, its class, its explicit
-/// level and its explicit type. The lists are used again for each paragraph.
+/// The characters of a paragraph that X9 keeps: for each, in order, its class, its explicit level and its
+/// explicit type. The lists are reused for each paragraph.
 #[derive(Debug, Drop)]
 pub(crate) struct Stayed {
     pub classes: Vec<BidiClass>,
@@ -34,7 +34,7 @@ impl Stayed {
         }
     }
 
-    // Empties the lists, which have room for so many characters then.
+    // Empties the lists, and reserves capacity for `len` characters.
     fn clear(&mut self, len: usize) -> Result<(), AllocError>
         ensures classes { OnOk result (self.new.classes.items ≡ []) }
         ensures levels { OnOk result (self.new.levels.items ≡ []) }
@@ -60,8 +60,8 @@ impl Stayed {
     }
 }
 
-// What holds inside an opener: its level, the type that an override gives, and whether the opener
-// is an isolate initiator.
+// The state inside an embedding, override or isolate: its level, the type that an override gives, and whether
+// it is an isolate.
 #[derive(Clone, Copy, Debug, Default, PartialEq, Eq)]
 struct Status {
     level: u8,
@@ -69,9 +69,9 @@ struct Status {
     is_isolate: bool,
 }
 
-// The openers that are open: those with a level of their own on a stack, over the paragraph's
-// status; and how many have none, as X2 to X5c count them. Embeddings are counted only up to the
-// first isolate without a level.
+// What is open. A stack has the paragraph's status, and above it each embedding, override and isolate with a
+// level of its own. The counts are of those that overflowed, as X2 to X5c count them. Embeddings are counted
+// only up to the first isolate that overflowed.
 #[derive(Drop)]
 struct Openers {
     statuses: ArrayVec<Status, MAX_ENTRIES>,
@@ -98,7 +98,7 @@ impl Openers {
         }
     }
 
-    // What holds inside the openers.
+    // The state inside all that is open.
     fn status(&self) -> Status
         requires { AreOpeners self.now }
         ensures { IsInnermost self.now result }
@@ -130,7 +130,7 @@ impl Openers {
         }
     }
 
-    // Closes the innermost opener, if it is no isolate (X7).
+    // Closes the innermost embedding or override, unless an isolate inside it is open (X7).
     fn close_embedding(&mut self)
         requires { AreOpeners self.old }
         ensures { Follows self.old self.new close_embedding }
@@ -145,7 +145,7 @@ impl Openers {
         }
     }
 
-    // Closes the innermost isolate with all that was opened inside it, if there is one (X6a).
+    // Closes the innermost isolate and all that is open inside it, if there is one (X6a).
     fn close_isolate(&mut self)
         requires { AreOpeners self.old }
         ensures { Follows self.old self.new close_isolate }
@@ -159,7 +159,7 @@ impl Openers {
         }
     }
 
-    // What a character does before it is passed: a PDI stands outside of what it closes.
+    // What a character does before its own state is read: a PDI is outside of what it closes.
     fn reach(&mut self, class: BidiClass)
         requires { AreOpeners self.old }
         ensures { Follows self.old self.new (λ chain. if is_pdi class then close_isolate chain else chain) }
@@ -169,7 +169,7 @@ impl Openers {
         }
     }
 
-    // What another character does: an initiator stands outside of what it opens.
+    // What a character does after its own state is read: an initiator is outside of what it opens.
     fn pass(&mut self, class: BidiClass)
         requires { AreOpeners self.old }
         ensures { Follows self.old self.new
@@ -188,7 +188,7 @@ impl Openers {
     }
 }
 
-// Takes the innermost isolate off the stack, and all above it.
+// Removes the innermost isolate from the stack, and all above it.
 fn pop_isolate(statuses: &mut ArrayVec<Status, MAX_ENTRIES>)
     ensures { ClosesIsolate statuses.old.items statuses.new.items }
 {
@@ -199,7 +199,7 @@ fn pop_isolate(statuses: &mut ArrayVec<Status, MAX_ENTRIES>)
     }
 }
 
-// The least odd or even level above a level, as the opener asks (X2 to X5b).
+// The next odd or even level above a level, as required by what is opened (X2 to X5b).
 fn level_above(opener: BidiClass, level: u8) -> u8
     requires { level ≤ 125 }
     ensures { result ≡ level_above opener level }
@@ -221,7 +221,7 @@ fn override_of(opener: BidiClass) -> Option<BidiClass>
     }
 }
 
-// Adds the level and the type of a character that stays.
+// Adds the level and the type of a character that X9 keeps.
 fn push_character(
     stayed: &mut Stayed,
     status: Status,
@@ -241,7 +241,8 @@ fn push_character(
     }
 }
 
-/// The characters of a paragraph that stay, by its classes without FSI, in place of what `stayed` has.
+/// Replaces the contents of `stayed` by the characters of a paragraph that X9 keeps, from its classes without
+/// FSI.
 pub(crate) fn explicit(
     classes: &[BidiClass],
     base: u8,

@@ -1,5 +1,5 @@
-//! Isolate initiators: their matching PDIs (UAX #9, BD9), and the direction of those by the first
-//! strong character (X5c).
+//! Isolate initiators: their matching PDIs (UAX #9, BD9), and the direction of FSI by the first strong
+//! character (X5c).
 ghost use Rattle.std.specs.Prelude.{◌≡◌, ◌+◌, ◌-◌, ◌<◌, ◌==◌, true, IfOk, OnOk, if◌then◌else◌};
 ghost use Rattle.std.specs.Prelude.{length, take, slice_index, slice_set};
 ghost use Rattle.std.specs.List.{list_any};
@@ -14,9 +14,9 @@ use crate::classes::{is_initiator, is_pdi};
 use std::alloc::{AllocError, Global};
 use ucd::BidiClass;
 
-/// The matches of a list's initiators, found in lists that are used again: for each index the match
-/// of the initiator there, or the length where there is no initiator or it has no match; and the
-/// initiators that wait for theirs.
+/// Reused lists for the matches of isolate initiators. One has for each index the matching PDI of the
+/// initiator there, or the length if there is no initiator or no match. The other has the initiators that are
+/// not matched yet.
 #[derive(Debug, Drop)]
 pub(crate) struct Isolates {
     pub found: Vec<usize>,
@@ -32,7 +32,7 @@ impl Isolates {
     }
 }
 
-/// Finds the matches of a list's initiators.
+/// Finds the matches of the initiators of a list.
 pub(crate) fn find_matches(
     classes: &[BidiClass],
     found: &mut Vec<usize>,
@@ -55,7 +55,7 @@ pub(crate) fn find_matches(
     Ok(())
 }
 
-/// Finds the matches of a list's initiators, unless they are found already.
+/// Finds the matches of the initiators of a list, unless they are known.
 pub(crate) fn find_or_keep_matches(
     classes: &[BidiClass],
     is_found: bool,
@@ -71,7 +71,7 @@ pub(crate) fn find_or_keep_matches(
     find_matches(classes, &mut isolates.found, &mut isolates.pending)
 }
 
-// Gives its match to the initiator that was opened last, and takes it off.
+// Matches the last pending initiator, and removes it.
 fn close(found: &mut [usize], pending: &mut Vec<usize>, at: usize)
     requires { 0 < length pending.old.items
         → slice_index pending.old.items (length pending.old.items - 1) < length found.old }
@@ -84,8 +84,8 @@ fn close(found: &mut [usize], pending: &mut Vec<usize>, at: usize)
     }
 }
 
-/// The classes of a paragraph, each FSI as the initiator that it acts as (X5c). True where the matches
-/// were found for it, which then are those of these classes too.
+/// Writes the classes of a paragraph, each FSI as the initiator that it acts as (X5c). Returns true if it
+/// found the matches for that; they are also those of the new classes.
 pub(crate) fn direct(
     classes: &[BidiClass],
     isolates: &mut Isolates,
@@ -137,8 +137,8 @@ fn acting_class(classes: &[BidiClass], matches: &[usize], at: usize) -> BidiClas
     }
 }
 
-// The level that the first strong character in the span of an initiator gives. An isolate inside
-// it is passed over in one step.
+// The level of the first strong character between an initiator and its match. Skips an isolate inside in one
+// step.
 fn first_strong_level(classes: &[BidiClass], matches: &[usize], initiator: usize) -> Option<u8>
     requires within { initiator < length classes.now }
     requires opens { is_initiator (class_at classes.now initiator) ≡ true }
@@ -159,7 +159,7 @@ fn first_strong_level(classes: &[BidiClass], matches: &[usize], initiator: usize
     None
 }
 
-// The next place that lies in no isolate which begins here.
+// The next index that is outside of an isolate that begins here.
 fn place_after(class: BidiClass, found: usize, at: usize) -> usize
     requires at { at + 1 < usize.MAX }
     requires found { found + 1 < usize.MAX }

@@ -18,8 +18,7 @@ use crate::sequences::direction;
 use std::alloc::{AllocError, Global};
 use ucd::BidiClass;
 
-/// What the levels of a paragraph are found by: what its characters are as brackets, their classes and its
-/// level.
+/// The input for a paragraph's levels: its bracket types, its classes and its base level.
 #[derive(Clone, Copy)]
 pub(crate) struct Classified<'a> {
     pub brackets: Brackets<'a>,
@@ -27,8 +26,8 @@ pub(crate) struct Classified<'a> {
     pub base: u8,
 }
 
-/// What the levels of a paragraph are found in: the characters that X9 leaves, what they are as brackets,
-/// and what their sequences are found in.
+/// Reused lists for a paragraph: the characters that X9 keeps, their bracket types, and the lists for their
+/// sequences.
 #[derive(Debug, Drop)]
 pub(crate) struct Work {
     stayed: Stayed,
@@ -36,9 +35,8 @@ pub(crate) struct Work {
     lists: Lists,
 }
 
-// What the sequences of the characters that X9 leaves are found in: the matches of their initiators, the
-// places at which a run begins in which an earlier one continues, one sequence after another, and the
-// levels so far.
+// Reused lists for the sequences of the characters that X9 keeps. They have the matches of their initiators,
+// the starts of runs that continue an earlier one, one sequence, and the levels so far.
 #[derive(Debug, Drop)]
 struct Lists {
     isolates: Isolates,
@@ -68,7 +66,7 @@ impl Lists {
     }
 }
 
-// Finds the levels of the characters that X9 leaves, of which the matches may be found.
+// Finds the levels of the characters that X9 keeps. Their matches may be known.
 fn resolve_stayed(
     brackets: &Brackets<'_>,
     base: u8,
@@ -103,7 +101,7 @@ fn resolve_stayed(
     )
 }
 
-// What the characters that X9 leaves are as brackets.
+// The bracket types of the characters that X9 keeps.
 fn stayed_brackets(
     all: &[BracketType],
     classes: &[BidiClass],
@@ -122,7 +120,7 @@ fn stayed_brackets(
     Ok(())
 }
 
-// The same of a paragraph that may have none.
+// The same for a paragraph that may have no brackets.
 fn any_stayed_brackets(
     all: &Brackets<'_>,
     classes: &[BidiClass],
@@ -138,8 +136,8 @@ fn any_stayed_brackets(
     stayed_brackets(all.types, classes, brackets)
 }
 
-// The levels of all characters: one that X9 took out has the level of the nearest one before it
-// that stayed, else the paragraph level.
+// The levels of all characters: one that X9 removed has the level of the nearest kept one before it, else the
+// paragraph level.
 fn put_back(
     classes: &[BidiClass],
     base: u8,
@@ -164,14 +162,14 @@ fn put_back(
     Ok(())
 }
 
-// Whether the matches are found and X9 took nothing out, so that they are those of what stays.
+// Whether the matches are known and X9 removed nothing, so that they are those of the kept characters.
 fn are_still_found(is_found: bool, stayed: &[BidiClass], acting: &[BidiClass]) -> bool
     ensures { result ≡ true → (is_found ≡ true) × (length stayed.now ≡ length acting.now) }
 {
     is_found && stayed.len() == acting.len()
 }
 
-/// The levels of a paragraph by all rules, by its classes without FSI, of which the matches may be found.
+/// Finds the levels of a paragraph by all rules, from its classes without FSI. Their matches may be known.
 pub(crate) fn resolve_acting(
     paragraph: &Classified<'_>,
     is_found: bool,
@@ -199,7 +197,7 @@ pub(crate) fn resolve_acting(
     Ok(())
 }
 
-/// The levels of a paragraph by all rules, by its classes. Another list is used for those without FSI.
+/// Finds the levels of a paragraph by all rules, from its classes. Another list has the classes without FSI.
 pub(crate) fn resolve_classes(
     paragraph: &Classified<'_>,
     acting: &mut Vec<BidiClass>,
@@ -219,8 +217,7 @@ pub(crate) fn resolve_classes(
     resolve_acting(&paragraph, is_found, work, levels)
 }
 
-/// The levels of a paragraph in which nothing is opened, closed or taken out: it is one sequence as
-/// it stands.
+/// Finds the levels of a paragraph in which nothing is opened, closed or removed. It is a single sequence.
 pub(crate) fn resolve_plain(
     paragraph: &Classified<'_>,
     work: &mut Work,
@@ -236,7 +233,7 @@ pub(crate) fn resolve_plain(
     let base = paragraph.base;
     let sequence = &mut work.lists.sequence;
     copy_types(classes, &mut sequence.types)?;
-    // All are written below, so what the list has is as good as anything.
+    // All items are overwritten below, so their values do not matter.
     levels.resize(classes.len(), base)?;
     let side = direction(base);
     let sides = Sides {

@@ -1,9 +1,9 @@
-//! The Unicode Bidirectional Algorithm (UAX #9): where paragraphs end, the base level of each, and
-//! the levels of their characters.
+//! The Unicode Bidirectional Algorithm (UAX #9): paragraph boundaries, base levels, and the levels of
+//! characters.
 //!
-//! `first_cut` parts a text into paragraphs, `base_level` and `resolve` answer for one; a `Resolver` does the
-//! same in lists that it keeps, by properties that were looked up. What a line makes of levels (L1 to L4) is
-//! in `lines`.
+//! `first_cut` splits a text into paragraphs. `base_level` and `resolve` return the levels of one. A
+//! `Resolver` does the same with reused lists, from properties that have been looked up. The rules for lines
+//! (L1 to L4) are in `reorder`.
 //!
 //! ```rust
 //! let text: Vec<char> = "(שלום) ok".chars().collect(alloc)?;

@@ -1,4 +1,4 @@
-//! The neutral and implicit rules (UAX #9, N1, N2, I1 and I2), over the types of one isolating run sequence.
+//! The neutral and implicit rules (UAX #9, N1, N2, I1 and I2), on the types of one isolating run sequence.
 ghost use Rattle.std.specs.Prelude.{◌≡◌, ◌<◌, ◌≤◌, false, length, map};
 ghost use Rattle.bidi.specs.Neutral.{is_neutral, between, neutral, implicit_level};
 ghost use Rattle.bidi.specs.Rows.{row_level, PutsRow};
@@ -9,9 +9,8 @@ use crate::fill::fill;
 use crate::sequences::direction;
 use ucd::BidiClass;
 
-/// N1, N2, I1 and I2 in one walk: neutrals in a row take the direction of both their sides, or else
-/// the embedding direction; they wait until the type after them is read, and then their levels are
-/// written.
+/// Applies N1, N2, I1 and I2 in one pass. A run of neutrals has the direction of both its sides, or else the
+/// embedding direction. It waits until the type after it is read, and then its levels are written.
 pub(crate) fn resolve_neutral(
     types: &[BidiClass],
     level: u8,
@@ -23,7 +22,7 @@ pub(crate) fn resolve_neutral(
     requires bounded { level ≤ 125 }
     ensures { levels.new ≡ map (implicit_level level) (neutral (direction level) sos eos types.now) }
 {
-    // The nearest type that is no neutral, and the place after it, where a row may begin.
+    // The nearest type that is not neutral, and the index after it, where a run may begin.
     let mut before = sos;
     let mut start = 0;
     let mut at = 0;
@@ -43,7 +42,7 @@ pub(crate) fn resolve_neutral(
     fill(levels, start, types.len(), row_level(level, before, eos));
 }
 
-// Writes the levels of a row of equal types that are no neutrals. Answers where the row ends.
+// Writes the levels of a run of equal types that are not neutral. Returns the end of the run.
 fn put_row(
     types: &[BidiClass],
     level: u8,
@@ -70,7 +69,7 @@ fn put_row(
     at
 }
 
-// The level of neutrals in a row, by the types on both sides.
+// The level of a run of neutrals, by the types on both sides.
 fn row_level(level: u8, before: BidiClass, after: BidiClass) -> u8
     requires { level ≤ 125 }
     ensures { result ≡ row_level level before after }
@@ -94,7 +93,7 @@ fn is_neutral(class: BidiClass) -> bool
     )
 }
 
-// The direction of what stands between two types that are no neutrals.
+// The direction of what is between two types that are not neutral.
 fn between(embedding: BidiClass, before: BidiClass, after: BidiClass) -> BidiClass
     ensures { result ≡ between embedding before after }
 {
@@ -105,7 +104,7 @@ fn between(embedding: BidiClass, before: BidiClass, after: BidiClass) -> BidiCla
     }
 }
 
-/// I1 and I2: the level of a character, by the type that is left of it.
+/// I1 and I2: the level of a character, by its type after N2.
 pub(crate) fn implicit_level(level: u8, class: BidiClass) -> u8
     requires { level ≤ 125 }
     ensures { result ≡ implicit_level level class }

@@ -1,4 +1,4 @@
-//! The levels of paragraphs before L1 (UAX #9, X1 to I2), found in lists that are used again for each.
+//! The levels of paragraphs before L1 (UAX #9, X1 to I2), with reused lists.
 ghost use Rattle.std.specs.Prelude.{◌≡◌, ℕ, ◌<◌, ◌≤◌, map, length, replicate, IfOk, List, OnErr, OnOk};
 ghost use Rattle.std.specs.Prelude.{vec_capacity};
 ghost use Rattle.std.specs.Prelude.{Option, true, false, slice_index_or};
@@ -23,7 +23,7 @@ use crate::sequence_levels::Brackets;
 use std::alloc::{AllocError, Global};
 use ucd::{BidiClass, Properties, Tables};
 
-// Whether a character opens nothing, closes nothing and stays.
+// Whether a character opens nothing, closes nothing, and is kept by X9.
 fn is_plain(class: BidiClass) -> bool
     ensures { result ≡ is_plain class }
 {
@@ -75,7 +75,7 @@ fn are_flat(classes: &[BidiClass]) -> bool
     classes.iter().all(|class| is_flat(*class))
 }
 
-// The same by what the tables say of characters.
+// The same for properties.
 fn are_flat_by(properties: &[Properties]) -> bool
     ensures { result ≡ list_all (λ one. is_flat (class_in one)) properties.now }
 {
@@ -88,15 +88,15 @@ fn has_brackets(brackets: &[BracketType]) -> bool
     brackets.iter().any(|bracket| is_bracket(*bracket))
 }
 
-// What of a paragraph decides which rules it needs.
+// What decides which rules a paragraph needs.
 #[derive(Clone, Copy)]
 struct Summary {
-    // Whether nothing is opened, closed or taken out.
+    // Whether nothing is opened, closed or removed.
     is_plain: bool,
     has_brackets: bool,
 }
 
-// The classes in what the tables say of characters, in place of what the list has, and what they come to.
+// Replaces the contents of a list by the classes in some properties, and summarizes them.
 fn take_classes(
     properties: &[Properties],
     classes: &mut Vec<BidiClass>,
@@ -107,7 +107,7 @@ fn take_classes(
     ensures brackets { IfOk result (λ summary.
         summary.has_brackets ≡ list_any has_bracket_in properties.now) }
 {
-    // All are written below, so what the list has is as good as anything.
+    // All items are overwritten below, so their values do not matter.
     classes.resize(properties.len(), BidiClass::L)?;
     Ok(put_classes(properties, classes))
 }
@@ -133,7 +133,7 @@ fn put_classes(properties: &[Properties], classes: &mut [BidiClass]) -> Summary
     }
 }
 
-// What the characters of a text are as brackets, in place of what the list has.
+// Replaces the contents of a list by the bracket types of a text.
 fn take_brackets(
     tables: &Tables,
     text: &[char],
@@ -149,7 +149,7 @@ fn take_brackets(
     Ok(())
 }
 
-// Puts those that are brackets. The tables are asked of these alone.
+// Sets the bracket types of brackets. Only these are looked up in the tables.
 fn put_brackets(
     tables: &Tables,
     text: &[char],
@@ -168,8 +168,8 @@ fn put_brackets(
     }
 }
 
-// What the tables say of two characters, of which the first was asked for last: most texts have brackets of
-// one kind.
+// The bracket types of two characters; the first is the one looked up last. Most texts have brackets of one
+// kind.
 #[derive(Clone, Copy)]
 struct Known {
     first: char,
@@ -211,7 +211,7 @@ impl Known {
     }
 }
 
-// The least place from `from` on at which a bracket stands, or else the length.
+// The least index of a bracket from `from` on, or else the length.
 fn next_bracket(properties: &[Properties], from: usize) -> usize
     requires { from ≤ length properties.now }
     ensures reached { from ≤ result }
@@ -226,7 +226,7 @@ fn next_bracket(properties: &[Properties], from: usize) -> usize
     at
 }
 
-// What the characters of a text are as brackets, where some are.
+// The bracket types of a text, if it has any brackets.
 fn take_any_brackets(
     tables: &Tables,
     text: &[char],
@@ -244,7 +244,7 @@ fn take_any_brackets(
     take_brackets(tables, text, properties, brackets)
 }
 
-// So many levels 0, in place of what the list has.
+// Replaces the contents of a list by `len` zeros.
 fn put_zeros(levels: &mut Vec<u8>, len: usize) -> Result<(), AllocError>
     ensures ok { OnOk result (levels.new.items ≡ replicate len 0) }
     ensures full { OnErr result (vec_capacity levels.old < len) }
@@ -254,8 +254,8 @@ fn put_zeros(levels: &mut Vec<u8>, len: usize) -> Result<(), AllocError>
     Ok(())
 }
 
-/// Finds the levels of paragraphs, in lists that are emptied and used again: a paragraph for which
-/// they have room takes no memory.
+/// Finds the levels of paragraphs, with reused lists. It does not allocate for a paragraph if their capacity
+/// is large enough.
 #[derive(Debug)]
 pub struct Resolver {
     classes: Vec<BidiClass>,
@@ -276,7 +276,7 @@ impl Drop for Resolver {
 }
 
 impl Resolver {
-    /// One whose lists are empty, which takes no memory.
+    /// Creates a resolver with empty lists. Does not allocate.
     pub fn new(alloc: Global) -> Resolver {
         Resolver {
             classes: Vec::new(alloc),
@@ -286,10 +286,10 @@ impl Resolver {
         }
     }
 
-    /// The base level of one paragraph, 0 or 1, and in place of what `levels` has the level of each
-    /// of its characters before L1, from 0 to 126, by what the tables say of them. The list may be
-    /// any, also one that is no paragraph. After want of memory the resolver serves as before, and
-    /// nothing is known of `levels`.
+    /// Returns the base level of one paragraph, 0 or 1, and replaces the contents of `levels` by the level of
+    /// each character before L1, from 0 to 126. The properties are those of its characters. The text may be
+    /// any list, also one that is no paragraph. After an allocation failure the resolver can be used again,
+    /// and `levels` is unspecified.
     pub fn resolve(
         &mut self,
         tables: &Tables,
@@ -318,7 +318,7 @@ impl Resolver {
         Ok(level)
     }
 
-    // The levels of a paragraph of a base level, whatever its characters.
+    // Finds the levels of a paragraph with a base level, whatever its characters.
     fn resolve_raised(
         &mut self,
         tables: &Tables,
@@ -352,11 +352,10 @@ impl Resolver {
         )
     }
 
-    /// The base level of one paragraph, 0 or 1, and in place of what `levels` has the level of each
-    /// of its characters before L1, from 0 to 126, by their classes and by what each is as a bracket:
-    /// those of every text and every look-up of which these are the brackets. The list may be any, also
-    /// one that is no paragraph. After want of memory the resolver serves as before, and nothing is known
-    /// of `levels`.
+    /// Returns the base level of one paragraph, 0 or 1, and replaces the contents of `levels` by the level of
+    /// each character before L1, from 0 to 126. They depend on the classes and bracket types alone: all texts
+    /// and tables with these have the same levels. The list may be any, also one that is no paragraph. After
+    /// an allocation failure the resolver can be used again, and `levels` is unspecified.
     pub fn resolve_by(
         &mut self,
         classes: &[BidiClass],
@@ -401,8 +400,8 @@ impl Resolver {
     }
 }
 
-// The levels of a paragraph of a base level, of which it is known whether anything is opened, closed or taken
-// out.
+// Finds the levels of a paragraph with a base level. It is known whether anything is opened, closed or
+// removed.
 fn resolve_classified(
     paragraph: &Classified<'_>,
     all_plain: bool,
@@ -423,7 +422,7 @@ fn resolve_classified(
     }
 }
 
-/// What the tables say of the characters of a text.
+/// The properties of the characters of a text.
 pub(crate) fn properties_of(
     alloc: Global,
     tables: &Tables,
@@ -434,8 +433,8 @@ pub(crate) fn properties_of(
     text.iter().map(|c| tables.properties(*c)).collect(alloc)
 }
 
-/// The level of each character of one paragraph before L1, from 0 to 126 (UAX #9, X1 to I2). The
-/// list may be any, also one that is no paragraph.
+/// Returns the level of each character of one paragraph before L1, from 0 to 126 (UAX #9, X1 to I2). The text
+/// may be any list, also one that is no paragraph.
 pub fn resolve(
     alloc: Global,
     tables: &Tables,
@@ -455,9 +454,9 @@ pub fn resolve(
     Ok(levels)
 }
 
-/// The level of each character of one paragraph before L1, from 0 to 126 (UAX #9, X1 to I2), by the
-/// classes of its characters and by what each is as a bracket: those of every text and every look-up of
-/// which these are the brackets. The list may be any, also one that is no paragraph.
+/// Returns the level of each character of one paragraph before L1, from 0 to 126 (UAX #9, X1 to I2), from the
+/// classes and bracket types of its characters. All texts and tables with these have the same levels. The
+/// list may be any, also one that is no paragraph.
 pub fn resolve_by(
     alloc: Global,
     classes: &[BidiClass],

@@ -19,15 +19,15 @@ use crate::weak::resolve_weak;
 use std::alloc::{AllocError, Global};
 use ucd::BidiClass;
 
-/// What the characters of a paragraph or of a part of it are as brackets.
+/// The bracket types of a paragraph or of a part of it.
 #[derive(Clone, Copy)]
 pub(crate) struct Brackets<'a> {
     pub types: &'a [BracketType],
-    /// Where it is false, none of the characters is a bracket, and the list may be any.
+    /// If it is false, none of the characters is a bracket, and the list may be any.
     pub has_any: bool,
 }
 
-/// The characters that X9 leaves, with what is found of them before their sequences are resolved.
+/// The characters that X9 keeps, with what is known of them before their sequences are resolved.
 #[derive(Clone, Copy)]
 pub(crate) struct Paragraph<'a> {
     pub brackets: Brackets<'a>,
@@ -36,7 +36,7 @@ pub(crate) struct Paragraph<'a> {
     pub matches: &'a [usize],
 }
 
-/// What a sequence is resolved by: its level, and the directions at both of its ends.
+/// The level of a sequence, and the directions at both of its ends.
 #[derive(Clone, Copy, Debug, PartialEq, Eq)]
 pub(crate) struct Sides {
     pub level: u8,
@@ -56,7 +56,7 @@ fn sides_of(paragraph: &Paragraph<'_>, places: &[usize]) -> Sides
     sides_between(paragraph, first, last)
 }
 
-// What a sequence is resolved by that begins and ends at these places.
+// Those of a sequence that begins and ends at these indices.
 fn sides_between(paragraph: &Paragraph<'_>, first: usize, last: usize) -> Sides
     requires paragraph { IsReady paragraph.now }
     requires first { first < length paragraph.now.stayed.now.levels.items }
@@ -73,7 +73,7 @@ fn sides_between(paragraph: &Paragraph<'_>, first: usize, last: usize) -> Sides
     }
 }
 
-/// The levels of a sequence, by all rules over its types, from the weak to the implicit ones.
+/// Finds the levels of a sequence, by all rules on its types, from W1 to I2.
 pub(crate) fn resolve_types(
     brackets: &Brackets<'_>,
     explicit: &[BidiClass],
@@ -98,7 +98,7 @@ pub(crate) fn resolve_types(
     Ok(())
 }
 
-// What the characters from one place up to another are as brackets.
+// The bracket types of the characters from one index up to another.
 fn part<'a>(brackets: &Brackets<'a>, start: usize, end: usize) -> Brackets<'a>
     requires order { start ≤ end }
     requires within { brackets.now.has_any ≡ true → end ≤ length brackets.now.types.now }
@@ -116,7 +116,7 @@ fn part<'a>(brackets: &Brackets<'a>, start: usize, end: usize) -> Brackets<'a>
     }
 }
 
-// The types of a sequence, at its places.
+// The types at the indices of a sequence.
 fn take_types(
     all: &[BidiClass],
     places: &[usize],
@@ -133,7 +133,7 @@ fn take_types(
     Ok(())
 }
 
-// What the characters of a sequence are as brackets, at its places.
+// The bracket types at the indices of a sequence.
 fn take_brackets(
     all: &[BracketType],
     places: &[usize],
@@ -150,7 +150,7 @@ fn take_brackets(
     Ok(())
 }
 
-// The same of a paragraph that may have none.
+// The same for a paragraph that may have no brackets.
 fn take_any_brackets(
     all: &Brackets<'_>,
     places: &[usize],
@@ -166,7 +166,7 @@ fn take_any_brackets(
     take_brackets(all.types, places, brackets)
 }
 
-// Writes the level of each character of a sequence to its place.
+// Writes the level of each character of a sequence to its index.
 fn put_levels(levels: &mut [u8], places: &[usize], values: &[u8])
     requires within { AreWithin (length levels.old) places.now }
     requires length { length values.now ≡ length places.now }
@@ -177,8 +177,8 @@ fn put_levels(levels: &mut [u8], places: &[usize], values: &[u8])
     }
 }
 
-/// What the levels of a sequence are found in, used again for each sequence: the places of its
-/// characters, what these are as brackets, their explicit types, their types and their levels.
+/// Reused lists for a sequence: the indices of its characters, their bracket types, explicit types, types and
+/// levels.
 #[derive(Debug, Drop)]
 pub(crate) struct Sequence {
     places: Vec<usize>,
@@ -201,7 +201,7 @@ impl Sequence {
         }
     }
 
-    // Takes the sequence that begins at `start`.
+    // Collects the sequence that begins at `start`.
     fn take(&mut self, paragraph: &Paragraph<'_>, start: usize) -> Result<(), AllocError>
         requires paragraph { IsReady paragraph.now }
         requires within { start < length paragraph.now.stayed.now.levels.items }
@@ -220,8 +220,7 @@ impl Sequence {
         copy_types(&self.explicit, &mut self.types)
     }
 
-    // Finds the levels of a run that is a sequence of its own, and writes them to their places. It is
-    // resolved where it stands.
+    // Resolves a run that is a sequence of its own, in place, and writes its levels.
     fn resolve_run(
         &mut self,
         paragraph: &Paragraph<'_>,
@@ -251,8 +250,7 @@ impl Sequence {
         Ok(())
     }
 
-    // Finds the levels of the sequence that begins with the run from `start` to `end`, and writes them to
-    // their places.
+    // Resolves the sequence that begins with the run from `start` to `end`, and writes its levels.
     fn resolve(
         &mut self,
         paragraph: &Paragraph<'_>,
@@ -273,8 +271,7 @@ impl Sequence {
         }
     }
 
-    // Finds the levels of the sequence that begins at `start` in lists of its own, and writes them to their
-    // places.
+    // Resolves the sequence that begins at `start` in lists of its own, and writes its levels.
     fn resolve_gathered(
         &mut self,
         paragraph: &Paragraph<'_>,
@@ -308,7 +305,7 @@ impl Sequence {
     }
 }
 
-// Marks the place where a run begins in which another continues.
+// Marks the start of a run that continues another one.
 fn mark(continued: &mut [bool], next: Option<usize>)
     requires { IfSome next (λ place. place < length continued.old) }
     ensures { continued.new ≡ marked continued.old next }
@@ -318,7 +315,7 @@ fn mark(continued: &mut [bool], next: Option<usize>)
     }
 }
 
-/// Finds the levels of all sequences, run by run, and writes them to their places.
+/// Resolves all sequences, run by run, and writes their levels.
 pub(crate) fn resolve_runs(
     paragraph: &Paragraph<'_>,
     sequence: &mut Sequence,
@@ -335,7 +332,7 @@ pub(crate) fn resolve_runs(
     let mut start = 0;
     while start < levels.len() {
         let end = run_end(levels, start);
-        // A run in which an earlier one continues belongs to the sequence of that one.
+        // A run that continues an earlier one belongs to the sequence of that one.
         if !continued[start] {
             sequence.resolve(paragraph, start, end, done)?;
         }

@@ -1,4 +1,4 @@
-//! Level runs and isolating run sequences (UAX #9, X10, BD7 and BD13) of the characters that X9 leaves.
+//! Level runs and isolating run sequences (UAX #9, X10, BD7 and BD13) of the characters that X9 keeps.
 ghost use Rattle.std.specs.Prelude.{◌≡◌, ◌+◌, ◌-◌, ◌<◌, ◌≤◌, ◌==◌, ◌&&◌, ◌++◌, if◌then◌else◌};
 ghost use Rattle.std.specs.Prelude.{length, max, slice_index, OnOk};
 ghost use Rattle.std.specs.List.{range_with_len};
@@ -12,7 +12,7 @@ use crate::classes::is_initiator;
 use std::alloc::AllocError;
 use ucd::BidiClass;
 
-/// The direction of a level.
+/// Returns the direction of a level.
 pub(crate) fn direction(level: u8) -> BidiClass
     ensures { result ≡ direction level }
 {
@@ -23,7 +23,7 @@ pub(crate) fn direction(level: u8) -> BidiClass
     }
 }
 
-/// Where the run ends that begins at `start`: the least place after it with another level.
+/// Returns the end of the run that begins at `start`: the least index after it with another level.
 pub(crate) fn run_end(levels: &[u8], start: usize) -> usize
     requires { start < length levels.now }
     ensures { IsRunEnd levels.now start result }
@@ -35,8 +35,8 @@ pub(crate) fn run_end(levels: &[u8], start: usize) -> usize
     end
 }
 
-/// Where the run begins in which the run up to `end` continues, if there is one: at the match of
-/// its last character, if a run begins there.
+/// Returns the start of the run that continues the run up to `end`, if there is one. That is the match of the
+/// run's last character, if a run begins there.
 pub(crate) fn next_run(levels: &[u8], matches: &[usize], end: usize) -> Option<usize>
     requires within { (0 < end) × (end ≤ length levels.now) }
     requires matches { length matches.now ≡ length levels.now }
@@ -51,7 +51,7 @@ pub(crate) fn next_run(levels: &[u8], matches: &[usize], end: usize) -> Option<u
     }
 }
 
-// Adds the places of a run.
+// Adds the indices of a run.
 fn push_places(places: &mut Vec<usize>, start: usize, end: usize) -> Result<(), AllocError>
     requires { start ≤ end }
     ensures { OnOk result (places.new.items ≡ places.old.items ++ range_with_len start (end - start)) }
@@ -63,7 +63,7 @@ fn push_places(places: &mut Vec<usize>, start: usize, end: usize) -> Result<(), 
     Ok(())
 }
 
-/// Puts the places of the sequence that begins at `first` into `places`, in order.
+/// Replaces the contents of `places` by the indices of the sequence that begins at `first`, in order.
 pub(crate) fn gather(
     classes: &[BidiClass],
     levels: &[u8],
@@ -91,7 +91,7 @@ pub(crate) fn gather(
     }
 }
 
-/// The direction before a sequence's first character (X10).
+/// Returns the direction before a sequence's first character (X10).
 pub(crate) fn sos(levels: &[u8], base: u8, first: usize) -> BidiClass
     requires { first < length levels.now }
     ensures { result ≡ direction (max (slice_index levels.now first) (level_before base levels.now first)) }
@@ -100,8 +100,8 @@ pub(crate) fn sos(levels: &[u8], base: u8, first: usize) -> BidiClass
     direction(levels[first].max(before))
 }
 
-/// The direction after a sequence's last character (X10). After an initiator without a match
-/// stands the paragraph level.
+/// Returns the direction after a sequence's last character (X10). An initiator without a match is followed by
+/// the paragraph level.
 pub(crate) fn eos(
     classes: &[BidiClass],
     levels: &[u8],

@@ -1,4 +1,4 @@
-//! The weak rules (UAX #9, W1 to W7), in one walk over the types of one isolating run sequence.
+//! The weak rules (UAX #9, W1 to W7), in one pass over the types of one isolating run sequence.
 ghost use Rattle.std.specs.Prelude.{◌≡◌, ◌<◌, ◌≤◌, true, length, not, if◌then◌else◌};
 ghost use Rattle.ucd.specs.Classes.{class_at, is_strong};
 ghost use Rattle.bidi.specs.Waiting.{mark_type, digit_type, number_type, written, completes, row_after};
@@ -9,35 +9,35 @@ ghost use Rattle.bidi.specs.Weak.{is_left, mark_after, w3_type, weak};
 use crate::fill::fill;
 use ucd::BidiClass;
 
-// What stands before a place, and which types there wait for the type at it.
+// What is before an index, and which types there wait for the type at it.
 #[derive(Clone, Copy, Debug, PartialEq, Eq)]
 enum Row {
-    // None that matters.
+    // Nothing that matters.
     Nothing,
     // A European number.
     European,
     // An Arabic number.
     Arabic,
-    // European terminators after a European number: numbers by now.
+    // European terminators after a European number, which are numbers now.
     EuropeanTerminators,
-    // A separator after a European number, which waits for another.
+    // A separator after a European number, which waits for another number.
     EuropeanSeparator,
-    // A common separator after an Arabic number, which waits for another.
+    // A common separator after an Arabic number, which waits for another number.
     ArabicSeparator,
-    // European terminators in a row, which wait for a European number.
+    // A run of European terminators, which wait for a European number.
     Terminators,
 }
 
-/// W1 to W7 in one walk over the types of a sequence, each read once. A separator or terminator that
-/// the next types may make a number waits as ON, with those in its row.
+/// Applies W1 to W7 in one pass, and reads each type once. A separator or terminator that the next types may
+/// make a number waits as ON, with its run.
 pub(crate) fn resolve_weak(types: &mut [BidiClass], sos: BidiClass)
     ensures { types.new ≡ weak sos types.old }
 {
-    // The nearest type that is no mark, and the nearest strong one, as they were before W2.
+    // The nearest type that is not NSM, and the nearest strong one, as they were before W2.
     let mut before = sos;
     let mut strong = sos;
     let mut row = Row::Nothing;
-    // Where the types begin that wait.
+    // The start of the types that wait.
     let mut start = 0;
     let mut at = 0;
     while at < types.len() {
@@ -71,7 +71,7 @@ pub(crate) fn resolve_weak(types: &mut [BidiClass], sos: BidiClass)
     }
 }
 
-// W3 of a row of equal types of which the other rules make nothing. Answers where the row ends.
+// Applies W3 to a run of equal types that no other rule changes. Returns the end of the run.
 fn settle_row(types: &mut [BidiClass], start: usize, class: BidiClass) -> usize
     requires within { start < length types.old }
     requires class { class_at types.old start ≡ class }
@@ -90,7 +90,7 @@ fn settle_row(types: &mut [BidiClass], start: usize, class: BidiClass) -> usize
     at
 }
 
-// Whether only W3 makes anything of a type, whatever stands before it and after it. Most types are such.
+// Whether only W3 can change a type, whatever is before and after it. Most types are such.
 fn is_settled(class: BidiClass) -> bool
     ensures { result ≡ is_settled class }
 {
@@ -105,7 +105,7 @@ fn is_settled(class: BidiClass) -> bool
     )
 }
 
-// Whether W4 to W7 make anything of a type.
+// Whether W4 to W7 can change a type.
 fn is_weak(class: BidiClass) -> bool
     ensures { result ≡ is_weak class }
 {
@@ -115,7 +115,7 @@ fn is_weak(class: BidiClass) -> bool
     )
 }
 
-// W1: a mark takes the type of what stands before it.
+// W1: NSM gets the type of what is before it.
 fn mark_type(before: BidiClass, class: BidiClass) -> BidiClass
     ensures { result ≡ mark_type before class }
 {
@@ -148,7 +148,7 @@ fn number_type(left: bool) -> BidiClass
     if left { BidiClass::L } else { BidiClass::EN }
 }
 
-// W5 to W7 of a type: what waits is ON meanwhile.
+// W5 to W7: the type that is written, which is ON while it waits.
 fn written(row: Row, left: bool, class: BidiClass) -> BidiClass
     ensures { result ≡ written row left class }
 {
@@ -172,7 +172,7 @@ fn completes(row: Row, class: BidiClass) -> bool
     )
 }
 
-// What stands before the next type.
+// What is before the next type.
 fn row_after(row: Row, class: BidiClass) -> Row
     ensures { result ≡ row_after row class }
 {
@@ -187,7 +187,7 @@ fn row_after(row: Row, class: BidiClass) -> Row
     }
 }
 
-// Where the types begin that wait, after the type at a place.
+// The start of the types that wait, after the type at an index.
 fn start_after(row: Row, class: BidiClass, start: usize, at: usize) -> usize
     requires { at < usize.MAX }
     ensures { result ≡ start_after row class start at }
@@ -208,7 +208,7 @@ fn mark_after(before: BidiClass) -> BidiClass
     }
 }
 
-// The nearest type that is no mark, after a character of this type.
+// The nearest type that is not NSM, after a character of this type.
 fn unmarked_after(class: BidiClass, before: BidiClass) -> BidiClass
     ensures { result ≡ (if not (is_mark class) then class else before) }
 {

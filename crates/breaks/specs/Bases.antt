@@ -1,4 +1,4 @@
--- The bases of a paragraph: its characters, each with the combining marks that stay with it (UAX #14, LB1, LB9 and LB10).
+-- The bases of a paragraph: its characters, each with the combining marks that join it (UAX #14, LB1, LB9 and LB10).
 use Rattle.std.specs.Prelude.{ℕ, Bool, true, false, not, ◌&&◌, List, [], ◌∷◌, if◌then◌else◌}
 use Rattle.ucd.specs.Tables.{line_class_of, is_wide_in, is_mark_in, is_future_pictograph_in}
 use Rattle.ucd.specs.declared.line_class.LineClass.{LineClass}
@@ -6,7 +6,7 @@ use Rattle.ucd.specs.declared.line_class.LineClass.TheVariants.{AI, AL, BK, CJ, 
 use Rattle.ucd.specs.declared.tables.Tables.{Tables}
 use Rattle.breaks.specs.Classes.{is_one_of}
 
--- LB1: AI, SG and XX become AL, SA becomes CM where it is a mark of category Mn or Mc and else AL, and CJ becomes NS
+-- LB1: AI, SG and XX become AL; SA becomes CM if it is a mark of category Mn or Mc, and else AL; CJ becomes NS
 abbrev pub resolved : LineClass → Bool → LineClass
 resolved AI is_mark = AL
 resolved SG is_mark = AL
@@ -16,13 +16,13 @@ resolved SA false = AL
 resolved CJ is_mark = NS
 resolved class is_mark = class
 
--- what the rules read of a character, of the class that LB1 gives it
+-- what the rules need of a character, with the class that LB1 gives it
 pub record Character : Type 0 where
   pub class : LineClass
   pub is_wide : Bool
   pub is_future_pictograph : Bool
 
--- what tables say of one
+-- a character by the tables
 abbrev pub character : Tables → ℕ → Character
 character t c = record {
   class = resolved (line_class_of t c) (is_mark_in t c);
@@ -30,17 +30,17 @@ character t c = record {
   is_future_pictograph = is_future_pictograph_in t c;
 }
 
--- a base: a character, and those that stay with it
+-- a base: a character, and those that join it
 pub record Base : Type 0 where
   pub first : Character
   pub attached : List Character
 
--- LB9: a CM or ZWJ stays with the character before it, unless that is BK, CR, LF, NL, SP or ZW
+-- LB9: a CM or ZWJ joins the character before it, unless that is BK, CR, LF, NL, SP or ZW
 abbrev pub stays_with : Character → Character → Bool
 stays_with before c =
     is_one_of (CM ∷ ZWJ ∷ []) c.class && not (is_one_of (BK ∷ CR ∷ LF ∷ NL ∷ SP ∷ ZW ∷ []) before.class)
 
--- a character before bases: it begins one, or the first of them stays with it
+-- a character before bases: it is a base of its own, or the first of them joins it
 abbrev pub alone : Character → Base
 alone c = record { first = c; attached = [] }
 
@@ -53,8 +53,8 @@ bases_of [] = []
 bases_of (a ∷ []) = alone a ∷ []
 bases_of (a ∷ b ∷ text) = if stays_with a b then joined a (bases_of (b ∷ text)) else alone a ∷ bases_of (b ∷ text)
 
--- The class of a base is that of its first character, and so is its width and whether it is a pictograph.
--- LB10: a CM or ZWJ that stays with no character is AL.
+-- A base has the class, the width and the pictograph property of its first character. LB10: a CM or ZWJ that joins no
+-- character is AL.
 abbrev pub base_class : LineClass → LineClass
 base_class CM = AL
 base_class ZWJ = AL
@@ -63,7 +63,7 @@ base_class class = class
 abbrev pub class_of : Base → LineClass
 class_of b = base_class b.first.class
 
--- the character that a base ends with
+-- the last character of a base
 abbrev pub last_of : Character → List Character → Character
 last_of first [] = first
 last_of first (c ∷ attached) = last_of c attached

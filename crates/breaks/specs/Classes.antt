@@ -9,6 +9,6 @@ use denote.Enum.Bare.{sameb}
 abbrev pub is_same : LineClass → LineClass → Bool
 is_same = sameb the_type
 
--- whether a class is one of those listed
+-- whether a class is in a list
 abbrev pub is_one_of : List LineClass → LineClass → Bool
 is_one_of classes class = list_any (λ c. is_same c class) classes

@@ -1,5 +1,5 @@
--- Numbers that stay whole (UAX #14, LB25 as its section 8.2, example 7, has it): no line ends inside what the expression
--- `(PR | PO)? (OP | HY)? NU (NU | SY | IS)* (CL | CP)? (PR | PO)?` matches, whichever bases those are.
+-- Whole numbers (UAX #14, LB25 in the form of section 8.2, example 7). No line ends inside what the expression `(PR |
+-- PO)? (OP | HY)? NU (NU | SY | IS)* (CL | CP)? (PR | PO)?` matches, whichever bases those are.
 use Rattle.std.specs.Prelude.{Bool, true, false, ◌&&◌, List, [], ◌∷◌, ◌++◌, map, reverse, if◌then◌else◌}
 use Rattle.std.specs.List.{list_any}
 use Rattle.ucd.specs.declared.line_class.LineClass.{LineClass}
@@ -20,7 +20,7 @@ middle = NU ∷ SY ∷ IS ∷ []
 abbrev pub closing : List LineClass
 closing = CL ∷ CP ∷ []
 
--- what is left of a list after one of these classes, if it begins with one, and after all of them that it begins with
+-- the rest of a list after one of these classes, if it begins with one, and after all of them that it begins with
 abbrev pub after_one : List LineClass → List LineClass → List LineClass
 after_one classes [] = []
 after_one classes (class ∷ rest) = if is_one_of classes class then rest else class ∷ rest
@@ -33,8 +33,8 @@ abbrev pub is_nothing : List LineClass → Bool
 is_nothing [] = true
 is_nothing (class ∷ rest) = false
 
--- `(PR | PO)?`, and from the other parts on to the end. No class is in two parts that stand next to one another, so that what may be taken
--- from the front of a list is no part of what follows.
+-- `(PR | PO)?`, and the expression from each earlier part on. No class is in two adjacent parts, so what a part may
+-- take from the front of a list is no part of what follows.
 abbrev pub is_end : List LineClass → Bool
 is_end classes = is_nothing (after_one affix classes)
 
@@ -52,7 +52,7 @@ is_unaffixed classes = begins_with_digit (after_one opening classes)
 abbrev pub is_number : List LineClass → Bool
 is_number classes = is_unaffixed (after_one affix classes)
 
--- the first one, the first two and so on of a list
+-- the first item, the first two and so on of a list
 abbrev pub fronts : {A : Type 0} → List A → List (List A)
 fronts [] = []
 fronts (a ∷ rest) = (a ∷ []) ∷ map (λ front. a ∷ front) (fronts rest)

@@ -1,6 +1,6 @@
--- The rules for break marks (UAX #14, LB3 to LB31), in the order of the annex. LB1, LB9 and LB10 have made bases of the characters
--- (Bases.antt), LB2 speaks of the position before a text, which has no mark, and LB31 is what holds where no rule of the table does.
--- Numbers that stay whole have a rule of their own in place of LB25 (Numbers.antt).
+-- The rules for break marks (UAX #14, LB3 to LB31), in the order of the annex. LB1, LB9 and LB10 make bases of the
+-- characters (Bases.antt). LB2 is about the position before a text, which has no mark. LB31 applies if no rule of the
+-- table does. Whole numbers have a rule of their own in place of LB25 (Numbers.antt).
 use Rattle.std.specs.Prelude.{◌%◌, ◌==◌, Bool, true, false, not, ◌&&◌, List, [], ◌∷◌, ◌++◌, map, if◌then◌else◌}
 use Rattle.std.specs.List.{prefix_len}
 use Rattle.ucd.specs.declared.line_class.LineClass.{LineClass}
@@ -11,12 +11,13 @@ use Rattle.breaks.specs.Numbers.{is_in_number}
 use Rattle.breaks.specs.declared.mark.Mark.{Mark}
 use Rattle.breaks.specs.declared.mark.Mark.TheVariants.{Never, May, Must}
 
--- A rule: the positions that it holds of, by the bases before one, the nearest first, and those after it, and the mark that it gives.
+-- A rule: the positions to which it applies, by the bases before one, the nearest first, and those after it, and the
+-- mark that it gives.
 pub record Rule : Type 0 where
   pub holds : List Base → List Base → Bool
   pub mark : Mark
 
--- what most rules are: a condition on the bases before a position, and one on those after it
+-- the form of most rules: a condition on the bases before a position, and one on those after it
 pub record Row : Type 0 where
   pub before : List Base → Bool
   pub after : List Base → Bool
@@ -48,7 +49,7 @@ abbrev pub is : List LineClass → List Base → Bool
 is classes [] = false
 is classes (b ∷ bases) = is_one_of classes (class_of b)
 
--- and it isn't wide
+-- and it is not wide
 abbrev pub is_narrow : List LineClass → List Base → Bool
 is_narrow classes [] = false
 is_narrow classes (b ∷ bases) = is_one_of classes (class_of b) && not b.first.is_wide
@@ -63,7 +64,7 @@ abbrev pub is_pair : List LineClass → List LineClass → List Base → Bool
 is_pair firsts classes (b ∷ a ∷ bases) = is_one_of firsts (class_of a) && is_one_of classes (class_of b)
 is_pair firsts classes bases = false
 
--- the classes with `SP*` after them: the nearest base that is no space has one of them
+-- the classes with `SP*` after them: the nearest base that is not a space has one of them
 abbrev pub without_spaces : List Base → List Base
 without_spaces [] = []
 without_spaces (b ∷ bases) = if is_same (class_of b) SP then without_spaces bases else b ∷ bases
@@ -85,7 +86,7 @@ abbrev pub is_future_pictograph : List Base → Bool
 is_future_pictograph [] = false
 is_future_pictograph (b ∷ bases) = b.first.is_future_pictograph
 
--- The classes of a set stand in the order of LineClass, as the code's sets of bits list theirs.
+-- The classes of a set are in the order of LineClass, as in the code's sets of bits.
 abbrev letters : List LineClass
 letters = AL ∷ HL ∷ []
 
@@ -185,7 +186,7 @@ rows_after_numbers =
     never is_future_pictograph (is (EM ∷ [])) ∷
     []
 
--- LB25: with whole numbers no line ends inside one, and else as its rows have it
+-- LB25: with whole numbers, no line ends inside one; else it has its rows on two bases
 abbrev pub numbers : Bool → List Rule
 numbers true = record { holds = is_in_number; mark = Never } ∷ []
 numbers false = map rule_of rows_of_numbers
@@ -193,7 +194,7 @@ numbers false = map rule_of rows_of_numbers
 unfoldable pub rules : Bool → List Rule
 rules whole_numbers = map rule_of rows_before_numbers ++ (numbers whole_numbers ++ map rule_of rows_after_numbers)
 
--- the mark of a position: that of the first rule that holds of it, and LB31 where there is none
+-- the mark of a position: that of the first rule that applies, and LB31 if none does
 abbrev pub mark_by : List Rule → List Base → List Base → Mark
 mark_by [] before after = May
 mark_by (rule ∷ rules) before after = if rule.holds before after then rule.mark else mark_by rules before after

@@ -1,5 +1,6 @@
--- What one walk over the characters keeps of the bases before a position: a state stands for some bases where the rules can't tell them
--- from those of `bases_at`. Only the code speaks of these: that its marks are those of Marks.antt is what `marks` ensures.
+-- The state of the single pass over the characters: what it needs of the bases before a position. A state stands for
+-- some bases if the rules cannot distinguish them from those of `bases_at`. Only the code depends on states: `marks`
+-- ensures that its marks are those of Marks.antt.
 use Rattle.std.specs.Prelude.{◌≡◌, ℕ, ◌*◌, ◌<◌, Bool, true, false, ◌||◌, ◌&&◌, ◌==◌, ◌++◌, List, [], ◌∷◌, map, MatchBool, get_or, if◌then◌else◌}
 use Rattle.ucd.specs.declared.line_class.LineClass.{LineClass}
 use Rattle.ucd.specs.declared.line_class.LineClass.TheVariants as class
@@ -18,7 +19,7 @@ use Rattle.breaks.specs.declared.symbol.TheConstants.{SYMBOL_COUNT}
 abbrev pub base : LineClass → Base
 base class = alone (narrow class)
 
--- the bases that the states show, in their order, the nearest first
+-- example bases of each state, in the order of the states, the nearest first
 abbrev pub states : List (List Base)
 states =
     (base class.BK ∷ []) ∷
@@ -67,11 +68,11 @@ states =
 abbrev pub bases_at : ℕ → List Base
 bases_at number = get_or states number []
 
--- what a line does by an outcome, where the last character is a ZWJ or the last base a pictograph to come
+-- the outcome, if the last character is a ZWJ or the last base a future pictograph
 abbrev pub decided_at : ℕ → Bool → Bool → ℕ
 decided_at outcome is_joined is_pictograph = if is_joined || ((outcome == UNLESS) && is_pictograph) then NEVER else outcome
 
--- the mark of it, where the base after the next one may be NU
+-- the mark of an outcome, if what follows the next character does not matter
 abbrev pub marks_alone : Bool → List Mark
 marks_alone true = WHOLE_MARKS
 marks_alone false = MARKS
@@ -80,7 +81,7 @@ abbrev pub mark_of : Bool → ℕ → Bool → Mark
 mark_of whole_numbers decided before_digit =
     if whole_numbers && ((decided == WAITS) && before_digit) then Never else get_or (marks_alone whole_numbers) decided Never
 
--- whether the base is NU that begins in some characters, of which the first may be attached to the one before them
+-- whether NU is the next base in some characters, the first of which may be attached to the base before them
 abbrev pub is_before_digit : List Character → Bool
 is_before_digit [] = false
 is_before_digit (c ∷ text) = if is_one_of (class.CM ∷ class.ZWJ ∷ []) c.class then is_before_digit text else is_same c.class class.NU
@@ -89,7 +90,7 @@ is_before_digit (c ∷ text) = if is_one_of (class.CM ∷ class.ZWJ ∷ []) c.cl
 abbrev pub unattached : List LineClass
 unattached = class.BK ∷ class.CR ∷ class.LF ∷ class.NL ∷ class.SP ∷ class.ZW ∷ []
 
--- LB25 of whole numbers as conditions on the bases before and on those after: a place in the expression of a number
+-- LB25 with whole numbers, as conditions on the bases before and after: a place in the expression of a number
 abbrev pub ends_in_digits : List Base → Bool
 ends_in_digits [] = false
 ends_in_digits (b ∷ bases) = is_same (class_of b) class.NU || (is_one_of middle (class_of b) && ends_in_digits bases)
@@ -118,16 +119,16 @@ number_rows false = rows_of_numbers
 unfoldable pub rows : Bool → List Row
 rows whole_numbers = rows_before_numbers ++ (number_rows whole_numbers ++ rows_after_numbers)
 
--- bases of which the nearest ends in no ZWJ and is no pictograph to come
+-- bases of which the nearest does not end in a ZWJ and is not a future pictograph
 abbrev pub plain : List Base → List Base
 plain [] = []
 plain (b ∷ bases) = record { first = record b.first { is_future_pictograph = false }; attached = narrow class.CM ∷ [] } ∷ bases
 
--- what the rules answer of bases before a position, but for LB8a and LB30b of pictographs
+-- whether each condition on the bases before a position holds, except LB8a and LB30b for pictographs
 abbrev pub answers : Bool → List Base → List Bool
 answers whole_numbers bases = map (λ row. row.before (plain bases)) (rows whole_numbers)
 
--- what they may answer of the next one, if it is a hyphen after HL, a space, an RI or what goes on with a number
+-- what may hold of the next base, if it is a hyphen after HL, a space, an RI or what continues a number
 abbrev pub carried : List Base → List Bool
 carried bases =
     is (class.HL ∷ []) bases
@@ -135,8 +136,9 @@ carried bases =
     ∷ is_spaced (class.CL ∷ class.CP ∷ []) bases ∷ is_spaced (class.B2 ∷ []) bases
     ∷ ends_in_odd_run bases ∷ ends_in_digits bases ∷ []
 
--- What a walk keeps of bases of which the nearest is the last one, to which a character may still be attached: the row of a state whose
--- bases have the same answers, carry the same and take a CM or ZWJ where these do; and of the last base the two bits that aren't in it.
+-- The state of the pass belongs to bases of which the nearest is the last one, to which a character may still be
+-- attached. The row is that of a state whose example bases give and carry the same results, and attach a CM or ZWJ if
+-- these do. The two bits describe the last base.
 pub record Stands (whole_numbers : Bool) (walk : Walk) (last : Base) (others : List Base) : Type 0 where
   pub state : ℕ
   pub below : state < STATE_COUNT
@@ -147,11 +149,11 @@ pub record Stands (whole_numbers : Bool) (walk : Walk) (last : Base) (others : L
   pub is_joined : walk.is_joined ≡ is_same (end_of last).class class.ZWJ
   pub is_pictograph : walk.is_pictograph ≡ last.first.is_future_pictograph
 
--- the next character stays with the last base, or begins the next one
+-- the next character joins the last base, or begins the next one
 abbrev pub with_attached : Base → Character → Base
 with_attached last c = record { first = last.first; attached = last.attached ++ c ∷ [] }
 
--- what is decided before it gives the mark, once it is known whether the base after it is NU
+-- the outcome before it gives the mark, once it is known whether the base after it is NU
 abbrev pub Passes : Bool → Walk → Base → List Base → Character → ℕ → Type 0
 Passes whole_numbers after last others c decided =
     MatchBool (stays_with (end_of last) c)

@@ -1,5 +1,4 @@
-//! The characters of a paragraph as the walk reads them: by properties that are known, or looked up once
-//! each.
+//! The characters of a paragraph as they are read: their properties are known, or looked up once each.
 ghost use Rattle.std.specs.Prelude.{◌≡◌, ◌<◌, ◌∷◌, List, MatchOption, length, map, slice_index_or};
 ghost use Rattle.ucd.specs.Properties.{properties_of};
 ghost use Rattle.ucd.specs.declared.properties.Properties.{Properties};
@@ -9,7 +8,7 @@ use ucd::{Properties, Tables};
 pub trait Characters: Copy {
     ghost all: { Self → List Properties };
 
-    /// The first one, and those after it.
+    /// Returns the first character, and those after it.
     fn split_first(&self) -> Option<(Properties, Self)>
         ensures cases { MatchOption result (length (all self.now) ≡ 0)
             (λ p. all self.now ≡ p.0 ∷ all p.1) };
@@ -47,7 +46,7 @@ impl Characters for Known<'_> {
     }
 }
 
-/// Characters that are looked up as they are read.
+/// Characters that are looked up when they are read.
 #[derive(Clone, Copy)]
 pub struct LookedUp<'a> {
     pub tables: &'a Tables,

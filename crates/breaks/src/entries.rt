@@ -19,7 +19,7 @@ const I: u16 = INSIDE;
 const W: u16 = WAITS;
 
 // The entries of a row: the states after SP, CL, CP, IS, SY, BA, HY, RI, CM,
-// which hang on its state, and what a line does before each symbol.
+// which depend on its state, and what a line does before each symbol.
 macro_rules! entries {
     ($(
         $to_SP:ident $to_CL:ident $to_CP:ident $to_IS:ident $to_SY:ident $to_BA:ident $to_HY:ident

@@ -1,8 +1,8 @@
-//! The Unicode Line Breaking Algorithm (UAX #14): at which positions of a paragraph a line may, must
-//! or may not end.
+//! The Unicode Line Breaking Algorithm (UAX #14): at which positions of a paragraph a line may, must or may
+//! not end.
 //!
-//! `marks` returns the mark of the position after each character; `marks_into` writes the same to a list that
-//! is reused. Where lines then end at a width is in `lines`.
+//! `marks` returns the mark of the position after each character. `marks_into` writes the same to a reused
+//! list. The crate `lines` finds where lines end at a width.
 //!
 //! ```rust
 //! let text: Vec<char> = "to go".chars().collect(alloc)?;

@@ -14,20 +14,20 @@ use crate::walk::{Walk, mark_alone};
 use std::alloc::{AllocError, Global};
 use ucd::{Properties, Tables};
 
-/// What a line does at a position of a paragraph, which lies after one of its characters.
+/// Whether a line may end at a position of a paragraph, which is after one of its characters.
 #[derive(Clone, Copy, Debug, PartialEq, Eq)]
 pub enum Mark {
     /// No line ends there.
     Never,
     /// A line may end there.
     May,
-    /// A line ends there.
+    /// A line must end there.
     Must,
 }
 
-/// Returns the mark of the position after each character of a paragraph (UAX #14, LB1 to LB31, as
-/// docs/reference.md has them). The last one is `Must`. With `whole_numbers`, no line ends inside a number,
-/// in place of LB25 (section 8.2, example 7).
+/// Returns the mark of the position after each character of a paragraph (UAX #14, LB1 to LB31, as in
+/// docs/reference.md). The last one is `Must`. With `whole_numbers`, no line ends inside a number, in place
+/// of LB25 (section 8.2, example 7).
 ///
 /// Allocates the list of marks and nothing else.
 pub fn marks(
@@ -52,7 +52,7 @@ pub fn marks(
     Ok(marks)
 }
 
-/// Writes the same marks over those that a list holds, from properties that were looked up before.
+/// Replaces the contents of a list by the same marks, from properties that have been looked up.
 ///
 /// Allocates only if the list's capacity is less than the number of characters.
 pub fn marks_into(
@@ -95,7 +95,7 @@ fn mark_all<C: Characters>(
     marks[last] = Mark::Must;
 }
 
-// The mark before a character, by what is decided there and, if that waits, by the characters after it.
+// The mark before a character, by its outcome and, if that waits, by the characters after it.
 fn mark_before<C: Characters>(
     characters: C,
     after: usize,
@@ -114,8 +114,8 @@ fn mark_before<C: Characters>(
     }
 }
 
-// Whether the base after one is NU, by the characters from a place on. Only those attached to the base before
-// them are read again.
+// Whether the base after one is NU, by the characters from an index on. Reads only those again that are
+// attached to the base before them.
 fn is_before_digit<C: Characters>(characters: C, from: usize) -> bool
     requires { from ≤ length (C.all characters) }
     ensures { result ≡ is_before_digit (map character_by (drop from (C.all characters))) }
@@ -129,12 +129,13 @@ fn is_before_digit<C: Characters>(characters: C, from: usize) -> bool
     false
 }
 
-/// A theorem: a paragraph has as many marks as characters.
+/// States, as a theorem, that a paragraph has as many marks as characters.
 pub fn marks_are_as_many(tables: &Tables, text: &[char], whole_numbers: bool)
     ensures { length (marks_of tables.now whole_numbers text.now) ≡ length text.now }
 {}
 
-/// A theorem (LB3): the last mark of a paragraph is `Must`, for any tables, with whole numbers or without.
+/// States, as a theorem (LB3), that the last mark of a paragraph is `Must`, for any tables, with whole
+/// numbers or without.
 pub fn paragraphs_end_at_must()
     ensures { (tables : Tables) (whole_numbers : Bool) (text : List ℕ) → 0 < length text
         → slice_get (marks_of tables whole_numbers text) (length text - 1) ≡ Some Must }

@@ -1,4 +1,4 @@
-//! What a character is to the rules, as one of some symbols (UAX #14, LB1, and LB30 of parentheses).
+//! The symbol that the rules read of a character (UAX #14, LB1, and LB30 for parentheses).
 ghost use Rattle.std.specs.Prelude.{◌≡◌, ◌<◌, slice_index};
 ghost use Rattle.ucd.specs.declared.properties.TheConstants.{LINE_INDEX_COUNT};
 ghost use Rattle.breaks.specs.Symbols.{character_by, shown, told};
@@ -6,7 +6,7 @@ ghost use Rattle.breaks.specs.declared.symbol.TheConstants.{SYMBOL_COUNT};
 
 use ucd::{LINE_INDEX_COUNT, Properties};
 
-// The symbols, which number the columns of the walk's table: the classes that LB1 gives.
+// The symbols, which number the columns of the table: the classes that LB1 gives.
 #[derive(Clone, Copy)]
 enum Symbol {
     BK,
@@ -53,7 +53,7 @@ enum Symbol {
     ZWJ,
 }
 
-/// How many symbols there are.
+/// The number of symbols.
 pub const SYMBOL_COUNT: usize = Symbol::ZWJ as usize + 1;
 
 /// The number of ZWJ.
@@ -62,10 +62,10 @@ pub const JOINER: u8 = Symbol::ZWJ as u8;
 /// The number of NU.
 pub const DIGIT: u8 = Symbol::NU as u8;
 
-/// The first of the two numbers of what stays with the character before it, CM and ZWJ.
+/// The first of the two numbers of the symbols that join the character before them, CM and ZWJ.
 pub const ATTACHED: u8 = Symbol::CM as u8;
 
-/// The number of the symbol of a character of these properties.
+/// Returns the number of the symbol of a character with these properties.
 pub fn symbol_of(properties: Properties) -> u8
     ensures shown { shown result ≡ told (character_by properties) }
     ensures below { result < SYMBOL_COUNT }
@@ -80,8 +80,8 @@ fn symbol_at(index: usize) -> u8
     SYMBOLS[index]
 }
 
-// Of each class four symbols: of a narrow character, of a narrow mark, of a wide character and of a wide
-// mark. Each stands twice, since a pictograph to come has the symbol of others of its class.
+// Four symbols for each class: of a narrow character, of a narrow mark, of a wide character and of a wide
+// mark. Each is there twice, because a future pictograph has the symbol of others of its class.
 macro_rules! symbols {
     ($($narrow:ident $narrow_mark:ident $wide:ident $wide_mark:ident;)*) => {
         [$(
@@ -97,8 +97,8 @@ macro_rules! symbols {
     };
 }
 
-// The symbol by `Properties::line_index`: a row for each class, in the order of `LineClass`, and 21 rows
-// for the numbers that no class has.
+// The symbol by `Properties::line_index`: a row for each class, in the order of `LineClass`, and 21 rows for
+// the numbers that no class has.
 static SYMBOLS: [u8; LINE_INDEX_COUNT] = symbols! {
     BK BK BK BK; CM CM CM CM; CR CR CR CR; GL GL GL GL; LF LF LF LF; NL NL NL NL; SP SP SP SP;
     WJ WJ WJ WJ; ZW ZW ZW ZW; ZWJ ZWJ ZWJ ZWJ; B2 B2 B2 B2; BA BA BA BA; BB BB BB BB; CB CB CB CB;

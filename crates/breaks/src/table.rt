@@ -1,13 +1,13 @@
-//! The table of the walk: what a line does before a character, by what stands before it, and what stands
-//! before the next one then. It is a table of LB4 to LB31, but for LB8a, and LB30b of pictographs to
-//! come, for which the walk keeps a bit each. Its entries stand in entries.rt.
+//! The break table: the outcome before a character, by the state before it, and the next state. It has LB4 to
+//! LB31, except LB8a, and LB30b for future pictographs, for which the walk has a bit each. Its entries are in
+//! entries.rt.
 ghost use Rattle.std.specs.Prelude.{◌≡◌, ◌<◌, ◌≤◌, ◌+◌, slice_index};
 ghost use Rattle.breaks.specs.declared.table.TheConstants.{ENTRY_COUNT};
 
 use crate::entries::TABLE;
 use crate::symbol::SYMBOL_COUNT;
 
-/// The states, which number the rows: what the last base is, and what the rules ask of those before it.
+/// The states, which number the rows: the class of the last base, and what the rules need of those before it.
 #[derive(Clone, Copy)]
 pub enum State {
     BK,
@@ -31,7 +31,7 @@ pub enum State {
     GL,
     /// CL, or CP that is wide.
     CL,
-    /// CP that isn't wide.
+    /// CP that is not wide.
     CP,
     IS,
     SY,
@@ -47,7 +47,7 @@ pub enum State {
     HebrewHY,
     BB,
     NU,
-    /// AL, as also CM and ZWJ that stay with no character.
+    /// AL, and CM and ZWJ that join no character.
     AL,
     HL,
     PR,
@@ -70,55 +70,54 @@ pub enum State {
     NumberSY,
     /// CL after one, or CP that is wide.
     NumberCL,
-    /// CP that isn't wide after one.
+    /// CP that is not wide, after one.
     NumberCP,
 }
 
-/// LB9: the character stays with the last base.
+/// LB9: the character joins the last base.
 pub const STAYS: u16 = 0;
 
 /// No line ends there.
 pub const NEVER: u16 = 1;
 
-/// A line may end there, if the last base is no pictograph to come.
+/// A line may end there if the last base is not a future pictograph.
 pub const UNLESS: u16 = 2;
 
 /// A line may end there.
 pub const MAY: u16 = 3;
 
-/// A line ends there.
+/// A line must end there.
 pub const MUST: u16 = 4;
 
-/// LB25 of two bases: no line ends there, but a line may where numbers stay whole.
+/// LB25 for two bases: no line ends there, but with whole numbers a line may.
 pub const PAIR: u16 = 5;
 
-/// Inside a number, and not by LB25 of two bases: a line may end there, but not where numbers stay whole.
+/// Inside a number, and not by LB25 for two bases: a line may end there, but not with whole numbers.
 pub const INSIDE: u16 = 6;
 
-/// LB25 of two bases: no line ends there, but a line may where numbers stay whole and the base after the
-/// next one isn't NU.
+/// LB25 for two bases: no line ends there, but with whole numbers a line may if the base after the next one
+/// is not NU.
 pub const WAITS: u16 = 7;
 
-/// How many states there are, which is how many rows.
+/// The number of states, and of rows.
 pub const STATE_COUNT: usize = State::NumberCP as usize + 1;
 
-/// How many entries the table has.
+/// The number of entries.
 pub const ENTRY_COUNT: usize = STATE_COUNT * SYMBOL_COUNT;
 
-/// Where the row of the last state begins.
+/// The start of the last state's row.
 pub const LAST_ROW: usize = ENTRY_COUNT - SYMBOL_COUNT;
 
-/// What an entry is divided by: its first part is where the next row begins, its rest is what a line
-/// does.
+/// The divisor of an entry: the quotient is the start of the next row, and the remainder is the outcome.
 pub const PARTS: u16 = 8;
 
-/// By how much entries grow from one next row to the one after it.
+/// The difference between the entries of two adjacent next rows.
 pub const ROW: u16 = SYMBOL_COUNT as u16 * PARTS;
 
-/// The row of a text's start, at which a line begins as after BK.
+/// The row at the start of a text, where a line begins as after BK.
 pub const START: usize = 0;
 
-/// The entry of a row for a symbol.
+/// Returns the entry of a row for a symbol.
 pub fn entry(row: usize, symbol: u8) -> u16
     requires { row + symbol < ENTRY_COUNT }
     ensures { result ≡ slice_index TABLE (row + symbol) }

@@ -1,4 +1,4 @@
-//! One walk over the characters of a paragraph.
+//! The single pass over the characters of a paragraph.
 ghost use Rattle.std.specs.Prelude.{◌≡◌, ◌<◌, ◌≤◌, ◌==◌, Bool, get_or, if◌then◌else◌, List, []};
 ghost use Rattle.breaks.specs.Bases.{Base, alone};
 ghost use Rattle.breaks.specs.Symbols.{character_by};
@@ -11,19 +11,19 @@ use crate::symbol::{JOINER, symbol_of};
 use crate::table::{NEVER, PARTS, START, STAYS, UNLESS, entry};
 use ucd::Properties;
 
-/// What the walk keeps of the bases before a position.
+/// The state of the pass: what it needs of the bases before a position.
 #[derive(Clone, Copy)]
 pub struct Walk {
-    // The row of the table.
+    // The start of the state's row in the table.
     row: usize,
     // LB8a: whether the last character is a ZWJ.
     is_joined: bool,
-    // LB30b: whether the last base is a pictograph to come.
+    // LB30b: whether the last base is a future pictograph.
     is_pictograph: bool,
 }
 
 impl Walk {
-    /// What stands before the second position of a text that begins with this character.
+    /// Returns the state before the second position of a text that begins with this character.
     pub fn start(first: Properties) -> Walk
         ensures stands { (whole_numbers : Bool)
             → Stands whole_numbers result (alone (character_by first)) [] }
@@ -37,7 +37,7 @@ impl Walk {
         }
     }
 
-    /// What a line does before the next character, which is passed from then on.
+    /// Returns the outcome before the next character, and moves past it.
     pub fn pass(&mut self, next: Properties) -> u16
         requires { self.old.row ≤ LAST_ROW }
         ensures passes { (whole_numbers : Bool) (last : Base) (others : List Base)
@@ -58,14 +58,14 @@ impl Walk {
     }
 }
 
-// Whether the last base is a pictograph to come: with a character attached it is what it was.
+// Whether the last base is a future pictograph. An attached character does not change that.
 fn is_now_pictograph(outcome: u16, before: bool, next: bool) -> bool
     ensures { result ≡ (if outcome == STAYS then before else next) }
 {
     if outcome == STAYS { before } else { next }
 }
 
-// What a line does, where the last character may be a ZWJ and the last base a pictograph to come.
+// The outcome, if the last character may be a ZWJ and the last base a future pictograph.
 fn decide(outcome: u16, is_joined: bool, is_pictograph: bool) -> u16
     requires { outcome < 8 }
     ensures decided { result ≡ decided_at outcome is_joined is_pictograph }
@@ -78,7 +78,7 @@ fn decide(outcome: u16, is_joined: bool, is_pictograph: bool) -> u16
     }
 }
 
-/// The mark before the next character, where what stands after it doesn't matter.
+/// Returns the mark before the next character, if what follows that does not matter.
 pub fn mark_alone(decided: u16, whole_numbers: bool) -> Mark
     requires { decided < 8 }
     ensures { result ≡ get_or (marks_alone whole_numbers) decided Never }
@@ -90,7 +90,7 @@ pub fn mark_alone(decided: u16, whole_numbers: bool) -> Mark
     }
 }
 
-// The mark that each outcome gives alone.
+// The mark of each outcome, if what follows does not matter.
 static MARKS: [Mark; 8] = [
     Mark::Never,
     Mark::Never,
@@ -102,7 +102,7 @@ static MARKS: [Mark; 8] = [
     Mark::Never,
 ];
 
-// The mark that each outcome gives where numbers stay whole.
+// The same with whole numbers.
 static WHOLE_MARKS: [Mark; 8] = [
     Mark::Never,
     Mark::Never,

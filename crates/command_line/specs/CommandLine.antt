@@ -1,4 +1,4 @@
--- The command line as `clap` is told of it, and what its words ask for.
+-- The arguments as `clap` knows them, and the settings that they ask for.
 use Rattle.std.specs.Prelude.{◌≡◌, ◌≤◌, ◌==◌, ◌||◌, not, ℕ, pos, Bool, true, false, List, [], ◌∷◌, ◌++◌, length, map, fold, codes, Option, Some, None, is_some, option_map, unwrap_or}
 use Rattle.std.specs.Str.Parse.{IsNumeral, digits_value, without_leading_plus}
 use Rattle.bidi.specs.declared.base.Base.{Base}
@@ -20,7 +20,7 @@ flag_rule name = record (new_rule name) { long = Some name; action = Some SetTru
 abbrev pub ucd_rule : Rule
 ucd_rule = record (new_rule (codes "ucd")) { long = Some (codes "ucd"); value_names = 1; required = true; action = Some Set }
 
--- a number of columns from 1 to 65,535, or 80 where the words have none
+-- a number of columns from 1 to 65,535; the default is 80
 abbrev pub width_rule : Rule
 width_rule = record (new_rule (codes "width")) {
   long = Some (codes "width");
@@ -34,7 +34,7 @@ width_rule = record (new_rule (codes "width")) {
 abbrev pub script_rule : Rule
 script_rule = record (new_rule (codes "script")) { long = Some (codes "script"); value_names = 1; action = Some Set }
 
--- questions in the script
+-- queries in the script
 abbrev pub queries_rule : Rule
 queries_rule = flag_rule (codes "queries")
 
@@ -42,7 +42,7 @@ queries_rule = flag_rule (codes "queries")
 abbrev pub files_rule : Rule
 files_rule = record (new_rule (codes "files")) { value_names = 1; action = Some Append }
 
--- the options by which texts are laid out, and those by which lines are printed
+-- the options of the layout, and those of printing
 abbrev pub layout_rules : List Rule
 layout_rules =
     ucd_rule ∷ width_rule
@@ -56,7 +56,7 @@ print_rules =
     codes "nopad" ∷ codes "nomirror" ∷ codes "novisual" ∷ codes "basedir" ∷ codes "ltov" ∷ codes "vtol" ∷ codes "levels" ∷ []
     )
 
--- the command line: the words after the program's name, with these options, and texts; it has a version to tell
+-- the command line: the arguments after the program's name, with these options and texts; there is a version to print
 abbrev pub start : App
 start = on_top (λ s. record s { no_binary_name = true; has_version = true }) (new_app (codes "fribidi"))
 
@@ -76,7 +76,7 @@ abbrev pub base_of : List Row → Option Base
 base_of rows =
     base_by (is_given (codes "rtl") rows) (is_given (codes "ltr") rows) (is_given (codes "wrtl") rows) (is_given (codes "wltr") rows)
 
--- a script runs over one text
+-- a script needs exactly one text
 abbrev pub fits_script : Bool → ℕ → Bool
 fits_script has_script texts = not has_script || texts == 1
 
@@ -86,18 +86,18 @@ texts_of rows = unwrap_or (all_of (codes "files") rows) []
 abbrev pub script_fits : List Row → Bool
 script_fits rows = fits_script (is_some (first_of (codes "script") rows)) (length (texts_of rows))
 
--- where there are questions there is a script
+-- queries need a script
 abbrev pub fits_queries : Bool → Bool → Bool
 fits_queries queries has_script = not queries || has_script
 
 abbrev pub queries_fit : List Row → Bool
 queries_fit rows = fits_queries (is_given (codes "queries") rows) (is_some (first_of (codes "script") rows))
 
--- the number that a text of decimal digits writes
+-- the number that decimal digits denote
 abbrev pub number_of : Text → ℕ
 number_of text = digits_value 10 (without_leading_plus text)
 
--- the settings are what the matches of the words hold, and nothing is wrong with the words
+-- the settings are what the matches of the arguments hold, and no fault applies
 pub record AreSettings (words : List Text) (settings : Settings) : Type 0 where
   pub taken : fault_of program words ≡ []
   pub ucd : first_of (codes "ucd") (matches_of program words) ≡ Some settings.ucd.now
@@ -127,15 +127,17 @@ pub record HasWidth (rows : List Row) : Type 0 where
   pub one : one_of (codes "width") rows ≡ Some text
   pub allowed : IsNumeral 10 (without_leading_plus text) × (1 ≤ number_of text) × (number_of text ≤ 65535)
 
--- the matches are those of words with which nothing is wrong, so that what is required or has a default is there
+-- the matches are those of arguments to which no fault applies, so those that are required or have a default are
+-- present
 pub record AreMatches (words : List Text) (matches : ArgMatches) : Type 0 where
   pub taken : fault_of program words ≡ []
   pub rows : rows_of (found_of matches) ≡ matches_of program words
   pub ucd : is_some (first_of (codes "ucd") (rows_of (found_of matches))) ≡ true
   pub width : HasWidth (rows_of (found_of matches))
 
--- `clap` refuses the words, for this kind of error; or it takes them, and more than one direction is set, or else a script beside another
--- number of texts than one, or else questions without a script
+-- `clap` refuses the arguments with this kind of error. Or it accepts them, and one of these applies, tested in this
+-- order. More than one base direction is set; a script has another number of texts than one; there are queries without
+-- a script.
 abbrev pub IsLineFault : List Text → LineFault → Type 0
 IsLineFault words (Words error) = IsAmong (kind_of error) (fault_of program words)
 IsLineFault words Directions = (fault_of program words ≡ []) × (base_of (matches_of program words) ≡ None)
@@ -146,7 +148,7 @@ IsLineFault words Queries =
     × (queries_fit (matches_of program words) ≡ false)
 IsLineFault words NoMemory = Unit {0}
 
--- want of memory hides nothing that is wrong with words that `clap` takes
+-- an allocation failure hides no fault of arguments that `clap` accepts
 abbrev pub HidesNothing : List Row → LineFault → Type 0
 HidesNothing rows NoMemory = (is_some (base_of rows) ≡ true) × (script_fits rows ≡ true) × (queries_fit rows ≡ true)
 HidesNothing rows fault = Unit {0}

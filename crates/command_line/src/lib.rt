@@ -1,8 +1,8 @@
-//! The arguments of the command, read with `clap`: what they ask for, and why they are refused.
+//! The command's arguments, parsed with `clap`: the settings, and why arguments are refused.
 //!
-//! `settings` returns what the arguments ask for, in two steps that can be called alone: `parse` and
-//! `settings_of`. A `LineFault` has the exit status and displays as its message; help and the version are
-//! among them. The program asks so:
+//! `settings` returns the settings in two steps, which can also be called alone: `parse` and `settings_of`. A
+//! `LineFault` has the exit status and displays as its message. Help and the version are faults too. The
+//! program calls it like this:
 //!
 //! ```rust
 //! match settings(rt.alloc(), words) {

@@ -1,33 +1,33 @@
-//! What a command line asks for, and why one is refused.
+//! The settings of the command, and why its arguments are refused.
 ghost use Rattle.std.specs.Prelude.{◌≡◌};
 
 use clap::error::ErrorKind;
 use lines::{Options, Print};
 use thiserror::Error;
 
-/// What the words of a command line ask for.
+/// What the arguments ask for.
 #[derive(Debug, Drop)]
 pub struct Settings<'a> {
     /// The folder of the table files.
     pub ucd: &'a str,
-    /// How many columns a line may take, 1 to 65,535.
+    /// The width of lines in columns, from 1 to 65,535.
     pub width: u16,
-    /// By what texts are laid out.
+    /// How texts are laid out.
     pub options: Options,
     /// What is printed of each line.
     pub print: Print,
-    /// The edit script to run over the one text, if there is one.
+    /// The edit script, if there is one.
     pub script: Option<&'a str>,
-    /// Whether the script may ask about the text.
+    /// Whether the script may contain queries.
     pub queries: bool,
-    /// The texts, in order, or none for standard input.
+    /// The texts, in order. None means standard input.
     pub files: Vec<&'a str>,
 }
 
-/// Why a command line is refused.
+/// Why the arguments are refused.
 #[derive(Debug, Drop, Error)]
 pub enum LineFault {
-    /// The words are no use of the program, or ask for help or for the version, which is the error's text.
+    /// `clap` refuses the arguments, or they ask for help or the version; the text is that of the error.
     #[error("{0}")]
     Words(clap::Error),
     #[error("fribidi: more than one base direction")]
@@ -43,7 +43,7 @@ pub enum LineFault {
 impl LineFault {
     ghost use Rattle.command_line.specs.Status.{lacks_folder, status_of_line};
 
-    /// The exit status: 0 for help and for the version, 1 where memory ran out, and else 2.
+    /// The exit status: 0 for help and the version, 1 for out of memory, and otherwise 2.
     pub fn status(&self) -> u8
         ensures { result ≡ status_of_line self.now }
     {
@@ -56,7 +56,8 @@ impl LineFault {
         }
     }
 
-    /// Whether the words are refused since they name no folder of table files, which alone they have to name.
+    /// Whether the arguments are refused because they name no folder of table files, the only required
+    /// argument.
     pub fn lacks_folder(&self) -> bool
         ensures { result ≡ lacks_folder self.now }
     {

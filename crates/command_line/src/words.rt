@@ -1,4 +1,4 @@
-//! The words, as `clap` is told of them, and what their matches are.
+//! The arguments as `clap` parses them, and the settings that their matches hold.
 ghost use Rattle.std.specs.Prelude.{◌≡◌, List, codes, fold, map, not, option_map, true, false, is_some};
 ghost use Rattle.std.specs.Prelude.{IfOk, IfErr, IfSome};
 ghost use Rattle.clap.specs.Words.{Text, app_of, found_of, rows_of, rule_of, with_rule};
@@ -19,7 +19,7 @@ use lines::{Options, Print};
 use std::alloc::{AllocError, Global};
 use ucd::UNICODE_VERSION;
 
-// The options and the texts that the program takes.
+// All options, and the texts.
 fn command<'a>(alloc: Global) -> Result<Command<'a>, AllocError>
     ensures { IfOk result (λ command. app_of command ≡ program) }
 {
@@ -40,7 +40,7 @@ fn command<'a>(alloc: Global) -> Result<Command<'a>, AllocError>
     command.arg(files(alloc))
 }
 
-// The options by which texts are laid out.
+// The options of the layout.
 fn with_layout<'a>(alloc: Global, command: Command<'a>) -> Result<Command<'a>, AllocError>
     ensures { IfOk result (λ new. app_of new ≡ fold with_rule (app_of command.entry) layout_rules) }
 {
@@ -72,7 +72,7 @@ fn with_layout<'a>(alloc: Global, command: Command<'a>) -> Result<Command<'a>, A
     )
 }
 
-// The options by which lines are printed.
+// The options of printing.
 fn with_print<'a>(alloc: Global, command: Command<'a>) -> Result<Command<'a>, AllocError>
     ensures { IfOk result (λ new. app_of new ≡ fold with_rule (app_of command.entry) print_rules) }
 {
@@ -106,7 +106,7 @@ fn with_print<'a>(alloc: Global, command: Command<'a>) -> Result<Command<'a>, Al
     )
 }
 
-// Options without a value, by their names and what is told of them.
+// Adds options without a value, by their names and help texts.
 fn with_flags<'a>(
     alloc: Global,
     command: Command<'a>,
@@ -122,7 +122,6 @@ fn with_flags<'a>(
     Ok(command)
 }
 
-// One of them.
 fn with_flag<'a>(
     alloc: Global,
     command: Command<'a>,
@@ -134,7 +133,6 @@ fn with_flag<'a>(
     command.arg(flag(alloc, name, help))
 }
 
-// The folder of the table files.
 fn ucd<'a>(alloc: Global) -> Arg<'a>
     ensures rule { rule_of result ≡ ucd_rule }
     ensures local { result.global ≡ false }
@@ -147,7 +145,6 @@ fn ucd<'a>(alloc: Global) -> Arg<'a>
         .help("Read the Unicode table files from DIR [default: the installed files, if any]")
 }
 
-// How many columns a line may take.
 fn width<'a>(alloc: Global) -> Arg<'a>
     ensures rule { rule_of result ≡ width_rule }
     ensures local { result.global ≡ false }
@@ -161,7 +158,6 @@ fn width<'a>(alloc: Global) -> Arg<'a>
         .help("Wrap lines at N columns, from 1 to 65535")
 }
 
-// The edit script.
 fn script<'a>(alloc: Global) -> Arg<'a>
     ensures rule { rule_of result ≡ script_rule }
     ensures local { result.global ≡ false }
@@ -173,7 +169,6 @@ fn script<'a>(alloc: Global) -> Arg<'a>
         .help("Run an edit script on one text file")
 }
 
-// The texts.
 fn files<'a>(alloc: Global) -> Arg<'a>
     ensures rule { rule_of result ≡ files_rule }
     ensures local { result.global ≡ false }
@@ -195,7 +190,7 @@ fn flag<'a>(alloc: Global, name: &'a str, help: &'a str) -> Arg<'a>
         .help(help)
 }
 
-// Whether the words have the option.
+// Whether the option is set.
 fn is_set(matches: &ArgMatches<'_>, name: &str) -> bool
     ensures { result ≡ is_given name.now (rows_of (found_of matches.now)) }
 {
@@ -215,14 +210,14 @@ fn base_of(rtl: bool, ltr: bool, weak_rtl: bool, weak_ltr: bool) -> Option<Base>
     }
 }
 
-// A script runs over one text.
+// A script needs exactly one text.
 fn fits_script(script: Option<&str>, texts: usize) -> bool
     ensures { result ≡ fits_script (is_some script.entry) texts }
 {
     script.is_none() || texts == 1
 }
 
-// Questions are asked in a script.
+// Queries need a script.
 fn fits_queries(queries: bool, script: Option<&str>) -> bool
     ensures { result ≡ fits_queries queries (is_some script.entry) }
 {
@@ -231,7 +226,7 @@ fn fits_queries(queries: bool, script: Option<&str>) -> bool
 
 /// Parses the arguments after the program's name with `clap`.
 ///
-/// Fails with `Words` if `clap` refuses them or is asked for help or the version, and with `NoMemory` if
+/// Fails with `Words` if `clap` refuses them or if they ask for help or the version. Fails with `NoMemory` if
 /// `clap` runs out of memory before it knows.
 pub fn parse<'a>(alloc: Global, words: &'a [&'a str]) -> Result<ArgMatches<'a>, LineFault>
     ensures ok { IfOk result (AreMatches (map (λ word. word.now) words.entry.now)) }
@@ -256,9 +251,9 @@ pub fn settings<'a>(alloc: Global, words: &'a [&'a str]) -> Result<Settings<'a>,
     settings_of(alloc, &matches)
 }
 
-/// The settings that parsed arguments ask for.
+/// Returns the settings that parsed arguments ask for.
 ///
-/// Fails with the first of `Directions`, `ScriptFiles` and `Queries` that applies, and with `NoMemory` only
+/// Fails with the first of `Directions`, `ScriptFiles` and `Queries` that applies. Fails with `NoMemory` only
 /// if none of them does.
 pub fn settings_of<'a>(alloc: Global, matches: &ArgMatches<'a>) -> Result<Settings<'a>, LineFault>
     requires { (words : List Text) × AreMatches words matches.now }
@@ -298,7 +293,7 @@ pub fn settings_of<'a>(alloc: Global, matches: &ArgMatches<'a>) -> Result<Settin
     })
 }
 
-// The options by which texts are laid out, unless the words have more than one direction.
+// The options of the layout, unless more than one base direction is set.
 fn options_of(matches: &ArgMatches<'_>) -> Option<Options>
     ensures base { option_map (λ o. o.base) result ≡ base_of (rows_of (found_of matches.now)) }
     ensures nobreak { IfSome result (λ o.
@@ -322,7 +317,7 @@ fn options_of(matches: &ArgMatches<'_>) -> Option<Options>
     })
 }
 
-// What is printed of lines: all that the options without a value take away or add.
+// What is printed of lines, from the options without a value.
 fn print_of(matches: &ArgMatches<'_>) -> Print
     ensures novisual { result.novisual ≡ is_given (codes "novisual") (rows_of (found_of matches.now)) }
     ensures basedir { result.basedir ≡ is_given (codes "basedir") (rows_of (found_of matches.now)) }

@@ -1,16 +1,17 @@
--- What is known of a device, and what a call does to it.
+-- The state of a source or sink, and how a call changes it.
 use Rattle.std.specs.Prelude.{◌≡◌, ℕ, ◌+◌, ◌-◌, ◌^◌, ◌<◌, ◌≤◌, ◌==◌, min, List, length, take, Option, Result, MatchResult, MatchBool}
 use Rattle.std.specs.Io.KnownBytes.{Keeps, Appends, Consumes, IsAtEnd}
 
--- The bytes that a source still has or a sink holds, where it tells them; how many bytes passed in all; how many
--- calls failed, which stays at the greatest number of 64 bits once there; and how many bytes had passed when one last failed.
+-- The state of a source or sink. `bytes` are those that a source still has or a sink holds, if it reports them.
+-- `passed` counts the bytes that passed in all. `failures` counts failed calls, and stays at the greatest number of 64
+-- bits once there. `failed_at` is `passed` at the last failure.
 pub record Device : Type 0 where
   pub bytes : Option (List ℕ)
   pub passed : ℕ
   pub failures : ℕ
   pub failed_at : ℕ
 
--- a device of which nothing passed yet
+-- the state of a source or sink before any call
 abbrev pub fresh_device : Option (List ℕ) → Device
 fresh_device bytes = record { bytes = bytes; passed = 0; failures = 0; failed_at = 0 }
 
@@ -31,7 +32,7 @@ pub record Fails (old new : Device) : Type 0 where
   pub failures : new.failures ≡ min (old.failures + 1) greatest
   pub failed_at : new.failed_at ≡ old.passed
 
--- a read gave the bytes at the front of a buffer, and none only where the source has none left
+-- a read put these bytes at the front of a buffer; it reads none only if the source has none left
 pub record Gives (old new : Device) (n : ℕ) (buffer : List ℕ) : Type 0 where
   pub bytes : Consumes old.bytes new.bytes (take n buffer)
   pub end : n ≡ 0 → IsAtEnd new.bytes
@@ -49,7 +50,8 @@ abbrev pub Writes : {E : Type 0} → Device → Device → Result ℕ E → List
 Writes old new result given =
     MatchResult result (λ n. MatchBool (n == 0) (Fails old new) (Takes old new n given)) (λ _. Fails old new)
 
--- Between two states one call failed, and no bytes passed after it. So the count of failures rose, or stands at the greatest number.
+-- Between two states a call failed, and no bytes passed after it. So the count of failures rose, or is at the greatest
+-- number.
 pub record FailedLast (old new : Device) : Type 0 where
   pub failures : new.failures ≡ min (old.failures + 1) greatest
   pub last : new.failed_at ≡ new.passed

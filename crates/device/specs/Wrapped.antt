@@ -1,4 +1,4 @@
--- What is known of a device over a reader or a writer of std, by what is known of that.
+-- The state of a source or sink that wraps a reader or a writer of std, by the state of that.
 use Rattle.std.specs.Prelude.{ℕ, List, Option}
 use Rattle.device.specs.Device.{Device}
 use Rattle.device.specs.declared.from_read.FromRead.{FromRead}

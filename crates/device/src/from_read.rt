@@ -1,12 +1,12 @@
-//! A source over a reader of std.
+//! A source that wraps a reader of std.
 ghost use Rattle.std.specs.Prelude.{◌≡◌};
 
 use crate::{Source, countable};
 use std::io;
 use std::io::ErrorKind;
 
-/// A source over a reader of std. It tells the bytes that the reader tells, passes at most
-/// 2^64 - 1 bytes and fails after them.
+/// A source that wraps a reader of std. It reports the bytes that the reader reports, passes at most 2^64 - 1
+/// bytes and then fails.
 #[derive(Drop)]
 pub struct FromRead<R> {
     inner: R,
@@ -30,7 +30,7 @@ impl<R: io::Read> FromRead<R> {
         }
     }
 
-    // One more call failed.
+    // Counts a failed call.
     fn count_failure(&mut self)
         ensures { Fails (source_state R.remaining self.old) (source_state R.remaining self.new) }
     {

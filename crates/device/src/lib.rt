@@ -1,8 +1,8 @@
-//! Where bytes come from and go to. A device counts the bytes that passed and the calls that failed,
-//! so that a fault is answered only where the device failed.
+//! Sources and sinks of bytes. Each counts the bytes that passed and the calls that failed, so a contract can
+//! say that an error is returned only if a call failed.
 //!
-//! A `Source` gives bytes and a `Sink` takes them; `FromRead` and `ToWrite` are those over std's readers and
-//! writers, and `write_all` writes all bytes or tells how many were taken:
+//! A `Source` is read from and a `Sink` is written to. `FromRead` and `ToWrite` wrap std's readers and
+//! writers. `write_all` writes all bytes, or returns how many were written:
 //!
 //! ```rust
 //! let mut sink = ToWrite::new(room); // four bytes
@@ -23,35 +23,35 @@ use std::io::ErrorKind;
 pub use to_write::ToWrite;
 pub use writing::write_all;
 
-/// Gives bytes, until it has none left.
+/// A source of bytes.
 pub trait Source {
     ghost use Rattle.device.specs.Device.{Device};
 
     ghost state: { Self → Device };
 
-    /// Puts bytes at the front of `buffer`, which isn't empty, and says how many. None means that
-    /// the source has ended. After an `Err` no byte has passed, and the call counts as failed.
+    /// Reads bytes into the front of `buffer`, which must not be empty, and returns their number. 0 means
+    /// that the source has ended. If it fails, no byte has passed, and the call counts as failed.
     fn read(&mut self, buffer: &mut [u8]) -> Result<usize, ErrorKind>
         requires { 0 < length buffer.old }
         ensures bound { IfOk result (λ n. n ≤ length buffer.new) }
         ensures reads { Reads (state self.old) (state self.new) result buffer.new };
 }
 
-/// Takes bytes.
+/// A sink of bytes.
 pub trait Sink {
     ghost use Rattle.device.specs.Device.{Device};
 
     ghost state: { Self → Device };
 
-    /// Takes bytes from the front of `bytes`, which isn't empty, and says how many. A call that
-    /// takes none counts as failed, and so does an `Err`, after which no byte has passed.
+    /// Writes bytes from the front of `bytes`, which must not be empty, and returns their number. A call that
+    /// writes none counts as failed. If it fails, no byte has passed, and the call counts as failed.
     fn write(&mut self, bytes: &[u8]) -> Result<usize, ErrorKind>
         requires { 0 < length bytes.now }
         ensures bound { IfOk result (λ n. n ≤ length bytes.now) }
         ensures writes { Writes (state self.old) (state self.new) result bytes.now };
 }
 
-// How many of `len` bytes may still pass.
+// How many of `len` bytes may still pass, so that their count fits.
 fn countable(passed: u64, len: usize) -> usize
     ensures { result ≡ min len (2 ^ 64 - 1 - passed) }
 {

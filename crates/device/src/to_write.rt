@@ -1,12 +1,12 @@
-//! A sink over a writer of std.
+//! A sink that wraps a writer of std.
 ghost use Rattle.std.specs.Prelude.{◌≡◌};
 
 use crate::{Sink, countable};
 use std::io;
 use std::io::ErrorKind;
 
-/// A sink over a writer of std. It tells the bytes that the writer tells, passes at most 2^64 - 1
-/// bytes and fails after them.
+/// A sink that wraps a writer of std. It reports the bytes that the writer reports, passes at most 2^64 - 1
+/// bytes and then fails.
 #[derive(Drop)]
 pub struct ToWrite<W> {
     inner: W,
@@ -30,7 +30,7 @@ impl<W: io::Write> ToWrite<W> {
         }
     }
 
-    // One more call failed.
+    // Counts a failed call.
     fn count_failure(&mut self)
         ensures { Fails (sink_state W.contents self.old) (sink_state W.contents self.new) }
     {

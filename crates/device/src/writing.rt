@@ -1,10 +1,10 @@
-//! Writing all of some bytes, which a sink may take in several calls.
+//! Writes all of a slice to a sink, in several calls if needed.
 ghost use Rattle.std.specs.Prelude.{◌≡◌, IfErr, OnOk};
 ghost use Rattle.device.specs.Device.{Wrote, StaysCounted, StoppedAt};
 
 use crate::Sink;
 
-/// Writes all the bytes, or says how many were written before the sink failed.
+/// Writes all the bytes. If the sink fails, returns how many were written before.
 pub fn write_all<W: Sink>(writer: &mut W, bytes: &[u8]) -> Result<(), usize>
     ensures ok { OnOk result (Wrote bytes.now (W.state writer.old) (W.state writer.new)) }
     ensures err { IfErr result (λ n.

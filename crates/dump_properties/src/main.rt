@@ -1,7 +1,7 @@
-//! Prints the properties of characters by the table files of a folder: `dump_properties FOLDER`.
+//! Prints the properties of characters in the table files of a folder: `dump_properties FOLDER`.
 //!
-//! One line per property: a bidi class other than L, a bracket with whether it opens a pair, or a mirror.
-//! `tests/fribidi/run` compares the tables of FriBidi's interface with it.
+//! Each line is one property of a character: a bidi class other than L, a bracket and whether it is an
+//! opening one, or a mirror. `tests/fribidi/run` compares the tables of FriBidi's interface with this output.
 #![tactic(auto)]
 
 use anyhow::{Result, bail};
@@ -52,7 +52,7 @@ fn write_properties<W: Write>(tables: &Tables, c: char, output: &mut W) -> Resul
     Ok(())
 }
 
-// The name that FriBidi has for a class.
+// FriBidi's name of a class.
 fn name_of(class: BidiClass) -> &'static str {
     match class {
         BidiClass::L => "LTR",

@@ -1,4 +1,4 @@
--- The levels of a paragraph by the numbers of its types and brackets.
+-- The levels of a paragraph, from the numbers of its types and brackets.
 use Rattle.std.specs.Prelude.{◌≡◌, ℕ, suc, ◌==◌, List, length, map, replicate, Option, Some, None, if◌then◌else◌}
 use Rattle.bidi.specs.Base.{base_level_of, first_strong_level}
 use Rattle.bidi.specs.Levels.{paragraph_levels}
@@ -6,7 +6,7 @@ use Rattle.reorder.specs.Order.{highest}
 use Rattle.reorder.specs.Spaces.{line_levels}
 use Rattle.hordguli_fribidi.specs.Types.{base_of, bracket_by, class_of, direction_of}
 
--- the numbers of brackets, of which there is one for each type, or none at all
+-- the numbers of brackets: one for each type, or none at all
 abbrev pub brackets_of : ℕ → List ℕ → List ℕ
 brackets_of len brackets = if length brackets == len then brackets else replicate len 0
 
@@ -19,13 +19,14 @@ unfoldable pub levels_before : List ℕ → List ℕ → ℕ → List ℕ
 levels_before types brackets asked =
     paragraph_levels bracket_by (brackets_of (length types) brackets) (map class_of types) (base_in types asked)
 
--- the answer is the greatest level and one; the direction is that of the base level, whatever was asked for; L1 is that of one line
+-- the result is the greatest level plus one; the direction is that of the base level, whatever was requested; L1 is
+-- that of one line
 pub record AreLevels (types brackets : List ℕ) (asked answer direction : ℕ) (levels : List ℕ) : Type 0 where
   pub answer_is : answer ≡ suc (highest (levels_before types brackets asked))
   pub direction_is : direction ≡ direction_of (base_in types asked)
   pub levels_are : levels ≡ line_levels (base_in types asked) (map class_of types) (levels_before types brackets asked)
 
--- the direction that the first strong character gives, or ON
+-- the direction of the first strong character, or ON
 abbrev pub first_direction : Option ℕ → ℕ
 first_direction (Some level) = direction_of level
 first_direction None = 64

@@ -1,4 +1,5 @@
--- A line of a paragraph in visual order. All arrays are those of the paragraph up to the line's end, and the line begins at `off`.
+-- A line of a paragraph in visual order. All arrays are those of the paragraph up to the line's end, and the line
+-- begins at `off`.
 use Rattle.std.specs.Prelude.{◌≡◌, ℕ, suc, ◌/◌, ◌%◌, ◌==◌, Bool, List, ◌++◌, length, map, take, drop, slice_index, if◌then◌else◌}
 use Rattle.reorder.specs.Order.{highest, vtol_of}
 use Rattle.reorder.specs.Spaces.{line_levels}
@@ -12,11 +13,12 @@ asks_marks flags = flags / 2 % 2 == 1
 abbrev pub reordered : ℕ → List ℕ → List ℕ → List ℕ
 reordered off vtol old = take off old ++ map (slice_index (drop off old)) vtol
 
--- the same of an array that may be missing
+-- the same for an array that may be missing
 abbrev pub reordered_if : ℕ → ℕ → List ℕ → List ℕ → List ℕ
 reordered_if len off vtol old = if length old == len then reordered off vtol old else old
 
--- L1 by the level of the direction, then L2, and L3 where the flags ask for it; the answer is the line's greatest level and one
+-- L1 with the level of the direction, then L2, and L3 if the flags ask for it; the result is the line's greatest level
+-- plus one
 module _ (flags : ℕ) (types : List ℕ) (off direction : ℕ) (old : List ℕ) where
   abbrev pub line_after : List ℕ
   line_after = line_levels (direction % 2) (map class_of (drop off types)) (drop off old)

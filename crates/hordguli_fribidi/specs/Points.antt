@@ -1,4 +1,5 @@
--- The tables of single characters: numbers of pages, each of which has an entry for 256 code points, and what the entries stand for.
+-- The tables of single characters: page numbers, pages with an entry for each of 256 code points, and the values of the
+-- entries.
 use Rattle.std.specs.Prelude.{ℕ, ◌+◌, ◌*◌, ◌/◌, ◌%◌, ◌==◌, ◌&&◌, List, length, map, slice_index, slice_index_or, if◌then◌else◌}
 use Rattle.std.specs.List.{range_with_len}
 
@@ -10,15 +11,15 @@ entry_at index pages c = slice_index_or pages (slice_index_or index (c / 256) 0 
 abbrev pub type_at : List ℕ → List ℕ → ℕ → ℕ
 type_at index pages c = entry_at index pages c
 
--- what a list of numbers has for the entry of a code point, as its mirror or its bracket: 0 for most
+-- the value of the entry of a code point in a list, its mirror or its bracket: 0 for most
 abbrev pub number_at : List ℕ → List ℕ → List ℕ → ℕ → ℕ
 number_at index pages numbers c = slice_index_or numbers (entry_at index pages c) 0
 
--- the bracket of a character, which is none unless its type is ON
+-- the bracket of a character: none unless its type is ON
 abbrev pub bracket_at : List ℕ → List ℕ → List ℕ → ℕ → ℕ → ℕ
 bracket_at index pages numbers c type = if type == 64 then number_at index pages numbers c else 0
 
--- of the code points of a string, where arrays have its length
+-- the types of the code points of a string, if the arrays have its length
 abbrev pub types_at : List ℕ → List ℕ → List ℕ → List ℕ → List ℕ
 types_at index pages characters old = if length old == length characters then map (type_at index pages) characters else old
 

@@ -1,4 +1,4 @@
--- The numbers by which FriBidi names classes, directions and brackets (its header fribidi-bidi-types.h and fribidi-types.h).
+-- FriBidi's numbers for classes, directions and brackets (its headers fribidi-bidi-types.h and fribidi-types.h).
 use Rattle.std.specs.Prelude.{ℕ, ◌-◌, ◌==◌, nat_le, true, false, List, [], ◌∷◌, ◌++◌, map, slice_index_or, Option, Some, None, if◌then◌else◌}
 use Rattle.std.specs.List.{position_or_len}
 use Rattle.ucd.specs.declared.bidi_class.BidiClass.{BidiClass}
@@ -33,23 +33,24 @@ type_of RLI = 32833
 type_of FSI = 33587264
 type_of PDI = 32864
 
--- the classes, by the numbers that the tables of single characters have for them
+-- the classes, by their numbers in the tables of single characters
 abbrev pub classes : List BidiClass
 classes = L ∷ R ∷ AL ∷ EN ∷ ES ∷ ET ∷ AN ∷ CS ∷ NSM ∷ BN ∷ B ∷ S ∷ WS ∷ ON ∷ LRE ∷ LRO ∷ RLE ∷ RLO ∷ PDF ∷ LRI ∷ RLI ∷ FSI ∷ PDI ∷ []
 
--- the numbers that have names: those of the classes, of the two weak directions, and that of FriBidi's sentinel
+-- the numbers that have names: those of the classes, of the two weak directions, and of FriBidi's sentinel
 abbrev pub named : List ℕ
 named = map type_of classes ++ 32 ∷ 33 ∷ 128 ∷ []
 
--- where a number stands among them, or 26
+-- the index of a number among them, or 26
 unfoldable pub name_index : ℕ → ℕ
 name_index number = position_or_len (λ other. other == number) named
 
--- the class that a number names; one that names none counts as ON
+-- the class of a number, ON if it is no class's number
 unfoldable pub class_of : ℕ → BidiClass
 class_of number = slice_index_or classes (position_or_len (λ other. other == number) (map type_of classes)) ON
 
--- the base direction that a number asks for: LTR, RTL, WRTL, and all others as ON, which is weak and else left to right
+-- the base direction that a number stands for: LTR, RTL, WRTL, and all others as ON, which is weak with left-to-right
+-- as default
 abbrev pub base_of : ℕ → Base
 base_of number =
     if number == 272 then Ltr else (if number == 273 then Rtl else (if number == 33 then WeakRtl else WeakLtr))
@@ -58,7 +59,7 @@ base_of number =
 abbrev pub direction_of : ℕ → ℕ
 direction_of level = if level == 0 then 272 else 273
 
--- a bracket by its number: that of its pair, and 2 ^ 31 more where it opens it; 0 is none
+-- a bracket by its number: that of its pair, plus 2 ^ 31 for an opening one; 0 is none
 abbrev pub bracket_by : ℕ → Option Bracket
 bracket_by number =
     if number == 0 then None

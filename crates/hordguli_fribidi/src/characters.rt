@@ -1,11 +1,12 @@
-//! What tables of single characters say, which C hands in: numbers of pages, pages of entries, and what the
-//! entries stand for. Each table has room for all that a number can name, or more, so few tests are left.
+//! Lookups in the tables of single characters, which C passes: page numbers, pages of entries, and the values
+//! of the entries. Each table is as large as the numbers that index it allow, or larger, so few checks
+//! remain.
 ghost use Rattle.std.specs.Prelude.{◌≡◌, ◌<◌, ◌==◌, ◌+◌, ◌*◌, ◌%◌, if◌then◌else◌};
 ghost use Rattle.std.specs.Prelude.{length, map, slice_index_or};
 ghost use Rattle.hordguli_fribidi.specs.Points.{bracket_at, brackets_at, brackets_by};
 ghost use Rattle.hordguli_fribidi.specs.Points.{number_at, type_at, types_at};
 
-/// The type of a code point.
+/// Returns the type of a code point.
 #[unsafe(no_mangle)]
 pub extern "C" fn hordguli_fribidi_core_type(
     c: u32,
@@ -21,7 +22,7 @@ pub extern "C" fn hordguli_fribidi_core_type(
     }
 }
 
-// Of a number that has a page.
+// The type of a number that has a page.
 fn type_on_page(c: u32, index: &[u8; 4352], pages: &[u32; 65_536]) -> u32
     requires { c < 1_114_112 }
     ensures { result ≡ type_at index.now pages.now c }
@@ -29,14 +30,14 @@ fn type_on_page(c: u32, index: &[u8; 4352], pages: &[u32; 65_536]) -> u32
     type_in(pages, index[c as usize / 256], c)
 }
 
-// The same by the number of the page.
+// The type, by the number of the page.
 fn type_in(pages: &[u32; 65_536], page: u8, c: u32) -> u32
     ensures { result ≡ slice_index_or pages.now (page * 256 + c % 256) 0 }
 {
     pages[page as usize * 256 + c as usize % 256]
 }
 
-// Of a number that has no page.
+// The type of a number that has no page.
 #[cold]
 #[inline(never)]
 fn type_past(c: u32, pages: &[u32; 65_536]) -> u32
@@ -45,7 +46,7 @@ fn type_past(c: u32, pages: &[u32; 65_536]) -> u32
     type_in(pages, 0, c)
 }
 
-/// The types of the code points of a string, if the array has that length.
+/// Writes the types of the code points of a string, if the array has the string's length.
 #[unsafe(no_mangle)]
 pub extern "C" fn hordguli_fribidi_core_types(
     index: &[u8; 4352],
@@ -60,7 +61,7 @@ pub extern "C" fn hordguli_fribidi_core_types(
     }
 }
 
-// Four at a time, as long as each of them has a page.
+// Writes four at a time, as long as each of them has a page.
 fn put_types(index: &[u8; 4352], pages: &[u32; 65_536], characters: &[u32], types: &mut [u32])
     requires { length types.old ≡ length characters.now }
     ensures { types.new ≡ map (type_at index.now pages.now) characters.now }
@@ -81,7 +82,7 @@ fn put_types(index: &[u8; 4352], pages: &[u32; 65_536], characters: &[u32], type
     put_each_type(index, pages, &characters[at..], &mut types[at..]);
 }
 
-// The same one by one.
+// Writes one at a time.
 fn put_each_type(index: &[u8; 4352], pages: &[u32; 65_536], characters: &[u32], types: &mut [u32])
     requires { length types.old ≡ length characters.now }
     ensures { types.new ≡ map (type_at index.now pages.now) characters.now }
@@ -91,7 +92,7 @@ fn put_each_type(index: &[u8; 4352], pages: &[u32; 65_536], characters: &[u32], 
     }
 }
 
-/// What a list of numbers has for a code point: its bracket, or its mirror; 0 for most.
+/// Returns the value of a code point in a list, its bracket or its mirror; 0 for most.
 #[unsafe(no_mangle)]
 pub extern "C" fn hordguli_fribidi_core_number(
     c: u32,
@@ -113,7 +114,7 @@ pub extern "C" fn hordguli_fribidi_core_number(
     number_by_parts(c, index, pages, numbers)
 }
 
-// The same of any number, any page and any entry.
+// The same for any number, any page and any entry.
 #[cold]
 #[inline(never)]
 fn number_by_parts(c: u32, index: &[u8; 4352], pages: &[u16; 4096], numbers: &[u32; 512]) -> u32
@@ -129,8 +130,8 @@ fn number_by_parts(c: u32, index: &[u8; 4352], pages: &[u16; 4096], numbers: &[u
     if entry < 512 { numbers[entry] } else { 0 }
 }
 
-/// The mirror of a code point in place of what stood there, or the code point itself where it has none.
-/// Whether it has one.
+/// Replaces a value by the mirror of a code point, or by the code point itself if it has none. Returns
+/// whether it has one.
 #[unsafe(no_mangle)]
 pub extern "C" fn hordguli_fribidi_core_mirror(
     c: u32,
@@ -179,7 +180,8 @@ fn put_mirror(c: u32, mirror: u32, mirrored: &mut u32) -> u32
     u32::from(mirror != 0)
 }
 
-/// The brackets of the code points of a string, none where the type is not ON, if the arrays have its length.
+/// Writes the brackets of the code points of a string, if the arrays have its length. A character whose type
+/// is not ON has none.
 #[unsafe(no_mangle)]
 pub extern "C" fn hordguli_fribidi_core_brackets(
     index: &[u8; 4352],
@@ -197,7 +199,7 @@ pub extern "C" fn hordguli_fribidi_core_brackets(
     }
 }
 
-// The bracket of a code point of some type.
+// The bracket of a code point with a type.
 fn bracket_at(
     index: &[u8; 4352],
     pages: &[u16; 4096],

@@ -1,4 +1,4 @@
-//! The levels of a paragraph and its direction, by the numbers of its types and brackets.
+//! The levels and the direction of a paragraph, from the numbers of its types and brackets.
 ghost use Rattle.std.specs.Prelude.{◌≡◌, ◌≢◌, ◌+◌, ◌-◌, ◌<◌, suc, if◌then◌else◌, length, map, replicate};
 ghost use Rattle.std.specs.Prelude.{IfOk, OnErr, OnOk};
 ghost use Rattle.bidi.specs.BracketTypes.{bracket_types};
@@ -37,7 +37,6 @@ fn brackets_by(alloc: Global, numbers: &[u32]) -> Result<Vec<BracketType>, Alloc
         .collect(alloc)
 }
 
-// No brackets.
 fn no_brackets(alloc: Global, len: usize) -> Result<Vec<BracketType>, AllocError>
     ensures brackets { IfOk result (λ brackets. brackets.items ≡ replicate len Other) }
     ensures memory { OnErr result (0 < len) }
@@ -47,7 +46,7 @@ fn no_brackets(alloc: Global, len: usize) -> Result<Vec<BracketType>, AllocError
     Ok(brackets)
 }
 
-// The brackets of a paragraph, of which there are none where the lengths differ.
+// The brackets of a paragraph; none if the lengths differ.
 #[tactic(auto, using(crate::proofs::BracketLemmas::none_are))]
 fn brackets_of(alloc: Global, len: usize, numbers: &[u32]) -> Result<Vec<BracketType>, AllocError>
     ensures brackets { IfOk result (λ brackets. brackets.items
@@ -62,7 +61,7 @@ fn brackets_of(alloc: Global, len: usize, numbers: &[u32]) -> Result<Vec<Bracket
     }
 }
 
-// The base level of a paragraph, and its levels before L1 in place of what a list has.
+// Returns the base level of a paragraph, and replaces the contents of a list by its levels before L1.
 fn find_levels(
     alloc: Global,
     types: &[u32],
@@ -82,7 +81,7 @@ fn find_levels(
     Ok(level)
 }
 
-// The greatest level and one.
+// The greatest level plus one.
 fn answer(levels: &[u8]) -> u32
     ensures { result ≡ suc (highest levels.now) }
 {
@@ -90,7 +89,7 @@ fn answer(levels: &[u8]) -> u32
     u32::from(highest) + 1
 }
 
-// Puts the levels of one line after L1 into an array.
+// Writes the levels of one line after L1 into an array.
 fn put_levels(types: &[u32], base: u8, found: &[u8], levels: &mut [u8])
     requires types { length types.now ≡ length levels.old }
     requires found { length found.now ≡ length levels.old }
@@ -132,7 +131,7 @@ pub extern "C" fn hordguli_fribidi_core_levels(
     }
 }
 
-/// The direction that the first strong character outside all isolates gives; ON if there is none.
+/// Returns the direction of the first strong character outside all isolates; ON if there is none.
 #[unsafe(no_mangle)]
 pub extern "C" fn hordguli_fribidi_core_direction(types: &[u32]) -> u32
     ensures { result ≡ direction_in types.now }

@@ -1,4 +1,4 @@
-//! FriBidi's calls on types, levels and lines, by UAX #9: what C's entries of c/fribidi.c stand on.
+//! FriBidi's calls on types, levels and lines, by UAX #9. The entry points in c/fribidi/fribidi.c call them.
 #![tactic(auto)]
 
 mod characters;

@@ -1,4 +1,4 @@
-//! A line of a paragraph in visual order: its levels, and what stands at its places in C's arrays.
+//! A line of a paragraph in visual order: its levels, and the items of C's arrays at its positions.
 ghost use Rattle.std.specs.Prelude.{◌≡◌, ◌≢◌, ◌<◌, ◌≤◌, ◌-◌, ℕ, false, length, map, drop};
 ghost use Rattle.std.specs.Prelude.{slice_index, None, IfSome};
 ghost use Rattle.reorder.specs.Order.{highest, is_odd, lowest_odd, vtol_of};
@@ -14,7 +14,7 @@ fn asks_marks(flags: u32) -> bool
     flags / 2 % 2 == 1
 }
 
-// Puts what an array has from `off` on into visual order, if it ends with the line.
+// Puts the items of an array from `off` on into visual order, if it ends with the line.
 fn arrange_if(types: &[u32], off: usize, levels: &[u8], marks: bool, array: &mut [u32])
     requires off { off ≤ length types.now }
     requires levels { length levels.now ≡ length types.now - off }

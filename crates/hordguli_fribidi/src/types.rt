@@ -1,4 +1,4 @@
-//! The numbers by which FriBidi names classes, directions and brackets.
+//! FriBidi's numbers for classes, directions and brackets.
 ghost use Rattle.std.specs.Prelude.{◌≡◌, map};
 ghost use Rattle.bidi.specs.BracketTypes.{type_by};
 ghost use Rattle.hordguli_fribidi.specs.Types.{base_of, bracket_by, class_of, direction_of, name_index};
@@ -6,7 +6,7 @@ ghost use Rattle.hordguli_fribidi.specs.Types.{base_of, bracket_by, class_of, di
 use bidi::{Base, BracketType};
 use ucd::{BidiClass, Classes};
 
-/// The class that a number names; one that names none counts as ON.
+/// Returns the class of a number, ON if it is no class's number.
 #[tactic(auto, unfolding(crate::specs::Types::class_of))]
 #[inline(always)]
 pub fn class_of(number: u32) -> BidiClass
@@ -57,7 +57,7 @@ impl Classes for TypeClasses<'_> {
     }
 }
 
-/// Where a number stands among those that have names, or 26.
+/// Returns the index of a number among those that have names, or 26.
 #[unsafe(no_mangle)]
 #[tactic(auto, unfolding(crate::specs::Types::name_index))]
 pub extern "C" fn hordguli_fribidi_core_name(number: u32) -> u32
@@ -94,7 +94,7 @@ pub extern "C" fn hordguli_fribidi_core_name(number: u32) -> u32
     }
 }
 
-/// The base direction that a number asks for.
+/// Returns the base direction that a number stands for.
 pub fn base_of(number: u32) -> Base
     ensures { result ≡ base_of number }
 {
@@ -109,14 +109,14 @@ pub fn base_of(number: u32) -> Base
     }
 }
 
-/// The direction of a level.
+/// Returns the number of a level's direction.
 pub fn direction_of(level: u8) -> u32
     ensures { result ≡ direction_of level }
 {
     if level == 0 { 272 } else { 273 }
 }
 
-/// A bracket by its number.
+/// Returns a bracket by its number.
 pub fn bracket_of(number: u32) -> BracketType
     ensures { result ≡ type_by (bracket_by number) number }
 {

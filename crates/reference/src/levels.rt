@@ -1,5 +1,5 @@
-//! The levels of a list that is one isolating run sequence as it stands (UAX #9, W1 to I2), each rule a
-//! pass of its own over the types.
+//! The levels of a list that is a single isolating run sequence (UAX #9, W1 to I2). Each rule is a pass over
+//! the types.
 mod brackets;
 mod neutral;
 mod weak;
@@ -11,8 +11,8 @@ use bidi::{Base, base_level};
 use std::alloc::{AllocError, Global};
 use ucd::{BidiClass, Tables};
 
-/// The level of each character of a list that has no explicit formatting character, no isolate, and no
-/// character that X9 takes out.
+/// Returns the level of each character of a list without explicit formatting characters, isolates, or
+/// characters that X9 removes.
 pub fn reference_levels(
     alloc: Global,
     tables: &Tables,
@@ -49,7 +49,7 @@ fn direction(level: u8) -> BidiClass {
     }
 }
 
-// I1 and I2: the level of a character, by the type that is left of it.
+// I1 and I2: the level of a character, by its type after N2.
 fn implicit_level(level: u8, class: BidiClass) -> u8 {
     let more = match (level % 2, class) {
         (0, BidiClass::R) => 1,

@@ -13,8 +13,8 @@ use breaks::Mark;
 use std::alloc::AllocError;
 use ucd::{LineClass, Tables};
 
-/// The mark of the position after each character of a text, in place of what a list holds. Another list
-/// is used for the classes of the bases.
+/// Replaces the contents of a list by the mark of the position after each character of a text. Another list
+/// is for the classes of the bases.
 pub fn reference_marks(
     tables: &Tables,
     text: &[char],

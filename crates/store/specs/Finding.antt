@@ -1,15 +1,16 @@
--- What a search in a list of items finds: the item in which a character or a line stands.
+-- What a search in a list of items finds: the item that has a character or a line.
 use Rattle.std.specs.Prelude.{◌≡◌, ℕ, ◌+◌, ◌<◌, List, ◌∷◌, ◌++◌, length, sum_by}
 use Rattle.store.specs.declared.found.Found.{Found}
 use Rattle.store.specs.declared.found.Unit.{Unit as Counted}
 use Rattle.store.specs.declared.found.Unit.TheVariants.{Char, Line}
 
--- how many of the counted an item has
+-- how many of the counted things an item has
 abbrev pub measure : {P : Type 0} → (P → ℕ) → (P → ℕ) → Counted → P → ℕ
 measure chars lines Char = chars
 measure chars lines Line = lines
 
--- Number n of what an item has `size` of, counted through all items in order from 0, is number `rest` of the item at `index`.
+-- Number n of what an item has `size` of, counted through all items in order from 0, is number `rest` of the item at
+-- `index`.
 pub record Finds {P : Type 0} (size chars lines : P → ℕ) (items : List P) (n : ℕ) (found : Found) : Type 0 where
   pub before : List P
   pub item : P

@@ -1,4 +1,4 @@
--- Binary trees of items, what it means that one is balanced, and how few nodes one of a height has.
+-- Binary trees of items, when one is balanced, and how few nodes a balanced one of a height has.
 use Rattle.std.specs.Prelude.{◌≡◌, ℕ, zero, suc, ◌+◌, ◌-◌, ◌≤◌, nat_lt, max, List, [], ◌∷◌, ◌++◌, length, Option, Some, None, refl, if◌then◌else◌}
 use Rattle.std.proofs.Common.{ap, ◌∙◌}
 use Rattle.std.specs.Coded.{Coded, code_by, coded_list, coded_option}
@@ -13,7 +13,7 @@ module _ {A : Type 0} where
   in_order Empty = []
   in_order (Fork l x r) = in_order l ++ x ∷ in_order r
 
-  -- how many nodes are on the longest way down
+  -- the number of nodes on the longest path down
   abbrev pub height : Tree A → ℕ
   height Empty = 0
   height (Fork l x r) = max (height l) (height r) + 1
@@ -23,7 +23,7 @@ module _ {A : Type 0} where
   IsBalanced Empty = Unit {0}
   IsBalanced (Fork l x r) = IsBalanced l × IsBalanced r × (height l ≤ height r + 1) × (height r ≤ height l + 1)
 
-  -- how many nodes are on the way from the root to an item, both counted
+  -- the number of nodes on the path from the root to an item, both included
   abbrev pub nodes_to : Tree A → ℕ → ℕ
   nodes_to Empty i = 0
   nodes_to (Fork l x r) i =

@@ -1,25 +1,25 @@
-//! What a search in a store answers.
+//! The result of a search in a store.
 ghost use Rattle.std.specs.Prelude.{◌≡◌};
 ghost use Rattle.store.specs.Finding.{measure};
 
 use crate::measured::Measured;
 
-/// Where a character or a line stands.
+/// The item that has a character or a line.
 #[derive(Clone, Copy, Debug, PartialEq, Eq)]
 pub struct Found {
-    /// Which item it stands in, counted from 0.
+    /// The index of the item, from 0.
     pub index: usize,
-    /// Which one of that item's it is, counted from 0.
+    /// The index of the character or line in the item, from 0.
     pub rest: usize,
-    /// How many characters the items before that item have.
+    /// How many characters the items before it have.
     pub chars_before: usize,
-    /// And how many lines.
+    /// How many lines the items before it have.
     pub lines_before: usize,
     /// How many items the search looked at.
     pub visits: usize,
 }
 
-// What is counted.
+// What a search counts.
 #[derive(Clone, Copy)]
 pub(crate) enum Unit {
     Char,
@@ -27,7 +27,7 @@ pub(crate) enum Unit {
 }
 
 impl Unit {
-    /// How many of the counted an item has.
+    /// How many of the counted things an item has.
     pub(crate) fn size_of<P: Measured>(self, item: &P) -> usize
         ensures { result ≡ measure P.chars P.lines self item.now }
     {

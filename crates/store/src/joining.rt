@@ -1,4 +1,4 @@
-//! Balanced trees that are joined and split: no memory is taken, and the work is that of their heights.
+//! Joins and splits balanced trees, without allocation. The work is proportional to their heights.
 ghost use Rattle.std.specs.Prelude.{◌≡◌, ◌+◌, ◌^◌, ◌<◌, ◌≤◌, ◌∷◌, ◌++◌};
 ghost use Rattle.std.specs.Prelude.{ℕ, length, sum_by, [], take, drop, max};
 ghost use Rattle.std.specs.Prelude.{map, reverse, slice_range, MatchOption, vec_capacity, ◌-◌};
@@ -10,7 +10,7 @@ use crate::measured::Measured;
 use crate::subtree::{Spare, Subtree};
 use std::mem;
 
-/// A tree of the items of two trees with one more between them.
+/// Joins two trees with one more item between them.
 pub(crate) fn join<P: Measured>(left: Subtree<P>, spare: Spare<P>, right: Subtree<P>) -> Subtree<P>
     requires { Fits P.chars P.lines (in_order left ++ spare ∷ in_order right) }
     ensures items { in_order result ≡ in_order left ++ spare ∷ in_order right }
@@ -34,7 +34,7 @@ pub(crate) fn join<P: Measured>(left: Subtree<P>, spare: Spare<P>, right: Subtre
     spare.over(left, right)
 }
 
-// The same of two trees whose heights differ by at most 2.
+// Joins two trees whose heights differ by at most 2.
 fn balance<P: Measured>(left: Subtree<P>, spare: Spare<P>, right: Subtree<P>) -> Subtree<P>
     requires fits { Fits P.chars P.lines (in_order left ++ spare ∷ in_order right) }
     requires near { (height left ≤ height right + 2) × (height right ≤ height left + 2) }
@@ -55,7 +55,7 @@ fn balance<P: Measured>(left: Subtree<P>, spare: Spare<P>, right: Subtree<P>) ->
     spare.over(left, right)
 }
 
-// The same where the left tree is higher by 2: a rotation, or two where its inner side is the higher one.
+// Joins them if the left tree is higher by 2: one rotation, or two if its inner side is the higher one.
 fn lean_left<P: Measured>(left: Subtree<P>, spare: Spare<P>, right: Subtree<P>) -> Subtree<P>
     requires fits { Fits P.chars P.lines (in_order left ++ spare ∷ in_order right) }
     requires two_higher { height left ≡ height right + 2 }
@@ -72,7 +72,7 @@ fn lean_left<P: Measured>(left: Subtree<P>, spare: Spare<P>, right: Subtree<P>) 
     lift(outer, top, inner, spare, right)
 }
 
-// The same where the right tree is higher by 2.
+// Joins them if the right tree is higher by 2.
 fn lean_right<P: Measured>(left: Subtree<P>, spare: Spare<P>, right: Subtree<P>) -> Subtree<P>
     requires fits { Fits P.chars P.lines (in_order left ++ spare ∷ in_order right) }
     requires two_higher { height right ≡ height left + 2 }
@@ -89,7 +89,8 @@ fn lean_right<P: Measured>(left: Subtree<P>, spare: Spare<P>, right: Subtree<P>)
     lift(left, spare, inner, top, outer)
 }
 
-// A tree that is higher by 1 than those on both sides of it, with its root lifted over them: two rotations.
+// Makes two rotations: the root of the middle tree, which is higher by 1 than those on both sides of it,
+// becomes the root of all.
 fn lift<P: Measured>(
     left: Subtree<P>,
     before: Spare<P>,
@@ -109,7 +110,7 @@ fn lift<P: Measured>(
     middle.over(before.over(left, first), after.over(second, right))
 }
 
-// Trees of the items before a place, and of those from it on.
+// Splits a tree into the items before an index and those from it on.
 fn split<P: Measured>(tree: Subtree<P>, at: usize) -> (Subtree<P>, Subtree<P>)
     requires { at ≤ length (in_order tree) }
     ensures front { in_order result.0 ≡ take at (in_order tree) }
@@ -127,7 +128,7 @@ fn split<P: Measured>(tree: Subtree<P>, at: usize) -> (Subtree<P>, Subtree<P>)
     (join(left, top, middle), after)
 }
 
-// Takes the first item out.
+// Removes the first item.
 fn take_first<P: Measured>(tree: Subtree<P>) -> Option<(Spare<P>, Subtree<P>)>
     ensures { MatchOption result (tree ≡ Empty) (λ p. in_order tree ≡ p.0 ∷ in_order p.1) }
 {
@@ -138,7 +139,7 @@ fn take_first<P: Measured>(tree: Subtree<P>) -> Option<(Spare<P>, Subtree<P>)>
     Some((first, join(rest, top, right)))
 }
 
-// A tree of the items of two trees.
+// Joins two trees.
 fn append<P: Measured>(left: Subtree<P>, right: Subtree<P>) -> Subtree<P>
     requires { Fits P.chars P.lines (in_order left ++ in_order right) }
     ensures { in_order result ≡ in_order left ++ in_order right }
@@ -149,7 +150,7 @@ fn append<P: Measured>(left: Subtree<P>, right: Subtree<P>) -> Subtree<P>
     join(left, first, rest)
 }
 
-// A tree of the nodes of a list, from the last one back.
+// Builds a tree of the nodes of a list, from the last one back.
 fn build_all<P: Measured>(spares: Vec<Spare<P>>) -> Subtree<P>
     requires { Fits P.chars P.lines (reverse spares.items) }
     ensures { in_order result ≡ reverse spares.items }
@@ -161,7 +162,7 @@ fn build_all<P: Measured>(spares: Vec<Spare<P>>) -> Subtree<P>
     tree
 }
 
-// A tree of the last nodes of a list, from the last one back.
+// Builds a tree of the last nodes of a list, from the last one back.
 fn build<P: Measured>(spares: &mut Vec<Spare<P>>, count: usize) -> Subtree<P>
     requires enough { count ≤ length spares.old.items }
     requires fits { Fits P.chars P.lines (reverse spares.old.items) }
@@ -178,8 +179,8 @@ fn build<P: Measured>(spares: &mut Vec<Spare<P>>, count: usize) -> Subtree<P>
     join(left, top, right)
 }
 
-/// Puts the items of a list of nodes, from the last one back, in place of those in a range, and hands out a
-/// tree of the old ones.
+/// Replaces the items of a range by those of a list of nodes, from the last one back, and returns a tree of
+/// the old ones.
 pub(crate) fn put_in<P: Measured>(
     tree: &mut Subtree<P>,
     first: usize,
@@ -200,7 +201,7 @@ pub(crate) fn put_in<P: Measured>(
     gone
 }
 
-/// Moves the items after those of a list that has room for them, and lets go of the nodes.
+/// Moves the items to the end of a list that has the capacity for them, and frees the nodes.
 pub(crate) fn move_items<P: Measured>(tree: Subtree<P>, items: &mut Vec<P>)
     requires { length items.old.items + length (in_order tree) ≤ vec_capacity items.old }
     ensures items { items.new.items ≡ items.old.items ++ in_order tree }

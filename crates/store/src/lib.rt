@@ -1,8 +1,8 @@
-//! Stores of paragraphs: a list of items with the sums of their characters and of their lines.
+//! Stores of paragraphs: lists of items with the sums of their characters and lines.
 //!
-//! A `ParagraphStore` holds items that are `Measured`, puts some in the place of others by one `replace`, and
-//! finds the item of a character or of a line. A `VecStore` is a list, and a `TreeStore` a balanced tree, in
-//! which a search looks at few items.
+//! A `ParagraphStore` holds items that are `Measured`. `replace` replaces a range of them, and searches find
+//! the item of a character or a line. A `VecStore` is a list. A `TreeStore` is a balanced tree, in which a
+//! search looks at few items.
 //!
 //! ```rust
 //! let paragraphs = vec![in alloc; Paragraph(5, 1), Paragraph(90, 2)]?;

@@ -1,18 +1,16 @@
-//! What a store asks of its items.
+//! What a store requires of its items.
 ghost use Rattle.std.specs.Prelude.{◌≡◌, ℕ, refl};
 ghost use Rattle.store.specs.Exchanging.{raised};
 
-/// An item with so many characters and lines.
+/// An item that has a number of characters and of lines.
 pub trait Measured {
     ghost chars: { Self → ℕ };
 
     ghost lines: { Self → ℕ };
 
-    /// How many characters it has.
     fn chars(&self) -> usize
         ensures { result ≡ chars self.now };
 
-    /// How many lines it has.
     fn lines(&self) -> usize
         ensures { result ≡ lines self.now };
 }
@@ -30,24 +28,24 @@ pub trait Exchange: Measured {
 
     ghost handed_out: { Self → Self.Part → Self.Part };
 
-    /// Puts in a part that fits, and takes the old one out.
+    /// Exchanges the item's part with `part`, which must fit.
     fn exchange(&mut self, part: &mut Self::Part)
         requires { fits self.old part.old }
         ensures item { self.new ≡ exchanged self.old part.old }
         ensures part { part.new ≡ handed_out self.old part.old };
 
-    // The number of characters stays.
+    // The number of characters stays the same.
     ghost keeps_chars: { (item : Self) (part : Self.Part) → fits item part
         → Self.chars (exchanged item part) ≡ Self.chars item };
 }
 
-/// Exchanges parts of items for others. It may count its work.
+/// Exchanges parts of items. It may count its work.
 pub trait Exchanger<P: Measured> {
-    /// What is put in, and what is handed out.
+    /// What is put in, and what comes out.
     type Part;
 
-    // What decides which parts fit and what comes of them: that of an exchanger which stays as it is, while
-    // the exchanger may count what it does.
+    // What decides which parts fit and what the result is. It stays the same while the exchanger counts its
+    // work.
     ghost Kind: { Type 0 };
 
     ghost kind: { Self → Kind };
@@ -65,7 +63,7 @@ pub trait Exchanger<P: Measured> {
 
     ghost cost: { P → Self.Part → ℕ };
 
-    /// Puts a part that fits into an item, and hands the old one out.
+    /// Exchanges the item's part with `part`, which must fit.
     fn exchange(&mut self, item: &mut P, part: &mut Self::Part)
         requires { fits (kind self.old) item.old part.old }
         ensures item { item.new ≡ exchanged (kind self.old) item.old part.old }
@@ -73,12 +71,12 @@ pub trait Exchanger<P: Measured> {
         ensures same { kind self.new ≡ kind self.old }
         ensures worked { worked self.new ≡ raised (worked self.old) (cost item.old part.old) };
 
-    // The number of characters stays.
+    // The number of characters stays the same.
     ghost keeps_chars: { (by : Kind) (item : P) (part : Self.Part) → fits by item part
         → P.chars (exchanged by item part) ≡ P.chars item };
 }
 
-/// Lets each item exchange its part by itself.
+/// An exchanger that calls the item's own `exchange`.
 #[derive(Drop)]
 pub(crate) struct ByItem;
 

@@ -1,4 +1,4 @@
-//! Stores of items: a list with its sums, whatever holds it.
+//! The interface of stores: a list of items with sums.
 ghost use Rattle.std.specs.Prelude.{◌≡◌, ◌+◌, ◌-◌, ◌^◌, ◌<◌, ◌≤◌};
 ghost use Rattle.std.specs.Prelude.{ℕ, List, [], length, map, slice_get, slice_range, option_map, sum_by};
 ghost use Rattle.std.specs.Prelude.{IfOk, IfErr, OnOk, OnErr};
@@ -11,49 +11,49 @@ use crate::measured::{ByItem, Exchange, Exchanger, Measured};
 use std::alloc::{AllocError, Global};
 use std::ops::Range;
 
-/// A list of items, with the sums of their characters and of their lines. Only `replace` and `list`
-/// take memory, and none where there is nothing to list or to replace. No call drops or copies an item.
+/// A list of items, with the sums of their characters and lines. Only `replace` and `list` allocate, and only
+/// if there are items to list or to replace. No call drops or copies an item.
 pub trait ParagraphStore<P: Measured> {
     // The items in order.
     ghost items: { Self → List P };
 
-    /// An empty store. `replace` will take its memory from `alloc`.
+    /// Creates an empty store. `replace` allocates from `alloc`.
     fn new(alloc: Global) -> Self
         ensures { items result ≡ [] };
 
-    /// How many items there are.
+    /// The number of items.
     fn count(&self) -> usize
         ensures { result ≡ length (items self.now) };
 
-    /// How many characters all items have.
+    /// The number of characters of all items.
     fn total_chars(&self) -> usize
         ensures { result ≡ sum_by P.chars (items self.now) };
 
-    /// How many lines all items have.
+    /// The number of lines of all items.
     fn total_lines(&self) -> usize
         ensures { result ≡ sum_by P.lines (items self.now) };
 
-    /// An item, counted from 0.
+    /// Returns an item by its index, from 0.
     fn get(&self, index: usize) -> Option<&P>
         ensures { option_map (λ item. item.now) result ≡ slice_get (items self.now) index };
 
-    /// All items in order, found in one walk over the store.
+    /// Returns all items in order, from one traversal of the store.
     fn list(&self, alloc: Global) -> Result<Vec<&P>, AllocError>
         ensures ok { IfOk result (λ list. map (λ item. item.now) list.items ≡ items self.now) }
         ensures memory { OnErr result (0 < length (items self.now)) };
 
-    /// The item in which a character stands, counted through all items from 0.
+    /// Finds the item that has a character, which is counted through all items from 0.
     fn find_char(&self, pos: usize) -> Found
         requires { pos < sum_by P.chars (items self.now) }
         ensures { Finds P.chars P.chars P.lines (items self.now) pos result };
 
-    /// The item in which a line stands, counted through all items from 0.
+    /// Finds the item that has a line, which is counted through all items from 0.
     fn find_line(&self, n: usize) -> Found
         requires { n < sum_by P.lines (items self.now) }
         ensures { Finds P.lines P.chars P.lines (items self.now) n result };
 
-    /// Puts new items in place of those in a range, and hands the old ones out. The new sums fit a
-    /// `usize`. Where memory is refused nothing is changed, and the new items come back.
+    /// Replaces the items of a range by new ones, and returns the old ones. The new sums must fit a `usize`.
+    /// If an allocation fails, nothing changes, and the new items are returned.
     fn replace(
         &mut self,
         range: Range<usize>,
@@ -72,8 +72,8 @@ pub trait ParagraphStore<P: Measured> {
         ensures back { IfErr result (λ e. e.0.items ≡ new_items.items) }
         ensures memory { OnErr result (0 < range.end - range.start + length new_items.items) };
 
-    /// Exchanges a part of each item, by an exchanger, which may count its work. There are as many parts as
-    /// items, each fits its item, and the new sum of lines fits a `usize`. Allocates nothing.
+    /// Exchanges a part of each item, in order, by an exchanger. There must be as many parts as items, each
+    /// must fit its item, and the new sum of lines must fit a `usize`. Does not allocate.
     fn exchange_all_by<E: Exchanger<P>>(&mut self, by: &mut E, parts: &mut Vec<E::Part>)
         requires fit { AllZip (E.fits (E.kind by.old)) (items self.old) parts.old.items }
         requires lines_fit { sum_by P.lines
@@ -87,8 +87,8 @@ pub trait ParagraphStore<P: Measured> {
             ≡ raised (E.worked by.old) (total_cost E.cost (items self.old) parts.old.items) }
         ensures chars { sum_by P.chars (items self.new) ≡ sum_by P.chars (items self.old) };
 
-    /// Exchanges a part of each item, in order: item `i` with `parts[i]`. There are as many parts as items,
-    /// each fits its item, and the new sum of lines fits a `usize`. Allocates nothing.
+    /// Exchanges a part of each item, in order: item `i` with `parts[i]`. There must be as many parts as
+    /// items, each must fit its item, and the new sum of lines must fit a `usize`. Does not allocate.
     fn exchange_all(&mut self, parts: &mut Vec<P::Part>)
     where
         P: Exchange,

@@ -1,4 +1,4 @@
-//! Going down a tree to one of its items, and over all of them.
+//! Searches and traversals of a tree.
 ghost use Rattle.std.specs.Prelude.{◌≡◌, ℕ, ◌+◌, ◌^◌, ◌<◌, ◌≤◌, ◌++◌};
 ghost use Rattle.std.specs.Prelude.{length, map, sum_by, option_map, slice_get, vec_capacity};
 ghost use Rattle.std.specs.List.{AllZip};
@@ -11,7 +11,7 @@ use crate::measured::{Exchanger, Measured};
 use crate::subtree::{Node, Subtree};
 
 impl<P: Measured> Subtree<P> {
-    /// An item, counted from 0.
+    /// Returns an item by its index, from 0.
     pub(crate) fn get(&self, index: usize) -> Option<&P>
         ensures { option_map (λ item. item.now) result ≡ slice_get (in_order self.now) index }
     {
@@ -26,7 +26,7 @@ impl<P: Measured> Subtree<P> {
         Some(&node.item)
     }
 
-    /// Puts all items in order after those of a list that has room for them.
+    /// Appends all items in order to a list that has the capacity for them.
     pub(crate) fn list_into<'a>(&'a self, list: &mut Vec<&'a P>)
         requires { length list.old.items + length (in_order self.now) ≤ vec_capacity list.old }
         ensures items { map (λ item. item.now) list.new.items
@@ -42,7 +42,7 @@ impl<P: Measured> Subtree<P> {
         node.right.list_into(list);
     }
 
-    /// The item in which number `n` of the counted stands.
+    /// Finds the item that has number `n` of the counted things.
     pub(crate) fn find(&self, unit: Unit, n: usize) -> Found
         requires { n < sum_by (measure P.chars P.lines unit) (in_order self.now) }
         ensures found { Finds (measure P.chars P.lines unit) P.chars P.lines (in_order self.now) n result }
@@ -52,7 +52,7 @@ impl<P: Measured> Subtree<P> {
             unreachable!()
         };
         let node: &Node<P> = node;
-        // Shows that what is counted fits.
+        // Their invariants bound the sums.
         let (_height, _count) = (self.height(), self.count());
         let (_chars, _lines) = (self.chars(), self.lines());
         let before = node.left.total(unit);
@@ -86,7 +86,7 @@ impl<P: Measured> Subtree<P> {
         }
     }
 
-    /// Each item exchanges with its part, in order.
+    /// Exchanges a part of each item, in order.
     pub(crate) fn exchange_all<E: Exchanger<P>>(&mut self, by: &mut E, parts: &mut [E::Part])
         requires fit { AllZip (E.fits (E.kind by.old)) (in_order self.old) parts.old }
         requires lines_fit { sum_by P.lines

@@ -1,4 +1,4 @@
-//! Balanced trees whose nodes keep the sums of their items.
+//! Balanced trees whose nodes store the sums of their items.
 ghost use Rattle.std.specs.Prelude.{◌≡◌, ℕ, ◌+◌, ◌^◌, ◌<◌, ◌≤◌, length, sum_by, ◌∷◌, ◌++◌, max, Option};
 ghost use Rattle.std.specs.Prelude.{IfOk, IfErr, MatchOption};
 ghost use Rattle.store.specs.Finding.{measure};
@@ -18,7 +18,7 @@ pub(crate) struct Subtree<P: Measured> {
     pub(crate) root: Option<Box<Node<P>>>,
 }
 
-/// The root of a tree, with what its items sum up to.
+/// The root of a tree, with the sums of all its items.
 #[cycle(subtree)]
 #[derive(Debug, Drop)]
 pub(crate) struct Node<P: Measured> {
@@ -52,7 +52,7 @@ impl<P: Measured> Model for Subtree<P> {
     ghost size_decreases = { λ a h. depth_le_length P.Measured a };
 }
 
-/// A node that hangs nowhere, with an item in it.
+/// A node outside any tree, with its item.
 #[derive(Debug, Drop)]
 pub(crate) struct Spare<P: Measured> {
     node: Box<Node<P>>,
@@ -77,7 +77,7 @@ impl<P: Measured> Subtree<P> {
         Subtree { root: None }
     }
 
-    /// How many nodes are on the longest way down.
+    /// The number of nodes on the longest path down.
     pub(crate) fn height(&self) -> usize
         ensures value { result ≡ height self.now }
         ensures low { result ≤ length (in_order self.now) }
@@ -89,7 +89,7 @@ impl<P: Measured> Subtree<P> {
         }
     }
 
-    /// How many items there are.
+    /// The number of items.
     pub(crate) fn count(&self) -> usize
         ensures { result ≡ length (in_order self.now) }
     {
@@ -99,7 +99,7 @@ impl<P: Measured> Subtree<P> {
         }
     }
 
-    /// How many characters all items have.
+    /// The number of characters of all items.
     pub(crate) fn chars(&self) -> usize
         ensures { result ≡ sum_by P.chars (in_order self.now) }
     {
@@ -109,7 +109,7 @@ impl<P: Measured> Subtree<P> {
         }
     }
 
-    /// How many lines all items have.
+    /// The number of lines of all items.
     pub(crate) fn lines(&self) -> usize
         ensures { result ≡ sum_by P.lines (in_order self.now) }
     {
@@ -119,7 +119,7 @@ impl<P: Measured> Subtree<P> {
         }
     }
 
-    /// How many lines all items have, those of one more, and those of another tree.
+    /// The number of lines of all items, of one more, and of another tree.
     pub(crate) fn lines_with(&self, item: &P, right: &Subtree<P>) -> usize
         requires { sum_by P.lines (in_order self.now ++ item.now ∷ in_order right.now) < 2 ^ 64 }
         ensures { result ≡ sum_by P.lines (in_order self.now ++ item.now ∷ in_order right.now) }
@@ -127,7 +127,7 @@ impl<P: Measured> Subtree<P> {
         self.lines() + item.lines() + right.lines()
     }
 
-    /// How many of the counted all items have.
+    /// How many of the counted things all items have.
     pub(crate) fn total(&self, unit: Unit) -> usize
         ensures { result ≡ sum_by (measure P.chars P.lines unit) (in_order self.now) }
     {
@@ -137,7 +137,7 @@ impl<P: Measured> Subtree<P> {
         }
     }
 
-    /// Lets go of a tree without items.
+    /// Frees a tree without items.
     pub(crate) fn discard(self)
         requires { self ≡ Empty }
     {
@@ -148,13 +148,13 @@ impl<P: Measured> Subtree<P> {
         }
     }
 
-    /// Takes the root from between its two subtrees.
+    /// Takes a tree apart: its left subtree, its root and its right subtree.
     pub(crate) fn open(self) -> Option<(Subtree<P>, Spare<P>, Subtree<P>)>
         ensures parts { MatchOption result (self ≡ Empty) (λ p. self ≡ Fork p.0 p.1 p.2) }
         ensures fits { Fits P.chars P.lines (in_order self) }
         ensures balanced { IsBalanced self }
     {
-        // Shows that the sums fit.
+        // Their invariants bound the sums.
         let (_count, _chars, _lines) = (self.count(), self.chars(), self.lines());
         match self.root {
             None => None,
@@ -168,7 +168,7 @@ impl<P: Measured> Subtree<P> {
 }
 
 impl<P: Measured> Spare<P> {
-    /// A node for an item, which comes back where memory is refused.
+    /// Puts an item into a node. If the allocation fails, the item is returned.
     pub(crate) fn new(alloc: Global, item: P) -> Result<Spare<P>, AllocFailed<P>>
         ensures ok { IfOk result (λ spare. spare ≡ item) }
         ensures err { IfErr result (λ failed. failed.value ≡ item) }
@@ -190,14 +190,14 @@ impl<P: Measured> Spare<P> {
         }
     }
 
-    /// The item, without its node.
+    /// Returns the item, and frees the node.
     pub(crate) fn into_item(self) -> P
         ensures { result ≡ self }
     {
         Box::into_inner(self.node).into_item()
     }
 
-    /// Hangs the node over two trees of about the same height.
+    /// Puts the node above two trees whose heights differ by at most 1.
     pub(crate) fn over(self, left: Subtree<P>, right: Subtree<P>) -> Subtree<P>
         requires fits { Fits P.chars P.lines (in_order left ++ self ∷ in_order right) }
         requires near { (height left ≤ height right + 1) × (height right ≤ height left + 1) }
@@ -210,7 +210,7 @@ impl<P: Measured> Spare<P> {
 }
 
 impl<P: Measured> Node<P> {
-    // Hangs two trees of about the same height below a node without any, and sums up what they have.
+    // Puts two trees whose heights differ by at most 1 below a node that has none, and computes its sums.
     fn hang(&mut self, left: Subtree<P>, right: Subtree<P>)
         requires empty { (self.old.left ≡ Empty) × (self.old.right ≡ Empty) }
         requires fits { Fits P.chars P.lines (in_order left ++ self.old.item ∷ in_order right) }
@@ -228,7 +228,7 @@ impl<P: Measured> Node<P> {
         mem::replace(&mut self.right, right).discard();
     }
 
-    // The item of a node that hangs nowhere.
+    // The item of a node outside any tree.
     fn into_item(self) -> P
         requires left { self.left ≡ Empty }
         requires right { self.right ≡ Empty }

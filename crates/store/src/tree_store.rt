@@ -1,4 +1,4 @@
-//! The balanced store: a tree that keeps the sums of its items in every node.
+//! The tree store: a balanced tree that stores the sums of its items in every node.
 ghost use Rattle.std.specs.Prelude.{◌≡◌, ◌+◌, ◌-◌, ◌/◌, ◌^◌, ◌<◌, ◌≤◌, ◌++◌};
 ghost use Rattle.std.specs.Prelude.{ℕ, List, [], length, reverse, drop, take};
 ghost use Rattle.std.specs.Prelude.{slice_range, sum_by, vec_capacity};
@@ -18,8 +18,8 @@ use std::marker::Model;
 use std::mem;
 use std::ops::Range;
 
-/// A store that is a balanced tree: the heights of two subtrees differ by at most 1. A search and
-/// `replace` go down from the root, and take time by the height.
+/// A store that is a balanced tree: the heights of two subtrees differ by at most 1. A search and `replace`
+/// go down from the root, so their time is proportional to the height.
 #[derive(Debug)]
 pub struct TreeStore<P: Measured> {
     root: Subtree<P>,
@@ -43,14 +43,14 @@ impl<P: Measured> Model for TreeStore<P> {
 }
 
 impl<P: Measured> TreeStore<P> {
-    /// The law of its height: the store has at least as many items as the fewest that a balanced tree
-    /// of its height has, and these double with every second level.
+    /// States a bound on the height, as a theorem: the store has at least as many items as the smallest
+    /// balanced tree of its height. Their number doubles with every second level.
     pub fn stays_balanced(&self)
         ensures balanced { IsBalanced self.now }
         ensures items { fewest_nodes (height self.now) ≤ length (in_order self.now) }
         ensures height { 2 ^ (height self.now / 2) ≤ length (in_order self.now) + 1 }
 
-        // They are the fewest: a balanced tree of each height has no more.
+        // This bound is reached: some balanced tree of each height has no more.
         ensures fewest { P → (h : ℕ) → (t : Tree P) × IsBalanced t × (height t ≡ h)
             × (length (in_order t) ≡ fewest_nodes h) }
     {
@@ -58,7 +58,8 @@ impl<P: Measured> TreeStore<P> {
     }
 }
 
-// Puts each item into a node of its own, from the last one on, or gives all of them back.
+// Puts each item into a node of its own, from the last one on. If an allocation fails, all items are
+// returned.
 fn hang<P: Measured>(alloc: Global, items: &mut Vec<P>) -> Result<Vec<Spare<P>>, AllocError>
     ensures ok { IfOk result (λ spares. spares.items ≡ reverse items.old.items) }
     ensures left { OnOk result (items.new.items ≡ []) }
@@ -79,7 +80,7 @@ fn hang<P: Measured>(alloc: Global, items: &mut Vec<P>) -> Result<Vec<Spare<P>>,
     Ok(spares)
 }
 
-// Takes items out of their nodes again, from the last one on, to where there is room for them.
+// Takes items out of their nodes again, from the last one on, into a list that has the capacity for them.
 fn take_down<P: Measured>(spares: Vec<Spare<P>>, items: &mut Vec<P>)
     requires { length items.old.items + length spares.items ≤ vec_capacity items.old }
     ensures { items.new.items ≡ items.old.items ++ reverse spares.items }
@@ -91,8 +92,8 @@ fn take_down<P: Measured>(spares: Vec<Spare<P>>, items: &mut Vec<P>)
     spares.destroy_empty();
 }
 
-// Takes what a replacement needs: room for the old items, and a node for each of the new ones, if they can be
-// counted together with those that are kept.
+// Allocates what a replacement needs: capacity for the old items, and a node for each of the new ones. Fails
+// if the kept and the new items together are too many to be counted.
 fn take_memory<P: Measured>(
     alloc: Global,
     kept: usize,
@@ -151,7 +152,7 @@ impl<P: Measured> ParagraphStore<P> for TreeStore<P> {
         Ok(list)
     }
 
-    /// It looks at the nodes from the root to the answered item.
+    /// Looks at the nodes from the root to the item found.
     fn find_char(&self, pos: usize) -> Found
         requires { pos < sum_by P.chars (in_order self.now) }
         ensures found { Finds P.chars P.chars P.lines (in_order self.now) pos result }
@@ -162,7 +163,7 @@ impl<P: Measured> ParagraphStore<P> for TreeStore<P> {
         self.root.find(Unit::Char, pos)
     }
 
-    /// It looks at the nodes from the root to the answered item.
+    /// Looks at the nodes from the root to the item found.
     fn find_line(&self, n: usize) -> Found
         requires { n < sum_by P.lines (in_order self.now) }
         ensures found { Finds P.lines P.chars P.lines (in_order self.now) n result }
@@ -198,7 +199,7 @@ impl<P: Measured> ParagraphStore<P> for TreeStore<P> {
             return Err((new_items, AllocError));
         };
         new_items.destroy_empty();
-        // From here on no memory is taken.
+        // Nothing is allocated from here on.
         let gone = put_in(&mut self.root, range.start, range.end, spares);
         move_items(gone, &mut old);
         Ok(old)

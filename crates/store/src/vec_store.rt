@@ -1,4 +1,4 @@
-//! The plain store: a list with its sums beside it.
+//! The simple store: a list with its sums beside it.
 ghost use Rattle.std.specs.Prelude.{◌≡◌, ◌+◌, ◌-◌, ◌^◌, ◌<◌, ◌≤◌, ◌++◌};
 ghost use Rattle.std.specs.Prelude.{ℕ, List, [], length, take, drop, reverse};
 ghost use Rattle.std.specs.Prelude.{slice_get, slice_range, option_map, sum_by, vec_len, vec_capacity};
@@ -45,7 +45,7 @@ impl<P: Measured> Model for VecStore<P> {
         (s.chars ≡ sum_by P.chars s.items.items) × (s.lines ≡ sum_by P.lines s.items.items) };
 }
 
-// The sums of characters and of lines of some items.
+// The sums of characters and of lines.
 fn sums<P: Measured>(items: &[P]) -> (usize, usize)
     requires chars_fit { sum_by P.chars items.now < 2 ^ 64 }
     requires lines_fit { sum_by P.lines items.now < 2 ^ 64 }
@@ -61,7 +61,7 @@ fn sums<P: Measured>(items: &[P]) -> (usize, usize)
     (chars, lines)
 }
 
-// Walks to the item in which number `n` of the counted stands.
+// Walks to the item that has number `n` of the counted things.
 fn find<P: Measured>(items: &[P], unit: Unit, n: usize) -> Found
     requires within { n < sum_by (measure P.chars P.lines unit) items.now }
     requires chars_fit { sum_by P.chars items.now < 2 ^ 64 }
@@ -89,7 +89,7 @@ fn find<P: Measured>(items: &[P], unit: Unit, n: usize) -> Found
     unreachable!()
 }
 
-// Moves the last items over, in their order, to where there is room for them.
+// Moves the last items, in their order, to a list that has the capacity for them.
 fn move_last<P>(items: &mut Vec<P>, count: usize, old: &mut Vec<P>)
     requires enough { count ≤ length items.old.items }
     requires empty { old.old.items ≡ [] }
@@ -104,7 +104,7 @@ fn move_last<P>(items: &mut Vec<P>, count: usize, old: &mut Vec<P>)
     old.reverse();
 }
 
-// Brings what stands from the second place on before what stands from the first place on.
+// Exchanges the items from `first` to `second` with those from `second` on.
 fn rotate<P>(items: &mut Vec<P>, first: usize, second: usize)
     requires { (first ≤ second) × (second ≤ length items.old.items) }
     ensures items { items.new.items ≡ take first items.old.items
@@ -115,8 +115,8 @@ fn rotate<P>(items: &mut Vec<P>, first: usize, second: usize)
     items[first..].rotate_left(start);
 }
 
-// Puts new items in place of those from the first place up to the second, and moves the old ones out.
-// There is room for both.
+// Replaces the items from the first index up to the second, and moves the old ones out. There is capacity for
+// both.
 fn put_in<P>(
     items: &mut Vec<P>,
     first: usize,
@@ -140,7 +140,7 @@ fn put_in<P>(
     rotate(items, first, end);
 }
 
-// Each item exchanges with its part.
+// Exchanges a part of each item.
 fn exchange_each<P: Measured, E: Exchanger<P>>(by: &mut E, items: &mut [P], parts: &mut [E::Part])
     requires { AllZip (E.fits (E.kind by.old)) items.old parts.old }
     ensures items { items.new ≡ pairwise (E.exchanged (E.kind by.old)) items.old parts.old }
@@ -189,24 +189,24 @@ impl<P: Measured> ParagraphStore<P> for VecStore<P> {
         self.items.iter().collect(alloc)
     }
 
-    /// It looks at each item up to the answered one.
+    /// Looks at each item up to the one found.
     fn find_char(&self, pos: usize) -> Found
         requires { pos < sum_by P.chars self.now }
         ensures found { Finds P.chars P.chars P.lines self.now pos result }
         ensures visits { result.visits ≡ result.index + 1 }
     {
-        // Shows that the sums fit.
+        // Their invariants bound the sums.
         let (_chars, _lines) = (self.chars, self.lines);
         find(&self.items, Unit::Char, pos)
     }
 
-    /// It looks at each item up to the answered one.
+    /// Looks at each item up to the one found.
     fn find_line(&self, n: usize) -> Found
         requires { n < sum_by P.lines self.now }
         ensures found { Finds P.lines P.chars P.lines self.now n result }
         ensures visits { result.visits ≡ result.index + 1 }
     {
-        // Shows that the sums fit.
+        // Their invariants bound the sums.
         let (_chars, _lines) = (self.chars, self.lines);
         find(&self.items, Unit::Line, n)
     }

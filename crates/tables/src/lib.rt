@@ -12,16 +12,16 @@ pub enum FolderFault {
     /// The file of this name cannot be read.
     #[error("cannot read {0}")]
     Unread(&'static str),
-    /// A file is malformed, or memory ran out when they were read as tables.
+    /// A file is malformed, or memory ran out while it was parsed.
     #[error("{0}")]
     Table(TableFault),
-    /// Memory ran out when the files were read.
+    /// Memory ran out while the files were read.
     #[error("out of memory")]
     Memory,
 }
 
-/// Reads the tables from the files of a folder, which have the names of `ucd::FILE_NAMES`. All files are read
-/// before the first is parsed.
+/// Reads the tables from the files of a folder, whose names are `ucd::FILE_NAMES`. Reads all files before it
+/// parses the first.
 pub fn in_folder(rt: &HostRuntime, folder: &str) -> Result<Tables, FolderFault> {
     let alloc = rt.alloc();
     let mut files = [

@@ -1,6 +1,5 @@
-//! Test tables: the lines of the seven table files of the Unicode Character Database that the characters
-//! of the tests need, and no others. They stand here once, for the tests of every crate, which can't
-//! open files. A character that no line names has its file's default.
+//! Test tables: only those lines of the seven table files that the characters of the tests need. They are
+//! constants, because tests cannot open files. A character that no line names has its file's default.
 #![tactic(auto)]
 
 /// Lines of DerivedBidiClass.txt: bidirectional classes.

@@ -1,4 +1,4 @@
--- Tables that say the same of each character.
+-- Tables that give each character the same properties.
 use Rattle.std.specs.Prelude.{◌≡◌, ℕ}
 use Rattle.std.specs.Char.{IsScalar}
 use Rattle.ucd.specs.declared.tables.Tables.{Tables}

@@ -1,4 +1,4 @@
--- What the tables say of one character, and the 16 bits that hold it.
+-- The properties of one character, and the 16 bits that hold them.
 use Rattle.std.specs.Prelude.{ℕ, ◌+◌, ◌*◌, ◌/◌, ◌%◌, ◌<◌, ◌==◌, Bool, false, slice_index_or, if◌then◌else◌}
 use Rattle.ucd.specs.declared.bidi_class.TheConstants.{BIDI_CLASS_COUNT}
 use Rattle.ucd.specs.declared.bidi_class.BidiClass.{BidiClass}
@@ -21,7 +21,7 @@ pub record PropertyAnswers : Type 0 where
   pub has_bracket : Bool
   pub has_mirror : Bool
 
--- what holds of a character that no line names
+-- the properties of a character that no line names
 abbrev pub unnamed : PropertyAnswers
 unnamed = record {
   bidi_class = L;
@@ -33,7 +33,7 @@ unnamed = record {
   has_mirror = false;
 }
 
--- the place of a class in the order of its type, and the class at a place
+-- the index of a class in the order of its type, and the class at an index
 abbrev pub bidi_tag : BidiClass → ℕ
 bidi_tag class = tag_of bidi_type.the_type class
 
@@ -46,8 +46,8 @@ bidi_class_at place = slice_index_or bidi.all_classes place L
 abbrev pub line_class_at : ℕ → LineClass
 line_class_at place = slice_index_or line.all_classes place BK
 
--- The bits, from the lowest: five for the bidirectional class, one each for a bracket, a mirror, a future pictograph, a mark and a wide
--- character, and six for the line breaking class. All 16 are taken.
+-- The bits, from the lowest: five for the bidi class, five flags, and six for the line breaking class. All 16 are used.
+-- The flags are, in order, those of a bracket, a mirror, a future pictograph, a mark and a wide character.
 abbrev pub bit : Bool → ℕ
 bit b = if b then 1 else 0
 
@@ -66,12 +66,12 @@ answers_in bits = record {
   line_class = line_class_at (bits / 1024);
 }
 
--- bits that are those of some answers
+-- bits that are those of some properties
 pub record AreBits (bits : ℕ) : Type 0 where
   pub bidi : bits % 32 < BIDI_CLASS_COUNT
   pub line : bits / 1024 < LINE_CLASS_COUNT
 
--- what line breaking reads, as one number
+-- what line breaking needs, as one number
 abbrev pub line_index : PropertyAnswers → ℕ
 line_index a =
     line_tag a.line_class * 8 + (if a.is_wide then 4 else 0) + (if a.is_mark then 2 else 0) + (if a.is_future_pictograph then 1 else 0)

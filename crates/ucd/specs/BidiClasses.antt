@@ -1,4 +1,4 @@
--- The bidirectional classes by name (UAX #9, section 3.2, table 4).
+-- The bidi classes by name (UAX #9, section 3.2, table 4).
 use Rattle.std.specs.Prelude.{ℕ, List, [], ◌∷◌, codes, true, false, Option, Some, option_map, find}
 use Rattle.std.specs.Str.{bytes_eq}
 use Rattle.ucd.specs.Grammar.{Form}
@@ -38,6 +38,6 @@ name_of PDI = codes "PDI"
 abbrev pub class_named : List ℕ → Option BidiClass
 class_named name = find (λ c. bytes_eq (name_of c) name) all_classes
 
--- DerivedBidiClass.txt: code points or a range of them, and the name of a class
+-- DerivedBidiClass.txt: a code point or a range, and the name of a class
 abbrev pub bidi_class_form : Form BidiClass
 bidi_class_form = record { has_ranges = true; has_third = false; value = λ name _. option_map Some (class_named name) }

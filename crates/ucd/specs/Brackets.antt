@@ -6,7 +6,7 @@ use Rattle.ucd.specs.Grammar.{Form, code_point}
 use Rattle.ucd.specs.declared.bracket.Bracket.{Bracket}
 use Rattle.ucd.specs.declared.bracket.Mirror.{Mirror}
 
--- the character that 4 to 6 hexadecimal digits write, if their number is a scalar value
+-- the character that 4 to 6 hexadecimal digits denote, if their number is a scalar value
 abbrev pub scalar_only : Option ℕ → Option ℕ
 scalar_only None = None
 scalar_only (Some c) = if scalar c then Some c else None
@@ -14,7 +14,7 @@ scalar_only (Some c) = if scalar c then Some c else None
 abbrev pub character_of : List ℕ → Option ℕ
 character_of digits = scalar_only (code_point digits)
 
--- the type of a bracket: `o` for one that opens a pair, and `c` for one that closes it
+-- the type of a bracket: `o` for an opening one, and `c` for a closing one
 abbrev pub opens_of : List ℕ → Option Bool
 opens_of kind = if bytes_eq (codes "o") kind then Some true else (if bytes_eq (codes "c") kind then Some false else None)
 

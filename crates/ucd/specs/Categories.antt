@@ -1,4 +1,4 @@
--- The general categories (UAX #44, section 5.7.1), as far as line breaking asks for them.
+-- The general categories that line breaking needs (UAX #44, section 5.7.1).
 use Rattle.std.specs.Prelude.{ℕ, List, codes, true, false, Some, ◌||◌, if◌then◌else◌}
 use Rattle.std.specs.Str.{bytes_eq}
 use Rattle.ucd.specs.Grammar.{Form}
@@ -11,6 +11,6 @@ category_named name =
     if bytes_eq (codes "Mn") name || bytes_eq (codes "Mc") name then Mark
     else (if bytes_eq (codes "Cn") name then Unassigned else Other)
 
--- DerivedGeneralCategory.txt: code points or a range of them, and the name of a category, which may be any
+-- DerivedGeneralCategory.txt: a code point or a range, and the name of a category, which may be any
 abbrev pub category_form : Form Category
 category_form = record { has_ranges = true; has_third = false; value = λ name _. Some (Some (category_named name)) }

@@ -1,4 +1,4 @@
--- Kinds of bidirectional classes (UAX #9, section 3.2, and BD8).
+-- Kinds of bidi classes (UAX #9, section 3.2, and BD8).
 use Rattle.std.specs.Prelude.{ℕ, Bool, true, false, List, slice_index_or}
 use Rattle.ucd.specs.declared.bidi_class.BidiClass.{BidiClass}
 use Rattle.ucd.specs.declared.properties.Properties.{Properties}
@@ -31,7 +31,7 @@ abbrev pub is_mark : BidiClass → Bool
 is_mark NSM = true
 is_mark _ = false
 
--- X9: the classes whose characters are taken out
+-- X9: the classes whose characters are removed
 abbrev pub is_removed : BidiClass → Bool
 is_removed RLE = true
 is_removed LRE = true
@@ -45,6 +45,6 @@ is_removed _ = false
 abbrev pub class_at : List BidiClass → ℕ → BidiClass
 class_at classes k = slice_index_or classes k ON
 
--- the class in what tables say of a character
+-- the class in the properties of a character
 abbrev pub class_in : Properties → BidiClass
 class_in properties = properties.bidi_class

@@ -1,4 +1,4 @@
--- What tables hold: the entries of each file.
+-- The contents of tables: the entries of each file.
 use Rattle.std.specs.Prelude.{List}
 use Rattle.ucd.specs.declared.bidi_class.BidiClass.{BidiClass}
 use Rattle.ucd.specs.declared.bracket.Bracket.{Bracket}

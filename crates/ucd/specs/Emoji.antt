@@ -8,6 +8,6 @@ use Rattle.ucd.specs.declared.emoji.Pictograph.{Pictograph}
 abbrev pub pictograph_named : List ℕ → Option Pictograph
 pictograph_named name = if bytes_eq (codes "Extended_Pictographic") name then Some (record {}) else None
 
--- emoji-data.txt: code points or a range of them, and the name of a property, which may be any
+-- emoji-data.txt: a code point or a range, and the name of a property, which may be any
 abbrev pub emoji_form : Form Pictograph
 emoji_form = record { has_ranges = true; has_third = false; value = λ name _. Some (pictograph_named name) }

@@ -1,4 +1,4 @@
--- Entries, each of some code points, and what they say of a character.
+-- Entries, each of some code points, and the value that they give to a character.
 use Rattle.std.specs.Prelude.{◌≡◌, ℕ, ◌<◌, ◌≤◌, nat_le, Bool, false, ◌&&◌, List, [], ◌∷◌, length, take, slice_get, slice_index_or, Option, Some, None, is_some, IsSome, IsTrue, if◌then◌else◌}
 use Rattle.std.specs.Char.{IsScalar}
 use Rattle.ucd.specs.declared.grammar.Entry.{Entry}
@@ -18,21 +18,21 @@ module _ {V : Type 0} where
     pub whole : (i : ℕ) (e : Entry V) → slice_get es i ≡ Some e → (e.first ≤ e.last) × (e.last < 1114112)
     pub apart : (i : ℕ) (e : Entry V) → slice_get es i ≡ Some e → (c : ℕ) → IsTrue (covers e c) → value_at (take i es) c ≡ None
 
-  -- which code points they name
+  -- which code points the entries name
   pub record AreNamed (es : List (Entry V)) (named : List Bool) : Type 0 where
     pub len : length named ≡ 1114112
     pub each : (c : ℕ) → c < 1114112 → slice_index_or named c false ≡ is_some (value_at es c)
 
-  -- new gives the entry's value to the entry's code points, which had none, and to every other what old gives
+  -- `new` gives the entry's value to the entry's code points, which had none, and to every other the value in `old`
   pub record AddsEntry (old new : List (Entry V)) (e : Entry V) : Type 0 where
     pub free : (c : ℕ) → IsTrue (covers e c) → value_at old c ≡ None
     pub values : (c : ℕ) → value_at new c ≡ (if covers e c then Some e.value else value_at old c)
 
-  -- first one entry's, and then the other's
+  -- first one entry is added, and then the other
   abbrev pub AddsBoth : List (Entry V) → List (Entry V) → Entry V → Entry V → Type 0
   AddsBoth old new one other = (mid : List (Entry V)) × AddsEntry old mid one × AddsEntry mid new other
 
-  -- the same, of the entry's characters alone
+  -- the same for characters alone, without surrogates
   pub record AddsCharacters (old new : List (Entry V)) (e : Entry V) : Type 0 where
     pub free : (c : ℕ) → IsScalar c → IsTrue (covers e c) → value_at old c ≡ None
     pub values : (c : ℕ) → IsScalar c → value_at new c ≡ (if covers e c then Some e.value else value_at old c)

@@ -1,4 +1,4 @@
--- What the lines of a file name together, and which line is at fault.
+-- The values that all lines of a file give, and which line is faulty.
 use Rattle.std.specs.Prelude.{◌≡◌, ℕ, ◌-◌, ◌<◌, ◌≤◌, ◌⊎◌, ◌&&◌, List, [], ◌∷◌, length, slice_index_or, Option, Some, None, IsSome, Result, Ok, Err, if◌then◌else◌}
 use Rattle.std.specs.Char.{IsScalar}
 use lib.Utf8.{scalar}
@@ -19,7 +19,7 @@ module _ {V : Type 0} (form : Form V) where
   abbrev pub given : List ℕ → ℕ → Option V
   given line c = given_by (reading_of form line) c
 
-  -- the value that the first line which names the character gives to it
+  -- the value of the first line that names the character
   abbrev pub or_else : Option V → Option V → Option V
   or_else (Some v) other = Some v
   or_else None other = other
@@ -35,7 +35,7 @@ module _ {V : Type 0} (form : Form V) where
   abbrev pub NamesAgain : List (List ℕ) → ℕ → Type 0
   NamesAgain lines k = (j : ℕ) × (c : ℕ) × (j < k) × IsSome (given (line_at lines j) c) × IsSome (given (line_at lines k) c)
 
-  -- line k is refused, and for this cause
+  -- line k is refused, for this cause
   abbrev pub HasFault : List (List ℕ) → ℕ → Cause → Type 0
   HasFault lines k why = (reading_of form (line_at lines k) ≡ Err why) ⊎ ((why ≡ cause.NamedBefore) × NamesAgain lines k)
 
@@ -58,7 +58,7 @@ module _ {V : Type 0} (form : Form V) where
   abbrev pub AddsLine : List (Entry V) → List (Entry V) → List ℕ → Type 0
   AddsLine old new line = AddsReading (reading_of form line) old new
 
-  -- why a line cannot be added; where memory ran out, nothing else is wrong with it, and it names a character
+  -- why a line cannot be added; if memory ran out, nothing else is wrong with it, and it names a character
   abbrev pub IsReadingCause : Result (Option (Entry V)) Cause → List (Entry V) → Cause → Type 0
   IsReadingCause (Ok None) es why = ⊥
   IsReadingCause (Ok (Some e)) es cause.NamedBefore = IsTaken es e
@@ -69,19 +69,19 @@ module _ {V : Type 0} (form : Form V) where
   abbrev pub IsLineCause : List (Entry V) → List ℕ → Cause → Type 0
   IsLineCause es line why = IsReadingCause (reading_of form line) es why
 
-  -- the entries say what the lines say, none of which is refused
+  -- the entries give the values of the lines, none of which is refused
   pub record HoldsFile (lines : List (List ℕ)) (es : List (Entry V)) : Type 0 where
     pub good : IsGood lines
     pub values : (c : ℕ) → IsScalar c → value_at es c ≡ value_in lines c
 
-  -- line k names a character, and neither it nor one before it is refused: so it alone wants memory
+  -- line k names a character, and neither it nor one before it is refused, so it allocates
   pub record WantsMemoryAt (lines : List (List ℕ)) (k : ℕ) : Type 0 where
     pub entry : Entry V
     pub reads : reading_of form (line_at lines k) ≡ Ok (Some entry)
     pub names : NamesSome entry
     pub good : (j : ℕ) (why : Cause) → j ≤ k → ¬ (HasFault lines j why)
 
-  -- a line, counted from 1, is the first that is refused; or memory ran out at it
+  -- a line, numbered from 1, is the first that is refused; or memory ran out at it
   abbrev pub IsFaultFor : List (List ℕ) → ℕ → Cause → Type 0
   IsFaultFor lines line cause.Memory = (0 < line) × WantsMemoryAt lines (line - 1)
   IsFaultFor lines line why = (0 < line) × IsFirstFault lines (line - 1) why

@@ -1,4 +1,4 @@
--- The grammar of a table file of the Unicode Character Database (UAX #44, section 4.2), as docs/reference.md has it.
+-- The grammar of a table file of the Unicode Character Database (UAX #44, section 4.2), as in docs/reference.md.
 use Rattle.std.specs.Prelude.{ℕ, ◌+◌, ◌*◌, ◌-◌, nat_lt, nat_le, ◌==◌, ◌&&◌, not, Bool, true, List, [], ◌∷◌, length, map, fold, take, drop, Option, Some, None, Result, Ok, Err, if◌then◌else◌}
 use Rattle.std.specs.List.{slice_split, before_first, after_first, prefix_len, suffix_len, list_all, list_any}
 use Rattle.std.specs.Char.{is_ascii, is_ascii_hexdigit, digit_value}
@@ -6,11 +6,11 @@ use Rattle.ucd.specs.declared.fault.Cause.{Cause}
 use Rattle.ucd.specs.declared.fault.Cause.TheVariants as cause
 use Rattle.ucd.specs.declared.grammar.Entry.{Entry}
 
--- the byte that parts lines, fields or the ends of a range
+-- the byte that separates lines, fields or the ends of a range
 abbrev pub is_mark : ℕ → ℕ → Bool
 is_mark mark b = b == mark
 
--- A line ends at U+000A, and the last line may lack it: after a last U+000A stands a line with nothing in it.
+-- A line ends at U+000A, which is optional on the last line: after a last U+000A comes an empty line.
 abbrev pub lines_of : List ℕ → List (List ℕ)
 lines_of file = slice_split (is_mark 10) file
 
@@ -28,18 +28,18 @@ spaces = 32 ∷ 9 ∷ []
 abbrev pub blanks : List ℕ
 blanks = 32 ∷ 9 ∷ 13 ∷ []
 
--- of a line, what stands before the first `#`, and that without the white space at its ends
+-- the part of a line before the first `#`, and that part without the white space at its ends
 abbrev pub before_comment : List ℕ → List ℕ
 before_comment line = before_first (is_mark 35) line
 
 abbrev pub content_of : List ℕ → List ℕ
 content_of line = trimmed (is_one_of blanks) (before_comment line)
 
--- the fields, which `;` parts
+-- the fields, separated by `;`
 abbrev pub fields_of : List ℕ → List (List ℕ)
 fields_of content = map (trimmed (is_one_of spaces)) (slice_split (is_mark 59) content)
 
--- the number that hexadecimal digits write
+-- the number that hexadecimal digits denote
 abbrev pub hex_value : List ℕ → ℕ
 hex_value digits = fold (λ n d. 16 * n + digit_value d) 0 digits
 
@@ -50,7 +50,8 @@ is_code_point digits = nat_le 4 (length digits) && (nat_le (length digits) 6 && 
 abbrev pub code_point : List ℕ → Option ℕ
 code_point digits = if is_code_point digits then Some (hex_value digits) else None
 
--- the first and the last code point of a field, by cases on its parts between dots: `X`, or `X..Y` where the file has ranges
+-- the first and the last code point of a field, by cases on its parts between dots: `X`, or `X..Y` if the file has
+-- ranges
 abbrev pub both : Option ℕ → Option ℕ → Option (ℕ × ℕ)
 both (Some x) (Some y) = Some (x, y)
 both (Some x) None = None
@@ -64,14 +65,16 @@ points_by has_ranges parts = None
 abbrev pub points_of : Bool → List ℕ → Option (ℕ × ℕ)
 points_of has_ranges field = points_by has_ranges (slice_split (is_mark 46) field)
 
--- The form of a file's lines: whether the first field may be a range, whether there is a third field, and what
--- the second and the third (empty where there is none) say: no value of the file, nothing, or a value.
+-- The form of a file's lines. It says whether the first field may be a range, and whether there is a third field. It
+-- also says what the second and the third field (empty if there is none) stand for: no value of the file, nothing, or a
+-- value.
 pub record Form (V : Type 0) : Type 0 where
   pub has_ranges : Bool
   pub has_third : Bool
   pub value : List ℕ → List ℕ → Option (Option V)
 
--- What a line is: it names nothing, or it gives a value to the characters of a range, or it is refused by the first test that holds.
+-- What a line is: it names nothing, or it gives a value to the characters of a range, or it is refused by the first
+-- test that applies.
 module _ {V : Type 0} (form : Form V) where
   abbrev pub by_value : ℕ → ℕ → Option (Option V) → Result (Option (Entry V)) Cause
   by_value first last None = Err cause.Value
@@ -94,7 +97,7 @@ module _ {V : Type 0} (form : Form V) where
       if not (list_all is_ascii (before_comment line)) then Err cause.NotAscii
       else (if length (content_of line) == 0 then Ok None else by_fields (fields_of (content_of line)))
 
--- what stands after the first mark, if there is one, and the parts that a first part and the rest have
+-- what comes after the first mark, if there is one, and the parts of a first part and the rest
 abbrev pub rest_after : ℕ → List ℕ → Option (List ℕ)
 rest_after mark bytes = if list_any (is_mark mark) bytes then Some (after_first (is_mark mark) bytes) else None
 

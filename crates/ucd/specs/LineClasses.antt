@@ -58,6 +58,6 @@ name_of XX = codes "XX"
 abbrev pub class_named : List ℕ → Option LineClass
 class_named name = find (λ c. bytes_eq (name_of c) name) all_classes
 
--- LineBreak.txt: code points or a range of them, and the name of a class
+-- LineBreak.txt: a code point or a range, and the name of a class
 abbrev pub line_class_form : Form LineClass
 line_class_form = record { has_ranges = true; has_third = false; value = λ name _. option_map Some (class_named name) }

@@ -1,4 +1,4 @@
--- Pages of 256 code points, and the entries that stand for what they hold.
+-- Pages of 256 code points, and the entries that have the same content.
 use Rattle.std.specs.Prelude.{◌≡◌, ℕ, zero, suc, ◌+◌, ◌*◌, ◌/◌, ◌%◌, ◌<◌, ◌≤◌, length, List, [], ◌∷◌, ◌++◌, slice_index, slice_index_or, Option, Some, None, if◌then◌else◌, ◌-◌, drop}
 use Rattle.ucd.specs.Answers.{PropertyAnswers, unnamed}
 use Rattle.ucd.specs.declared.category.Category.{Category}
@@ -8,11 +8,11 @@ use Rattle.ucd.specs.declared.grammar.Entry.{Entry}
 use Rattle.ucd.specs.declared.width.Width.{Width}
 use Rattle.ucd.specs.declared.width.Width.TheVariants as width
 
--- the answers for a code point: those at its place in the page that the index names for it
+-- the properties of a code point: those at its index in the page that the table's index names for it
 abbrev pub answers_at : List ℕ → List PropertyAnswers → ℕ → PropertyAnswers
 answers_at index entries c = slice_index_or entries (slice_index index (c / 256) * 256 + c % 256) unnamed
 
--- the entries of single code points below n that say of each what a function does
+-- the entries of single code points below n that give each the value of a function
 abbrev pub single : {V : Type 0} → ℕ → Option V → List (Entry V)
 single c None = []
 single c (Some v) = record { first = c; last = c; value = v } ∷ []
@@ -21,7 +21,7 @@ unfoldable pub singles : {V : Type 0} → (ℕ → Option V) → ℕ → List (E
 singles f zero = []
 singles f (suc n) = singles f n ++ single n (f n)
 
--- the values that answers stand for
+-- the values of the files that some properties stand for
 abbrev pub category_in : PropertyAnswers → Category
 category_in a = if a.is_future_pictograph then category.Unassigned else (if a.is_mark then category.Mark else category.Other)
 
@@ -35,7 +35,7 @@ pictograph_in a = if a.is_future_pictograph then Some (record {}) else None
 abbrev pub EndsWithPage : List PropertyAnswers → List PropertyAnswers → Type 0
 EndsWithPage pages page = (256 ≤ length pages) × (drop (length pages - 256) pages ≡ page)
 
--- the pages, to which one more may have been added, have this page by this number
+-- the pages, to which one more may have been added, have this page under this number
 pub record HasPage (old new page : List PropertyAnswers) (number : ℕ) : Type 0 where
   pub whole : length new % 256 ≡ 0
   pub room : length new ≤ length old + 256

@@ -1,4 +1,4 @@
--- What the tables say of one character.
+-- The properties of one character.
 use Rattle.std.specs.Prelude.{ℕ, is_some}
 use Rattle.ucd.specs.declared.properties.Properties.{Properties}
 use Rattle.ucd.specs.declared.tables.Tables.{Tables}

@@ -1,5 +1,5 @@
--- What a value of a file changes in the answers for the characters that it is given to. A pictograph is one to come until its category
--- says that it is assigned, so categories are put after pictographs.
+-- How a value of a file changes the properties of its characters. A pictograph is a future one until its category says
+-- that it is assigned, so categories are put after pictographs.
 use Rattle.std.specs.Prelude.{true, false, Option, Some, None}
 use Rattle.ucd.specs.Answers.{PropertyAnswers}
 use Rattle.ucd.specs.declared.bidi_class.BidiClass.{BidiClass}
@@ -36,7 +36,7 @@ put_category category.Other a = record a { is_future_pictograph = false }
 abbrev pub put_pictograph : Pictograph → PropertyAnswers → PropertyAnswers
 put_pictograph pictograph a = record a { is_future_pictograph = true }
 
--- a value, where there is one
+-- a value, if there is one
 abbrev pub put_by : {V : Type 0} → (V → PropertyAnswers → PropertyAnswers) → Option V → PropertyAnswers → PropertyAnswers
 put_by put (Some v) a = put v a
 put_by put None a = a

@@ -1,4 +1,4 @@
--- The tables, by the files that they were read from.
+-- The tables, by the files from which they are read.
 use Rattle.std.specs.Prelude.{◌≡◌, ℕ, ◌-◌, ◌<◌, ◌⊎◌, ◌&&◌, Bool, true, false, List, Option, Some, is_some, option_map, unwrap_or}
 use Rattle.std.specs.Char.{IsScalar}
 use Rattle.ucd.specs.declared.bidi_class.BidiClass.{BidiClass}
@@ -27,11 +27,11 @@ use Rattle.ucd.specs.Grammar.{Form, lines_of}
 use Rattle.ucd.specs.LineClasses.{line_class_form}
 use Rattle.ucd.specs.Widths.{width_form}
 
--- what a mirror is, without its name
+-- the mirror as a character
 abbrev pub mirror_by : Option Mirror → Option ℕ
 mirror_by mirror = option_map (λ m. m.0) mirror
 
--- whether a width is wide, where there is one
+-- whether a width is wide, if there is one
 abbrev pub is_wide_by : Option Width → Bool
 is_wide_by (Some Wide) = true
 is_wide_by _ = false
@@ -45,7 +45,7 @@ abbrev pub is_unassigned_by : Category → Bool
 is_unassigned_by Unassigned = true
 is_unassigned_by _ = false
 
--- what tables say of a character, with the defaults of what no line names
+-- the properties of a character by tables, with the defaults of what no line names
 unfoldable pub class_of : Tables → ℕ → BidiClass
 class_of t c = unwrap_or (value_at t.bidi_classes c) L
 
@@ -84,7 +84,7 @@ pub record AreGood (files : UcdFiles) : Type 0 where
 abbrev pub category_in : UcdFiles → ℕ → Category
 category_in files c = unwrap_or (value_in category_form (lines_of files.general_category.now) c) Unassigned
 
--- the tables say of a character what the files say, with the same defaults
+-- the tables give a character the properties that the files give, with the same defaults
 pub record SayOf (files : UcdFiles) (t : Tables) (c : ℕ) : Type 0 where
   pub bidi_class : class_of t c ≡ unwrap_or (value_in bidi_class_form (lines_of files.bidi_class.now) c) L
   pub bracket : bracket_of t c ≡ value_in bracket_form (lines_of files.bidi_brackets.now) c
@@ -99,7 +99,7 @@ pub record AreTablesOf (files : UcdFiles) (t : Tables) : Type 0 where
   pub good : AreGood files
   pub say : (c : ℕ) → IsScalar c → SayOf files t c
 
--- the fault is that of the first line of a file that is refused; where memory ran out, its file and line are 0
+-- the fault is the first refused line of a file; if memory ran out, its file and line are 0
 module _ {V : Type 0} (number : ℕ) (form : Form V) (lines : List (List ℕ)) where
   abbrev pub IsFaultBy : ℕ → ℕ → Cause → Type 0
   IsFaultBy file line cause.Memory = (file ≡ 0) × (line ≡ 0)
@@ -112,7 +112,8 @@ module _ {V : Type 0} (number : ℕ) (form : Form V) (lines : List (List ℕ)) w
   abbrev pub IsInOr : (TableFault → Type 0) → TableFault → Type 0
   IsInOr after fault = IsFaultIn fault ⊎ (IsGood form lines × after fault)
 
--- the files in their order, in which the first fault is looked for: those on bidirectional text, and after them those on line breaking
+-- the files in the order in which the first fault is looked for: those for bidirectional text, and then those for line
+-- breaking
 abbrev pub IsBidiFaultOf : UcdFiles → TableFault → Type 0
 IsBidiFaultOf files =
     IsInOr 1 bidi_class_form (lines_of files.bidi_class.now) (
@@ -133,7 +134,7 @@ IsFaultOf files =
     IsInOr 3 mirror_form (lines_of files.bidi_mirroring.now) (
     IsBreakFaultOf files)))
 
--- a fault in a line of a file, or want of memory, which is in none
+-- a fault in a line of a file, or an allocation failure, which names no file
 abbrev pub fault_by : ℕ → ℕ → Cause → TableFault
 fault_by file line cause.Memory = record { file = 0; line = 0; cause = cause.Memory }
 fault_by file line why = record { file = file; line = line; cause = why }

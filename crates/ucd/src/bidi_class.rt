@@ -1,4 +1,4 @@
-//! The bidirectional classes (UAX #9, section 3.2, table 4).
+//! The bidi classes (UAX #9, section 3.2, table 4).
 ghost use Rattle.std.specs.Prelude.{◌≡◌, ◌<◌, codes, slice_index_or};
 ghost use Rattle.ucd.specs.BidiClasses.{name_of, class_named, all_classes, bidi_class_form};
 ghost use Rattle.ucd.specs.declared.bidi_class.BidiClass.TheVariants.{L};
@@ -9,7 +9,7 @@ use crate::grammar::Property;
 use crate::properties::Properties;
 use std::fmt;
 
-/// A bidirectional class, under its short name in the Unicode Character Database.
+/// A bidi class. The variants have the short names of the Unicode Character Database.
 #[derive(Clone, Copy, PartialEq, Eq)]
 pub enum BidiClass {
     L,
@@ -37,10 +37,10 @@ pub enum BidiClass {
     PDI,
 }
 
-/// How many classes there are.
+/// The number of classes.
 pub(crate) const BIDI_CLASS_COUNT: usize = 23;
 
-// The classes in the order of the enum, in which they are looked for, for the two lists of them.
+// The classes in the order of the enum, for the lists of variants and names.
 macro_rules! classes {
     ($list:ident) => {
         $list! {
@@ -59,18 +59,18 @@ macro_rules! names {
 
 static ALL: [BidiClass; BIDI_CLASS_COUNT] = classes!(values);
 
-// The short name of each.
+// The short name of each class.
 static NAMES: [&str; BIDI_CLASS_COUNT] = classes!(names);
 
 impl BidiClass {
-    /// The class with this short name.
+    /// Returns the class with this short name.
     pub fn from_name(name: &[u8]) -> Option<BidiClass>
         ensures { result ≡ class_named name.now }
     {
         ALL.iter().copied().find(|class| class.name() == name)
     }
 
-    /// The class at a place in the order of the enum.
+    /// Returns the class at an index in the order of the enum.
     pub(crate) fn at(place: usize) -> BidiClass
         requires { place < BIDI_CLASS_COUNT }
         ensures { result ≡ slice_index_or all_classes place L }
@@ -78,7 +78,6 @@ impl BidiClass {
         ALL[place]
     }
 
-    // Its short name.
     fn name(self) -> &'static [u8]
         ensures { result.now ≡ name_of self }
     {

@@ -1,5 +1,5 @@
-//! Brackets and mirrors (UAX #9, BD14 to BD16 and L4), and how BidiBrackets.txt and
-//! BidiMirroring.txt name them.
+//! Brackets and mirrors (UAX #9, BD14 to BD16 and L4), and how BidiBrackets.txt and BidiMirroring.txt name
+//! them.
 ghost use Rattle.std.specs.Prelude.{◌≡◌};
 ghost use Rattle.ucd.specs.Brackets.{character_of, opens_of, bracket_form, mirror_form};
 ghost use Rattle.ucd.specs.Puts.{put_bracket, put_mirror};
@@ -7,26 +7,25 @@ ghost use Rattle.ucd.specs.Puts.{put_bracket, put_mirror};
 use crate::grammar::{Property, code_point};
 use crate::properties::Properties;
 
-/// A bracket: the one that it makes a pair with, and whether it opens the pair (UAX #9, BD14 and
-/// BD15).
+/// A bracket: its pair, and whether it is an opening bracket (UAX #9, BD14 and BD15).
 #[derive(Clone, Copy, Debug, PartialEq, Eq)]
 pub struct Bracket {
     pub pair: char,
     pub opens: bool,
 }
 
-/// The character that stands in a character's place in right-to-left text (UAX #9, L4).
+/// The mirror of a character (UAX #9, L4).
 #[derive(Clone, Copy, Debug)]
 pub struct Mirror(pub char);
 
-// The character that 4 to 6 hexadecimal digits write.
+// The character that 4 to 6 hexadecimal digits denote.
 fn character(digits: &[u8]) -> Option<char>
     ensures { result ≡ character_of digits.now }
 {
     char::from_u32(code_point(digits)?)
 }
 
-// Whether a bracket of this type opens a pair: `o` for one that does, `c` for one that closes it.
+// Whether a bracket of this type is an opening one (`o`) or a closing one (`c`).
 fn opens(kind: &[u8]) -> Option<bool>
     ensures { result ≡ opens_of kind.now }
 {

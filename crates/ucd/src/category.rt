@@ -1,4 +1,4 @@
-//! The general categories (UAX #44, section 5.7.1), as far as line breaking asks for them, and how
+//! The general categories that line breaking needs (UAX #44, section 5.7.1), and how
 //! DerivedGeneralCategory.txt names them.
 ghost use Rattle.std.specs.Prelude.{◌≡◌, codes};
 ghost use Rattle.ucd.specs.Categories.{category_named, category_form};

@@ -1,4 +1,4 @@
-//! Reading the bidirectional classes of characters, however they are known.
+//! Sources of bidi classes.
 ghost use Rattle.std.specs.Prelude.{◌≡◌, ◌<◌, List, length, map};
 ghost use Rattle.ucd.specs.Classes.{class_at, class_in};
 ghost use Rattle.ucd.specs.Tables.{class_of};
@@ -8,11 +8,11 @@ use crate::bidi_class::BidiClass;
 use crate::properties::Properties;
 use crate::tables::Tables;
 
-/// The bidirectional classes of some characters.
+/// The bidi classes of some characters.
 pub trait Classes {
     ghost all: { Self → List BidiClass };
 
-    /// How many characters there are.
+    /// The number of characters.
     fn len(&self) -> usize
         ensures { result ≡ length (all self.now) };
 
@@ -22,7 +22,7 @@ pub trait Classes {
         ensures { result ≡ class_at (all self.now) k };
 }
 
-/// Classes that are looked up in tables as they are read.
+/// Classes that are looked up in tables when they are read.
 #[derive(Clone, Copy)]
 pub struct TextClasses<'a> {
     pub tables: &'a Tables,
@@ -41,7 +41,7 @@ impl Classes for TextClasses<'_> {
     }
 }
 
-/// Classes of characters whose properties were looked up before.
+/// Classes in properties that have been looked up.
 #[derive(Clone, Copy)]
 pub struct KnownClasses<'a> {
     pub properties: &'a [Properties],

@@ -6,7 +6,7 @@ ghost use Rattle.ucd.specs.Puts.{put_pictograph};
 use crate::grammar::Property;
 use crate::properties::Properties;
 
-/// The property Extended_Pictographic, the only one of emoji-data.txt that says anything here.
+/// The property Extended_Pictographic, the only one that is read from emoji-data.txt.
 #[derive(Clone, Copy)]
 pub struct Pictograph;
 

@@ -1,4 +1,4 @@
-//! What the files say, by entries, before it is put into pages.
+//! The entries of the files, before they are stored in pages.
 ghost use Rattle.std.specs.Prelude.{◌≡◌, IfOk, IfErr};
 ghost use Rattle.ucd.specs.Grammar.{lines_of};
 ghost use Rattle.ucd.specs.Files.{HoldsFile};
@@ -25,7 +25,7 @@ use crate::tables::UcdFiles;
 use crate::width::Width;
 use std::alloc::{AllocError, Global};
 
-// What one file says, if no line of it is at fault. Files are counted from 1.
+// Parses one file. Files are numbered from 1.
 fn read_table<V: Property>(
     alloc: Global,
     number: usize,
@@ -43,7 +43,7 @@ fn read_table<V: Property>(
     }
 }
 
-/// What the files on bidirectional text say.
+/// The entries of the files for bidirectional text.
 #[derive(Drop)]
 pub struct BidiEntries {
     classes: ApartEntries<BidiClass>,
@@ -51,7 +51,7 @@ pub struct BidiEntries {
     pub(crate) mirrors: ApartEntries<Mirror>,
 }
 
-/// What the files on line breaking say.
+/// The entries of the files for line breaking.
 #[derive(Drop)]
 pub struct BreakEntries {
     classes: ApartEntries<LineClass>,
@@ -60,7 +60,7 @@ pub struct BreakEntries {
     pictographs: ApartEntries<Pictograph>,
 }
 
-// Reads the first three files.
+// Parses the first three files.
 fn read_bidi(alloc: Global, files: &UcdFiles<'_>) -> Result<BidiEntries, TableFault>
     ensures classes { IfOk result (λ e.
         HoldsFile bidi_class_form (lines_of files.now.bidi_class.now) e.classes) }
@@ -77,7 +77,7 @@ fn read_bidi(alloc: Global, files: &UcdFiles<'_>) -> Result<BidiEntries, TableFa
     })
 }
 
-// Reads the others.
+// Parses the other files.
 fn read_breaks(alloc: Global, files: &UcdFiles<'_>) -> Result<BreakEntries, TableFault>
     ensures classes { IfOk result (λ e.
         HoldsFile line_class_form (lines_of files.now.line_break.now) e.classes) }
@@ -97,7 +97,7 @@ fn read_breaks(alloc: Global, files: &UcdFiles<'_>) -> Result<BreakEntries, Tabl
     })
 }
 
-/// What the files say.
+/// The entries of all files.
 #[derive(Drop)]
 pub struct Entries {
     pub(crate) bidi: BidiEntries,
@@ -110,7 +110,7 @@ pub fn drop_entries(_entries: Entries) {}
 impl Entries {
     ghost use Rattle.ucd.specs.Said.{AreSaid, contents_of};
 
-    /// Reads the files.
+    /// Parses the files.
     pub fn read(alloc: Global, files: &UcdFiles<'_>) -> Result<Entries, TableFault>
         ensures bidi_classes { IfOk result (λ e.
             HoldsFile bidi_class_form (lines_of files.now.bidi_class.now) e.bidi.classes) }
@@ -133,7 +133,7 @@ impl Entries {
         Ok(Entries { bidi, breaks })
     }
 
-    /// What they say of all code points.
+    /// Returns the properties of all code points.
     pub fn points(&self, alloc: Global) -> Result<Vec<Properties>, AllocError>
         ensures { IfOk result (λ points. AreSaid (contents_of self.now) points.items) }
     {
@@ -143,7 +143,8 @@ impl Entries {
         put_entries(&mut points, self.bidi.mirrors.as_slice());
         put_entries(&mut points, self.breaks.classes.as_slice());
         put_entries(&mut points, self.breaks.widths.as_slice());
-        // A pictograph is one to come until its category says that it is assigned.
+        // Categories come after pictographs: a pictograph counts as unassigned until its category says
+        // otherwise.
         put_entries(&mut points, self.breaks.pictographs.as_slice());
         put_entries(&mut points, self.breaks.categories.as_slice());
         Ok(points)

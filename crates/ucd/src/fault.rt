@@ -16,34 +16,34 @@ pub const FILE_NAMES: [&str; 7] = [
     "emoji-data.txt",
 ];
 
-/// What is wrong with a line. A line is tested for `NotAscii`, `FieldCount`, `CodePoint`,
-/// `Reversed`, `Value` and `NamedBefore` in this order, and the first that holds is its cause.
+/// What is wrong with a line. A line is tested for `NotAscii`, `FieldCount`, `CodePoint`, `Reversed`, `Value`
+/// and `NamedBefore` in this order, and the first that applies is its cause.
 #[derive(Clone, Copy, Debug, PartialEq, Eq)]
 pub enum Cause {
-    /// A byte above 7F stands before the `#`.
+    /// A byte above 7F is before the `#`.
     NotAscii = 1,
-    /// The first field is no code point, and no range where the file has ranges.
+    /// The first field is not a code point, nor a range if the file has ranges.
     CodePoint = 2,
-    /// A range ends before it begins.
+    /// The end of a range is less than its start.
     Reversed = 3,
-    /// The line has another number of fields than the lines of its file.
+    /// The line has too many or too few fields.
     FieldCount = 4,
-    /// A value that the file doesn't have.
+    /// The file has no such value.
     Value = 5,
-    /// A character of the line was named by an earlier line of the file.
+    /// An earlier line of the file names one of the line's characters.
     NamedBefore = 6,
     /// Memory ran out, and no line is at fault.
     Memory = 7,
 }
 
-/// The first line at fault, in the order of the files and of their lines. It shows as the file's
-/// name, the line and the number of the cause.
+/// The first faulty line, in the order of the files and of their lines. It displays as the file's name, the
+/// line and the number of the cause.
 #[derive(Clone, Copy, Debug, PartialEq, Eq, Error)]
 #[error("{}", Message(.file, .line, .cause))]
 pub struct TableFault {
-    /// The file's place in `FILE_NAMES`, counted from 1, and 0 where memory ran out.
+    /// The file's number in `FILE_NAMES`, from 1, or 0 if memory ran out.
     pub file: usize,
-    /// The line, counted from 1, and 0 where memory ran out.
+    /// The line's number, from 1, or 0 if memory ran out.
     pub line: usize,
     pub cause: Cause,
 }
@@ -51,7 +51,7 @@ pub struct TableFault {
 impl TableFault {
     ghost use Rattle.ucd.specs.Tables.{fault_in};
 
-    // Want of memory, which is in no file.
+    // An allocation failure, which names no file.
     pub(crate) fn memory() -> TableFault
         ensures { result ≡ record { file = 0; line = 0; cause = Cause.Memory } }
     {
@@ -62,7 +62,7 @@ impl TableFault {
         }
     }
 
-    // A fault in a line of a file, or want of memory, which is in none.
+    // A faulty line of a file, or an allocation failure, which names no file.
     pub(crate) fn in_file(file: usize, fault: FileFault) -> TableFault
         ensures { result ≡ fault_in file fault }
     {
@@ -77,7 +77,7 @@ impl TableFault {
     }
 }
 
-// What is shown of a fault: its place and its cause, or that memory ran out.
+// What a fault displays as: its place and cause, or that memory ran out.
 #[derive(Clone, Copy)]
 struct Message<'a>(&'a usize, &'a usize, &'a Cause);
 

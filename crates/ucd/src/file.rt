@@ -1,4 +1,4 @@
-//! A table file, read line by line.
+//! Parses a table file line by line.
 ghost use Rattle.std.specs.Prelude.{◌≡◌, [], IfOk, IfErr, OnOk};
 ghost use Rattle.ucd.specs.Grammar.{lines_of};
 ghost use Rattle.ucd.specs.Files.{AddsLine, IsLineCause, HoldsFile, IsFaultInFile};
@@ -7,14 +7,14 @@ use crate::fault::Cause;
 use crate::grammar::{Property, cut, read_line};
 use crate::range_table::RangeTable;
 
-/// A line at fault, counted from 1, and why; or the line at which memory ran out.
+/// A faulty line, numbered from 1, and its cause; or the line at which memory ran out.
 #[derive(Clone, Copy)]
 pub struct FileFault {
     pub line: usize,
     pub cause: Cause,
 }
 
-// Adds what one line says.
+// Adds the entry of one line.
 fn add_line<V: Property>(table: &mut RangeTable<V>, line: &[u8]) -> Result<(), Cause>
     ensures ok { OnOk result (AddsLine V.form table.old table.new line.now) }
     ensures err { IfErr result (IsLineCause V.form table.old line.now) }
@@ -25,7 +25,7 @@ fn add_line<V: Property>(table: &mut RangeTable<V>, line: &[u8]) -> Result<(), C
     }
 }
 
-/// What a file says, if no line of it is at fault, put into a table that names nothing yet.
+/// Adds the entries of a file to a table that has none. Fails at the first faulty line.
 pub fn read_file<V: Property>(table: RangeTable<V>, file: &[u8]) -> Result<RangeTable<V>, FileFault>
     requires { table ≡ [] }
     ensures ok { IfOk result (HoldsFile V.form (lines_of file.now)) }

@@ -1,4 +1,4 @@
-//! One line of a table file: a comment, or code points and what the file says of them.
+//! One line of a table file: a comment, or code points and their value.
 ghost use Rattle.std.specs.Prelude.{◌≡◌, ◌<◌, ◌≤◌, length, IfSome, option_map, if◌then◌else◌};
 ghost use Rattle.std.specs.List.{slice_split, before_first, list_all};
 ghost use Rattle.std.specs.Char.{is_ascii_hexdigit};
@@ -9,7 +9,7 @@ use crate::fault::Cause;
 use crate::properties::Properties;
 use std::alloc::AllocError;
 
-/// The code points from `first` to `last`, and what the file says of them.
+/// The code points from `first` to `last`, and their value.
 #[derive(Copy)]
 pub struct Entry<V> {
     pub first: u32,
@@ -23,14 +23,14 @@ impl<V: Copy> Clone for Entry<V> {
     }
 }
 
-/// What a file says of a character, and how its lines say it.
+/// A property of a file, and how the file's lines express it.
 pub trait Property: Copy + Drop {
     ghost use Rattle.ucd.specs.Answers.{PropertyAnswers};
     ghost use Rattle.ucd.specs.Grammar.{Form};
 
     ghost form: { Form Self };
 
-    /// What a character's properties are with a value of the file.
+    /// What a character's properties become with a value of the file.
     ghost put: { Self → PropertyAnswers → PropertyAnswers };
 
     /// Whether the first field may be a range.
@@ -41,17 +41,17 @@ pub trait Property: Copy + Drop {
     fn has_third() -> bool
         ensures { result ≡ form.has_third };
 
-    /// What the second and the third field say: `None` where the file has no such value, and
-    /// `Some(None)` where the line names nothing.
+    /// Parses the second and the third field. Returns `None` if the file has no such value, and `Some(None)`
+    /// if the line names no character.
     fn read_value(second: &[u8], third: &[u8]) -> Option<Option<Self>>
         ensures { result ≡ form.value second.now third.now };
 
-    /// The properties with this value.
+    /// Returns the properties with this value.
     fn put(self, properties: Properties) -> Properties
         ensures { result ≡ put self properties };
 }
 
-/// The bytes before the first `mark`, and those after it if there is one.
+/// Returns the bytes before the first `mark`, and those after it if there is one.
 pub(crate) fn cut(bytes: &[u8], mark: u8) -> (&[u8], Option<&[u8]>)
     ensures front { result.0.now ≡ before_first (is_mark mark) bytes.now }
     ensures rest { option_map (λ rest. rest.now) result.1 ≡ rest_after mark bytes.now }
@@ -67,7 +67,7 @@ pub(crate) fn cut(bytes: &[u8], mark: u8) -> (&[u8], Option<&[u8]>)
     (bytes, None)
 }
 
-// The bytes without those at both ends that are one of `white`.
+// The bytes without those at both ends that are in `white`.
 fn trimmed<'a>(bytes: &'a [u8], white: &[u8]) -> &'a [u8]
     ensures { result.now ≡ trimmed (is_one_of white.now) bytes.now }
 {
@@ -83,7 +83,7 @@ fn trimmed<'a>(bytes: &'a [u8], white: &[u8]) -> &'a [u8]
     &rest[..end]
 }
 
-// The number that up to six hexadecimal digits write, if they are digits.
+// The number that up to six hexadecimal digits denote, if they are digits.
 fn hex_number(digits: &[u8]) -> Option<u32>
     requires { length digits.now ≤ 6 }
     ensures { result ≡ (if list_all is_ascii_hexdigit digits.now then Some (hex_value digits.now) else None) }
@@ -101,7 +101,7 @@ fn hex_number(digits: &[u8]) -> Option<u32>
     Some(number)
 }
 
-/// The code point that 4 to 6 hexadecimal digits write.
+/// Returns the code point that 4 to 6 hexadecimal digits denote.
 pub(crate) fn code_point(digits: &[u8]) -> Option<u32>
     ensures { result ≡ code_point digits.now }
 {
@@ -111,7 +111,6 @@ pub(crate) fn code_point(digits: &[u8]) -> Option<u32>
     hex_number(digits).filter(|&number| number <= 0x10FFFF)
 }
 
-// Both, if there are both.
 fn both(first: Option<u32>, last: Option<u32>) -> Option<(u32, u32)>
     ensures { result ≡ both first last }
 {
@@ -154,7 +153,7 @@ fn entry_of<V: Property>(
     }
 }
 
-// What a line says whose content is not empty.
+// Parses a line that has more than a comment.
 fn read_fields<V: Property>(content: &[u8]) -> Result<Option<Entry<V>>, Cause>
     ensures { result ≡ by_fields V.form (fields_of content.now) }
 {
@@ -183,7 +182,7 @@ const SPACES: &[u8] = b" \t";
 
 const BLANKS: &[u8] = b" \t\r";
 
-/// What one line of the file says: nothing, or an entry.
+/// Parses one line, which may have no entry.
 pub fn read_line<V: Property>(line: &[u8]) -> Result<Option<Entry<V>>, Cause>
     ensures { result ≡ reading_of V.form line.now }
 {

@@ -1,11 +1,11 @@
-//! Reads table files of the Unicode Character Database and answers what they say of a character.
+//! Reads table files of the Unicode Character Database, and looks up characters in them.
 //!
-//! A file is checked line by line against its grammar, its lines in any order. What is refused is named by
-//! file, line and cause. What is accepted is put into pages, which hold the properties of each code point in
-//! 16 bits, so that a look-up is two reads. The few characters that have a bracket or a mirror are named
-//! there by a bit each, and which one it is stands in a map beside the pages.
+//! Each line of a file is checked against the file's grammar; the lines may have any order. A refusal names
+//! file, line and cause. The properties of each code point are stored in 16 bits, in pages, so a lookup is
+//! two reads. Two of these bits say whether a character has a bracket or a mirror; which one is in a map.
 //!
-//! `Tables` are made of the seven files of `FILE_NAMES`, as bytes (`UcdFiles`); all that is above takes them:
+//! `Tables` are made from the bytes of the seven files of `FILE_NAMES` (`UcdFiles`). All other crates use
+//! them:
 //!
 //! ```rust
 //! let tables = Tables::read(alloc, files)?;

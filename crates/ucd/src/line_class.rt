@@ -9,7 +9,7 @@ use crate::grammar::Property;
 use crate::properties::Properties;
 use std::fmt;
 
-/// A line breaking class, under its short name in the Unicode Character Database.
+/// A line breaking class. The variants have the short names of the Unicode Character Database.
 #[derive(Clone, Copy, PartialEq, Eq)]
 pub enum LineClass {
     BK,
@@ -57,10 +57,10 @@ pub enum LineClass {
     XX,
 }
 
-/// How many classes there are.
+/// The number of classes.
 pub(crate) const LINE_CLASS_COUNT: usize = 43;
 
-// The classes in the order of the enum, in which they are looked for, for the two lists of them.
+// The classes in the order of the enum, for the lists of variants and names.
 macro_rules! classes {
     ($list:ident) => {
         $list! {
@@ -80,18 +80,18 @@ macro_rules! names {
 
 static ALL: [LineClass; LINE_CLASS_COUNT] = classes!(values);
 
-// The short name of each.
+// The short name of each class.
 static NAMES: [&str; LINE_CLASS_COUNT] = classes!(names);
 
 impl LineClass {
-    /// The class with this short name.
+    /// Returns the class with this short name.
     pub fn from_name(name: &[u8]) -> Option<LineClass>
         ensures { result ≡ class_named name.now }
     {
         ALL.iter().copied().find(|class| class.name() == name)
     }
 
-    /// The class at a place in the order of the enum.
+    /// Returns the class at an index in the order of the enum.
     pub(crate) fn at(place: usize) -> LineClass
         requires { place < LINE_CLASS_COUNT }
         ensures { result ≡ slice_index_or all_classes place BK }
@@ -99,7 +99,6 @@ impl LineClass {
         ALL[place]
     }
 
-    // Its short name.
     fn name(self) -> &'static [u8]
         ensures { result.now ≡ name_of self }
     {

@@ -1,4 +1,4 @@
-//! The properties of all characters, as they are looked up.
+//! Tables of the properties of all characters, for lookups.
 ghost use Rattle.std.specs.Prelude.{◌≡◌, ◌≢◌, ◌<◌, ℕ, true, false, IfOk};
 ghost use Rattle.ucd.specs.Separators.{may_separate};
 ghost use Rattle.ucd.specs.declared.bidi_class.BidiClass.TheVariants.{B};
@@ -13,7 +13,7 @@ use std::alloc::{AllocError, Global};
 use std::collections::BTreeMap;
 use std::marker::Model;
 
-/// The properties of each character, in pages, and the brackets and mirrors of those that have one.
+/// The properties of each character, in pages, and maps of the brackets and mirrors.
 #[derive(Debug)]
 pub struct PagedTables {
     pages: Pages,
@@ -47,7 +47,7 @@ impl PagedTables {
     ghost use Rattle.ucd.specs.Properties.{properties_of};
     ghost use Rattle.ucd.specs.Said.{contents_of};
 
-    /// Puts what the files say into pages.
+    /// Stores the entries of the files in pages.
     pub fn of(alloc: Global, entries: &Entries) -> Result<PagedTables, AllocError>
         ensures { IfOk result (λ tables. SayAlike tables (contents_of entries.now)) }
     {
@@ -62,7 +62,7 @@ impl PagedTables {
         })
     }
 
-    /// Whether class B has no characters but U+0085, U+2029 and some of those below U+0020.
+    /// Whether all characters of class B are U+0085, U+2029 or below U+0020.
     pub fn has_usual_separators(&self) -> bool
         ensures yes { result ≡ true
             → (c : ℕ) → c < 1114112 → may_separate c ≡ false → class_of self.now c ≢ B }
@@ -72,7 +72,7 @@ impl PagedTables {
         self.pages.has_usual_separators
     }
 
-    /// The character as a bracket, or `None`.
+    /// Returns the character as a bracket, if it is one.
     pub fn bracket(&self, c: char) -> Option<Bracket>
         ensures { result ≡ bracket_of self.now c }
     {
@@ -83,7 +83,7 @@ impl PagedTables {
         }
     }
 
-    /// The mirror of the character, or `None`.
+    /// Returns the mirror of the character, if it has one.
     pub fn mirror(&self, c: char) -> Option<char>
         ensures { result ≡ mirror_of self.now c }
     {
@@ -97,7 +97,7 @@ impl PagedTables {
         }
     }
 
-    /// All properties of the character except which bracket and which mirror it has.
+    /// Returns all properties of the character except which bracket and which mirror it has.
     pub fn properties(&self, c: char) -> Properties
         ensures { result ≡ properties_of self.now c }
     {

@@ -1,5 +1,5 @@
-//! What the tables say of each code point, in pages of 256 code points, which an index names: equal pages
-//! that follow one another are one.
+//! The properties of each code point, in pages of 256 code points, which an index names. Adjacent equal pages
+//! are stored once.
 ghost use Rattle.std.specs.Prelude.{◌≡◌, ◌≢◌, ℕ, ◌+◌, ◌*◌, ◌%◌, ◌<◌, ◌≤◌};
 ghost use Rattle.std.specs.Prelude.{length, slice_index, slice_index_or};
 ghost use Rattle.std.specs.Prelude.{nat_le, nat_lt, ◌&&◌, false, true, if◌then◌else◌, IfOk, IsTrue};
@@ -14,13 +14,13 @@ use crate::grammar::{Entry, Property};
 use crate::properties::Properties;
 use std::alloc::{AllocError, Global};
 
-/// How many code points a page has.
+/// The number of code points of a page.
 const PAGE: usize = 256;
 
-/// How many pages all code points fill.
+/// The number of pages that all code points need.
 const PLACES: usize = 4_352;
 
-/// The pages, one after another, and for each 256 code points the number of theirs.
+/// The pages, one after another, and the page number of each 256 code points.
 #[derive(Debug, Drop)]
 pub struct Pages {
     pub(crate) index: Vec<u16>,
@@ -35,7 +35,7 @@ pub struct Pages {
 }
 
 impl Pages {
-    /// What is said of a character.
+    /// Returns the properties of a character.
     pub fn get(&self, c: char) -> Properties
         ensures { result ≡ answers_at self.now.index.items self.now.entries.items c }
     {
@@ -44,7 +44,7 @@ impl Pages {
     }
 }
 
-/// What is said of so many code points that nothing names.
+/// Returns the properties of code points that no line names.
 pub fn unnamed_points(alloc: Global, len: usize) -> Result<Vec<Properties>, AllocError>
     ensures len { IfOk result (λ points. length points.items ≡ len) }
     ensures each { IfOk result (λ points. (c : ℕ) → slice_index_or points.items c unnamed ≡ unnamed) }
@@ -52,7 +52,7 @@ pub fn unnamed_points(alloc: Global, len: usize) -> Result<Vec<Properties>, Allo
     vec![in alloc; Properties::unnamed(); len]
 }
 
-/// Puts the values of a file's entries to what is said of their code points.
+/// Adds the values of a file's entries to the properties of their code points.
 pub fn put_entries<V: Property>(points: &mut [Properties], entries: &[Entry<V>])
     requires points { length points.old ≡ 1114112 }
     requires entries { AreApart entries.now }
@@ -69,7 +69,7 @@ pub fn put_entries<V: Property>(points: &mut [Properties], entries: &[Entry<V>])
     }
 }
 
-// Puts a value to what is said of the code points from `first` up to `end`.
+// Adds a value to the properties of the code points from `first` up to `end`.
 fn put_value<V: Property>(points: &mut [Properties], first: usize, end: usize, value: V)
     requires { (first ≤ end) × (end ≤ length points.old) }
     ensures { (c : ℕ) → slice_index_or points.new c unnamed ≡ (if nat_le first c && nat_lt c end
@@ -80,7 +80,7 @@ fn put_value<V: Property>(points: &mut [Properties], first: usize, end: usize, v
     }
 }
 
-/// The pages of all code points.
+/// Returns the pages of all code points.
 pub fn pages_of(alloc: Global, points: &[Properties]) -> Result<Pages, AllocError>
     requires { length points.now ≡ 1114112 }
     ensures { IfOk result (λ pages. (c : ℕ) → c < 1114112
@@ -100,8 +100,7 @@ pub fn pages_of(alloc: Global, points: &[Properties]) -> Result<Pages, AllocErro
     })
 }
 
-// Whether the code points of class B are among those that are of this class in the files of Unicode, and the
-// other controls below U+0020: so none of those between is.
+// Whether class B has no code points other than U+0085, U+2029 and those below U+0020.
 fn are_usual(points: &[Properties]) -> bool
     requires { length points.now ≡ 1114112 }
     ensures yes { result ≡ true → (c : ℕ) → c < length points.now
@@ -115,8 +114,8 @@ fn are_usual(points: &[Properties]) -> bool
     !(low | middle | high)
 }
 
-// Whether a code point from `first` up to `end` is of class B. It looks at all of them, since that takes less
-// than a way out at each.
+// Whether a code point from `first` up to `end` is of class B. Looks at all of them, which is faster than an
+// exit at each.
 fn has_separator(points: &[Properties], first: usize, end: usize) -> bool
     requires { (first ≤ end) × (end ≤ length points.now) }
     ensures no { result ≡ false → (c : ℕ) → first ≤ c → c < end
@@ -131,7 +130,8 @@ fn has_separator(points: &[Properties], first: usize, end: usize) -> bool
     found
 }
 
-// The number of a page: that of the last one, if both are equal, or of the next one, which it becomes.
+// The number of a page: that of the last page if both are equal, else the next one, and then the page is
+// added.
 fn page_number(entries: &mut Vec<Properties>, page: &[Properties]) -> Result<u16, AllocError>
     requires page { length page.now ≡ 256 }
     requires whole { length entries.old.items % 256 ≡ 0 }
@@ -147,7 +147,7 @@ fn page_number(entries: &mut Vec<Properties>, page: &[Properties]) -> Result<u16
     Ok((end / PAGE) as u16)
 }
 
-// Whether two pages are equal. It looks at all of both, since most are.
+// Whether two pages are equal. Looks at all items, because most pages are equal.
 fn are_equal(one: &[Properties], other: &[Properties]) -> bool
     requires { length one.now ≡ length other.now }
     ensures same { IsTrue result → one.now ≡ other.now }

@@ -8,7 +8,7 @@ use crate::grammar::Entry;
 use std::alloc::{AllocError, Global};
 use std::collections::BTreeMap;
 
-/// The value that each code point has by some entries.
+/// Maps each code point of some entries to its value.
 pub fn points_of<V: Copy + Drop>(
     alloc: Global,
     entries: &[Entry<V>],

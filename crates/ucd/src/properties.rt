@@ -1,4 +1,4 @@
-//! What the tables say of one character, looked up once, in 16 bits.
+//! The properties of one character, looked up once, in 16 bits.
 ghost use Rattle.std.specs.Prelude.{◌≡◌, ◌≢◌, ◌<◌, true, false, IsTrue};
 ghost use Rattle.ucd.specs.declared.properties.TheConstants.{LINE_INDEX_COUNT};
 ghost use Rattle.ucd.specs.declared.bidi_class.BidiClass.TheVariants.{B};
@@ -7,15 +7,15 @@ use crate::bidi_class::BidiClass;
 use crate::line_class::LineClass;
 use std::marker::Model;
 
-/// How many numbers `Properties::line_index` may be: 8 for each line breaking class that six bits name.
+/// The number of values of `Properties::line_index`: 8 for each line breaking class that six bits can name.
 pub const LINE_INDEX_COUNT: usize = 512;
 
-/// What the tables say of one character, but for which bracket it pairs with and which mirror it has.
+/// The properties of one character, except which bracket it pairs with and which mirror it has.
 ///
-/// From the lowest bit: five for the bidirectional class, one each for a bracket, a mirror, a future
-/// pictograph, a mark and a wide character, and six for the line breaking class. So all 16 are taken: there
-/// is room for 32 bidirectional classes and for 64 line breaking classes, and for no answer more. One more
-/// makes this a `u32`, and the pages of a table twice as large.
+/// From the lowest bit: five for the bidi class, five flags, and six for the line breaking class. The flags
+/// are, in order, those of a bracket, a mirror, a future pictograph, a mark and a wide character. So 32 bidi
+/// classes and 64 line breaking classes fit, and all 16 bits are used. Another property would need a `u32`,
+/// and pages of twice the size.
 #[derive(Clone, Copy, Debug)]
 pub struct Properties {
     bits: u16,
@@ -40,7 +40,7 @@ impl Model for Properties {
 impl Properties {
     ghost use Rattle.ucd.specs.Answers.{line_index, unnamed};
 
-    /// What holds of a character that no line names: class `L`, class `XX`, and nothing else.
+    /// Returns the properties of a character that no line names: class `L`, class `XX`, and nothing else.
     pub(crate) fn unnamed() -> Properties
         ensures { result ≡ unnamed }
     {
@@ -49,7 +49,6 @@ impl Properties {
         }
     }
 
-    /// With another bidirectional class.
     pub(crate) fn with_bidi_class(self, class: BidiClass) -> Properties
         ensures { result ≡ record self { bidi_class = class } }
     {
@@ -58,7 +57,6 @@ impl Properties {
         }
     }
 
-    /// With a bracket.
     pub(crate) fn with_bracket(self) -> Properties
         ensures { result ≡ record self { has_bracket = true } }
     {
@@ -67,7 +65,6 @@ impl Properties {
         }
     }
 
-    /// With a mirror.
     pub(crate) fn with_mirror(self) -> Properties
         ensures { result ≡ record self { has_mirror = true } }
     {
@@ -76,7 +73,6 @@ impl Properties {
         }
     }
 
-    /// With another line breaking class.
     pub(crate) fn with_line_class(self, class: LineClass) -> Properties
         ensures { result ≡ record self { line_class = class } }
     {
@@ -85,7 +81,7 @@ impl Properties {
         }
     }
 
-    /// With a width of F, W or H.
+    /// Makes it wide: F, W or H.
     pub(crate) fn with_wide(self) -> Properties
         ensures { result ≡ record self { is_wide = true } }
     {
@@ -94,7 +90,7 @@ impl Properties {
         }
     }
 
-    /// A mark, which is assigned.
+    /// Makes it a mark, which is assigned.
     pub(crate) fn with_mark(self) -> Properties
         ensures { result ≡ record self { is_mark = true; is_future_pictograph = false } }
     {
@@ -103,7 +99,7 @@ impl Properties {
         }
     }
 
-    /// Assigned.
+    /// Makes it assigned.
     pub(crate) fn with_assignment(self) -> Properties
         ensures { result ≡ record self { is_future_pictograph = false } }
     {
@@ -112,7 +108,7 @@ impl Properties {
         }
     }
 
-    /// Extended_Pictographic, and unassigned.
+    /// Makes it Extended_Pictographic and unassigned.
     pub(crate) fn with_future_pictograph(self) -> Properties
         ensures { result ≡ record self { is_future_pictograph = true } }
     {
@@ -121,7 +117,7 @@ impl Properties {
         }
     }
 
-    /// Whether both hold the same bits.
+    /// Whether both have the same bits.
     pub(crate) fn is(self, other: Properties) -> bool
         ensures same { IsTrue result → self ≡ other }
         ensures all { self ≡ other → IsTrue result }
@@ -129,14 +125,14 @@ impl Properties {
         self.bits == other.bits
     }
 
-    /// The bidirectional class.
+    /// The bidi class.
     pub fn bidi_class(self) -> BidiClass
         ensures { result ≡ self.bidi_class }
     {
         BidiClass::at((self.bits % 32) as usize)
     }
 
-    /// Whether the bidirectional class is B, by the bits alone.
+    /// Whether the bidi class is B, from the bits alone.
     pub(crate) fn is_separator(self) -> bool
         ensures no { result ≡ false → self.bidi_class ≢ B }
         ensures yes { result ≡ true → self.bidi_class ≡ B }
@@ -165,7 +161,7 @@ impl Properties {
         self.bits / 256 % 2 == 1
     }
 
-    /// Whether the character is Extended_Pictographic, and unassigned.
+    /// Whether the character is Extended_Pictographic and unassigned.
     pub fn is_future_pictograph(self) -> bool
         ensures { result ≡ self.is_future_pictograph }
     {
@@ -186,8 +182,9 @@ impl Properties {
         self.bits / 64 % 2 == 1
     }
 
-    /// All that line breaking reads, as one number: 8 times the place of the line breaking class in
-    /// `LineClass`, and 4 for a wide character, 2 for a mark and 1 for a future pictograph.
+    /// All that line breaking needs, as one number: 8 times the index of the line breaking class in
+    /// `LineClass`, plus three flags. These are 4 for a wide character, 2 for a mark and 1 for a future
+    /// pictograph.
     pub fn line_index(self) -> usize
         ensures index { result ≡ line_index self }
         ensures within { result < LINE_INDEX_COUNT }

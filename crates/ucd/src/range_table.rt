@@ -1,4 +1,4 @@
-//! The entries of a file, in the order of its lines, and which characters they name.
+//! The entries of a file, in the order of its lines, and which code points they name.
 ghost use Rattle.std.specs.Prelude.{◌≡◌, ◌<◌, ◌≤◌, nat_le, nat_lt, ◌&&◌, if◌then◌else◌, IsTrue};
 ghost use Rattle.std.specs.Prelude.{ℕ, List, [], true, false, length, slice_index_or};
 ghost use Rattle.std.specs.Prelude.{IfOk, IfErr, OnOk, OnErr, ◌⊎◌, IsErrOf};
@@ -11,11 +11,11 @@ use crate::grammar::Entry;
 use std::alloc::{AllocError, Global};
 use std::marker::Model;
 
-/// How many code points there are.
+/// The number of code points.
 pub const CODE_POINTS: usize = 0x110000;
 
-/// The entries of a file. No two share a character, and a place for each code point tells whether one
-/// names it: so a line costs what it names, in whatever order the lines are.
+/// The entries of a file. No two have a common character. A flag for each code point says whether an entry
+/// names it, so the cost of a line does not depend on the order of the lines.
 #[derive(Drop)]
 pub struct RangeTable<V> {
     entries: Vec<Entry<V>>,
@@ -30,7 +30,7 @@ impl<V> Model for RangeTable<V> {
     ghost invariant = { λ t. AreApart t.entries.items × AreNamed t.entries.items t.named.items };
 }
 
-// Nothing named, of so many code points.
+// Flags for `len` code points, none of which is named.
 fn nothing_named(alloc: Global, len: usize) -> Result<Vec<bool>, AllocError>
     ensures len { IfOk result (λ named. length named.items ≡ len) }
     ensures each { IfOk result (λ named. (c : ℕ) → slice_index_or named.items c false ≡ false) }
@@ -38,7 +38,7 @@ fn nothing_named(alloc: Global, len: usize) -> Result<Vec<bool>, AllocError>
     vec![in alloc; false; len]
 }
 
-// Whether one from `first` up to `end` is named.
+// Whether a code point from `first` up to `end` is named.
 fn has_named(named: &[bool], first: usize, end: usize) -> bool
     requires { (first ≤ end) × (end ≤ length named.now) }
     ensures some { IsTrue result
@@ -55,7 +55,7 @@ fn has_named(named: &[bool], first: usize, end: usize) -> bool
     any
 }
 
-// Names those from `first` up to `end`.
+// Marks those from `first` up to `end` as named.
 fn name_all(named: &mut [bool], first: usize, end: usize)
     requires { (first ≤ end) × (end ≤ length named.old) }
     ensures { (c : ℕ) → slice_index_or named.new c false
@@ -67,7 +67,7 @@ fn name_all(named: &mut [bool], first: usize, end: usize)
 }
 
 impl<V: Copy> RangeTable<V> {
-    /// No entries, which name nothing.
+    /// Creates a table without entries.
     pub fn new(alloc: Global) -> Result<Self, AllocError>
         ensures { IfOk result (λ table. table ≡ []) }
     {
@@ -78,7 +78,7 @@ impl<V: Copy> RangeTable<V> {
         })
     }
 
-    /// The entries alone, in the order in which they were added.
+    /// Returns the entries, in the order in which they were added.
     pub fn into_entries(self) -> ApartEntries<V>
         ensures { result ≡ self }
     {
@@ -87,7 +87,8 @@ impl<V: Copy> RangeTable<V> {
         }
     }
 
-    // Whether one of the entry's code points has a value. One that ends before it begins has none.
+    // Whether one of the entry's code points has a value. An entry that ends before it begins has no code
+    // points.
     fn meets(&self, entry: Entry<V>) -> bool
         requires { entry.last < 1114112 }
         ensures some { IsTrue result → IsMet self.now entry }
@@ -97,7 +98,7 @@ impl<V: Copy> RangeTable<V> {
         entry.first <= entry.last && has_named(&self.named, first, entry.last as usize + 1)
     }
 
-    // Adds an entry of which no code point has a value. One that ends before it begins adds nothing.
+    // Adds an entry none of whose code points has a value. One that ends before it begins is not added.
     fn insert(&mut self, entry: Entry<V>) -> Result<(), AllocError>
         requires within { entry.last < 1114112 }
         requires free { IsFree self.old entry }
@@ -118,7 +119,7 @@ impl<V: Copy> RangeTable<V> {
         }
     }
 
-    // Adds two entries of which no code point has a value, one below the surrogates and one above them.
+    // Adds two entries none of whose code points has a value: one below the surrogates and one above them.
     fn insert_both(&mut self, below: Entry<V>, above: Entry<V>) -> Result<(), AllocError>
         requires below { (below.last < 55296) × IsFree self.old below }
         requires above { (55296 ≤ above.first) × (above.last < 1114112) × IsFree self.old above }
@@ -129,9 +130,9 @@ impl<V: Copy> RangeTable<V> {
         self.insert(above)
     }
 
-    /// Gives the entry's value to each character from its first code point to its last, unless one
-    /// of them has a value already, which is answered whether there is memory or not. Surrogates are passed
-    /// over, since they are no characters. After an `Err` the table is of no use.
+    /// Gives the entry's value to each character from its first code point to its last, and skips surrogates.
+    /// Fails with `NamedBefore` if one of them has a value already, even if memory runs out. After an error
+    /// the table must not be used.
     pub fn add(&mut self, entry: Entry<V>) -> Result<(), Cause>
         ensures ok { OnOk result (AddsCharacters self.old self.new entry) }
         ensures taken { IsErrOf result Cause.NamedBefore → IsTaken self.old entry }
@@ -160,7 +161,7 @@ impl<V: Copy> RangeTable<V> {
     }
 }
 
-/// Entries of which no two share a character.
+/// Entries no two of which have a common character.
 #[derive(Drop)]
 pub struct ApartEntries<V> {
     entries: Vec<Entry<V>>,

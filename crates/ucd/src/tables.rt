@@ -1,4 +1,4 @@
-//! The tables that the files make.
+//! The tables that are read from the files.
 ghost use Rattle.std.specs.Prelude.{◌≡◌, ◌≢◌, ◌<◌, ℕ, true, false, IfOk, IfErr};
 ghost use Rattle.ucd.specs.Separators.{may_separate};
 ghost use Rattle.ucd.specs.declared.bidi_class.BidiClass.TheVariants.{B};
@@ -29,8 +29,8 @@ pub struct UcdFiles<'a> {
     pub emoji_data: &'a [u8],
 }
 
-/// What the table files say of each character: bidirectional class, bracket, mirror, line breaking class and
-/// width. Copies share one block of memory, whose last owner frees it.
+/// The properties of each character: bidi class, bracket, mirror, line breaking class, width and category.
+/// Copies share one block of memory, which the last owner frees.
 #[derive(Debug, Drop)]
 pub struct Tables {
     shared: Arc<PagedTables>,
@@ -50,8 +50,8 @@ impl Tables {
     ghost use Rattle.ucd.specs.Properties.{properties_of};
     ghost use Rattle.ucd.specs.Said.{contents_of};
 
-    /// Reads the files. The first line at fault, in the order of the files and of their lines, is
-    /// answered, with the first cause that holds (docs/reference.md).
+    /// Reads the tables from the files. Fails at the first faulty line, in the order of the files and of
+    /// their lines, with the first cause that applies (docs/reference.md).
     pub fn read(alloc: Global, files: &UcdFiles<'_>) -> Result<Tables, TableFault>
         ensures ok { IfOk result (AreTablesOf files.now) }
         ensures err { IfErr result (IsFaultOf files.now) }
@@ -65,7 +65,7 @@ impl Tables {
         }
     }
 
-    // Puts what the files say into pages.
+    // Stores the entries of the files in pages.
     fn of(alloc: Global, entries: &Entries) -> Result<Tables, AllocError>
         ensures { IfOk result (λ tables. SayAlike tables (contents_of entries.now)) }
     {
@@ -73,8 +73,8 @@ impl Tables {
         Ok(Tables { shared })
     }
 
-    /// The same tables for another owner. Nothing is copied: both share one block of memory, and its count of
-    /// owners is atomic. `alloc` is not used. Fails only if there are already 2^63 owners.
+    /// Returns the same tables for another owner. Nothing is copied: both share one block of memory, whose
+    /// count of owners is atomic. `alloc` is not used. Fails only if there are already 2^63 owners.
     pub fn copy(&self, _alloc: Global) -> Result<Tables, AllocError>
         ensures { IfOk result (λ tables. tables ≡ self.now) }
     {
@@ -82,15 +82,14 @@ impl Tables {
         Ok(Tables { shared })
     }
 
-    /// The bidirectional class, `L` where no line names the character.
+    /// The bidi class, `L` if no line names the character.
     pub fn bidi_class(&self, c: char) -> BidiClass
         ensures { result ≡ class_of self.now c }
     {
         self.properties(c).bidi_class()
     }
 
-    /// Whether the characters of class B are among U+0085, U+2029 and those below U+0020, as in the files of
-    /// Unicode.
+    /// Whether all characters of class B are U+0085, U+2029 or below U+0020, as in Unicode's files.
     pub fn has_usual_separators(&self) -> bool
         ensures yes { result ≡ true
             → (c : ℕ) → c < 1114112 → may_separate c ≡ false → class_of self.now c ≢ B }
@@ -100,7 +99,7 @@ impl Tables {
         self.shared.has_usual_separators()
     }
 
-    /// What the character is as a bracket, if it is one.
+    /// The character as a bracket, if it is one.
     pub fn bracket(&self, c: char) -> Option<Bracket>
         ensures { result ≡ bracket_of self.now c }
     {
@@ -114,7 +113,7 @@ impl Tables {
         self.shared.mirror(c)
     }
 
-    /// The line breaking class, `XX` where no line names the character.
+    /// The line breaking class, `XX` if no line names the character.
     pub fn line_class(&self, c: char) -> LineClass
         ensures { result ≡ line_class_of self.now c }
     {
@@ -135,15 +134,15 @@ impl Tables {
         self.properties(c).is_mark()
     }
 
-    /// Whether the character is Extended_Pictographic, and unassigned: of category Cn, as one that no
-    /// line names.
+    /// Whether the character is Extended_Pictographic and unassigned, of category Cn. A character that no
+    /// line names has category Cn.
     pub fn is_future_pictograph(&self, c: char) -> bool
         ensures { result ≡ is_future_pictograph_in self.now c }
     {
         self.properties(c).is_future_pictograph()
     }
 
-    /// All of this but which bracket and which mirror, looked up once.
+    /// All of these except which bracket and which mirror, by one lookup.
     pub fn properties(&self, c: char) -> Properties
         ensures { result ≡ properties_of self.now c }
     {

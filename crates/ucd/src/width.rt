@@ -1,5 +1,4 @@
-//! East Asian width (UAX #11), as far as line breaking asks for it, and how EastAsianWidth.txt names
-//! it.
+//! The East Asian widths that line breaking needs (UAX #11), and how EastAsianWidth.txt names them.
 ghost use Rattle.std.specs.Prelude.{◌≡◌, codes};
 ghost use Rattle.ucd.specs.Widths.{width_named, width_form};
 ghost use Rattle.ucd.specs.Puts.{put_width};

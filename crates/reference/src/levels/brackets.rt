@@ -1,25 +1,25 @@
-//! Bracket pairs (UAX #9, BD16) and the directions that they take (N0).
+//! Bracket pairs (UAX #9, BD16) and their directions (N0).
 use std::alloc::{AllocError, Global};
 use ucd::{BidiClass, Bracket, Tables};
 
-// How many openers are held at most (BD16).
+// The greatest number of open brackets on the stack (BD16).
 const MAX_OPENERS: usize = 63;
 
-// An opener that is held, and the closer that it makes a pair with.
+// An opening bracket on the stack, and the closing bracket of its pair.
 #[derive(Clone, Copy)]
 struct Opener {
     place: usize,
     closer: char,
 }
 
-// The places of an opener and of its closer.
+// The indices of the brackets of a pair.
 #[derive(Clone, Copy)]
 struct Pair {
     opener: usize,
     closer: usize,
 }
 
-/// N0 over the types of a sequence, by its characters and by their classes.
+/// Applies N0 to the types of a sequence, by its characters and their classes.
 pub fn resolve_brackets(
     alloc: Global,
     tables: &Tables,
@@ -37,7 +37,7 @@ pub fn resolve_brackets(
     Ok(())
 }
 
-// BD16: at the first opener at which 63 are held, the pairing stops.
+// BD16: at the first opening bracket at which the stack has 63, pairing stops.
 fn pairs_of(
     alloc: Global,
     tables: &Tables,
@@ -60,7 +60,7 @@ fn pairs_of(
     Ok(pairs)
 }
 
-// The bracket that a character is, which only a character of type ON is.
+// The character as a bracket. Only characters of type ON are brackets.
 fn bracket_at(tables: &Tables, c: char, class: BidiClass) -> Option<Bracket> {
     match class {
         BidiClass::ON => tables.bracket(c),
@@ -68,8 +68,8 @@ fn bracket_at(tables: &Tables, c: char, class: BidiClass) -> Option<Bracket> {
     }
 }
 
-// Makes a pair of a closer and the newest opener that it matches, if there is one. That opener is dropped,
-// and so are the newer ones.
+// Pairs a closing bracket with the newest opening bracket that it matches, if there is one. Removes that one
+// and the newer ones.
 fn close(
     openers: &mut Vec<Opener>,
     pairs: &mut Vec<Pair>,
@@ -86,7 +86,7 @@ fn close(
     Ok(())
 }
 
-// The newest opener that a closer matches: how many are held below it, and its place.
+// The newest opening bracket that a closing one matches: how many are below it on the stack, and its index.
 fn newest(openers: &[Opener], c: char) -> Option<(usize, usize)> {
     let mut newest = None;
     for (held, opener) in openers.iter().enumerate() {
@@ -115,7 +115,7 @@ fn closer_of(pairs: &[Pair], opener: usize) -> Option<usize> {
     None
 }
 
-// Sets the types of a pair, if it takes a direction.
+// Sets the types of a pair, if it has a direction.
 fn set_pair(
     types: &mut [BidiClass],
     classes: &[BidiClass],
@@ -129,8 +129,8 @@ fn set_pair(
     }
 }
 
-// The direction of a pair: that of the embedding where a strong type of it stands inside; else, where one of
-// the other stands inside, that of the nearest strong type before it.
+// The direction of a pair. If a strong type of the embedding direction is inside, it is that direction. Else,
+// if one of the other direction is inside, it is that of the nearest strong type before the pair.
 fn pair_direction(
     types: &[BidiClass],
     opener: usize,
@@ -155,7 +155,7 @@ fn stands_between(types: &[BidiClass], opener: usize, closer: usize, wanted: Bid
     false
 }
 
-// The direction of the nearest strong type before a place, or another where there is none.
+// The direction of the nearest strong type before an index, or `other` if there is none.
 fn direction_before(types: &[BidiClass], place: usize, other: BidiClass) -> BidiClass {
     let mut before = other;
     for class in types.iter().take(place) {
@@ -180,7 +180,7 @@ fn opposite(side: BidiClass) -> BidiClass {
     }
 }
 
-// Sets the type at a place, and those of the marks directly after it.
+// Sets the type at an index, and those of the marks directly after it.
 fn set_with_marks(
     types: &mut [BidiClass],
     classes: &[BidiClass],

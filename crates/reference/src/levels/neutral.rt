@@ -2,11 +2,11 @@
 use crate::levels::weak::type_or;
 use ucd::BidiClass;
 
-/// N1 and N2: neutrals take the direction of both their sides, or else the embedding direction, which is also
+/// N1 and N2: neutrals get the direction of both their sides, or else the embedding direction, which is also
 /// the type on both sides of the sequence.
 pub fn resolve_neutral(types: &mut [BidiClass], side: BidiClass) {
     let mut before = side;
-    // The nearest place after this one that has no neutral, where it isn't passed yet.
+    // The nearest index after this one whose type is not neutral. It stays until it is passed.
     let mut end = 0;
     for at in 0..types.len() {
         let class = types[at];
@@ -35,7 +35,7 @@ fn is_neutral(class: BidiClass) -> bool {
     )
 }
 
-// The least place from `from` on that has no neutral, or the length.
+// The least index from `from` on whose type is not neutral, or the length.
 fn after_neutrals(types: &[BidiClass], from: usize) -> usize {
     for at in from..types.len() {
         if !is_neutral(types[at]) {
@@ -45,7 +45,7 @@ fn after_neutrals(types: &[BidiClass], from: usize) -> usize {
     types.len()
 }
 
-// The direction of what stands between two types that are no neutrals.
+// The direction of what is between two types that are not neutral.
 fn between(side: BidiClass, before: BidiClass, after: BidiClass) -> BidiClass {
     match (before, after) {
         (BidiClass::L, BidiClass::L) => BidiClass::L,

@@ -1,7 +1,7 @@
-//! The weak rules (UAX #9, W1 to W7), each a pass of its own over the types of a sequence.
+//! The weak rules (UAX #9, W1 to W7), each as a pass over the types of a sequence.
 use ucd::BidiClass;
 
-/// The weak rules in their order, over the types of a sequence.
+/// Applies the weak rules in their order to the types of a sequence.
 pub fn resolve_weak(types: &mut [BidiClass], sos: BidiClass) {
     w1(types, sos);
     w2(types, sos);
@@ -12,7 +12,7 @@ pub fn resolve_weak(types: &mut [BidiClass], sos: BidiClass) {
     w7(types, sos);
 }
 
-// W1: a mark takes the type of what stands before it.
+// W1: NSM gets the type of what is before it.
 fn w1(types: &mut [BidiClass], sos: BidiClass) {
     let mut before = sos;
     for slot in types.iter_mut() {
@@ -36,7 +36,7 @@ fn mark_after(before: BidiClass) -> BidiClass {
     }
 }
 
-// The nearest type that is no mark, after a character of this type.
+// The nearest type that is not NSM, after a character of this type.
 fn unmarked_after(class: BidiClass, before: BidiClass) -> BidiClass {
     match class {
         BidiClass::NSM => before,
@@ -102,15 +102,15 @@ fn w4_type(before: BidiClass, class: BidiClass, after: BidiClass) -> BidiClass {
     }
 }
 
-/// The type at an index, or another past the end.
+/// Returns the type at an index, or `other` past the end.
 pub fn type_or(types: &[BidiClass], at: usize, other: BidiClass) -> BidiClass {
     if at < types.len() { types[at] } else { other }
 }
 
-// W5: European terminators in a row, next to a European number, become European numbers.
+// W5: a run of European terminators next to a European number becomes European numbers.
 fn w5(types: &mut [BidiClass]) {
     let mut before = BidiClass::ON;
-    // The nearest place after this one that has no terminator, where it isn't passed yet.
+    // The nearest index after this one that has no terminator. It stays until it is passed.
     let mut end = 0;
     for at in 0..types.len() {
         let class = types[at];
@@ -129,7 +129,7 @@ fn is_terminator(class: BidiClass) -> bool {
     matches!(class, BidiClass::ET)
 }
 
-// The least place from `from` on that has no terminator, or the length.
+// The least index from `from` on that has no terminator, or the length.
 fn after_terminators(types: &[BidiClass], from: usize) -> usize {
     for at in from..types.len() {
         if !is_terminator(types[at]) {
@@ -139,7 +139,7 @@ fn after_terminators(types: &[BidiClass], from: usize) -> usize {
     types.len()
 }
 
-// What a terminator becomes between two types.
+// The type of a terminator between two types.
 fn w5_type(before: BidiClass, after: BidiClass) -> BidiClass {
     match (before, after) {
         (BidiClass::EN, _) | (_, BidiClass::EN) => BidiClass::EN,

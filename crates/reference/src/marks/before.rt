@@ -1,5 +1,5 @@
-//! What the rules ask of the bases before a position, kept along one walk over the characters: so
-//! no position looks back, however long the run of spaces or RI that it ends.
+//! What the rules need of the bases before a position, updated in one pass over the characters. So no
+//! position looks back, however long the run of spaces or RI before it.
 
 use crate::marks::character::Character;
 use crate::marks::classes::{BK, CM, CR, LF, NL, SP, ZW, ZWJ, has};
@@ -7,32 +7,32 @@ use crate::marks::rules::{Numbers, mark_between};
 use breaks::Mark;
 use ucd::LineClass;
 
-/// What the rules ask of the bases before a position.
+/// What the rules need of the bases before a position.
 #[derive(Clone, Copy, Debug)]
 pub struct Before {
     /// The class of the last base.
     pub class: LineClass,
-    /// Whether it is wide.
+    /// Whether the last base is wide.
     pub is_wide: bool,
-    /// Whether it is Extended_Pictographic and unassigned.
+    /// Whether the last base is Extended_Pictographic and unassigned.
     pub is_future_pictograph: bool,
-    /// The class of its last character, which is the one directly before the position.
+    /// The class of the last character, which is directly before the position.
     pub end: LineClass,
-    /// The class of the base before it.
+    /// The class of the base before the last one.
     pub second: Option<LineClass>,
-    /// The class of the last base that is no space.
+    /// The class of the last base that is not a space.
     pub unspaced: Option<LineClass>,
     /// Whether the bases end in an odd number of RI.
     pub is_odd_run: bool,
 }
 
 impl Before {
-    /// What stands before the second position of a text that begins with this character.
+    /// Returns the state before the second position of a text that begins with this character.
     pub fn start(first: &Character) -> Before {
         Before::begun(first, None, None, false)
     }
 
-    /// The mark of the position before the next character, which is passed from then on.
+    /// Returns the mark of the position before the next character, and moves past it.
     pub fn pass(&mut self, next: &Character, numbers: Numbers) -> Mark {
         if self.keeps(next) {
             self.end = next.class;
@@ -43,12 +43,12 @@ impl Before {
         mark
     }
 
-    /// LB9: whether the character stays with the last base.
+    /// LB9: whether the character joins the last base.
     pub fn keeps(&self, next: &Character) -> bool {
         has(CM | ZWJ, next.class) && !has(BK | CR | LF | NL | SP | ZW, self.end)
     }
 
-    // A base that begins with this character, and what is kept of those before it.
+    // The state after a base that begins with this character, by the state before it.
     fn begun(
         first: &Character,
         second: Option<LineClass>,

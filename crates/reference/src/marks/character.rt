@@ -1,7 +1,7 @@
-//! What line breaking reads of a character (UAX #14, LB1, LB9 and LB10).
+//! What line breaking needs of a character (UAX #14, LB1, LB9 and LB10).
 use ucd::{LineClass, Tables};
 
-/// What the rules read of a character. The class is the one that LB1 gives.
+/// What the rules need of a character. The class is the one that LB1 gives.
 #[derive(Clone, Copy, Debug)]
 pub struct Character {
     pub class: LineClass,
@@ -10,7 +10,7 @@ pub struct Character {
 }
 
 impl Character {
-    /// What the tables say of one.
+    /// Looks a character up in tables.
     pub fn of(tables: &Tables, c: char) -> Character {
         Character {
             class: resolved(tables.line_class(c), tables.is_mark(c)),
@@ -19,8 +19,8 @@ impl Character {
         }
     }
 
-    /// The class of the base that begins with the character: LB10 makes an AL of a CM or ZWJ that
-    /// stands after no base.
+    /// Returns the class of a base that begins with the character. LB10: a CM or ZWJ that joins no base is
+    /// AL.
     pub fn base_class(&self) -> LineClass {
         match self.class {
             LineClass::CM | LineClass::ZWJ => LineClass::AL,
@@ -29,7 +29,7 @@ impl Character {
     }
 }
 
-// LB1: the class that takes the place of one that depends on the language, or is none.
+// LB1: the class by which the rules replace AI, SG, XX, SA and CJ; other classes stay.
 fn resolved(class: LineClass, is_mark: bool) -> LineClass {
     match class {
         LineClass::AI | LineClass::SG | LineClass::XX => LineClass::AL,

@@ -1,4 +1,4 @@
-//! Numbers that stay whole (UAX #14, LB25 in its second form), tried on every list of bases.
+//! Whole numbers (UAX #14, LB25 in its second form), tried on every list of bases.
 
 use crate::marks::classes::{CL, CP, HY, IS, NU, OP, PO, PR, SY, has};
 use ucd::LineClass;
@@ -14,7 +14,7 @@ enum Place {
     End,
 }
 
-/// Whether some of the bases before one of these and some from it on are a number.
+/// Whether some of the bases before an index and some from it on are a number together.
 pub fn is_in_number(classes: &[LineClass], place: usize) -> bool {
     for start in 0..place {
         if begins_number(classes, start, place) {
@@ -24,7 +24,7 @@ pub fn is_in_number(classes: &[LineClass], place: usize) -> bool {
     false
 }
 
-// Whether a number that begins at a base goes on past another.
+// Whether a number that begins at a base goes on past another base.
 fn begins_number(classes: &[LineClass], start: usize, place: usize) -> bool {
     let mut at = Place::Start;
     for i in start..classes.len() {

@@ -6,19 +6,19 @@ use crate::marks::classes::*;
 use breaks::Mark;
 use ucd::LineClass;
 
-/// What a rule asks of the bases before a position.
+/// A condition on the bases before a position.
 #[derive(Clone, Copy)]
 pub enum Left {
     Any,
     /// The last base has one of the classes.
     Is(Classes),
-    /// It has one of the classes, and it isn't wide.
+    /// The last base has one of the classes, and is not wide.
     IsNarrow(Classes),
-    /// It has none of the classes.
+    /// The last base has none of the classes.
     IsNot(Classes),
-    /// The base before it has one of the first classes, and it one of the second.
+    /// The base before the last one has one of the first classes, and the last base one of the second.
     IsPair(Classes, Classes),
-    /// The last base that is no space has one of the classes.
+    /// The last base that is not a space has one of the classes.
     IsSpaced(Classes),
     /// The character directly before is a ZWJ.
     EndsInZwj,
@@ -28,17 +28,17 @@ pub enum Left {
     IsFuturePictograph,
 }
 
-/// What a rule asks of the base after a position.
+/// A condition on the base after a position.
 #[derive(Clone, Copy)]
 pub enum Right {
     Any,
     /// It has one of the classes.
     Is(Classes),
-    /// It has one of the classes, and it isn't wide.
+    /// It has one of the classes, and is not wide.
     IsNarrow(Classes),
 }
 
-/// A rule, and the mark that it gives where both conditions hold.
+/// A rule, and its mark if both conditions hold.
 #[derive(Clone, Copy)]
 pub struct Rule(pub Left, pub Right, pub Mark);
 
@@ -74,7 +74,7 @@ impl Right {
     }
 }
 
-// The mark of the first rule of which both conditions hold.
+// The mark of the first rule whose conditions hold.
 fn first_mark(rules: &[Rule], before: &Before, after: &Character) -> Option<Mark> {
     for Rule(left, right, mark) in rules {
         if left.holds(before) && right.holds(after) {
@@ -84,7 +84,8 @@ fn first_mark(rules: &[Rule], before: &Before, after: &Character) -> Option<Mark
     None
 }
 
-/// What LB25 is: a rule on two bases, or that no line ends inside a number, as here or not.
+/// The form of LB25: a rule on two bases, or that no line ends inside a number, and whether the position is
+/// inside one.
 #[derive(Clone, Copy)]
 pub enum Numbers {
     Pairs,
@@ -92,8 +93,8 @@ pub enum Numbers {
     Outside,
 }
 
-/// The mark of the position between the bases before it and the one that begins with `after`, and LB31
-/// where no rule holds.
+/// Returns the mark of the position between the bases before it and the one that begins with `after`: that of
+/// the first rule that applies, and LB31 if none does.
 pub fn mark_between(before: &Before, after: &Character, numbers: Numbers) -> Mark {
     if let Some(mark) = first_mark(&RULES_BEFORE_NUMBERS, before, after) {
         return mark;
