@@ -36,7 +36,7 @@ use Rattle.store.proofs.tree_store.TreeStore.TheLaws as store_laws
 use Rattle.store.specs.contracts.tree_store.TreeStoreParagraphStore.TheImpl as store_impl
 use Rattle.hordguli_c.specs.SessionHeld.{Value, object_at, object_row}
 use Rattle.hordguli_c.specs.contracts.session_handle.SessionHandle as handle
-use Rattle.hordguli_c.specs.contracts.loose.Loose as loose
+use Rattle.hordguli_c.specs.contracts.raw_box.RawBox as raw
 
 -- a box of a session
 abbrev pub E : Bx
@@ -46,13 +46,13 @@ E = record {
   al = record { row = heap.the_row; laws = heap_laws.the_row_laws; g = ghosts; d = dict; drops = impl [] tnil dnil };
 }
 
-abbrev pub LooseRow : RattleType
-LooseRow = loose.the_row object_row heap.the_row ghosts
+abbrev pub RawBoxRow : RattleType
+RawBoxRow = raw.the_row object_row heap.the_row ghosts
 
 abbrev pub both : Val → Val → Val
 both v w = vstruct (vcons v (vcons w vnil))
 
-pub both_good : (b o : ℕ) (h : Val) → T (has_ty (layout heap.the_row) h) × WT h → T (has_ty (layout LooseRow) (both (vptr b o) h)) × WT (both (vptr b o) h)
+pub both_good : (b o : ℕ) (h : Val) → T (has_ty (layout heap.the_row) h) × WT h → T (has_ty (layout RawBoxRow) (both (vptr b o) h)) × WT (both (vptr b o) h)
 both_good b o h fits = (and_tt (has_ty (layout heap.the_row) h) fits.0, (tt, (fits.1, tt)))
 
 abbrev pub word : Ptr → Val
@@ -76,11 +76,11 @@ module _ {M : Type 1} {𝓤 : Ura M} {𝓛 : Logic 𝓤} {K : Type 0} {Γ : List
       fsplit t $ fpick t (λ vss. fsplit t $ feq_l t (λ ev. fsplit t $ feq_l t (λ ep. drop t $ k
       (ev ∙ ap (λ (us : List Val). vstruct (of_list us) ∷ []) (ap (λ (us : List Val). mathlib.Core.List.◌++◌ us []) ep)))))
 
-  pub loose_in : K → (b o : ℕ) (h : Val) (a : heap.the_row.Denot) (xs : Value)
-      → Step K 𝓛 (‵ (LooseRow.own_val (record { at = block_ptr b o; alloc = a; value = xs }) (both (vptr b o) h ∷ [])) ∷ Γ) G (‵ (object_at (block_ptr b o) (Some xs)) ∷ ‵ (heap.the_row.own_val a (h ∷ [])) ∷ Γ) G
-  loose_in t b o h a xs = step (λ s. let v : Val = both (vptr b o) h in
+  pub raw_in : K → (b o : ℕ) (h : Val) (a : heap.the_row.Denot) (xs : Value)
+      → Step K 𝓛 (‵ (RawBoxRow.own_val (record { at = block_ptr b o; alloc = a; value = xs }) (both (vptr b o) h ∷ [])) ∷ Γ) G (‵ (object_at (block_ptr b o) (Some xs)) ∷ ‵ (heap.the_row.own_val a (h ∷ [])) ∷ Γ) G
+  raw_in t b o h a xs = step (λ s. let v : Val = both (vptr b o) h in
       nothing t $ move t (2 ∷ 0 ∷ []) $ fjoin t $ feq_i t (List Val) (vptr b o ∷ []) (vptr b o ∷ []) refl $ fjoin t $ feq_i t (List Val) (v ∷ []) (v ∷ []) refl $ fjoin t $
-      fpack t (Valss (RawPtr ∷ heap.the_row ∷ [])) (within (shape (loose.the_type object_row heap.the_row ghosts)) (block_ptr b o, (a, tt)) (v ∷ [])) (vptr b o ∷ [], (h ∷ [], tt)) $ fjoin t $ s)
+      fpack t (Valss (RawPtr ∷ heap.the_row ∷ [])) (within (shape (raw.the_type object_row heap.the_row ghosts)) (block_ptr b o, (a, tt)) (v ∷ [])) (vptr b o ∷ [], (h ∷ [], tt)) $ fjoin t $ s)
 
   -- a handle holds nothing and is null, or holds a session and may be compared with null
   pub by_held : K → (p : Ptr) (x : Option Value) → (x ≡ None → p ≡ null_ptr → Seq K 𝓛 Γ G)

@@ -1,7 +1,7 @@
 -- The values of what a handle gave out, where it gave something.
 use Rattle.std.specs.Prelude.{Option, Some, None}
 use Rattle.std.specs.Global.{Global, Box}
-use Rattle.hordguli_c.specs.declared.loose.Loose.{Loose}
+use Rattle.hordguli_c.specs.declared.raw_box.RawBox.{RawBox}
 
 -- any `Global`: the right to free a block is the same of each
 abbrev pub the_global : Global
@@ -12,6 +12,6 @@ module _ {V : Type 0} where
   box_held None = None
   box_held (Some b) = Some b.value
 
-  abbrev pub loose_held : Option (Loose V Global) → Option V
-  loose_held None = None
-  loose_held (Some l) = Some l.value
+  abbrev pub raw_held : Option (RawBox V Global) → Option V
+  raw_held None = None
+  raw_held (Some l) = Some l.value

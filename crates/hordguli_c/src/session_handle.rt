@@ -1,9 +1,9 @@
 //! What C holds of session: null, or the address of a session on the heap.
 ghost use Rattle.std.specs.Prelude.{◌≡◌, None, Option, Some};
-ghost use Rattle.hordguli_c.specs.Held.{box_held, loose_held};
+ghost use Rattle.hordguli_c.specs.Held.{box_held, raw_held};
 ghost use Rattle.hordguli_c.specs.SessionHeld.{Value, object_at};
 
-use crate::loose::Loose;
+use crate::raw_box::RawBox;
 use session::{Kept, Session};
 use std::alloc::Global;
 use std::marker::Model;
@@ -32,21 +32,21 @@ impl SessionHandle {
         SessionHandle { at: null_mut() }
     }
 
-    fn of_loose(loose: Loose<SessionObject, Global>) -> SessionHandle
-        ensures { result.held ≡ Some loose.value }
+    fn of_raw(raw: RawBox<SessionObject, Global>) -> SessionHandle
+        ensures { result.held ≡ Some raw.value }
     {
-        let Loose { at, alloc: _ } = loose;
+        let RawBox { at, alloc: _ } = raw;
         SessionHandle { at: at.cast() }
     }
 
-    fn into_loose(self, alloc: Global) -> Option<Loose<SessionObject, Global>>
-        ensures { loose_held result ≡ self.held }
+    fn into_raw(self, alloc: Global) -> Option<RawBox<SessionObject, Global>>
+        ensures { raw_held result ≡ self.held }
     {
         let SessionHandle { at } = self;
         if at.is_null() {
             None
         } else {
-            Some(Loose {
+            Some(RawBox {
                 at: at.cast(),
                 alloc,
             })
@@ -63,11 +63,11 @@ impl SessionHandle {
         ensures value { self.old.held ≡ box_held result }
     {
         let handle = match object {
-            Some(object) => SessionHandle::of_loose(Loose::of(object)),
+            Some(object) => SessionHandle::of_raw(RawBox::of(object)),
             None => SessionHandle::empty(),
         };
-        match replace(self, handle).into_loose(alloc) {
-            Some(loose) => Some(loose.into_box()),
+        match replace(self, handle).into_raw(alloc) {
+            Some(raw) => Some(raw.into_box()),
             None => None,
         }
     }

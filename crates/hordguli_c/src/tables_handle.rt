@@ -1,9 +1,9 @@
 //! What C holds of tables: null, or the address of tables on the heap.
 ghost use Rattle.std.specs.Prelude.{◌≡◌, None, Option, Some};
-ghost use Rattle.hordguli_c.specs.Held.{box_held, loose_held};
+ghost use Rattle.hordguli_c.specs.Held.{box_held, raw_held};
 ghost use Rattle.hordguli_c.specs.TablesHeld.{Value, object_at};
 
-use crate::loose::Loose;
+use crate::raw_box::RawBox;
 use std::alloc::Global;
 use std::marker::Model;
 use std::mem::replace;
@@ -34,21 +34,21 @@ impl TablesHandle {
         TablesHandle { at: null_mut() }
     }
 
-    fn of_loose(loose: Loose<TablesObject, Global>) -> TablesHandle
-        ensures { result.held ≡ Some loose.value }
+    fn of_raw(raw: RawBox<TablesObject, Global>) -> TablesHandle
+        ensures { result.held ≡ Some raw.value }
     {
-        let Loose { at, alloc: _ } = loose;
+        let RawBox { at, alloc: _ } = raw;
         TablesHandle { at: at.cast() }
     }
 
-    fn into_loose(self, alloc: Global) -> Option<Loose<TablesObject, Global>>
-        ensures { loose_held result ≡ self.held }
+    fn into_raw(self, alloc: Global) -> Option<RawBox<TablesObject, Global>>
+        ensures { raw_held result ≡ self.held }
     {
         let TablesHandle { at } = self;
         if at.is_null() {
             None
         } else {
-            Some(Loose {
+            Some(RawBox {
                 at: at.cast(),
                 alloc,
             })
@@ -65,11 +65,11 @@ impl TablesHandle {
         ensures value { self.old.held ≡ box_held result }
     {
         let handle = match object {
-            Some(object) => TablesHandle::of_loose(Loose::of(object)),
+            Some(object) => TablesHandle::of_raw(RawBox::of(object)),
             None => TablesHandle::empty(),
         };
-        match replace(self, handle).into_loose(alloc) {
-            Some(loose) => Some(loose.into_box()),
+        match replace(self, handle).into_raw(alloc) {
+            Some(raw) => Some(raw.into_box()),
             None => None,
         }
     }

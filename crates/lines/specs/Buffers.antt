@@ -28,4 +28,3 @@ pub record CanHold (n : ℕ) (v : VisualBuffers) : Type 0 where
   pub ltov : n ≤ length v.ltov.items
   pub vtol : n ≤ length v.vtol.items
   pub chars : n ≤ length v.chars.items
-

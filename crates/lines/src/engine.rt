@@ -80,7 +80,7 @@ impl Model for Engine {
 impl Engine {
     ghost use Rattle.bidi.specs.Cuts.{first_cut, SplitsAt};
     ghost use Rattle.bidi.specs.Levels.{levels_of};
-        ghost use Rattle.lines.specs.Extents.{extents_in, extents_of, reflowed};
+    ghost use Rattle.lines.specs.Extents.{extents_in, extents_of, reflowed};
     ghost use Rattle.lines.specs.Layouts.{base_of, cut_by, fill_of, layout_of};
     ghost use Rattle.lines.specs.Layouts.{AreLinesOf, AreWithin, IsLaidOut, IsParagraph};
     ghost use Rattle.lines.specs.Engine.{rules_of, analysed_of, filled_of, written_of, counted};

@@ -53,6 +53,14 @@ pub(crate) fn fill_spans_by(
     ensures ordered { OnOk result (AreStarts (length text.now) lines.new.starts.items) }
     ensures visual { lines.new.visual ≡ lines.old.visual }
 {
-    line_starts(alloc, text, infos, width, nobreak, &mut lines.starts, filled)?;
+    line_starts(
+        alloc,
+        text,
+        infos,
+        width,
+        nobreak,
+        &mut lines.starts,
+        filled,
+    )?;
     fill_shown(infos, &lines.starts, &mut lines.shown)
 }

@@ -10,9 +10,9 @@ ghost use Rattle.lines.specs.Sums.{sums_after};
 ghost use Rattle.lines.specs.declared.char_info.CharInfo.{CharInfo};
 ghost use Rattle.lines.specs.declared.engine.TheConstants.{PARAGRAPH_LIMIT};
 
+use crate::char_info::CharInfo;
 use crate::clusters::mark_clusters;
 use crate::counts::Counted;
-use crate::char_info::CharInfo;
 use breaks::Mark;
 use std::alloc::{AllocError, Global};
 

@@ -135,7 +135,15 @@ fn write_one_line<W: Sink>(
     let Ok(()) = lines.visual.grow_to(text.characters.len()) else {
         return Err(PrintFault::Memory);
     };
-    match write_whole(writer, form, text, levels, &mut lines.visual, filled, written) {
+    match write_whole(
+        writer,
+        form,
+        text,
+        levels,
+        &mut lines.visual,
+        filled,
+        written,
+    ) {
         Ok(_) => Ok(()),
         Err(fault) => Err(PrintFault::Write(fault)),
     }
@@ -187,7 +195,15 @@ fn write_lines<W: Sink>(
         shown: &lines.shown,
     };
     let (text, levels) = (&paragraph.text, paragraph.levels);
-    match write_each(writer, form, text, &spans, levels, &mut lines.visual, written) {
+    match write_each(
+        writer,
+        form,
+        text,
+        &spans,
+        levels,
+        &mut lines.visual,
+        written,
+    ) {
         Ok(_) => Ok(()),
         Err(fault) => Err(PrintFault::Write(fault)),
     }

@@ -21,11 +21,11 @@ ghost use Rattle.lines.specs.Visual.{end_of, lines_from};
 ghost use Rattle.lines.specs.declared.char_info.CharInfo.{CharInfo};
 ghost use Rattle.lines.specs.declared.engine.TheConstants.{PARAGRAPH_LIMIT};
 
-use crate::counts::Count;
 use crate::buffers::LineBuffers;
+use crate::char_info::CharInfo;
+use crate::counts::Count;
 use crate::fill::Shown;
 use crate::paragraph::{Paragraph, Spans, Text};
-use crate::char_info::CharInfo;
 use crate::reserve::reserve;
 use reorder::{
     identity, order_runs, reset_levels, visual_chars, visual_order, visual_places, visual_runs,

@@ -12,10 +12,10 @@ ghost use Rattle.lines.specs.declared.engine.TheConstants.{PARAGRAPH_LIMIT};
 
 use crate::buffers::VisualBuffers;
 use crate::bytes::WriteFault;
+use crate::char_info::is_trailing;
 use crate::counts::{Count, Counted};
 use crate::fill::Shown;
 use crate::paragraph::{LogicalLine, Text};
-use crate::char_info::is_trailing;
 use crate::writing::{Form, write_line};
 use breaks::marks_are_as_many;
 use device::Sink;

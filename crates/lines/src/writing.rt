@@ -159,7 +159,14 @@ fn write_part<W: Sink>(
     }
     let (vtol, chars) = (&mut visual.vtol, &mut visual.chars);
     chars_front(line, &visual.levels, vtol, chars);
-    write_ordered(writer, before, form, line, &visual.levels[..n], &visual.chars[..n])
+    write_ordered(
+        writer,
+        before,
+        form,
+        line,
+        &visual.levels[..n],
+        &visual.chars[..n],
+    )
 }
 
 // L1 on a line, whose levels are put to the front of `levels`; true only if all of them are 0 then.

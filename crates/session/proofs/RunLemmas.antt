@@ -246,7 +246,7 @@ HasRun-stops start old new edits n d edit within read run takes stayed works =
       held = stayed.moved.held ∙ run.held;
       accepted = ap (λ held. edit_refusal (rules_of start.engine) held edit) stayed.moved.held ∙ ap (λ r. edit_refusal r (held_at old) edit) (sym run.rules) ∙ stayed.accepted;
       takes = subst (λ held. TakesMemory (rules_of start.engine) held edit) (sym stayed.moved.held) takes;
-      works = subst (λ done. WorksAtMost (rules_of start.engine) (held_at start) done start.engine new.engine) more (next_works start old new edits n d edit within read run works);
+      works = subst (λ before. WorksAtMost (rules_of start.engine) (held_at start) before start.engine new.engine) more (next_works start old new edits n d edit within read run works);
     }
 
 pub HasRun-next : (start old new : SessionState) (edits : List Edit) (n : ℕ) (d edit : Edit) → n < length edits → get_or edits n d ≡ edit → HasRun start edits n old

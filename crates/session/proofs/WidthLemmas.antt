@@ -75,9 +75,9 @@ each_push : {A : Type 0} (P : A → Type 0) (xs : List A) (x : A) → Each P xs 
 each_push P [] x h this = (this, tt)
 each_push P (y ∷ xs) x h this = (h.0, each_push P xs x h.1 this)
 
--- there is room for the characters of a paragraph
+-- there is scratch space for the characters of a paragraph
 abbrev pub HasRoom : ℕ → Layout → Type 0
-HasRoom room l = length l.text ≤ room
+HasRoom capacity l = length l.text ≤ capacity
 
 more_room : (most more : ℕ) (kept : List Layout) → most ≤ more → Each (HasRoom most) kept → Each (HasRoom more) kept
 more_room most more [] order h = tt
@@ -203,24 +203,24 @@ each_all : {A : Type 0} (P : A → Type 0) (xs : List A) → All P xs → Each P
 each_all P [] h = tt
 each_all P (x ∷ xs) h = (h 0 x (omega arith), each_all P xs (λ k d within. h (suc k) d (omega (arith, within))))
 
-one_fits : (rules : Rules) (width room : ℕ) (l : Layout) (part : Option LineExtents) → IsLaidOut rules l → HasRoom room l → BringsTo rules width l part
-    → IfSome part (CanBePut (record { rules = rules; room = room }) l)
-one_fits rules width room l None laid has brings = tt
-one_fits rules width room l (Some extents) laid has brings = record { laid_out = laid; at_width = (width, brings.1); room = has }
+one_fits : (rules : Rules) (width capacity : ℕ) (l : Layout) (part : Option LineExtents) → IsLaidOut rules l → HasRoom capacity l → BringsTo rules width l part
+    → IfSome part (CanBePut (record { rules = rules; capacity = capacity }) l)
+one_fits rules width capacity l None laid has brings = tt
+one_fits rules width capacity l (Some extents) laid has brings = record { laid_out = laid; at_width = (width, brings.1); capacity = has }
 
-each_fit : (rules : Rules) (width room : ℕ) (kept : List Layout) (parts : List (Option LineExtents)) → Each (IsLaidOut rules) kept → Each (HasRoom room) kept
-    → AllZip (BringsTo rules width) kept parts → fits_any (record { rules = rules; room = room }) kept parts
-each_fit rules width room [] [] laid has made = tt
-each_fit rules width room [] (part ∷ parts) laid has made = absurd made
-each_fit rules width room (l ∷ kept) [] laid has made = absurd made
-each_fit rules width room (l ∷ kept) (part ∷ parts) laid has made =
-    (one_fits rules width room l part laid.0 has.0 made.0, each_fit rules width room kept parts laid.1 has.1 made.1)
+each_fit : (rules : Rules) (width capacity : ℕ) (kept : List Layout) (parts : List (Option LineExtents)) → Each (IsLaidOut rules) kept → Each (HasRoom capacity) kept
+    → AllZip (BringsTo rules width) kept parts → fits_any (record { rules = rules; capacity = capacity }) kept parts
+each_fit rules width capacity [] [] laid has made = tt
+each_fit rules width capacity [] (part ∷ parts) laid has made = absurd made
+each_fit rules width capacity (l ∷ kept) [] laid has made = absurd made
+each_fit rules width capacity (l ∷ kept) (part ∷ parts) laid has made =
+    (one_fits rules width capacity l part laid.0 has.0 made.0, each_fit rules width capacity kept parts laid.1 has.1 made.1)
 
-pub all_fit : (rules same : Rules) (width room : ℕ) (kept : List Layout) (parts : List (Option LineExtents)) → same ≡ rules → Each (IsLaidOut rules) kept → All (HasRoom room) kept
-    → AllZip (BringsTo rules width) kept parts → fits_any (record { rules = same; room = room }) kept parts
-all_fit rules same width room kept parts e laid has made =
-    subst (λ (r : Rules). fits_any (record { rules = r; room = room }) kept parts) (sym e)
-    (each_fit rules width room kept parts laid (each_all (HasRoom room) kept has) made)
+pub all_fit : (rules same : Rules) (width capacity : ℕ) (kept : List Layout) (parts : List (Option LineExtents)) → same ≡ rules → Each (IsLaidOut rules) kept → All (HasRoom capacity) kept
+    → AllZip (BringsTo rules width) kept parts → fits_any (record { rules = same; capacity = capacity }) kept parts
+all_fit rules same width capacity kept parts e laid has made =
+    subst (λ (r : Rules). fits_any (record { rules = r; capacity = capacity }) kept parts) (sym e)
+    (each_fit rules width capacity kept parts laid (each_all (HasRoom capacity) kept has) made)
 
 -- the lines that are written are those that change
 one_written : (rules : Rules) (width : ℕ) (l : Layout) (part : Option LineExtents) → BringsTo rules width l part → written_for l part ≡ changed_in width l
@@ -262,27 +262,27 @@ refilled_one rules width l = record l { lines = lines_of rules width l.text }
 abbrev pub refilled : Rules → ℕ → List Layout → List Layout
 refilled rules width kept = map (refilled_one rules width) kept
 
-one_brought : (rules : Rules) (width room : ℕ) (l : Layout) (part : Option LineExtents) → IsLaidOut rules l → BringsTo rules width l part
-    → put_into (record { rules = rules; room = room }) l part ≡ refilled_one rules width l
-one_brought rules width room l None laid brings = ap (λ ls. record l { lines = ls }) brings.1
-one_brought rules width room l (Some extents) laid brings =
+one_brought : (rules : Rules) (width capacity : ℕ) (l : Layout) (part : Option LineExtents) → IsLaidOut rules l → BringsTo rules width l part
+    → put_into (record { rules = rules; capacity = capacity }) l part ≡ refilled_one rules width l
+one_brought rules width capacity l None laid brings = ap (λ ls. record l { lines = ls }) brings.1
+one_brought rules width capacity l (Some extents) laid brings =
     ap (reflowed rules l) brings.1
     ∙ subst (λ (m : Layout). reflowed rules m (extents_of rules width m.text) ≡ refilled_one rules width m) (sym laid.from_scratch) refl
 
-each_brought : (rules : Rules) (width room : ℕ) (kept : List Layout) (parts : List (Option LineExtents)) → Each (IsLaidOut rules) kept → AllZip (BringsTo rules width) kept parts
-    → pairwise {P = Layout} {Part = Option LineExtents} {A = Layout} (put_into (record { rules = rules; room = room })) kept parts ≡ refilled rules width kept
-each_brought rules width room [] [] laid made = refl
-each_brought rules width room [] (part ∷ parts) laid made = absurd made
-each_brought rules width room (l ∷ kept) [] laid made = absurd made
-each_brought rules width room (l ∷ kept) (part ∷ parts) laid made =
-    ap₂ (λ (x : Layout) (xs : List Layout). x ∷ xs) (one_brought rules width room l part laid.0 made.0) (each_brought rules width room kept parts laid.1 made.1)
+each_brought : (rules : Rules) (width capacity : ℕ) (kept : List Layout) (parts : List (Option LineExtents)) → Each (IsLaidOut rules) kept → AllZip (BringsTo rules width) kept parts
+    → pairwise {P = Layout} {Part = Option LineExtents} {A = Layout} (put_into (record { rules = rules; capacity = capacity })) kept parts ≡ refilled rules width kept
+each_brought rules width capacity [] [] laid made = refl
+each_brought rules width capacity [] (part ∷ parts) laid made = absurd made
+each_brought rules width capacity (l ∷ kept) [] laid made = absurd made
+each_brought rules width capacity (l ∷ kept) (part ∷ parts) laid made =
+    ap₂ (λ (x : Layout) (xs : List Layout). x ∷ xs) (one_brought rules width capacity l part laid.0 made.0) (each_brought rules width capacity kept parts laid.1 made.1)
 
-pub all_brought : (rules same : Rules) (width room : ℕ) (kept : List Layout) (parts : List (Option LineExtents)) → same ≡ rules → Each (IsLaidOut rules) kept
+pub all_brought : (rules same : Rules) (width capacity : ℕ) (kept : List Layout) (parts : List (Option LineExtents)) → same ≡ rules → Each (IsLaidOut rules) kept
     → AllZip (BringsTo rules width) kept parts
-    → pairwise {P = Layout} {Part = Option LineExtents} {A = Layout} (put_into (record { rules = same; room = room })) kept parts ≡ refilled rules width kept
-all_brought rules same width room kept parts e laid made =
-    ap (λ (r : Rules). pairwise {P = Layout} {Part = Option LineExtents} {A = Layout} (put_into (record { rules = r; room = room })) kept parts) e
-    ∙ each_brought rules width room kept parts laid made
+    → pairwise {P = Layout} {Part = Option LineExtents} {A = Layout} (put_into (record { rules = same; capacity = capacity })) kept parts ≡ refilled rules width kept
+all_brought rules same width capacity kept parts e laid made =
+    ap (λ (r : Rules). pairwise {P = Layout} {Part = Option LineExtents} {A = Layout} (put_into (record { rules = r; capacity = capacity })) kept parts) e
+    ∙ each_brought rules width capacity kept parts laid made
 
 refilled-pars : (rules : Rules) (old width : ℕ) (pars : List (List ℕ)) → refilled rules width (map (layout_of rules old) pars) ≡ map (layout_of rules width) pars
 refilled-pars rules old width [] = refl

@@ -32,10 +32,10 @@ changed_in width kept = if is_line_within width kept.lines then 0 else length ke
 abbrev pub changed : ℕ → List Layout → ℕ
 changed width kept = sum_by (changed_in width) kept
 
--- what the lines of paragraphs are written by: the rules, and room for so many characters
+-- what the lines of paragraphs are written by: the rules, and scratch space for so many characters
 pub record Writer : Type 0 where
   pub rules : Rules
-  pub room : ℕ
+  pub capacity : ℕ
 
 -- and of how many characters they were written
 pub record ReflowState : Type 0 where
@@ -60,11 +60,11 @@ pub chars_stay : (writer : Writer) (kept : Layout) (part : Option LineExtents) �
 chars_stay writer kept None = refl
 chars_stay writer kept (Some extents) = refl
 
--- extents are those of a layout at some width, and there is room for it
+-- extents are those of a layout at some width, and there is scratch space for it
 pub record CanBePut (writer : Writer) (kept : Layout) (extents : LineExtents) : Type 0 where
   pub laid_out : IsLaidOut writer.rules kept
   pub at_width : (width : ℕ) × (extents ≡ extents_of writer.rules width kept.text)
-  pub room : length kept.text ≤ writer.room
+  pub capacity : length kept.text ≤ writer.capacity
 
 -- with them a layout has the lines of its text at a width, and there are none where its line fits that width
 abbrev pub BringsTo : Rules → ℕ → Layout → Option LineExtents → Type 0

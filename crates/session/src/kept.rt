@@ -4,7 +4,7 @@ ghost use Rattle.lines.specs.Engine.{counted, rules_of};
 ghost use Rattle.lines.specs.Extents.{extents_in, extents_of, reflowed};
 ghost use Rattle.lines.specs.Layouts.{IsLaidOut};
 
-use lines::{Engine, Extents, Fill, Laid, Room};
+use lines::{Engine, Extents, Fill, Laid, ReflowScratch};
 use std::alloc::{AllocError, Global};
 use std::marker::Model;
 use store::{Exchange, Exchanger, Measured};
@@ -60,19 +60,19 @@ impl Kept {
     }
 
     // Writes its lines at another width over those that it has.
-    fn reflow(&mut self, engine: &Engine, extents: &mut Extents, room: &mut Room)
+    fn reflow(&mut self, engine: &Engine, extents: &mut Extents, scratch: &mut ReflowScratch)
         requires laid { IsLaidOut (rules_of engine.now) self.old }
         requires extents { (width : ℕ)
             × (extents.old ≡ extents_of (rules_of engine.now) width self.old.text) }
-        requires room { length self.old.text ≤ room.old.len }
+        requires scratch { length self.old.text ≤ scratch.old.len }
         ensures kept { self.new ≡ reflowed (rules_of engine.now) self.old extents.old }
         ensures extents { extents.new ≡ extents_in self.old.lines }
-        ensures room { room.new ≡ record room.old {
-          written = counted room.old.written (length self.old.text);
+        ensures scratch { scratch.new ≡ record scratch.old {
+          written = counted scratch.old.written (length self.old.text);
         } }
-        ensures least { room.old.written ≤ room.new.written }
+        ensures least { scratch.old.written ≤ scratch.new.written }
     {
-        engine.reflow(&mut self.laid, extents, room);
+        engine.reflow(&mut self.laid, extents, scratch);
         self.lines = self.laid.line_count();
     }
 }
@@ -119,7 +119,7 @@ impl Exchange for Kept {
 pub struct Reflow<'a> {
     pub engine: &'a Engine,
     /// For the longest of the paragraphs. It counts the characters whose lines are written.
-    pub room: Room,
+    pub scratch: ReflowScratch,
 }
 
 impl<'a> Model for Reflow<'a> {
@@ -129,8 +129,8 @@ impl<'a> Model for Reflow<'a> {
     ghost Value = { ReflowState };
 
     ghost view = { λ r. record {
-      by = record { rules = rules_of r.engine.now; room = r.room.len };
-      written = r.room.written;
+      by = record { rules = rules_of r.engine.now; capacity = r.scratch.len };
+      written = r.scratch.written;
     } };
 }
 
@@ -144,7 +144,7 @@ impl<'a> Exchanger<Kept> for Reflow<'a> {
 
     ghost kind = { λ reflow. reflow.by };
 
-    // Extents of this paragraph, for which there is room.
+    // Extents of this paragraph, for which there is scratch space.
     ghost fits = { λ by kept part. IfSome part (CanBePut by kept) };
 
     ghost exchanged = { put_into };
@@ -162,6 +162,6 @@ impl<'a> Exchanger<Kept> for Reflow<'a> {
         let Some(extents) = part else {
             return;
         };
-        item.reflow(self.engine, extents, &mut self.room);
+        item.reflow(self.engine, extents, &mut self.scratch);
     }
 }

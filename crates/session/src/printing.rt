@@ -30,23 +30,23 @@ fn write_part<W: Sink>(
     from: usize,
     count: usize,
     writer: &mut W,
-    done: u64,
+    before: u64,
     width: u16,
     print: &Print,
 ) -> Result<u64, WriteFault>
     requires within { from + count ≤ length laid.now.lines }
-    requires done { done ≤ (W.state writer.old).passed }
+    requires before { before ≤ (W.state writer.old).passed }
     ensures ok { IfOk result (λ n.
-        PassedOn (flat_map (line_bytes width print.now) (take count (drop from (visuals laid.now)))) done
+        PassedOn (flat_map (line_bytes width print.now) (take count (drop from (visuals laid.now)))) before
         (W.state writer.old) (W.state writer.new) n) }
     ensures err { IfErr result (λ fault.
-        StoppedIn (flat_map (line_bytes width print.now) (take count (drop from (visuals laid.now)))) done
+        StoppedIn (flat_map (line_bytes width print.now) (take count (drop from (visuals laid.now)))) before
         (W.state writer.old) (W.state writer.new) fault.written) }
     ensures counted { IfOk result (λ n. n ≤ (W.state writer.new).passed) }
 {
     // Shows that the number of lines fits.
     let _lines = laid.line_count();
-    let mut written = done;
+    let mut written = before;
     for n in 0..count {
         let Some(line) = laid.line(from + n) else {
             unreachable!()
@@ -63,25 +63,25 @@ pub fn write_lines<S: ParagraphStore<Kept>, W: Sink>(
     first: usize,
     count: usize,
     writer: &mut W,
-    done: u64,
+    before: u64,
     width: u16,
     print: &Print,
 ) -> Result<u64, WriteFault>
     requires within { first + count ≤ length (lines_in (S.items store.now)) }
-    requires done { done ≤ (W.state writer.old).passed }
+    requires before { before ≤ (W.state writer.old).passed }
     ensures ok { IfOk result (λ n. PassedOn (flat_map (line_bytes width print.now)
-        (take count (drop first (lines_in (S.items store.now))))) done
+        (take count (drop first (lines_in (S.items store.now))))) before
         (W.state writer.old) (W.state writer.new) n) }
     ensures err { IfErr result (λ fault. StoppedIn (flat_map (line_bytes width print.now)
-        (take count (drop first (lines_in (S.items store.now))))) done
+        (take count (drop first (lines_in (S.items store.now))))) before
         (W.state writer.old) (W.state writer.new) fault.written) }
     ensures counted { IfOk result (λ n. n ≤ (W.state writer.new).passed) }
 {
     if count == 0 {
-        return Ok(done);
+        return Ok(before);
     }
     let found = store.find_line(first);
-    let (mut from, mut left, mut written) = (found.rest, count, done);
+    let (mut from, mut left, mut written) = (found.rest, count, before);
     for index in found.index..store.count() {
         if left == 0 {
             return Ok(written);

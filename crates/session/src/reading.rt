@@ -76,21 +76,21 @@ pub fn write_text<S: ParagraphStore<Kept>, W: Sink>(
     pos: usize,
     count: usize,
     writer: &mut W,
-    done: u64,
+    before: u64,
 ) -> Result<u64, WriteFault>
     requires lined { All IsLined (S.items store.now) }
     requires within { pos + count ≤ length (text_of (S.items store.now)) }
-    requires done { done ≤ (W.state writer.old).passed }
-    ensures ok { IfOk result (λ n. PassedOn (utf8_part (S.items store.now) pos count) done
+    requires before { before ≤ (W.state writer.old).passed }
+    ensures ok { IfOk result (λ n. PassedOn (utf8_part (S.items store.now) pos count) before
         (W.state writer.old) (W.state writer.new) n) }
-    ensures err { IfErr result (λ fault. StoppedIn (utf8_part (S.items store.now) pos count) done
+    ensures err { IfErr result (λ fault. StoppedIn (utf8_part (S.items store.now) pos count) before
         (W.state writer.old) (W.state writer.new) fault.written) }
     ensures counted { IfOk result (λ n. n ≤ (W.state writer.new).passed) }
 {
     // Shows that the number of characters fits.
     let _chars = store.total_chars();
     let end = pos + count;
-    let (mut at, mut written) = (pos, done);
+    let (mut at, mut written) = (pos, before);
     while at < end {
         let Some(part) = text_part(store, at, end - at) else {
             unreachable!()

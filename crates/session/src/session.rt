@@ -272,22 +272,22 @@ impl<S: ParagraphStore<Kept>> Session<S> {
         Ok(())
     }
 
-    /// Writes them after `done` bytes that the sink passed before, and says how many bytes that makes; a
+    /// Writes them after `before` bytes, and returns the number of bytes written then; a
     /// fault counts these too.
     pub fn write_text_after<W: Sink>(
         &self,
         writer: &mut W,
-        done: u64,
+        before: u64,
         pos: usize,
         count: usize,
     ) -> Result<u64, RangeFault>
-        requires { done ≤ (W.state writer.old).passed }
+        requires { before ≤ (W.state writer.old).passed }
         ensures within { OnOk result (pos + count ≤ length (text_at self.now)) }
-        ensures ok { IfOk result (λ n. PassedOn (utf8_part self.now.kept pos count) done
+        ensures ok { IfOk result (λ n. PassedOn (utf8_part self.now.kept pos count) before
             (W.state writer.old) (W.state writer.new) n) }
         ensures err { IfErr result (WritesNot (length (text_at self.now)) pos count
             (W.state writer.new ≡ W.state writer.old)
-            (λ written. StoppedIn (utf8_part self.now.kept pos count) done
+            (λ written. StoppedIn (utf8_part self.now.kept pos count) before
             (W.state writer.old) (W.state writer.new) written)) }
         ensures counted { IfOk result (λ n. n ≤ (W.state writer.new).passed) }
     {
@@ -298,7 +298,7 @@ impl<S: ParagraphStore<Kept>> Session<S> {
         // The laws by which no paragraph is empty.
         paragraphs_are_pieces();
         Laid::lines_begin_in_order();
-        match write_text(&self.store, pos, count, writer, done) {
+        match write_text(&self.store, pos, count, writer, before) {
             Ok(written) => Ok(written),
             Err(fault) => Err(RangeFault::Write(fault)),
         }
@@ -422,23 +422,23 @@ impl<S: ParagraphStore<Kept>> Session<S> {
         }
     }
 
-    /// Writes them after `done` bytes that the sink passed before, and says how many bytes that makes; a
+    /// Writes them after `before` bytes, and returns the number of bytes written then; a
     /// fault counts these too.
     pub fn print_after<W: Sink>(
         &self,
         writer: &mut W,
-        done: u64,
+        before: u64,
         print: &Print,
     ) -> Result<u64, WriteFault>
-        requires { done ≤ (W.state writer.old).passed }
-        ensures ok { IfOk result (λ n. PassedOn (page_at self.now print.now) done
+        requires { before ≤ (W.state writer.old).passed }
+        ensures ok { IfOk result (λ n. PassedOn (page_at self.now print.now) before
             (W.state writer.old) (W.state writer.new) n) }
-        ensures err { IfErr result (λ fault. StoppedIn (page_at self.now print.now) done
+        ensures err { IfErr result (λ fault. StoppedIn (page_at self.now print.now) before
             (W.state writer.old) (W.state writer.new) fault.written) }
         ensures counted { IfOk result (λ n. n ≤ (W.state writer.new).passed) }
     {
         self.prints_its_lines();
-        match self.print_lines_after(writer, done, 0, self.line_count(), print) {
+        match self.print_lines_after(writer, before, 0, self.line_count(), print) {
             Ok(written) => Ok(written),
             Err(RangeFault::Write(fault)) => Err(fault),
             Err(RangeFault::OutOfRange) => unreachable!(),
@@ -466,23 +466,23 @@ impl<S: ParagraphStore<Kept>> Session<S> {
         Ok(())
     }
 
-    /// Writes them after `done` bytes that the sink passed before, and says how many bytes that makes; a
+    /// Writes them after `before` bytes, and returns the number of bytes written then; a
     /// fault counts these too.
     pub fn print_lines_after<W: Sink>(
         &self,
         writer: &mut W,
-        done: u64,
+        before: u64,
         first: usize,
         count: usize,
         print: &Print,
     ) -> Result<u64, RangeFault>
-        requires { done ≤ (W.state writer.old).passed }
+        requires { before ≤ (W.state writer.old).passed }
         ensures within { OnOk result (HasLines self.now first count) }
-        ensures ok { IfOk result (λ n. PassedOn (lines_page self.now first count print.now) done
+        ensures ok { IfOk result (λ n. PassedOn (lines_page self.now first count print.now) before
             (W.state writer.old) (W.state writer.new) n) }
         ensures err { IfErr result (PrintsNot self.now first count
             (W.state writer.new ≡ W.state writer.old)
-            (λ written. StoppedIn (lines_page self.now first count print.now) done
+            (λ written. StoppedIn (lines_page self.now first count print.now) before
             (W.state writer.old) (W.state writer.new) written)) }
         ensures counted { IfOk result (λ n. n ≤ (W.state writer.new).passed) }
     {
@@ -490,7 +490,7 @@ impl<S: ParagraphStore<Kept>> Session<S> {
         if first > lines || count > lines - first {
             return Err(RangeFault::OutOfRange);
         }
-        match write_lines(&self.store, first, count, writer, done, self.width, print) {
+        match write_lines(&self.store, first, count, writer, before, self.width, print) {
             Ok(written) => Ok(written),
             Err(fault) => Err(RangeFault::Write(fault)),
         }

@@ -14,7 +14,7 @@ ghost use Rattle.store.specs.Exchanging.{pairwise, total_cost};
 use crate::edits::{Damage, EditFault};
 use crate::kept::{Kept, Reflow};
 use bidi::paragraphs_are_pieces;
-use lines::{Engine, Extents, Laid, Room, lines_are_few};
+use lines::{Engine, Extents, Laid, ReflowScratch, lines_are_few};
 use std::alloc::{AllocError, Global};
 use store::{Measured, ParagraphStore};
 
@@ -87,19 +87,19 @@ fn longest(list: &[&Kept]) -> usize
     most
 }
 
-// The extents of all lines of a store at another width that change, and room to write them in.
+// The extents of all lines of a store at another width that change, and scratch space to write them.
 fn find_all<S: ParagraphStore<Kept>>(
     alloc: Global,
     engine: &mut Engine,
     store: &S,
     width: u16,
-) -> Result<(Vec<Option<Extents>>, Room), AllocError>
+) -> Result<(Vec<Option<Extents>>, ReflowScratch), AllocError>
     requires laid { (old : ℕ)
         × IsWholeLayout (record { engine = engine.old; width = old; kept = S.items store.now }) }
     requires width { 0 < width }
     ensures ok { IfOk result (λ found.
         AllZip (BringsTo (rules_of engine.old) width) (S.items store.now) found.0.items) }
-    ensures room { IfOk result (λ found.
+    ensures scratch { IfOk result (λ found.
         All (λ kept. length kept.text ≤ found.1.len) (S.items store.now)) }
     ensures least { (n : ℕ) → All (λ kept. length kept.text ≤ n) (S.items store.now)
         → IfOk result (λ found. found.1.len ≤ n) }
@@ -114,8 +114,8 @@ fn find_all<S: ParagraphStore<Kept>>(
     paragraphs_are_pieces();
     let list = store.list(alloc)?;
     let parts = find_each(alloc, engine, &list, width)?;
-    let room = engine.room(alloc, longest(&list))?;
-    Ok((parts, room))
+    let capacity = engine.reflow_scratch(alloc, longest(&list))?;
+    Ok((parts, scratch))
 }
 
 // Writes the lines of all paragraphs of a store that change over those that they have, by their extents.
@@ -123,17 +123,17 @@ fn reflow_all<S: ParagraphStore<Kept>>(
     engine: &mut Engine,
     store: &mut S,
     parts: &mut Vec<Option<Extents>>,
-    room: Room,
+    scratch: ReflowScratch,
 )
     requires fit { AllZip (λ kept part. IfSome part
-        (CanBePut (record { rules = rules_of engine.old; room = room.len }) kept))
+        (CanBePut (record { rules = rules_of engine.old; capacity = scratch.len }) kept))
         (S.items store.old) parts.old.items }
     requires lines_fit { sum_by (λ kept. length kept.lines) (pairwise
-        (put_into (record { rules = rules_of engine.old; room = room.len }))
+        (put_into (record { rules = rules_of engine.old; capacity = scratch.len }))
         (S.items store.old) parts.old.items) < 2 ^ 64 }
-    requires unwritten { room.written ≡ 0 }
+    requires unwritten { scratch.written ≡ 0 }
     ensures items { S.items store.new ≡ pairwise
-        (put_into (record { rules = rules_of engine.old; room = room.len }))
+        (put_into (record { rules = rules_of engine.old; capacity = scratch.len }))
         (S.items store.old) parts.old.items }
     ensures rules { SameRules engine.old engine.new }
     ensures counts { Rewrites (total_cost written_for (S.items store.old) parts.old.items)
@@ -141,10 +141,10 @@ fn reflow_all<S: ParagraphStore<Kept>>(
     ensures at_most { RewritesAtMost (total_cost written_for (S.items store.old) parts.old.items)
         engine.old engine.new }
 {
-    let mut reflow = Reflow { engine, room };
+    let mut reflow = Reflow { engine, scratch };
     store.exchange_all_by(&mut reflow, parts);
-    let Reflow { engine: _, room } = reflow;
-    engine.take_back(room);
+    let Reflow { engine: _, scratch } = reflow;
+    engine.take_back(scratch);
 }
 
 /// Brings all lines to another width. What can fail is done before anything is changed.
@@ -170,11 +170,11 @@ pub fn set_width<S: ParagraphStore<Kept>>(
     // The laws by which the new lines belong to the paragraphs, and their sum fits.
     paragraphs_are_pieces();
     lines_are_few();
-    let Ok((mut parts, room)) = find_all(alloc, engine, store, new_width) else {
+    let Ok((mut parts, scratch)) = find_all(alloc, engine, store, new_width) else {
         return Err(EditFault::NoMemory);
     };
     let (count, old_lines) = (store.count(), store.total_lines());
-    reflow_all(engine, store, &mut parts, room);
+    reflow_all(engine, store, &mut parts, scratch);
     *width = new_width;
     Ok(Damage {
         first_line: 0,

@@ -12,7 +12,7 @@ use crate::files;
 use crate::files::FILES;
 use bidi::Base;
 use breaks::Mark;
-use lines::{Engine, Extents, Fill, Laid, Options, PARAGRAPH_LIMIT, Room, VisualLine};
+use lines::{Engine, Extents, Fill, Laid, Options, PARAGRAPH_LIMIT, ReflowScratch, VisualLine};
 use std::alloc::Global;
 use std::process::Abort;
 use std::test::Fail;
@@ -225,13 +225,13 @@ fn extents(alloc: Global, engine: &mut Engine, laid: &Laid, width: u16) -> Resul
     }
 }
 
-// Room for so many characters.
-fn room(alloc: Global, engine: &Engine, len: usize) -> Result<Room, Fail>
-    ensures { IfOk result (λ room. room.len ≡ len) }
+// Scratch space for so many characters.
+fn scratch(alloc: Global, engine: &Engine, len: usize) -> Result<ReflowScratch, Fail>
+    ensures { IfOk result (λ scratch. scratch.len ≡ len) }
 {
-    match engine.room(alloc, len) {
-        Ok(room) => Ok(room),
-        Err(_) => Ok(engine.room(alloc, len)?),
+    match engine.reflow_scratch(alloc, len) {
+        Ok(scratch) => Ok(scratch),
+        Err(_) => Ok(engine.reflow_scratch(alloc, len)?),
     }
 }
 
@@ -243,9 +243,9 @@ fn reflow(alloc: Global, engine: &mut Engine, laid: &mut Laid, width: u16) -> Re
     ensures rules { SameRules engine.old engine.new }
 {
     let mut extents = extents(alloc, engine, laid, width)?;
-    let mut room = room(alloc, engine, laid.text().len())?;
-    engine.reflow(laid, &mut extents, &mut room);
-    engine.take_back(room);
+    let mut scratch = scratch(alloc, engine, laid.text().len())?;
+    engine.reflow(laid, &mut extents, &mut scratch);
+    engine.take_back(scratch);
     Ok(())
 }
 

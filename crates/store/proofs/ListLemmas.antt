@@ -170,16 +170,16 @@ module _ {A : Type 0} (f : A → ℕ) where
       )
 
 -- the last item of a list is put at the end of another one, which is read from after
-pub one_over : {A : Type 0} (items front spares more all : List A) (x y : A) → items ≡ front ++ x ∷ [] → y ≡ x → more ≡ spares ++ y ∷ []
-    → items ++ reverse spares ≡ all → front ++ reverse more ≡ all
-one_over items front spares more all x y items_is y_is more_is all_is =
-    ap (λ zs. front ++ reverse zs) more_is ∙ ap (λ zs. front ++ zs) (reverse-append spares (y ∷ [])) ∙ ap (λ z. front ++ z ∷ reverse spares) y_is
-    ∙ sym (append_assoc front (x ∷ []) (reverse spares)) ∙ ap (λ zs. zs ++ reverse spares) (sym items_is) ∙ all_is
+pub one_over : {A : Type 0} (items front nodes more all : List A) (x y : A) → items ≡ front ++ x ∷ [] → y ≡ x → more ≡ nodes ++ y ∷ []
+    → items ++ reverse nodes ≡ all → front ++ reverse more ≡ all
+one_over items front nodes more all x y items_is y_is more_is all_is =
+    ap (λ zs. front ++ reverse zs) more_is ∙ ap (λ zs. front ++ zs) (reverse-append nodes (y ∷ [])) ∙ ap (λ z. front ++ z ∷ reverse nodes) y_is
+    ∙ sym (append_assoc front (x ∷ []) (reverse nodes)) ∙ ap (λ zs. zs ++ reverse nodes) (sym items_is) ∙ all_is
 
-pub length_both : {A : Type 0} (items spares all : List A) → items ++ reverse spares ≡ all → length items + length spares ≡ length all
-length_both items spares all e = omega (arith, ap length e, length-append items (reverse spares), length-reverse spares)
+pub length_both : {A : Type 0} (items nodes all : List A) → items ++ reverse nodes ≡ all → length items + length nodes ≡ length all
+length_both items nodes all e = omega (arith, ap length e, length-append items (reverse nodes), length-reverse nodes)
 
 -- a list has room for what was moved out of it
-pub room_after : {A : Type 0} (items spares all now : List A) (len cap room : ℕ) → items ++ reverse spares ≡ all → now ≡ items → len ≡ length all
-    → len ≤ cap → room ≡ cap → length now + length spares ≤ room
-room_after items spares all now len cap room e now_is len_is within room_is = omega (arith, length_both items spares all e, ap length now_is)
+pub room_after : {A : Type 0} (items nodes all now : List A) (len cap room : ℕ) → items ++ reverse nodes ≡ all → now ≡ items → len ≡ length all
+    → len ≤ cap → room ≡ cap → length now + length nodes ≤ room
+room_after items nodes all now len cap room e now_is len_is within room_is = omega (arith, length_both items nodes all e, ap length now_is)

@@ -7,13 +7,17 @@ ghost use Rattle.store.specs.Subtrees.{Fits};
 ghost use Rattle.store.specs.Trees.{Empty, Fork, height, in_order, IsBalanced};
 
 use crate::measured::Measured;
-use crate::subtree::{Spare, Subtree};
+use crate::subtree::{DetachedNode, Subtree};
 use std::mem;
 
 /// Joins two trees with one more item between them.
-pub(crate) fn join<P: Measured>(left: Subtree<P>, spare: Spare<P>, right: Subtree<P>) -> Subtree<P>
-    requires { Fits P.chars P.lines (in_order left ++ spare ∷ in_order right) }
-    ensures items { in_order result ≡ in_order left ++ spare ∷ in_order right }
+pub(crate) fn join<P: Measured>(
+    left: Subtree<P>,
+    node: DetachedNode<P>,
+    right: Subtree<P>,
+) -> Subtree<P>
+    requires { Fits P.chars P.lines (in_order left ++ node ∷ in_order right) }
+    ensures items { in_order result ≡ in_order left ++ node ∷ in_order right }
     ensures not_lower { max (height left) (height right) ≤ height result }
     ensures at_most_one_higher { height result ≤ max (height left) (height right) + 1 }
 {
@@ -23,22 +27,22 @@ pub(crate) fn join<P: Measured>(left: Subtree<P>, spare: Spare<P>, right: Subtre
         let Some((first, top, middle)) = left.open() else {
             unreachable!()
         };
-        return balance(first, top, join(middle, spare, right));
+        return balance(first, top, join(middle, node, right));
     }
     if right_height > left_height + 1 {
         let Some((middle, top, last)) = right.open() else {
             unreachable!()
         };
-        return balance(join(left, spare, middle), top, last);
+        return balance(join(left, node, middle), top, last);
     }
-    spare.over(left, right)
+    node.over(left, right)
 }
 
 // Joins two trees whose heights differ by at most 2.
-fn balance<P: Measured>(left: Subtree<P>, spare: Spare<P>, right: Subtree<P>) -> Subtree<P>
-    requires fits { Fits P.chars P.lines (in_order left ++ spare ∷ in_order right) }
+fn balance<P: Measured>(left: Subtree<P>, node: DetachedNode<P>, right: Subtree<P>) -> Subtree<P>
+    requires fits { Fits P.chars P.lines (in_order left ++ node ∷ in_order right) }
     requires near { (height left ≤ height right + 2) × (height right ≤ height left + 2) }
-    ensures items { in_order result ≡ in_order left ++ spare ∷ in_order right }
+    ensures items { in_order result ≡ in_order left ++ node ∷ in_order right }
     ensures not_lower { max (height left) (height right) ≤ height result }
     ensures at_most_one_higher { height result ≤ max (height left) (height right) + 1 }
     ensures higher { (height left ≤ height right + 1) → (height right ≤ height left + 1)
@@ -47,19 +51,19 @@ fn balance<P: Measured>(left: Subtree<P>, spare: Spare<P>, right: Subtree<P>) ->
     let left_height = left.height();
     let right_height = right.height();
     if left_height > right_height + 1 {
-        return lean_left(left, spare, right);
+        return lean_left(left, node, right);
     }
     if right_height > left_height + 1 {
-        return lean_right(left, spare, right);
+        return lean_right(left, node, right);
     }
-    spare.over(left, right)
+    node.over(left, right)
 }
 
 // Joins them if the left tree is higher by 2: one rotation, or two if its inner side is the higher one.
-fn lean_left<P: Measured>(left: Subtree<P>, spare: Spare<P>, right: Subtree<P>) -> Subtree<P>
-    requires fits { Fits P.chars P.lines (in_order left ++ spare ∷ in_order right) }
+fn lean_left<P: Measured>(left: Subtree<P>, node: DetachedNode<P>, right: Subtree<P>) -> Subtree<P>
+    requires fits { Fits P.chars P.lines (in_order left ++ node ∷ in_order right) }
     requires two_higher { height left ≡ height right + 2 }
-    ensures items { in_order result ≡ in_order left ++ spare ∷ in_order right }
+    ensures items { in_order result ≡ in_order left ++ node ∷ in_order right }
     ensures not_lower { height left ≤ height result }
     ensures at_most_one_higher { height result ≤ height left + 1 }
 {
@@ -67,16 +71,16 @@ fn lean_left<P: Measured>(left: Subtree<P>, spare: Spare<P>, right: Subtree<P>) 
         unreachable!()
     };
     if outer.height() >= inner.height() {
-        return top.over(outer, spare.over(inner, right));
+        return top.over(outer, node.over(inner, right));
     }
-    lift(outer, top, inner, spare, right)
+    lift(outer, top, inner, node, right)
 }
 
 // Joins them if the right tree is higher by 2.
-fn lean_right<P: Measured>(left: Subtree<P>, spare: Spare<P>, right: Subtree<P>) -> Subtree<P>
-    requires fits { Fits P.chars P.lines (in_order left ++ spare ∷ in_order right) }
+fn lean_right<P: Measured>(left: Subtree<P>, node: DetachedNode<P>, right: Subtree<P>) -> Subtree<P>
+    requires fits { Fits P.chars P.lines (in_order left ++ node ∷ in_order right) }
     requires two_higher { height right ≡ height left + 2 }
-    ensures items { in_order result ≡ in_order left ++ spare ∷ in_order right }
+    ensures items { in_order result ≡ in_order left ++ node ∷ in_order right }
     ensures not_lower { height right ≤ height result }
     ensures at_most_one_higher { height result ≤ height right + 1 }
 {
@@ -84,18 +88,18 @@ fn lean_right<P: Measured>(left: Subtree<P>, spare: Spare<P>, right: Subtree<P>)
         unreachable!()
     };
     if outer.height() >= inner.height() {
-        return top.over(spare.over(left, inner), outer);
+        return top.over(node.over(left, inner), outer);
     }
-    lift(left, spare, inner, top, outer)
+    lift(left, node, inner, top, outer)
 }
 
 // Makes two rotations: the root of the middle tree, which is higher by 1 than those on both sides of it,
 // becomes the root of all.
 fn lift<P: Measured>(
     left: Subtree<P>,
-    before: Spare<P>,
+    before: DetachedNode<P>,
     inner: Subtree<P>,
-    after: Spare<P>,
+    after: DetachedNode<P>,
     right: Subtree<P>,
 ) -> Subtree<P>
     requires fits { Fits P.chars P.lines
@@ -129,7 +133,7 @@ fn split<P: Measured>(tree: Subtree<P>, at: usize) -> (Subtree<P>, Subtree<P>)
 }
 
 // Removes the first item.
-fn take_first<P: Measured>(tree: Subtree<P>) -> Option<(Spare<P>, Subtree<P>)>
+fn take_first<P: Measured>(tree: Subtree<P>) -> Option<(DetachedNode<P>, Subtree<P>)>
     ensures { MatchOption result (tree ≡ Empty) (λ p. in_order tree ≡ p.0 ∷ in_order p.1) }
 {
     let (left, top, right) = tree.open()?;
@@ -151,31 +155,31 @@ fn append<P: Measured>(left: Subtree<P>, right: Subtree<P>) -> Subtree<P>
 }
 
 // Builds a tree of the nodes of a list, from the last one back.
-fn build_all<P: Measured>(spares: Vec<Spare<P>>) -> Subtree<P>
-    requires { Fits P.chars P.lines (reverse spares.items) }
-    ensures { in_order result ≡ reverse spares.items }
+fn build_all<P: Measured>(nodes: Vec<DetachedNode<P>>) -> Subtree<P>
+    requires { Fits P.chars P.lines (reverse nodes.items) }
+    ensures { in_order result ≡ reverse nodes.items }
 {
-    let mut spares = spares;
-    let count = spares.len();
-    let tree = build(&mut spares, count);
-    spares.destroy_empty();
+    let mut nodes = nodes;
+    let count = nodes.len();
+    let tree = build(&mut nodes, count);
+    nodes.destroy_empty();
     tree
 }
 
 // Builds a tree of the last nodes of a list, from the last one back.
-fn build<P: Measured>(spares: &mut Vec<Spare<P>>, count: usize) -> Subtree<P>
-    requires enough { count ≤ length spares.old.items }
-    requires fits { Fits P.chars P.lines (reverse spares.old.items) }
-    ensures left { spares.new.items ≡ take (length spares.old.items - count) spares.old.items }
-    ensures items { in_order result ≡ reverse (drop (length spares.old.items - count) spares.old.items) }
+fn build<P: Measured>(nodes: &mut Vec<DetachedNode<P>>, count: usize) -> Subtree<P>
+    requires enough { count ≤ length nodes.old.items }
+    requires fits { Fits P.chars P.lines (reverse nodes.old.items) }
+    ensures left { nodes.new.items ≡ take (length nodes.old.items - count) nodes.old.items }
+    ensures items { in_order result ≡ reverse (drop (length nodes.old.items - count) nodes.old.items) }
 {
     if count == 0 {
         return Subtree::empty();
     }
     let before = count / 2;
-    let left = build(spares, before);
-    let top = spares.take_last();
-    let right = build(spares, count - before - 1);
+    let left = build(nodes, before);
+    let top = nodes.take_last();
+    let right = build(nodes, count - before - 1);
     join(left, top, right)
 }
 
@@ -185,18 +189,18 @@ pub(crate) fn put_in<P: Measured>(
     tree: &mut Subtree<P>,
     first: usize,
     second: usize,
-    spares: Vec<Spare<P>>,
+    nodes: Vec<DetachedNode<P>>,
 ) -> Subtree<P>
     requires order { (first ≤ second) × (second ≤ length (in_order tree.old)) }
     requires fits { Fits P.chars P.lines
-        (splice (in_order tree.old) first second (reverse spares.items)) }
-    ensures items { in_order tree.new ≡ splice (in_order tree.old) first second (reverse spares.items) }
+        (splice (in_order tree.old) first second (reverse nodes.items)) }
+    ensures items { in_order tree.new ≡ splice (in_order tree.old) first second (reverse nodes.items) }
     ensures gone { in_order result ≡ slice_range (in_order tree.old) first second }
 {
     let whole = mem::replace(tree, Subtree::empty());
     let (front, rest) = split(whole, first);
     let (gone, after) = split(rest, second - first);
-    let middle = build_all(spares);
+    let middle = build_all(nodes);
     mem::replace(tree, append(append(front, middle), after)).discard();
     gone
 }

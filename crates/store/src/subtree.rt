@@ -54,11 +54,11 @@ impl<P: Measured> Model for Subtree<P> {
 
 /// A node outside any tree, with its item.
 #[derive(Debug, Drop)]
-pub(crate) struct Spare<P: Measured> {
+pub(crate) struct DetachedNode<P: Measured> {
     node: Box<Node<P>>,
 }
 
-impl<P: Measured> Model for Spare<P> {
+impl<P: Measured> Model for DetachedNode<P> {
     ghost use Rattle.std.specs.Prelude.{◌≡◌};
     ghost use Rattle.store.specs.Trees.{Empty};
 
@@ -149,7 +149,7 @@ impl<P: Measured> Subtree<P> {
     }
 
     /// Takes a tree apart: its left subtree, its root and its right subtree.
-    pub(crate) fn open(self) -> Option<(Subtree<P>, Spare<P>, Subtree<P>)>
+    pub(crate) fn open(self) -> Option<(Subtree<P>, DetachedNode<P>, Subtree<P>)>
         ensures parts { MatchOption result (self ≡ Empty) (λ p. self ≡ Fork p.0 p.1 p.2) }
         ensures fits { Fits P.chars P.lines (in_order self) }
         ensures balanced { IsBalanced self }
@@ -161,16 +161,16 @@ impl<P: Measured> Subtree<P> {
             Some(mut node) => {
                 let left = mem::replace(&mut node.left, Subtree::empty());
                 let right = mem::replace(&mut node.right, Subtree::empty());
-                Some((left, Spare { node }, right))
+                Some((left, DetachedNode { node }, right))
             }
         }
     }
 }
 
-impl<P: Measured> Spare<P> {
+impl<P: Measured> DetachedNode<P> {
     /// Puts an item into a node. If the allocation fails, the item is returned.
-    pub(crate) fn new(alloc: Global, item: P) -> Result<Spare<P>, AllocFailed<P>>
-        ensures ok { IfOk result (λ spare. spare ≡ item) }
+    pub(crate) fn new(alloc: Global, item: P) -> Result<DetachedNode<P>, AllocFailed<P>>
+        ensures ok { IfOk result (λ node. node ≡ item) }
         ensures err { IfErr result (λ failed. failed.value ≡ item) }
     {
         let node = Node {
@@ -183,7 +183,7 @@ impl<P: Measured> Spare<P> {
             lines: 0,
         };
         match Box::new(alloc, node) {
-            Ok(node) => Ok(Spare { node }),
+            Ok(node) => Ok(DetachedNode { node }),
             Err(failed) => Err(AllocFailed {
                 value: failed.value.into_item(),
             }),

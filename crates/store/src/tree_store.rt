@@ -12,7 +12,7 @@ use crate::found::{Found, Unit};
 use crate::joining::{move_items, put_in};
 use crate::measured::{Exchanger, Measured};
 use crate::paragraph_store::ParagraphStore;
-use crate::subtree::{Spare, Subtree};
+use crate::subtree::{DetachedNode, Subtree};
 use std::alloc::{AllocError, Global};
 use std::marker::Model;
 use std::mem;
@@ -60,36 +60,36 @@ impl<P: Measured> TreeStore<P> {
 
 // Puts each item into a node of its own, from the last one on. If an allocation fails, all items are
 // returned.
-fn hang<P: Measured>(alloc: Global, items: &mut Vec<P>) -> Result<Vec<Spare<P>>, AllocError>
-    ensures ok { IfOk result (λ spares. spares.items ≡ reverse items.old.items) }
+fn hang<P: Measured>(alloc: Global, items: &mut Vec<P>) -> Result<Vec<DetachedNode<P>>, AllocError>
+    ensures ok { IfOk result (λ nodes. nodes.items ≡ reverse items.old.items) }
     ensures left { OnOk result (items.new.items ≡ []) }
     ensures err { OnErr result (items.new.items ≡ items.old.items) }
     ensures memory { OnErr result (0 < length items.old.items) }
 {
-    let mut spares = Vec::with_capacity(alloc, items.len())?;
+    let mut nodes = Vec::with_capacity(alloc, items.len())?;
     for _ in 0..items.len() {
-        match Spare::new(alloc, items.take_last()) {
-            Ok(spare) => spares.push_reserved(spare),
+        match DetachedNode::new(alloc, items.take_last()) {
+            Ok(node) => nodes.push_reserved(node),
             Err(failed) => {
                 items.push_reserved(failed.value);
-                take_down(spares, items);
+                take_down(nodes, items);
                 return Err(AllocError);
             }
         }
     }
-    Ok(spares)
+    Ok(nodes)
 }
 
 // Takes items out of their nodes again, from the last one on, into a list that has the capacity for them.
-fn take_down<P: Measured>(spares: Vec<Spare<P>>, items: &mut Vec<P>)
-    requires { length items.old.items + length spares.items ≤ vec_capacity items.old }
-    ensures { items.new.items ≡ items.old.items ++ reverse spares.items }
+fn take_down<P: Measured>(nodes: Vec<DetachedNode<P>>, items: &mut Vec<P>)
+    requires { length items.old.items + length nodes.items ≤ vec_capacity items.old }
+    ensures { items.new.items ≡ items.old.items ++ reverse nodes.items }
 {
-    let mut spares = spares;
-    for _ in 0..spares.len() {
-        items.push_reserved(spares.take_last().into_item());
+    let mut nodes = nodes;
+    for _ in 0..nodes.len() {
+        items.push_reserved(nodes.take_last().into_item());
     }
-    spares.destroy_empty();
+    nodes.destroy_empty();
 }
 
 // Allocates what a replacement needs: capacity for the old items, and a node for each of the new ones. Fails
@@ -99,9 +99,9 @@ fn take_memory<P: Measured>(
     kept: usize,
     removed: usize,
     items: &mut Vec<P>,
-) -> Result<(Vec<P>, Vec<Spare<P>>), AllocError>
+) -> Result<(Vec<P>, Vec<DetachedNode<P>>), AllocError>
     ensures old { IfOk result (λ p. (p.0.items ≡ []) × (removed ≤ vec_capacity p.0)) }
-    ensures spares { IfOk result (λ p. p.1.items ≡ reverse items.old.items) }
+    ensures nodes { IfOk result (λ p. p.1.items ≡ reverse items.old.items) }
     ensures count { OnOk result (kept + length items.old.items < 2 ^ 64) }
     ensures left { OnOk result (items.new.items ≡ []) }
     ensures err { OnErr result (items.new.items ≡ items.old.items) }
@@ -112,7 +112,7 @@ fn take_memory<P: Measured>(
     }
     let old = Vec::with_capacity(alloc, removed)?;
     match hang(alloc, items) {
-        Ok(spares) => Ok((old, spares)),
+        Ok(nodes) => Ok((old, nodes)),
         Err(failed) => {
             old.destroy_empty();
             Err(failed)
@@ -195,12 +195,12 @@ impl<P: Measured> ParagraphStore<P> for TreeStore<P> {
         let mut new_items = new_items;
         let removed = range.end - range.start;
         let kept = self.root.count() - removed;
-        let Ok((mut old, spares)) = take_memory(self.alloc, kept, removed, &mut new_items) else {
+        let Ok((mut old, nodes)) = take_memory(self.alloc, kept, removed, &mut new_items) else {
             return Err((new_items, AllocError));
         };
         new_items.destroy_empty();
         // Nothing is allocated from here on.
-        let gone = put_in(&mut self.root, range.start, range.end, spares);
+        let gone = put_in(&mut self.root, range.start, range.end, nodes);
         move_items(gone, &mut old);
         Ok(old)
     }

@@ -27,7 +27,7 @@ loop-index-init g c =
             (item_read lines_of kept c.args.first c.find_line-found.result c.find_line-found.ensures item read),
       );
       passed = search rules;
-      counted = c.requires.done;
+      counted = c.requires.before;
     }
 
 pub unreachable-requires : goal.unreachable-requires
@@ -52,8 +52,8 @@ returns-in_err-written-clause-err g c =
     let err = subst (λ (x : Layout). StoppedIn (bytes (take c.min-part.result (drop c.loop-index.from (visuals x))))
     c.loop-index.written (g.W.Sink.state c.loop-index.writer) (g.W.Sink.state c.write_part.new.writer)
     c.in_err-written.field-0.0.written) part c.in_err-written.ensures.err in
-    same_fault _ _ (λ w. StoppedIn _ c.args.done _ _ w) c.from_residual.ensures.1
-    (subst (λ bs. StoppedIn bs c.args.done (g.W.Sink.state c.args.writer.now) (g.W.Sink.state c.write_part.new.writer) c.in_err-written.field-0.0.written) split
+    same_fault _ _ (λ w. StoppedIn _ c.args.before _ _ w) c.from_residual.ensures.1
+    (subst (λ bs. StoppedIn bs c.args.before (g.W.Sink.state c.args.writer.now) (g.W.Sink.state c.write_part.new.writer) c.in_err-written.field-0.0.written) split
     (stopped-before (bytes rest) (stopped-after c.loop-index.invariant.passed err)))
 
 pub loop-index-preserved : goal.loop-index-preserved
@@ -74,7 +74,7 @@ loop-index-preserved g c =
       front = front ++ piece;
       parts = whole;
       here = λ item read. omega arith;
-      passed = subst (λ bs. PassedOn bs c.args.done (g.W.Sink.state c.args.writer.now)
+      passed = subst (λ bs. PassedOn bs c.args.before (g.W.Sink.state c.args.writer.now)
           (g.W.Sink.state c.write_part.new.writer) c.in_ok-written.written)
           (sym (flat_map-append (line_bytes c.args.width c.args.print.now) front piece))
           (passed-append c.loop-index.invariant.passed ok);

@@ -16,6 +16,6 @@ invariant-loop-index g l =
       front : List Visual;
       parts : front ++ take l.left (drop l.from (lines_in (drop l.index kept))) ≡ take l.count (drop l.first (lines_in kept));
       here : (item : Layout) → Some item ≡ slice_get kept l.index → l.from ≤ length item.lines;
-      passed : PassedOn (flat_map (line_bytes l.width l.print) front) l.done (state l.fn.writer) (state l.writer) l.written;
+      passed : PassedOn (flat_map (line_bytes l.width l.print) front) l.before (state l.fn.writer) (state l.writer) l.written;
       counted : l.written ≤ (state l.writer).passed;
     }

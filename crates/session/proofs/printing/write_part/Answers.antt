@@ -36,7 +36,7 @@ returns-in_err-written-clause-err g c =
     (line_within c.args.width c.args.print.now vs c.args.from c.args.count n c.loop-n-test.true c.in-Some.line
     c.in-Some.ensures.nth)
     (line_piece c.args.width c.args.print.now vs c.args.from c.args.count n c.loop-n-test.true c.in-Some.line c.in-Some.ensures.nth) c.loop-n.invariant.passed c.in_err-written.ensures.err in
-    same_fault _ _ (λ w. StoppedIn _ c.args.done _ _ w) c.from_residual.ensures.1
+    same_fault _ _ (λ w. StoppedIn _ c.args.before _ _ w) c.from_residual.ensures.1
     (rw (sym (line_pieces_whole c.args.width c.args.print.now lines)) stopped)
 
 pub returns-clause-ok : goal.returns-clause-ok

@@ -10,6 +10,6 @@ abbrev pub invariant-loop-n : goal.invariant-loop-n
 invariant-loop-n g l =
     let state = g.W.Sink.state in
     record {
-      passed : PassedOn (concat (take l.n (line_pieces l.width l.print (take l.count (drop l.from (visuals l.laid)))))) l.done (state l.fn.writer) (state l.writer) l.written;
+      passed : PassedOn (concat (take l.n (line_pieces l.width l.print (take l.count (drop l.from (visuals l.laid)))))) l.before (state l.fn.writer) (state l.writer) l.written;
       counted : l.written ≤ (state l.writer).passed;
     }

@@ -54,4 +54,4 @@ returns-in_err-written-clause-err g c =
     let bytes =
     ap encode_utf8_all (all_parts kept c.args.pos next stop (omega (arith, now.begun)) (omega (arith, few, now.within))) ∙ encoded-append (slice_range (text_of kept) c.args.pos next) rest
     ∙ ap (λ bs. bs ++ encode_utf8_all rest) (ap encode_utf8_all more ∙ encoded-append front part) in
-    same_fault _ _ (StoppedIn _ c.args.done _ _) c.from_residual.ensures.1 (rw bytes (stopped-before (encode_utf8_all rest) (stopped-after now.passed c.in_err-written.ensures.err)))
+    same_fault _ _ (StoppedIn _ c.args.before _ _) c.from_residual.ensures.1 (rw bytes (stopped-before (encode_utf8_all rest) (stopped-after now.passed c.in_err-written.ensures.err)))

@@ -12,7 +12,7 @@ invariant-loop-at g l =
     record {
       begun : l.pos ≤ l.at;
       within : l.at ≤ l.pos + l.count;
-      passed : PassedOn (encode_utf8_all (slice_range (text_of kept) l.pos l.at)) l.done (state l.fn.writer) (state l.writer) l.written;
+      passed : PassedOn (encode_utf8_all (slice_range (text_of kept) l.pos l.at)) l.before (state l.fn.writer) (state l.writer) l.written;
       counted : l.written ≤ (state l.writer).passed;
     }
 

@@ -11,11 +11,11 @@ find_each-requires-clause-laid g c =
     subst (All (IsLaidOut (rules_of c.args.engine.now))) (sym (ap values c.deref.ensures.value ∙ c.in_ok-list.ensures.ok))
     (all_each (IsLaidOut (rules_of c.args.engine.now)) kept (each_laid_out c.paragraphs_are_pieces.ensures c.args.engine.now c.requires.laid.0 kept c.requires.laid.1))
 
-pub returns-clause-room : goal.returns-clause-room
-returns-clause-room g c =
-    rw c.in_ok-room.ensures.ok (subst (All (HasRoom c.longest.result)) (ap values c.deref-2.ensures.value ∙ c.in_ok-list.ensures.ok) c.longest.ensures.all)
+pub returns-clause-scratch : goal.returns-clause-scratch
+returns-clause-scratch g c =
+    rw c.in_ok-scratch.ensures.ok (subst (All (HasRoom c.longest.result)) (ap values c.deref-2.ensures.value ∙ c.in_ok-list.ensures.ok) c.longest.ensures.all)
 
 pub returns-clause-least : goal.returns-clause-least
 returns-clause-least g c = λ n all.
     let listed = subst (All (HasRoom n)) (sym (ap values c.deref-2.ensures.value ∙ c.in_ok-list.ensures.ok)) all in
-    rw c.in_ok-room.ensures.ok (c.longest.ensures.least n listed)
+    rw c.in_ok-scratch.ensures.ok (c.longest.ensures.least n listed)

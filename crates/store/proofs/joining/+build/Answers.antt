@@ -7,10 +7,10 @@ use Rattle.store.proofs.joining.+build.Goals as goal
 
 pub build-right-requires : goal.build-right-requires
 build-right-requires g t c =
-    let xs = c.args.spares.now.items in
+    let xs = c.args.nodes.now.items in
     let rest = c.take_last-top.new.self.items in
     let r = c.args.count - c.args.count / 2 - 1 in
-    let facts = taken xs c.build-left.new.spares.items rest c.take_last-top.result c.args.count (c.args.count / 2) r
+    let facts = taken xs c.build-left.new.nodes.items rest c.take_last-top.result c.args.count (c.args.count / 2) r
     (omega arith) c.requires.enough (sym c.build-left.ensures.left) c.take_last-top.ensures.items in
     let turned = subst (Fits g.P.Measured.chars g.P.Measured.lines) facts.3 c.requires.fits in
     let fits = fits_back g.P.Measured.chars g.P.Measured.lines (reverse (drop (length xs - c.args.count / 2) xs) ++ c.take_last-top.result ∷ []) (reverse rest) turned in
@@ -18,10 +18,10 @@ build-right-requires g t c =
 
 pub join-requires : goal.join-requires
 join-requires g t c =
-    let xs = c.args.spares.now.items in
+    let xs = c.args.nodes.now.items in
     let rest = c.take_last-top.new.self.items in
     let k = length xs - c.args.count in
-    let facts = taken xs c.build-left.new.spares.items rest c.take_last-top.result c.args.count (c.args.count / 2) (c.args.count - c.args.count / 2 - 1)
+    let facts = taken xs c.build-left.new.nodes.items rest c.take_last-top.result c.args.count (c.args.count / 2) (c.args.count - c.args.count / 2 - 1)
     (omega arith) c.requires.enough (sym c.build-left.ensures.left) c.take_last-top.ensures.items in
     let parts : reverse xs ≡ reverse (drop k xs) ++ reverse (take k xs) = ap reverse (sym (take-append-drop k xs)) ∙ reverse-append (take k xs) (drop k xs) in
     let fits = fits_front g.P.Measured.chars g.P.Measured.lines (reverse (drop k xs)) (reverse (take k xs))
@@ -30,12 +30,12 @@ join-requires g t c =
 
 pub returns-clause-left : goal.returns-clause-left
 returns-clause-left g t c =
-    let facts = taken c.args.spares.now.items c.build-left.new.spares.items c.take_last-top.new.self.items c.take_last-top.result c.args.count (c.args.count / 2) (c.args.count - c.args.count / 2 - 1)
+    let facts = taken c.args.nodes.now.items c.build-left.new.nodes.items c.take_last-top.new.self.items c.take_last-top.result c.args.count (c.args.count / 2) (c.args.count - c.args.count / 2 - 1)
     (omega arith) c.requires.enough (sym c.build-left.ensures.left) c.take_last-top.ensures.items in
     c.build-right.ensures.left ∙ facts.1
 
 pub returns-clause-items : goal.returns-clause-items
 returns-clause-items g t c =
-    let facts = taken c.args.spares.now.items c.build-left.new.spares.items c.take_last-top.new.self.items c.take_last-top.result c.args.count (c.args.count / 2) (c.args.count - c.args.count / 2 - 1)
+    let facts = taken c.args.nodes.now.items c.build-left.new.nodes.items c.take_last-top.new.self.items c.take_last-top.result c.args.count (c.args.count / 2) (c.args.count - c.args.count / 2 - 1)
     (omega arith) c.requires.enough (sym c.build-left.ensures.left) c.take_last-top.ensures.items in
     c.join.ensures.items ∙ rw (c.build-left.ensures.items, c.build-right.ensures.items) (sym facts.2)

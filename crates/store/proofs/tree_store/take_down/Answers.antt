@@ -6,14 +6,14 @@ use Rattle.store.proofs.tree_store.take_down.Goals as goal
 pub push_reserved-requires : goal.push_reserved-requires
 push_reserved-requires g c =
     let items = c.loop.items.items in
-    let spares = c.loop.spares.items in
+    let nodes = c.loop.nodes.items in
     omega (
       arith,
       ap length c.loop.invariant.0,
-      length-append items (reverse spares),
-      length-reverse spares,
-      length-append c.args.items.now.items (reverse c.args.spares.items),
-      length-reverse c.args.spares.items,
+      length-append items (reverse nodes),
+      length-reverse nodes,
+      length-append c.args.items.now.items (reverse c.args.nodes.items),
+      length-reverse c.args.nodes.items,
       c.loop.items.ok.0,
       c.requires,
     )

@@ -3,6 +3,6 @@ use Rattle.store.proofs.tree_store.take_down.Given as goal
 
 abbrev pub invariant-loop : goal.invariant-loop
 invariant-loop g l =
-    (l.items.items ++ reverse l.spares.items ≡ l.initial.items.items ++ reverse l.initial.spares.items)
-    × (length l.spares.items + l.counter ≡ length l.initial.spares.items)
+    (l.items.items ++ reverse l.nodes.items ≡ l.initial.items.items ++ reverse l.initial.nodes.items)
+    × (length l.nodes.items + l.counter ≡ length l.initial.nodes.items)
     × (vec_capacity l.items ≡ vec_capacity l.initial.items)

@@ -26,6 +26,7 @@ returns-then-skips_lines-clause-err g c =
     let marks = subst (λ (e : EngineState). length (marks_of (rules_of e).tables (rules_of e).options.whole_numbers text) ≡ length text) c.self.view_is c.marks_are_as_many.ensures in
     let same = direction_only rules c.args.width print text (sym c.skips_lines.ensures ∙ c.if-skips_lines.true) c.requires.paragraph marks in
     subst (λ (bytes : List ℕ). IfErr c.write_base.result (λ fault. FailedAs fault bytes (g.W.Sink.state c.args.writer.now) (g.W.Sink.state c.write_base.new.writer))) same c.write_base.ensures.err
+
 pub returns-clause-ok : goal.returns-clause-ok
 returns-clause-ok g c =
     subst (λ (rules : Rules). OnOk c.write.result (Wrote (paragraph_bytes rules c.args.width c.args.print.now c.args.text.now)

@@ -1,4 +1,4 @@
--- `into_loose` tests the pointer, and takes what lies there.
+-- `into_raw` tests the pointer, and takes what lies there.
 use Rattle.std.proofs.Common.{List, [], ◌∷◌, ◌++◌, refl, sym, ap, ◌∙◌, subst, lit<}
 use mir.Val.{Val, vptr, vcons, vnil}
 use base.Logic.{SProp, ent, emp, id⊢}
@@ -25,12 +25,12 @@ use Rattle.std.specs.declared.option.Option.TheVariants.{None, Some}
 use Rattle.std_alloc.proofs.ResultValues.{and_tt}
 use Rattle.std_heap.specs.contracts.Global as heap
 use Rattle.std_heap.proofs.Global.TheLaws as heap_laws
-use Rattle.hordguli_c.proofs.TablesSteps.{LooseRow, word, word_good, both, both_good, handle_out, loose_in, by_held}
+use Rattle.hordguli_c.proofs.TablesSteps.{RawBoxRow, word, word_good, both, both_good, handle_out, raw_in, by_held}
 use Rattle.hordguli_c.specs.contracts.tables_handle.TablesHandle as handle
-use Rattle.hordguli_c.specs.contracts.tables_handle.TablesHandle.into_loose as f
-use Rattle.hordguli_c.specs.contracts.tables_handle.TablesHandle.into_loose.Key.{name as #self}
-use Rattle.hordguli_c.proofs.tables_handle.TablesHandle.into_loose.Statement.{statement}
-use Rattle.hordguli_c.proofs.tables_handle.TablesHandle.into_loose.Code as code
+use Rattle.hordguli_c.specs.contracts.tables_handle.TablesHandle.into_raw as f
+use Rattle.hordguli_c.specs.contracts.tables_handle.TablesHandle.into_raw.Key.{name as #self}
+use Rattle.hordguli_c.proofs.tables_handle.TablesHandle.into_raw.Statement.{statement}
+use Rattle.hordguli_c.proofs.tables_handle.TablesHandle.into_raw.Code as code
 
 abbrev From : Slot 0
 From = plain (λ _. handle.the_row)
@@ -41,8 +41,8 @@ Heap = plain (λ _. heap.the_row)
 abbrev stayed : Stays f.ended.signature.params f.ended.kept
 stayed = (stay_dropped From yes, (stay_dropped Heap yes, tt))
 
-pub into_loose_spec : {M : Type 1} → statement M
-into_loose_spec 𝓤 𝓛 𝓜 𝓡 wired =
+pub into_raw_spec : {M : Type 1} → statement M
+into_raw_spec 𝓤 𝓛 𝓜 𝓡 wired =
     let c = f.clauses 𝓛 𝓜.mem 𝓡.returns in let 𝓣 = tables 𝓤 𝓛.H 𝓜 𝓡 𝓡.env in let fn = code.function in
     proved_at 𝓛 f.ended stayed c 𝓜 𝓡 (Goes-dropped 𝓛 0 From yes (λ κs x f. refl), (Goes-dropped 𝓛 0 Heap yes (λ κs x f. refl), tt)) #self fn (code.unfolded 𝓤 𝓛.H 𝓜 𝓡 wired) (λ z are.
     let Post = (walk_of 𝓛 f.ended stayed c).post z in let Run : List Val → SProp 𝓤 = λ ws. WpFn 𝓤 𝓛.H 𝓣.C 𝓣.Λ fn ws Post in let Out = type_at f.ended.signature.result tt in
@@ -57,14 +57,14 @@ into_loose_spec 𝓤 𝓛 𝓜 𝓡 wired =
     sets ! (bin ! (get ! refl) (lit ! tt) tt) refl (tt, tt) $ first ! $ branches ! (get ! refl)
     (λ _. sets_last ! (agg ! (and_then ! (lit ! tt) (no_more !))) refl (tt, (record { fits = lit< tt }, tt)) $ exec ! 𝓣.C 𝓣.Λ Ev (after 3 fn.body) (at_ret Ev Post) $
     sets ! (of_opd ! (get ! refl)) refl (tt, (record { fits = lit< tt }, tt)) $ returns ! (look_at ! 0 refl) $ free_all ! refl $
-    use0 𝓛 (‵ (Out.own_val None (live 0 vnil ∷ []))) (none_of 𝓛 LooseRow) $
+    use0 𝓛 (‵ (Out.own_val None (live 0 vnil ∷ []))) (none_of 𝓛 RawBoxRow) $
     suffices ! _ (ends_at 𝓛 f.ended stayed c z (live 0 vnil) None (tt, (tt, tt)) (tt, (tt, tt))) $ says ! (sym held) $
     nothing ! $ nothing ! $ fjoin ! $ nothing ! $ fjoin ! $ join ! $ nothing ! $ join ! $ done !)
     (λ wrong. absurd wrong)))
     (λ b o xs held at can. let p : Ptr = block_ptr b o in let made : Val = both (vptr b o) h.0 in let typed = both_good b o h.0 h.2 in let v : Val = live 1 (vcons made vnil) in
-    let r : LooseRow.Denot = record { at = p; alloc = a; value = xs } in
+    let r : RawBoxRow.Denot = record { at = p; alloc = a; value = xs } in
     let good : Good (layout Out) v = (and_tt _ typed.0, (record { fits = lit< tt }, (typed.1, tt))) in
-    loose_in ! b o h.0 a xs $
+    raw_in ! b o h.0 a xs $
     suffices ! (Run (word p ∷ h.0 ∷ [])) (subst (λ (us : List Val). ent 𝓤 (Run (word p ∷ h.0 ∷ [])) (Run us)) (sym (λ i. (ws ∙ ap (λ (q : Ptr). word q ∷ []) at) i ++ (h.1 i ++ []))) (id⊢ 𝓤 (Run (word p ∷ h.0 ∷ [])))) $
     enter ! 𝓣.C 𝓣.Λ fn (word p ∷ h.0 ∷ []) Post $ alloc_all ! (λ l. pass_all ! refl (word_good p, (h.2, tt)) $ let Ev = env fn.locals l in
     sets ! (of_opd ! (get_in ! (fld ! refl (stop !)) (sub ! 0 refl (whole !)))) refl (tt, tt) $
@@ -73,6 +73,6 @@ into_loose_spec 𝓤 𝓛 𝓜 𝓡 wired =
     (λ _. sets ! (agg ! (and_then ! (get ! refl) (and_then ! (get ! refl) (no_more !)))) refl typed $
     sets_last ! (agg ! (and_then ! (lit ! tt) (and_then ! (get ! refl) (no_more !)))) refl good $ exec ! 𝓣.C 𝓣.Λ Ev (after 3 fn.body) (at_ret Ev Post) $
     sets ! (of_opd ! (get ! refl)) refl good $ returns ! (look_at ! 0 refl) $ free_all ! refl $
-    use1 𝓛 (‵ (Out.own_val (Some r) (v ∷ []))) (Some-of 𝓛 LooseRow r made) $
+    use1 𝓛 (‵ (Out.own_val (Some r) (v ∷ []))) (Some-of 𝓛 RawBoxRow r made) $
     suffices ! _ (ends_at 𝓛 f.ended stayed c z v (Some r) (tt, (tt, tt)) (tt, (tt, tt))) $ says ! (sym held) $
     nothing ! $ nothing ! $ fjoin ! $ nothing ! $ fjoin ! $ join ! $ nothing ! $ join ! $ done !)))))

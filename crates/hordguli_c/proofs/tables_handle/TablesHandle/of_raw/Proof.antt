@@ -1,4 +1,4 @@
--- `of_loose` keeps the pointer, and what lies there goes with it.
+-- `of_raw` keeps the pointer, and what lies there goes with it.
 use Rattle.std.proofs.Common.{List, [], ◌∷◌, ◌++◌, refl, sym, subst}
 use mir.Val.{Val}
 use base.Logic.{ent, emp, id⊢}
@@ -18,22 +18,22 @@ use Rattle.std.proofs.raw_atomic.Walks.{proved_at}
 use Rattle.std.specs.declared.option.Option.TheVariants.{Some}
 use Rattle.std_alloc.proofs.BoxSteps.Form as box
 use Rattle.std_alloc.proofs.BoxSteps.Steps.{box_out}
-use Rattle.hordguli_c.proofs.TablesSteps.{E, LooseRow, word, word_good, handle_in}
+use Rattle.hordguli_c.proofs.TablesSteps.{E, RawBoxRow, word, word_good, handle_in}
 use Rattle.hordguli_c.specs.TablesHeld.{object_at}
 use Rattle.hordguli_c.specs.contracts.tables_handle.TablesHandle as handle
-use Rattle.hordguli_c.specs.contracts.tables_handle.TablesHandle.of_loose as f
-use Rattle.hordguli_c.specs.contracts.tables_handle.TablesHandle.of_loose.Key.{name as #self}
-use Rattle.hordguli_c.proofs.tables_handle.TablesHandle.of_loose.Statement.{statement}
-use Rattle.hordguli_c.proofs.tables_handle.TablesHandle.of_loose.Code as code
+use Rattle.hordguli_c.specs.contracts.tables_handle.TablesHandle.of_raw as f
+use Rattle.hordguli_c.specs.contracts.tables_handle.TablesHandle.of_raw.Key.{name as #self}
+use Rattle.hordguli_c.proofs.tables_handle.TablesHandle.of_raw.Statement.{statement}
+use Rattle.hordguli_c.proofs.tables_handle.TablesHandle.of_raw.Code as code
 
 abbrev From : Slot 0
-From = plain (λ _. LooseRow)
+From = plain (λ _. RawBoxRow)
 
 abbrev stayed : Stays f.ended.signature.params f.ended.kept
 stayed = (stay_dropped From yes, tt)
 
-pub of_loose_spec : {M : Type 1} → statement M
-of_loose_spec 𝓤 𝓛 𝓜 𝓡 wired =
+pub of_raw_spec : {M : Type 1} → statement M
+of_raw_spec 𝓤 𝓛 𝓜 𝓡 wired =
     let c = f.clauses 𝓛 𝓜.mem 𝓡.returns in let 𝓣 = tables 𝓤 𝓛.H 𝓜 𝓡 𝓡.env in let fn = code.function in
     proved_at 𝓛 f.ended stayed c 𝓜 𝓡 (Goes-dropped 𝓛 0 From yes (λ κs x f. refl), tt) #self fn (code.unfolded 𝓤 𝓛.H 𝓜 𝓡 wired) (λ z are.
     let Post = (walk_of 𝓛 f.ended stayed c).post z in

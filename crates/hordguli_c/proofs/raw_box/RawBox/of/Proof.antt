@@ -37,14 +37,14 @@ use Rattle.core.proofs.alloc.Calls.{token, handle_tells, Goes-blank}
 use Rattle.std_alloc.specs.Box.Ownership.{box_owns}
 use Rattle.std_alloc.proofs.BoxSteps.Form.{Bx, D, τ, R, P, B, word, box_typed}
 use Rattle.std_alloc.proofs.BoxSteps.Steps.{box_out, box_in}
-use Rattle.hordguli_c.specs.contracts.loose.Loose as parts
+use Rattle.hordguli_c.specs.contracts.raw_box.RawBox as parts
 use Rattle.std_alloc.specs.contracts.boxed.Box.into_raw_with_allocator as Ra
 use Rattle.std_alloc.proofs.boxed.Box.into_raw_with_allocator.Symbol as raw_sym
 use Rattle.std_alloc.proofs.boxed.Box.into_raw_with_allocator.Met as raw_met
-use Rattle.hordguli_c.specs.contracts.loose.Loose.of as F
-use Rattle.hordguli_c.specs.contracts.loose.Loose.of.Key.{name as #self}
-use Rattle.hordguli_c.proofs.loose.Loose.of.Statement as stated
-use Rattle.hordguli_c.proofs.loose.Loose.of.Code as code
+use Rattle.hordguli_c.specs.contracts.raw_box.RawBox.of as F
+use Rattle.hordguli_c.specs.contracts.raw_box.RawBox.of.Key.{name as #self}
+use Rattle.hordguli_c.proofs.raw_box.RawBox.of.Statement as stated
+use Rattle.hordguli_c.proofs.raw_box.RawBox.of.Code as code
 
 module _ (E : Bx) (dx : Dict) where
   abbrev args : Args
