@@ -114,7 +114,7 @@ fn find_all<S: ParagraphStore<Kept>>(
     paragraphs_are_pieces();
     let list = store.list(alloc)?;
     let parts = find_each(alloc, engine, &list, width)?;
-    let capacity = engine.reflow_scratch(alloc, longest(&list))?;
+    let scratch = engine.reflow_scratch(alloc, longest(&list))?;
     Ok((parts, scratch))
 }
 
