@@ -2,24 +2,28 @@ mod AloneLemmas
 mod BaseLemmas
 mod BracketLemmas
 mod BracketTypeLemmas
+mod CutLemmas
 mod ExplicitLemmas
+mod FlatLemmas
+pub mod FrontLemmas
 mod IsolateLemmas
 mod JumpLemmas
+pub mod LastLemmas
 pub mod LeastLemmas
 mod LengthLemmas
 mod LevelLemmas
 mod MatchLemmas
 mod NeutralLemmas
+mod NoBracketLemmas
 mod OpenersLemmas
 pub mod PairLemmas
+mod PartLemmas
 mod PiecesLemmas
+mod PlainLemmas
 mod ResolverLemmas
 mod ReuseLemmas
 mod RunLemmas
-mod FlatLemmas
-mod NoBracketLemmas
-mod PartLemmas
-mod PlainLemmas
+pub mod TextCutLemmas
 mod WaitingLemmas
 mod WeakLemmas
 mod WorkedBrackets

@@ -18,5 +18,6 @@ pub mod Rows
 pub mod Runs
 pub mod Sequences
 pub mod Stayed
+pub mod TextCuts
 pub mod Waiting
 pub mod Weak

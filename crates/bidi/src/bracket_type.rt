@@ -1,9 +1,10 @@
 //! Characters as brackets (UAX #9, BD14 and BD15), independent of the characters themselves.
-ghost use Rattle.std.specs.Prelude.{◌≡◌};
+ghost use Rattle.std.specs.Prelude.{◌≡◌, ◌<◌, ◌≤◌, ℕ, false, length, slice_index_or, Bool};
 ghost use Rattle.ucd.specs.Tables.{bracket_of};
 ghost use Rattle.bidi.specs.BracketTypes.{is_bracket, type_by};
+ghost use Rattle.bidi.specs.Plain.{has_bracket_in};
 
-use ucd::Tables;
+use ucd::{Properties, Tables};
 
 /// A character as a bracket. A closing bracket makes a pair with an opening one of the same number. From
 /// tables, the number of a closing bracket is its own code point, and that of an opening bracket the code
@@ -49,4 +50,43 @@ pub(crate) fn is_bracket(bracket: BracketType) -> bool
     ensures { result ≡ is_bracket bracket }
 {
     !matches!(bracket, BracketType::Other)
+}
+
+/// What may be a bracket.
+pub(crate) trait MaybeBracket {
+    ghost is_one: { Self → Bool };
+
+    fn is_one(&self) -> bool
+        ensures { result ≡ is_one self.now };
+}
+
+impl MaybeBracket for BracketType {
+    ghost is_one = { λ b. is_bracket b };
+
+    fn is_one(&self) -> bool {
+        is_bracket(*self)
+    }
+}
+
+impl MaybeBracket for Properties {
+    ghost is_one = { λ p. has_bracket_in p };
+
+    fn is_one(&self) -> bool {
+        self.has_bracket()
+    }
+}
+
+/// The least index of a bracket from `from` on, or else the length.
+pub(crate) fn next_bracket<T: MaybeBracket>(items: &[T], from: usize) -> usize
+    requires { from ≤ length items.now }
+    ensures reached { from ≤ result }
+    ensures within { result ≤ length items.now }
+    ensures passed { (m : ℕ) (e : T) → from ≤ m → m < result
+        → T.is_one (slice_index_or items.now m e) ≡ false }
+{
+    let mut at = from;
+    while at < items.len() && !items[at].is_one() {
+        at += 1;
+    }
+    at
 }

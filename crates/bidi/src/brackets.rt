@@ -17,7 +17,7 @@ ghost use Rattle.ucd.specs.Classes.{class_at};
 ghost use Rattle.bidi.specs.Neutral.{agree, side};
 ghost use Rattle.bidi.specs.Resolving.{IsClear};
 
-use crate::bracket_type::{BracketType, is_bracket};
+use crate::bracket_type::{BracketType, next_bracket};
 use arrayvec::ArrayVec;
 use std::alloc::{AllocError, Global};
 use ucd::BidiClass;
@@ -174,20 +174,6 @@ fn find_pairs(
         place = next_bracket(kinds, place + 1);
     }
     Ok(())
-}
-
-// The least index of a bracket from `from` on, or else the length.
-fn next_bracket(kinds: &[BracketType], from: usize) -> usize
-    requires { from ≤ length kinds.now }
-    ensures reached { from ≤ result }
-    ensures within { result ≤ length kinds.now }
-    ensures passed { (m : ℕ) → from ≤ m → m < result → is_bracket (bracket_at kinds.now m) ≡ false }
-{
-    let mut at = from;
-    while at < kinds.len() && !is_bracket(kinds[at]) {
-        at += 1;
-    }
-    at
 }
 
 // The least index from `from` on, and before a limit, of a strong type of direction L, or of direction R.

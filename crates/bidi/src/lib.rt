@@ -25,9 +25,11 @@ mod neutral;
 mod resolver;
 mod sequence_levels;
 mod sequences;
+mod text_cuts;
 mod weak;
 
 pub use base::{Base, base_level, base_level_by, base_level_of, first_strong_level};
 pub use bracket_type::BracketType;
 pub use cuts::{first_cut, is_cut, paragraphs_are_pieces};
 pub use resolver::{Resolver, resolve, resolve_by};
+pub use text_cuts::first_cut_in_text;

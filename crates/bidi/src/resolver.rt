@@ -17,7 +17,7 @@ ghost use Rattle.bidi.specs.Paragraphs.{AreFor, OfAllTexts};
 ghost use Rattle.bidi.specs.Plain.{has_bracket_in, is_flat, is_plain};
 
 use crate::base::{Base, base_level_by, base_level_of};
-use crate::bracket_type::{BracketType, bracket_type, is_bracket};
+use crate::bracket_type::{BracketType, bracket_type, is_bracket, next_bracket};
 use crate::levels::{Classified, Work, resolve_classes, resolve_plain};
 use crate::sequence_levels::Brackets;
 use std::alloc::{AllocError, Global};
@@ -209,21 +209,6 @@ impl Known {
         self.first_type = found;
         found
     }
-}
-
-// The least index of a bracket from `from` on, or else the length.
-fn next_bracket(properties: &[Properties], from: usize) -> usize
-    requires { from ≤ length properties.now }
-    ensures reached { from ≤ result }
-    ensures within { result ≤ length properties.now }
-    ensures passed { (m : ℕ) (e : Properties) → from ≤ m → m < result
-        → has_bracket_in (slice_index_or properties.now m e) ≡ false }
-{
-    let mut at = from;
-    while at < properties.len() && !properties[at].has_bracket() {
-        at += 1;
-    }
-    at
 }
 
 // The bracket types of a text, if it has any brackets.

@@ -3,15 +3,14 @@ mod BareLemmas
 mod BeginningLemmas
 pub mod ClusterLemmas
 mod ColumnLemmas
-mod CutLemmas
 mod ExtentLemmas
 mod FewLines
 pub mod FillingLemmas
-mod LengthLemmas
+pub mod InfoLemmas
 pub mod KeptLemmas
 pub mod LayoutLemmas
+mod LengthLemmas
 pub mod PageLemmas
-pub mod InfoLemmas
 mod ShowLemmas
 pub mod SkippedLemmas
 mod StayLemmas

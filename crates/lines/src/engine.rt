@@ -3,7 +3,6 @@ ghost use Rattle.std.specs.Prelude.{◌≡◌, ◌<◌, ◌≤◌, ℕ, [], true
 ghost use Rattle.std.specs.Prelude.{IfOk, IfErr, IsErrOf, OnErr, OnOk};
 ghost use Rattle.std.specs.Prelude.{if◌then◌else◌};
 ghost use Rattle.device.specs.Device.{Wrote};
-ghost use Rattle.ucd.specs.Separators.{may_separate};
 ghost use Rattle.bidi.specs.Levels.{levels_of};
 ghost use Rattle.lines.specs.Bytes.{direction_line};
 ghost use Rattle.lines.specs.Layouts.{AreWithin, base_of};
@@ -23,7 +22,7 @@ use crate::print::{Print, PrintFault};
 use crate::reflow::ReflowScratch;
 use crate::workspace::Workspace;
 use crate::writing::Form;
-use bidi::{base_level, first_cut, is_cut};
+use bidi::{base_level, first_cut, first_cut_in_text, is_cut};
 use breaks::{Mark, marks_are_as_many};
 use device::Sink;
 use std::alloc::{AllocError, Global};
@@ -78,7 +77,9 @@ impl Model for Engine {
 }
 
 impl Engine {
+    ghost use Rattle.std.specs.Prelude.{None};
     ghost use Rattle.bidi.specs.Cuts.{first_cut, SplitsAt};
+    ghost use Rattle.bidi.specs.TextCuts.{FindsEndAfter};
     ghost use Rattle.bidi.specs.Levels.{levels_of};
     ghost use Rattle.lines.specs.Extents.{extents_in, extents_of, reflowed};
     ghost use Rattle.lines.specs.Layouts.{base_of, cut_by, fill_of, layout_of};
@@ -110,23 +111,21 @@ impl Engine {
         is_cut(&self.tables, before, after)
     }
 
-    /// Whether all characters after which a paragraph may end are among U+0085, U+2029 and those below
-    /// U+0020, as in the files of Unicode.
-    pub fn has_usual_separators(&self) -> bool
-        ensures yes { result ≡ true → (a b : ℕ) → a < 1114112 → may_separate a ≡ false
-            → cut_by (rules_of self.now) a b ≡ false }
-        ensures no { result ≡ false → ¬ ((a b : ℕ) → a < 1114112 → may_separate a ≡ false
-            → cut_by (rules_of self.now) a b ≡ false) }
-    {
-        self.tables.has_usual_separators()
-    }
-
     /// Where the first paragraph of a text ends, if another follows it.
     pub fn first_cut(&self, text: &[char]) -> Option<usize>
         ensures place { result ≡ first_cut (cut_by (rules_of self.now)) text.now }
         ensures paragraphs { SplitsAt (cut_by (rules_of self.now)) text.now result }
     {
         first_cut(&self.tables, text)
+    }
+
+    /// Returns the first paragraph boundary of `before` followed by `text`, as the number of bytes of `text` before
+    /// it. `before` has no boundary itself; the boundary may be directly after it.
+    pub fn first_cut_in_text(&self, before: &[char], text: &str) -> Option<usize>
+        requires { SplitsAt (cut_by (rules_of self.now)) before.now None }
+        ensures { FindsEndAfter (cut_by (rules_of self.now)) before.now text.now result }
+    {
+        first_cut_in_text(&self.tables, before, text)
     }
 
     /// The base level of a paragraph that has no characters yet, 0 or 1.

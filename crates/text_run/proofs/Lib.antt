@@ -1,6 +1,5 @@
 pub mod CountLemmas
 pub mod Devices
-pub mod EndLemmas
 pub mod Fronts
 pub mod LeftLemmas
 pub mod LongLemmas

@@ -10,7 +10,8 @@ use Rattle.bidi.specs.Cuts.{paragraphs, SplitsAt}
 use Rattle.bidi.specs.Pieces.{ParagraphsArePieces}
 use Rattle.text_run.specs.TextRun.{are_within, front_of, is_within}
 use Rattle.text_run.specs.Streaming.{IsEnded, IsOpen, StartsLong}
-use Rattle.text_run.proofs.Fronts.{join, long_more, long_uncut, onto}
+use Rattle.bidi.proofs.LastLemmas.{last_pushed, split_before, uncut_more}
+use Rattle.text_run.proofs.Fronts.{long_more, long_uncut}
 use Rattle.text_run.proofs.StreamLemmas.{short_is}
 use Rattle.text_run.proofs.Utf8Lemmas.{utf8_front}
 use lib.Utf8.{encode}
@@ -54,29 +55,6 @@ at_hand all taken c so_far turn =
 
 -- the last
 
-get_last-cons : (a b : ℕ) (text : List ℕ) → slice_get (a ∷ b ∷ text) (length (a ∷ b ∷ text) - 1) ≡ slice_get (b ∷ text) (length (b ∷ text) - 1)
-get_last-cons a b text = rw (sub-one (length (a ∷ b ∷ text)), sub-one (length (b ∷ text))) refl
-
-last_some : (text : List ℕ) (a : ℕ) → slice_get text (length text - 1) ≡ Some a → (front : List ℕ) × (text ≡ front ++ a ∷ [])
-last_some [] a is = absurd cc
-last_some (b ∷ []) a is = ([], cc)
-last_some (b ∷ c ∷ text) a is =
-    let later = last_some (c ∷ text) a (sym (get_last-cons b c text) ∙ is) in
-    (b ∷ later.0, ap (λ t. b ∷ t) later.1)
-
-last_none : (text : List ℕ) → slice_get text (length text - 1) ≡ None → text ≡ []
-last_none [] is = refl
-last_none (b ∷ []) is = absurd cc
-last_none (b ∷ c ∷ text) is = absurd (some (last_none (c ∷ text) (sym (get_last-cons b c text) ∙ is)))
-  where
-    some : c ∷ text ≡ [] → ⊥
-    some is = cc
-
-last_pushed : (text : List ℕ) (c : ℕ) → slice_get (text ++ c ∷ []) (length (text ++ c ∷ []) - 1) ≡ Some c
-last_pushed [] c = refl
-last_pushed (a ∷ []) c = refl
-last_pushed (a ∷ b ∷ text) c = get_last-cons a b (text ++ c ∷ []) ∙ last_pushed (b ∷ text) c
-
 -- characters stand in some paragraph
 some_pars : (pars : List (List ℕ)) → 0 < length (concat pars) → 0 < length pars
 some_pars [] some = absurd (omega (arith, some))
@@ -90,26 +68,10 @@ module _ (is_cut : ℕ → ℕ → Bool) where
     pub len_is : len ≡ length text
     pub short : len ≤ 1048576
 
-  pub uncut_more : (text : List ℕ) (last : Option ℕ) (c : ℕ) → slice_get text (length text - 1) ≡ last
-      → SplitsAt is_cut text None → MatchOption last ⊤ (λ a. is_cut a c ≡ false) → SplitsAt is_cut (text ++ c ∷ []) None
-  uncut_more text None c last_is uncut no_cut some = ap (λ t. paragraphs is_cut (t ++ c ∷ [])) none ∙ ap (λ t. (t ++ c ∷ []) ∷ []) (sym none)
-    where
-      none : text ≡ []
-      none = last_none text last_is
-  uncut_more text (Some a) c last_is uncut no_cut some =
-      let parts = last_some text a last_is in
-      let xs = parts.0 in
-      let len : 0 < length text = omega (arith, ap length parts.1, length-append xs (a ∷ [])) in
-      let whole : paragraphs is_cut (xs ++ a ∷ []) ≡ (xs ++ a ∷ []) ∷ [] = subst (λ (t : List ℕ). paragraphs is_cut t ≡ t ∷ []) parts.1 (uncut len) in
-      let text_is : text ++ c ∷ [] ≡ xs ++ a ∷ c ∷ [] = ap (λ t. t ++ c ∷ []) parts.1 ∙ append_assoc xs (a ∷ []) (c ∷ []) in
-      ap (paragraphs is_cut) text_is
-      ∙ join is_cut xs a (c ∷ []) (a ∷ c ∷ []) [] whole (onto is_cut a c [] (c ∷ []) [] no_cut refl)
-      ∙ ap (λ t. t ∷ []) (sym text_is)
-
   -- one more character, after which the text isn't too long
   pub take_one : (text : List ℕ) (last : Option ℕ) (len c : ℕ) → HasTaken text last len → MatchOption last ⊤ (λ a. is_cut a c ≡ false) → len < 1048576 → HasTaken (text ++ c ∷ []) (Some c) (len + 1)
   take_one text last len c taken no_cut less = record {
-    uncut = uncut_more text last c (sym taken.last_is) taken.uncut no_cut;
+    uncut = uncut_more is_cut text last c (sym taken.last_is) taken.uncut no_cut;
     last_is = sym (last_pushed text c);
     len_is = omega (arith, taken.len_is, length-append text (c ∷ []));
     short = omega (arith, less);
@@ -120,26 +82,13 @@ module _ (is_cut : ℕ → ℕ → Bool) where
   one_too_many text more last len c taken no_cut full =
       subst (λ (t : List ℕ). StartsLong is_cut t) (append_assoc text (c ∷ []) more)
       (long_more is_cut (text ++ c ∷ []) more
-      (long_uncut is_cut (text ++ c ∷ []) (uncut_more text last c (sym taken.last_is) taken.uncut no_cut) (omega (arith, full, taken.len_is, length-append text (c ∷ [])))))
-
-  -- a cut ends the text before a character
-  pub split_before : (text more : List ℕ) (last : Option ℕ) (c a : ℕ) → last ≡ slice_get text (length text - 1) → SplitsAt is_cut text None
-      → last ≡ Some a → is_cut a c ≡ true → (0 < length text) × (paragraphs is_cut (text ++ c ∷ more) ≡ text ∷ paragraphs is_cut (c ∷ more))
-  split_before text more last c a at_end uncut last_is cut =
-      let parts = last_some text a (sym at_end ∙ last_is) in
-      let xs = parts.0 in
-      let some : 0 < length text = omega (arith, ap length parts.1, length-append xs (a ∷ [])) in
-      let whole : paragraphs is_cut (xs ++ a ∷ []) ≡ (xs ++ a ∷ []) ∷ [] = subst (λ (t : List ℕ). paragraphs is_cut t ≡ t ∷ []) parts.1 (uncut some) in
-      let text_is : text ++ c ∷ more ≡ xs ++ a ∷ c ∷ more = ap (λ t. t ++ c ∷ more) parts.1 ∙ append_assoc xs (a ∷ []) (c ∷ more) in
-      let here : paragraphs is_cut (a ∷ c ∷ more) ≡ (a ∷ []) ∷ paragraphs is_cut (c ∷ more) =
-      ap (λ (t : Bool). if t then (a ∷ []) ∷ paragraphs is_cut (c ∷ more) else onto_first a (paragraphs is_cut (c ∷ more))) cut in
-      (some, ap (paragraphs is_cut) text_is ∙ join is_cut xs a (c ∷ more) (a ∷ []) (paragraphs is_cut (c ∷ more)) whole here ∙ ap (λ t. t ∷ paragraphs is_cut (c ∷ more)) (sym parts.1))
+      (long_uncut is_cut (text ++ c ∷ []) (uncut_more is_cut text last c (sym taken.last_is) taken.uncut no_cut) (omega (arith, full, taken.len_is, length-append text (c ∷ [])))))
 
   -- which begins a paragraph
   pub cut_before : ParagraphsArePieces → (text more : List ℕ) (last : Option ℕ) (len c a : ℕ) → HasTaken text last len
       → last ≡ Some a → is_cut a c ≡ true → length (c ∷ more) ≤ 1048576 → IsEnded is_cut (text ++ c ∷ more)
   cut_before law text more last len c a taken last_is cut few =
-      let split : paragraphs is_cut (text ++ c ∷ more) ≡ text ∷ paragraphs is_cut (c ∷ more) = (split_before text more last c a taken.last_is taken.uncut last_is cut).1 in
+      let split : paragraphs is_cut (text ++ c ∷ more) ≡ text ∷ paragraphs is_cut (c ∷ more) = (split_before is_cut text more last c a taken.last_is taken.uncut last_is cut).1 in
       let whole_more : c ∷ more ≡ concat (paragraphs is_cut (c ∷ more)) = sym (law.whole is_cut (c ∷ more)) in
       record {
         within =

@@ -208,13 +208,13 @@ encode_filled : (c : ℕ) → 0 < length (encode c)
 encode_filled c = omega (arith, length-encode c, (len_utf8_bounds c).0)
 
 -- no shorter encoding would do
-pub past_one : (c : ℕ) → 1 < length (encode c) → 128 ≤ c
+past_one : (c : ℕ) → 1 < length (encode c) → 128 ≤ c
 past_one c h = ⊎_elim (λ l. absurd (omega (arith, ap length (one c l)))) (λ l. l) (cases_lt c 128)
 
-pub past_two : (c : ℕ) → 2 < length (encode c) → 2048 ≤ c
+past_two : (c : ℕ) → 2 < length (encode c) → 2048 ≤ c
 past_two c h = ⊎_elim (λ l. absurd (omega (arith, ap length (two c (past_one c (omega arith)) l)))) (λ l. l) (cases_lt c 2048)
 
-pub past_three : (c : ℕ) → 3 < length (encode c) → 65536 ≤ c
+past_three : (c : ℕ) → 3 < length (encode c) → 65536 ≤ c
 past_three c h = ⊎_elim (λ l. absurd (omega (arith, ap length (three c (past_two c (omega arith)) l)))) (λ l. l) (cases_lt c 65536)
 
 -- a beginning of a character is no fault

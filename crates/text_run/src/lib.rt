@@ -18,7 +18,6 @@
 //! ```
 #![tactic(auto)]
 
-mod cuts;
 mod faults;
 mod page;
 mod paragraphs;

@@ -11,7 +11,6 @@ ghost use Rattle.text_run.specs.Pages.{prints_some};
 ghost use Rattle.text_run.specs.Streaming.{IsEnded, IsFaultAhead, IsOpen, Pushed, StartsLong};
 ghost use Rattle.text_run.specs.TextRun.{are_within};
 
-use crate::cuts::next_end;
 use crate::faults::RunFault;
 use crate::page::{Page, counts_fit, prints_some, push_paragraph};
 use crate::pieces::push_characters;
@@ -103,8 +102,8 @@ fn look_ahead(engine: &Engine, text: &[char], more: &str) -> Ahead
     Ahead::Open
 }
 
-/// Whether there is a cut before a character, after the one that was last, if one was.
-pub fn is_cut_after(engine: &Engine, last: Option<char>, c: char) -> bool
+// Whether a paragraph boundary is before a character, after the last one, if there is one.
+fn is_cut_after(engine: &Engine, last: Option<char>, c: char) -> bool
     ensures cut { result ≡ true
         → (a : ℕ) × (last ≡ Some a) × (cut_by (rules_of engine.now) a c ≡ true) }
     ensures none { result ≡ false
@@ -178,9 +177,8 @@ fn push_ended(
 {
     paragraphs_are_pieces();
     counts_fit(engine);
-    let is_usual = engine.has_usual_separators();
     let mut rest = text;
-    while let Some(end) = next_end(engine, held, rest, is_usual) {
+    while let Some(end) = engine.first_cut_in_text(held, rest) {
         let (front, after) = rest.split_at(end);
         push_characters(front, held)?;
         push_paragraph(alloc, page, engine, width, print, held)?;

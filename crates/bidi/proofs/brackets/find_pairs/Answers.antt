@@ -133,7 +133,7 @@ loop-place-init c = record {
   walks = λ look text are.
       rw (c.new-openers.ensures, c.in_ok-fill.ensures) (
       skipped look text c.args.kinds.now c.args.types.now 0 c.next_bracket-place.result [] (closers_of [] (length c.args.types.now)) c.requires are
-      (omega arith) (omega (arith, c.next_bracket-place.ensures.within, c.requires)) c.next_bracket-place.ensures.passed (Walks-start look text c.args.types.now));
+      (omega arith) (omega (arith, c.next_bracket-place.ensures.within, c.requires)) (λ m. c.next_bracket-place.ensures.passed m Other) (Walks-start look text c.args.types.now));
 }
 
 pub close-requires : goal.close-requires
@@ -224,5 +224,5 @@ loop-place-preserved c =
       walks = λ look text are.
           skipped look text c.args.kinds.now c.args.types.now (c.loop-place.place + 1) c.next_bracket-place-in-loop-place.result
           c.match-bracket_in.openers.items c.match-bracket_in.closers.items c.requires are
-          passed.reached (omega (arith, passed.within, c.requires)) passed.passed (stepped c look text are);
+          passed.reached (omega (arith, passed.within, c.requires)) (λ m. passed.passed m Other) (stepped c look text are);
     }

@@ -7,9 +7,9 @@ use Rattle.bidi.specs.Cuts.{SplitsAt}
 use Rattle.lines.specs.Engine.{rules_of}
 use Rattle.lines.specs.Layouts.{Rules, cut_by}
 use Rattle.lines.specs.Pages.{paragraph_bytes}
-use Rattle.text_run.specs.Ends.{EndsAfter}
+use Rattle.bidi.specs.TextCuts.{EndsAfter}
 use Rattle.text_run.proofs.CountLemmas.{at_most_none}
-use Rattle.text_run.proofs.EndLemmas.{ends_parts}
+use Rattle.bidi.proofs.TextCutLemmas.{ends_parts}
 use Rattle.text_run.proofs.PieceLemmas.{first_is_paragraph}
 use Rattle.text_run.proofs.PushLemmas.{first_within, pushed_more, pushed_none}
 use Rattle.text_run.proofs.paragraphs.push_ended.Goals as goal

@@ -2,19 +2,19 @@ use Rattle.std.proofs.Common.{◌≡◌, ◌∙◌, ◌++◌, ℕ, List, [], ◌
 use Rattle.std.specs.Str.{chars}
 use Rattle.std.proofs.lemmas.List.{nil_from_length}
 use Rattle.std.proofs.lemmas.Str.{chars-nil, chars_past_char}
-use Rattle.lines.specs.Engine.{rules_of}
-use Rattle.lines.specs.Layouts.{cut_by}
-use Rattle.text_run.proofs.EndLemmas.{NotAfter, Passed, passed_all, passed_char, passed_cut, passed_none, passed_plain}
-use Rattle.text_run.proofs.cuts.first_end.Goals as goal
+use Rattle.ucd.specs.Tables.{class_of}
+use Rattle.bidi.specs.Cuts.{cut}
+use Rattle.bidi.proofs.TextCutLemmas.{NotAfter, Passed, passed_all, passed_char, passed_cut, passed_none, passed_plain}
+use Rattle.bidi.proofs.text_cuts.first_end.Goals as goal
 use lib.Utf8.{encode}
 
 pub loop-c-init : goal.loop-c-init
-loop-c-init c = record { utf8 = c.utf8.text; passed = passed_none (cut_by (rules_of c.args.engine.now)) c.args.text.now c.utf8.text }
+loop-c-init c = record { utf8 = c.utf8.text; passed = passed_none (cut (class_of c.args.tables.now)) c.args.text.now c.utf8.text }
 
 -- nothing is left
 pub returns-in_default : goal.returns-in_default
 returns-in_default c =
-    let is_cut = cut_by (rules_of c.args.engine.now) in
+    let is_cut = cut (class_of c.args.tables.now) in
     let text = c.args.text.now in
     let passed : Passed is_cut text c.chars-characters.result.rest.now =
     subst (λ (t : List ℕ). Passed is_cut text t) (sym (c.chars-characters.ensures.rest ∙ c.split_at.ensures.back))
@@ -25,7 +25,7 @@ returns-in_default c =
 -- the last character is left
 pub returns-in_default-next : goal.returns-in_default-next
 returns-in_default-next c =
-    let is_cut = cut_by (rules_of c.args.engine.now) in
+    let is_cut = cut (class_of c.args.tables.now) in
     let text = c.args.text.now in
     let passed : Passed is_cut text c.chars-characters.result.rest.now =
     subst (λ (t : List ℕ). Passed is_cut text t) (sym (c.chars-characters.ensures.rest ∙ c.split_at.ensures.back))
@@ -40,7 +40,7 @@ returns-in_default-next c =
 
 pub returns-then-is_cut : goal.returns-then-is_cut
 returns-then-is_cut c =
-    let is_cut = cut_by (rules_of c.args.engine.now) in
+    let is_cut = cut (class_of c.args.tables.now) in
     let text = c.args.text.now in
     let passed : Passed is_cut text c.chars-characters.result.rest.now =
     subst (λ (t : List ℕ). Passed is_cut text t) (sym (c.chars-characters.ensures.rest ∙ c.split_at.ensures.back))
@@ -54,7 +54,7 @@ returns-then-is_cut c =
 -- no cut after this character
 pub loop-c-preserved : goal.loop-c-preserved
 loop-c-preserved c =
-    let is_cut = cut_by (rules_of c.args.engine.now) in
+    let is_cut = cut (class_of c.args.tables.now) in
     let text = c.args.text.now in
     let passed : Passed is_cut text c.chars-characters.result.rest.now =
     subst (λ (t : List ℕ). Passed is_cut text t) (sym (c.chars-characters.ensures.rest ∙ c.split_at.ensures.back))

@@ -1,45 +1,50 @@
-//! Where the first paragraph of a text in UTF-8 ends, by its bytes: with the files of Unicode, few
-//! characters are such that a paragraph may end after them, and what stands between these isn't decoded.
-ghost use Rattle.std.specs.Prelude.{◌≡◌, ℕ, ◌<◌, ◌≤◌, ◌+◌, true, false, None, length, slice_index, IsTrue};
+//! Paragraph boundaries in UTF-8 text, found by its bytes: in the files of Unicode only few characters end a
+//! paragraph, and the text between them is not decoded.
+ghost use Rattle.std.specs.Prelude.{◌≡◌, ℕ, ◌<◌, ◌≤◌, ◌+◌, true, false, None, length, slice_index};
 ghost use Rattle.std.specs.Str.{IsCharBoundary};
-ghost use Rattle.bidi.specs.Cuts.{SplitsAt};
-ghost use Rattle.lines.specs.Engine.{rules_of};
-ghost use Rattle.lines.specs.Layouts.{cut_by};
-ghost use Rattle.text_run.specs.Ends.{AreUsual, FindsEnd, FindsEndAfter, BeginsAfter, leads_at, may_lead};
+ghost use Rattle.ucd.specs.Tables.{class_of};
+ghost use Rattle.bidi.specs.Cuts.{cut, SplitsAt};
+ghost use Rattle.bidi.specs.TextCuts.{AreUsual, FindsEnd, FindsEndAfter, BeginsAfter, leads_at, may_lead};
 
-use crate::paragraphs::is_cut_after;
-use lines::Engine;
+use crate::cuts::is_cut;
+use ucd::Tables;
 
-// At how many places of a text is looked together.
+// How many places of a text are tested together.
 const AT_ONCE: usize = 16;
 
-/// How many bytes of a text end the first paragraph of the characters that are held, which have no cut, and
-/// of the text after them, if another paragraph follows.
-pub fn next_end(engine: &Engine, held: &[char], text: &str, is_usual: bool) -> Option<usize>
-    requires uncut { SplitsAt (cut_by (rules_of engine.now)) held.now None }
-    requires usual { is_usual ≡ true → AreUsual (cut_by (rules_of engine.now)) }
-    ensures { FindsEndAfter (cut_by (rules_of engine.now)) held.now text.now result }
+/// Returns the first paragraph boundary of `before` followed by `text`, as the number of bytes of `text` before
+/// it. `before` has no boundary itself; the boundary may be directly after it.
+pub fn first_cut_in_text(tables: &Tables, before: &[char], text: &str) -> Option<usize>
+    requires uncut { SplitsAt (cut (class_of tables.now)) before.now None }
+    ensures { FindsEndAfter (cut (class_of tables.now)) before.now text.now result }
 {
-    if begins_after(engine, held.last().copied(), text) {
+    if begins_after(tables, before.last().copied(), text) {
         return Some(0);
     }
-    first_end(engine, text, is_usual)
+    first_end(tables, text, has_usual_separators(tables))
 }
 
-// Whether there is a cut between the character that was last, if one was, and a text.
-fn begins_after(engine: &Engine, last: Option<char>, text: &str) -> bool
-    ensures { BeginsAfter (cut_by (rules_of engine.now)) last text.now result }
+// Whether only U+0085, U+2029 and characters below U+0020 end a paragraph.
+fn has_usual_separators(tables: &Tables) -> bool
+    ensures { result ≡ true → AreUsual (cut (class_of tables.now)) }
 {
-    match text.chars().next() {
-        Some(c) => is_cut_after(engine, last, c),
-        None => false,
-    }
+    tables.has_usual_separators()
 }
 
-// How many bytes the first paragraph of a text has, if another follows it.
-fn first_end(engine: &Engine, text: &str, is_usual: bool) -> Option<usize>
-    requires { is_usual ≡ true → AreUsual (cut_by (rules_of engine.now)) }
-    ensures { FindsEnd (cut_by (rules_of engine.now)) text.now result }
+// Whether a paragraph boundary is between the last character before a text, if there is one, and the text.
+fn begins_after(tables: &Tables, last: Option<char>, text: &str) -> bool
+    ensures { BeginsAfter (cut (class_of tables.now)) last text.now result }
+{
+    let (Some(last), Some(first)) = (last, text.chars().next()) else {
+        return false;
+    };
+    is_cut(tables, last, first)
+}
+
+// Returns the length of the first paragraph of a text in bytes, if another follows it.
+fn first_end(tables: &Tables, text: &str, is_usual: bool) -> Option<usize>
+    requires { is_usual ≡ true → AreUsual (cut (class_of tables.now)) }
+    ensures { FindsEnd (cut (class_of tables.now)) text.now result }
 {
     let mut rest = text;
     loop {
@@ -52,7 +57,7 @@ fn first_end(engine: &Engine, text: &str, is_usual: bool) -> Option<usize>
         let Some(next) = rest.chars().next() else {
             return None;
         };
-        if engine.is_cut(c, next) {
+        if is_cut(tables, c, next) {
             return Some(text.len() - rest.len());
         }
     }

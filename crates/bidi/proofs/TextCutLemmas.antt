@@ -1,21 +1,31 @@
 -- Where the first paragraph of a text in UTF-8 ends.
-use Rattle.std.proofs.Common.{◌≡◌, ℕ, min, get_or, ◌+◌, ◌-◌, ◌<◌, ◌≤◌, Bool, true, false, List, [], ◌∷◌, ◌++◌, length, take, drop, Option, Some, None, MatchOption, refl, sym, subst, ap, ap₂, ◌∙◌, arith, if◌then◌else◌, true≢false}
+use Rattle.std.proofs.Common.{◌≡◌, ℕ, min, get_or, ◌+◌, ◌-◌, ◌<◌, ◌≤◌, Bool, true, false, List, [], ◌∷◌, ◌++◌, length, take, drop, Option, Some, None, MatchOption, refl, sym, subst, ap, ap₂, ◌∙◌, arith, if◌then◌else◌, true≢false, ⊎_elim}
 use Rattle.std.specs.Prelude.{⊤, IsUtf8}
 use Rattle.std.specs.List.{onto_first, slice_get}
 use Rattle.std.specs.Str.{chars, IsCharBoundary}
-use Rattle.std.proofs.lemmas.Bool.{and_parts}
+use Rattle.std.proofs.lemmas.Bool.{and_parts, cases_lt}
 use Rattle.std.proofs.lemmas.Bool.Decides.{nat_tests}
 use Rattle.std.proofs.lemmas.List.{append_assoc, append-nil, get_or-append-add, get_or-drop, get_or-take, length-append, length-take-le, nil_from_length, take_all, take-append-drop}
 use Rattle.std.proofs.lemmas.Str.{IsUtf8-append, IsUtf8-drop, IsUtf8-encode, IsUtf8-past_char, IsUtf8-take, chars-append, chars-nil, chars_past_char, cons_from_encodes, encodes-chars, len_utf8_bounds, length-encode, scalars-chars}
 use Rattle.std.proofs.Math.Seq.{take-append-add, drop-append-add}
-use Rattle.std.proofs.str.Laws.{Shape, of1, of2, of3, of4, shape}
+use Rattle.std.proofs.str.Laws.{Shape, of1, of2, of3, of4, shape, one, two, three}
 use Rattle.ucd.specs.Separators.{may_separate}
 use Rattle.bidi.specs.Cuts.{SplitsAt, paragraphs}
-use Rattle.text_run.specs.Ends.{AreUsual, EndsAfter, EndsFirst, FindsEnd, FindsEndAfter, cuts_before, leads_at, may_lead}
-use Rattle.text_run.proofs.Fronts.{onto, skip_none_seen, skip_some_seen}
-use Rattle.text_run.proofs.LongLemmas.{split_before, uncut_more}
-use Rattle.text_run.proofs.Utf8Lemmas.{past_one, past_two, past_three}
+use Rattle.bidi.specs.TextCuts.{AreUsual, EndsAfter, EndsFirst, FindsEnd, FindsEndAfter, cuts_before, leads_at, may_lead}
+use Rattle.bidi.proofs.FrontLemmas.{onto, skip_none_seen, skip_some_seen}
+use Rattle.bidi.proofs.LastLemmas.{split_before, uncut_more}
 use lib.Utf8.{encode, encodes, scalar, scalar_cases, scalars}
+
+past_one : (c : ℕ) → 1 < length (encode c) → 128 ≤ c
+past_one c h = ⊎_elim (λ l. absurd (omega (arith, ap length (one c l)))) (λ l. l) (cases_lt c 128)
+
+past_two : (c : ℕ) → 2 < length (encode c) → 2048 ≤ c
+past_two c h = ⊎_elim (λ l. absurd (omega (arith, ap length (two c (past_one c (omega arith)) l)))) (λ l. l) (cases_lt c 2048)
+
+past_three : (c : ℕ) → 3 < length (encode c) → 65536 ≤ c
+past_three c h = ⊎_elim (λ l. absurd (omega (arith, ap length (three c (past_two c (omega arith)) l)))) (λ l. l) (cases_lt c 65536)
+
+-- a beginning of a character is no fault
 
 -- what follows some bytes begins in a text as it does by itself
 leads_later : (xs ys : List ℕ) (k : ℕ) → leads_at (xs ++ ys) (length xs + k) ≡ leads_at ys k

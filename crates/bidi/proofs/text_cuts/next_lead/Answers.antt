@@ -1,9 +1,9 @@
 use Rattle.std.proofs.Common.{◌≡◌, ◌∙◌, ◌+◌, ◌-◌, take, drop, length, inl, inr, sym, ap, arith}
 use Rattle.std.proofs.lemmas.Bool.{cases_lt}
 use Rattle.std.proofs.lemmas.List.{length-drop, length-take-le}
-use Rattle.text_run.specs.Ends.{leads_at}
-use Rattle.text_run.proofs.EndLemmas.{leads_within}
-use Rattle.text_run.proofs.cuts.next_lead.Goals as goal
+use Rattle.bidi.specs.TextCuts.{leads_at}
+use Rattle.bidi.proofs.TextCutLemmas.{leads_within}
+use Rattle.bidi.proofs.text_cuts.next_lead.Goals as goal
 
 -- none of those looked at together
 pub loop-at-preserved : goal.loop-at-preserved

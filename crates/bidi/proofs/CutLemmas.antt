@@ -1,5 +1,5 @@
--- Where there is a cut, by the class of the character before.
-use Rattle.std.proofs.Common.{◌≡◌, ◌≢◌, ◌∙◌, ℕ, ◌==◌, ◌&&◌, Bool, true, false, not, refl, ap}
+-- Where there is no cut, by the class of the character before.
+use Rattle.std.proofs.Common.{◌≡◌, ◌≢◌, ℕ, ◌==◌, ◌&&◌, Bool, true, false, not, refl, ap}
 use Rattle.ucd.specs.declared.bidi_class.BidiClass.{BidiClass}
 use Rattle.ucd.specs.declared.bidi_class.BidiClass.TheVariants.{L, R, AL, EN, ES, ET, AN, CS, NSM, BN, B, S, WS, ON, LRE, LRO, RLE, RLO, PDF, LRI, RLI, FSI, PDI}
 use Rattle.ucd.specs.Classes.{is_separator}
@@ -33,13 +33,3 @@ not_separator PDI other = refl
 pub no_cut_after : (class_of : ℕ → BidiClass) (a b : ℕ) → class_of a ≢ B → cut class_of a b ≡ false
 no_cut_after class_of a b other =
     ap (λ (t : Bool). t && not (a == 13 && (b == 10 && is_separator (class_of b)))) (not_separator (class_of a) other)
-
-not_both : (x y : Bool) → not (x && (false && y)) ≡ true
-not_both true y = refl
-not_both false y = refl
-
--- whatever the separator is
-pub cut_before_null : (class_of : ℕ → BidiClass) (a : ℕ) → class_of a ≡ B → cut class_of a 0 ≡ true
-cut_before_null class_of a is =
-    ap (λ (class : BidiClass). is_separator class && not (a == 13 && (0 == 10 && is_separator (class_of 0)))) is
-    ∙ not_both (a == 13) (is_separator (class_of 0))

@@ -1,6 +1,6 @@
 use Rattle.std.proofs.Common.{◌≡◌, ℕ, ◌<◌, ◌≤◌, ◌-◌, ◌+◌, false, length}
-use Rattle.text_run.specs.Ends.{leads_at}
-use Rattle.text_run.proofs.cuts.next_lead.Given as goal
+use Rattle.bidi.specs.TextCuts.{leads_at}
+use Rattle.bidi.proofs.text_cuts.next_lead.Given as goal
 
 abbrev pub invariant-loop-at : goal.invariant-loop-at
 invariant-loop-at l = record {
