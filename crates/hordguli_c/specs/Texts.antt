@@ -10,18 +10,8 @@ use Rattle.session.specs.Reading.{utf8_part}
 use Rattle.session.specs.Sessions.{SessionState, text_at}
 use Rattle.hordguli_c.specs.Arrays.{put}
 use Rattle.hordguli_c.specs.Calls.{Given, OrNoMemory}
-use Rattle.hordguli_c.specs.declared.page.Page.{Page}
 use Rattle.hordguli_c.specs.declared.status.Status.{Status}
 use Rattle.hordguli_c.specs.declared.status.Status.TheVariants as is
-
--- a page tells its bytes, all of which passed
-abbrev pub page_state : Page → Device
-page_state page = record {
-  bytes = Some page.bytes.items;
-  passed = length page.bytes.items;
-  failures = page.failures;
-  failed_at = page.failed_at;
-}
 
 -- bytes into an array that has room for them, or else none; how many they are goes out in both cases
 abbrev pub PutsBytes : List ℕ → Status → List ℕ × ℕ → List ℕ × ℕ → Type 0

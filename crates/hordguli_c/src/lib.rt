@@ -6,7 +6,6 @@ mod edit_calls;
 mod layout_calls;
 mod line_calls;
 mod options;
-mod page;
 mod paragraph_calls;
 mod place_calls;
 mod raw_box;

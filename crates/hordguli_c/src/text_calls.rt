@@ -11,13 +11,13 @@ ghost use Rattle.hordguli_c.specs.Texts.{PutsBytes, PutsLines, PutsText, RangeNo
 ghost use Rattle.hordguli_c.specs.declared.status.Status.TheVariants.{Ok};
 
 use crate::options::print_of;
-use crate::page::Page;
 use crate::session_handle::{SessionHandle, SessionObject};
 use crate::status::{Status, number_of};
 use lines::Print;
 use session::RangeFault;
 use std::alloc::Global;
 use std::str::from_utf8;
+use stream::Page;
 
 // Puts bytes into an array, if it has room for them.
 fn put_bytes(bytes: &[u8], array: &mut [u8], len: &mut usize) -> Status

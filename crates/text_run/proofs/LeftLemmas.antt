@@ -6,11 +6,12 @@ use Rattle.std.proofs.lemmas.List.{length-take-le}
 use Rattle.std.proofs.lemmas.Str.{encodes-chars, utf8_valid_len_le}
 use Rattle.bidi.specs.Cuts.{paragraphs}
 use Rattle.lines.specs.Layouts.{Rules, cut_by}
-use Rattle.text_run.specs.TextRun.{are_within, front_of}
+use Rattle.stream.specs.Utf8.{front_of}
+use Rattle.text_run.specs.TextRun.{are_within}
 use Rattle.text_run.specs.Streaming.{IsOpen}
-use Rattle.text_run.proofs.Fronts.{first_paragraph}
+use Rattle.bidi.proofs.FrontLemmas.{first_paragraph}
 use Rattle.text_run.proofs.StreamLemmas.{short_is}
-use Rattle.text_run.proofs.Utf8Lemmas.{utf8_front}
+use Rattle.stream.proofs.Utf8Lemmas.{utf8_front}
 
 -- the last paragraph of a text, if there is one
 pub last_pars : (rules : Rules) (text : List ℕ) → IsOpen (cut_by rules) text → paragraphs (cut_by rules) text ≡ (if length text == 0 then [] else text ∷ [])

@@ -3,7 +3,6 @@ pub mod Devices
 pub mod Fronts
 pub mod LeftLemmas
 pub mod LongLemmas
-pub mod MoveLemmas
 pub mod PieceLemmas
 pub mod PrintLemmas
 pub mod PushLemmas
@@ -11,5 +10,4 @@ pub mod StartLemmas
 pub mod StepLemmas
 pub mod StopLemmas
 pub mod StreamLemmas
-pub mod Utf8Lemmas
 mod WorkedRows

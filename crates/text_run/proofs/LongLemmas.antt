@@ -1,19 +1,20 @@
 -- Whether the first paragraph of a text without a cut is too long, one character more after another.
-use Rattle.std.proofs.Common.{◌≡◌, ℕ, zero, suc, get_or, ◌+◌, ◌-◌, ◌<◌, ◌≤◌, ◌&&◌, Bool, true, false, List, [], ◌∷◌, ◌++◌, length, map, map-id, take, drop, Option, Some, None, MatchOption, encode_utf8_all, refl, sym, subst, ap, ◌∙◌, arith, sub-one, if◌then◌else◌}
+use Rattle.std.proofs.Common.{◌≡◌, ℕ, zero, suc, get_or, ◌+◌, ◌-◌, ◌<◌, ◌≤◌, ◌&&◌, Bool, true, false, List, [], ◌∷◌, ◌++◌, length, map, map-id, take, drop, Option, Some, None, MatchOption, encode_utf8_all, refl, sym, subst, ap, ◌∙◌, arith}
 use Rattle.std.specs.Prelude.{⊤, IsUtf8}
-use Rattle.std.specs.List.{concat, onto_first, slice_get}
+use Rattle.std.specs.List.{concat, slice_get}
 use Rattle.std.specs.Str.{chars}
 use Rattle.std.specs.Str.Lossy.{utf8_valid_len}
 use Rattle.std.proofs.lemmas.List.{append_assoc, length-append, length-take-le}
 use Rattle.std.proofs.lemmas.Str.{encodes-chars, len_utf8_bounds, length-encode, utf8_valid_len_le}
 use Rattle.bidi.specs.Cuts.{paragraphs, SplitsAt}
 use Rattle.bidi.specs.Pieces.{ParagraphsArePieces}
-use Rattle.text_run.specs.TextRun.{are_within, front_of, is_within}
+use Rattle.stream.specs.Utf8.{front_of}
+use Rattle.text_run.specs.TextRun.{are_within, is_within}
 use Rattle.text_run.specs.Streaming.{IsEnded, IsOpen, StartsLong}
 use Rattle.bidi.proofs.LastLemmas.{last_pushed, split_before, uncut_more}
 use Rattle.text_run.proofs.Fronts.{long_more, long_uncut}
 use Rattle.text_run.proofs.StreamLemmas.{short_is}
-use Rattle.text_run.proofs.Utf8Lemmas.{utf8_front}
+use Rattle.stream.proofs.Utf8Lemmas.{utf8_front}
 use lib.Utf8.{encode}
 
 -- paragraphs that are few characters together

@@ -12,15 +12,16 @@ use Rattle.lines.specs.declared.print.Print.{Print}
 use Rattle.text_run.specs.declared.faults.RunFault.{RunFault}
 use Rattle.text_run.specs.declared.faults.RunFault.TheVariants as f
 use Rattle.text_run.specs.declared.text.Held.{Held}
-use Rattle.text_run.specs.declared.text.TheConstants.{PIECE}
-use Rattle.text_run.specs.TextRun.{are_within, front_of, HasRead}
+use Rattle.stream.specs.declared.reading.TheConstants.{CHUNK}
+use Rattle.stream.specs.Utf8.{front_of}
+use Rattle.text_run.specs.TextRun.{are_within, HasRead}
 use Rattle.text_run.specs.Streaming.{Ends, IsAt, IsFront, Stands, Steps}
 use Rattle.text_run.proofs.CountLemmas.{at_most_more, at_most_none}
 use Rattle.text_run.proofs.Devices.{Took-nothing}
 use Rattle.text_run.proofs.Fronts.{front_none}
 use Rattle.text_run.proofs.StepLemmas.{stands_by}
 use Rattle.text_run.proofs.StreamLemmas.{Stops, at_memory}
-use Rattle.text_run.proofs.Utf8Lemmas.{nothing_valid, utf8_error_len-nil}
+use Rattle.stream.proofs.Utf8Lemmas.{nothing_valid, utf8_error_len-nil}
 
 -- before anything is read
 module _ (rules : Rules) (width : ℕ) (print : Print) (reader writer : Device) (engine : Engine) where
@@ -65,11 +66,11 @@ module _ (rules : Rules) (width : ℕ) (print : Print) (reader writer : Device) 
       }
 
   pub stands_at_start : Prints 0 print engine engine → (held : Held) → held.waiting ≡ 0 → held.decoded ≡ 0
-      → held.written ≡ 0 → held.text.items ≡ [] → held.page.bytes.items ≡ [] → vec_len held.piece ≡ PIECE
+      → held.written ≡ 0 → held.text.items ≡ [] → held.page.bytes.items ≡ [] → vec_len held.chunk ≡ CHUNK
       → Stands rules width print reader writer engine reader writer engine held
   unfolding start_at
   stands_at_start fits held waiting decoded written text lines room =
-      let none : take held.waiting held.piece.items ≡ [] = ap (λ n. take n held.piece.items) waiting in
+      let none : take held.waiting held.chunk.items ≡ [] = ap (λ n. take n held.chunk.items) waiting in
       stands_by rules width print reader writer engine reader writer engine held [] [] (
         start_at,
         refl,

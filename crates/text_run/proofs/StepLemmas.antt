@@ -20,8 +20,9 @@ use Rattle.lines.specs.declared.print.Print.{Print}
 use Rattle.text_run.specs.declared.faults.RunFault.{RunFault}
 use Rattle.text_run.specs.declared.faults.RunFault.TheVariants as f
 use Rattle.text_run.specs.declared.text.Held.{Held}
-use Rattle.text_run.specs.declared.text.TheConstants.{PIECE}
-use Rattle.text_run.specs.TextRun.{AtEnd, AtFailure, are_within, input_fault, front_of, front_paragraphs, is_bad, written_of, Gave, HasPrinted, HasRead, HasStopped, PrintsNoMore, WantsMemory}
+use Rattle.stream.specs.declared.reading.TheConstants.{CHUNK}
+use Rattle.stream.specs.Utf8.{front_of, is_bad}
+use Rattle.text_run.specs.TextRun.{AtEnd, AtFailure, are_within, input_fault, front_paragraphs, written_of, Gave, HasPrinted, HasRead, HasStopped, PrintsNoMore, WantsMemory}
 use Rattle.text_run.specs.Counts.{PrintsAtMost}
 use Rattle.text_run.specs.Pages.{prints_some}
 use Rattle.text_run.specs.Streaming.{Ends, FindsFault, Finishes, Gathers, IsAt, IsBeginning, IsFront, IsFaultAhead, IsOpen, IsRead, Stands, StopsAfter, StopsWriting, Writes, last_lines}
@@ -30,7 +31,7 @@ use Rattle.text_run.proofs.Fronts.{front_join, front_more, front_none}
 use Rattle.text_run.proofs.LeftLemmas.{front_some, last_pars, last_within, left_by, not_none, pars_some}
 use Rattle.text_run.proofs.StopLemmas.{append_end, encoded_len, is_all, last_len, not_all, not_bad, one_par, some_bad, stopped_in}
 use Rattle.text_run.proofs.StreamLemmas.{Consumes-append, Consumes-kept, IsSent, Stops, at_fault, at_long, at_memory, at_write, at_written, ends_write, front_is, gave_all, gone_on, had_all, pars_are, pars_sent, sent_ahead, sent_within, within_more, written_whole, Wrote-append}
-use Rattle.text_run.proofs.Utf8Lemmas.{bad_stays, is_bad-after, utf8_front, utf8_valid_len-after}
+use Rattle.stream.proofs.Utf8Lemmas.{bad_stays, is_bad-after, utf8_front, utf8_valid_len-after}
 
 module _ (rules : Rules) (width : ℕ) (print : Print) (reader_old writer_old : Device) (engine_old : Engine) (reader writer : Device) (engine : Engine) (held : Held) where
   abbrev Holds : List ℕ → List ℕ → Type 0
@@ -41,15 +42,15 @@ module _ (rules : Rules) (width : ℕ) (print : Print) (reader_old writer_old : 
 
   -- where it stands, by what it holds
   pub stands_by : (waiting text : List ℕ) → Holds waiting text → Prints 0 print engine_old engine_old
-      → take held.waiting held.piece.items ≡ waiting → held.text.items ≡ text → held.page.bytes.items ≡ []
-      → vec_len held.piece ≡ PIECE
-      → length (take held.waiting held.piece.items) ≡ held.waiting → Stands rules width print reader_old writer_old engine_old reader writer engine held
+      → take held.waiting held.chunk.items ≡ waiting → held.text.items ≡ text → held.page.bytes.items ≡ []
+      → vec_len held.chunk ≡ CHUNK
+      → length (take held.waiting held.chunk.items) ≡ held.waiting → Stands rules width print reader_old writer_old engine_old reader writer engine held
   stands_by waiting text holds fits waiting_is text_is lines room waits =
-      let here : Holds (take held.waiting held.piece.items) held.text.items =
+      let here : Holds (take held.waiting held.chunk.items) held.text.items =
       subst (λ (w : List ℕ). Holds w held.text.items) (sym waiting_is) (subst (λ (t : List ℕ). Holds waiting t) (sym text_is) holds) in
       record { is_at = here.0; all_sent = here.1; decoded = here.2; written = here.3; text = here.4; lines = lines; beginning = here.5; room = room; waits = waits; fits = fits; counts = here.6 }
 
--- what is found in a piece is no want of memory
+-- what is found in a chunk is no want of memory
 pub no_memory : (rules : Rules) (width : ℕ) (print : Print) (bytes : List ℕ) (old new : Held) (engine_old engine_new : Engine) (fault : Option RunFault) (wrong : RunFault)
     → FindsFault rules bytes old new engine_old engine_new fault ⊎ Gathers rules width print bytes old new engine_old engine_new fault → fault ≡ Some wrong → wrong ≡ f.Memory → ⊥
 no_memory rules width print bytes old new engine_old engine_new fault wrong (inl l) is memory =
@@ -111,22 +112,22 @@ module _ (rules : Rules) (width : ℕ) (print : Print) (reader_old writer_old : 
 
     front_len : (after : List ℕ) → length (front_of (s.is_at.decoded ++ after)) ≡ length (concat s.is_at.sent) + length held.text.items + length (front_of after)
     front_len after =
-        let is = front_is rules width print reader_old reader writer_old writer (take held.waiting held.piece.items) held.text.items [] s.is_at after in
+        let is = front_is rules width print reader_old reader writer_old writer (take held.waiting held.chunk.items) held.text.items [] s.is_at after in
         omega (arith, held_len, ap length is, length-append (chars s.is_at.decoded) (front_of after))
 
     -- what waits is the beginning of a character, or nothing
-    no_bad : is_bad (s.is_at.decoded ++ take held.waiting held.piece.items) ≡ false
+    no_bad : is_bad (s.is_at.decoded ++ take held.waiting held.chunk.items) ≡ false
     no_bad =
-        let waiting = take held.waiting held.piece.items in
+        let waiting = take held.waiting held.chunk.items in
         is_bad-after s.is_at.decoded waiting s.is_at.utf8 ∙ ap (λ n. is_some (utf8_error_len (drop n waiting))) s.beginning.none ∙ ap is_some s.beginning.fault
 
   -- some bytes more were read
   pub at_read : (reader_new : Device) (waiting text more : List ℕ)
       (at : IsAt rules width print reader_old reader writer_old writer waiting text []) → at.gathered ≡ []
       → length text ≤ 1048576 → length waiting < 4
-      → Consumes reader.bytes reader_new.bytes more → reader_new.passed ≡ reader.passed + length more → reader_new.failures ≡ reader.failures → length more ≤ PIECE
+      → Consumes reader.bytes reader_new.bytes more → reader_new.passed ≡ reader.passed + length more → reader_new.failures ≡ reader.failures → length more ≤ CHUNK
       → (next : IsAt rules width print reader_old reader_new writer_old writer (waiting ++ more) text []) × (next.gathered ≡ []) × (next.decoded ≡ at.decoded) × (next.sent ≡ at.sent)
-  at_read reader_new waiting text more at sent short few consumed passed failures piece = (
+  at_read reader_new waiting text more at sent short few consumed passed failures chunk = (
     record {
       decoded = at.decoded;
       sent = at.sent;
@@ -149,7 +150,7 @@ module _ (rules : Rules) (width : ℕ) (print : Print) (reader_old writer_old : 
             arith,
             passed,
             at.passed,
-            piece,
+            chunk,
             few,
             short,
             encoded_len text,
@@ -170,7 +171,7 @@ module _ (rules : Rules) (width : ℕ) (print : Print) (reader_old writer_old : 
       → Ends rules width print reader_old writer_old engine_old reader_new writer engine (Err f.Read)
   ends_read reader_new held s fails =
       let at = s.is_at in
-      let waiting = take held.waiting held.piece.items in
+      let waiting = take held.waiting held.chunk.items in
       let good : is_bad (at.decoded ++ waiting) ≡ false = no_bad held s in
       let has_read : HasRead reader_old reader_new (at.decoded ++ waiting) = (
         Consumes-kept reader_old.bytes reader.bytes reader_new.bytes (at.decoded
@@ -194,25 +195,25 @@ module _ (rules : Rules) (width : ℕ) (print : Print) (reader_old writer_old : 
   module _ (reader_new : Device) (buffer : List ℕ) (held : Held)
       (s : Stands rules width print reader_old writer_old engine_old reader writer engine held)
       (gives : Gives reader reader_new 0 buffer) where
-    consumed_all : Consumes reader_old.bytes reader_new.bytes (s.is_at.decoded ++ take held.waiting held.piece.items)
+    consumed_all : Consumes reader_old.bytes reader_new.bytes (s.is_at.decoded ++ take held.waiting held.chunk.items)
     consumed_all =
-        let bytes = s.is_at.decoded ++ take held.waiting held.piece.items in
+        let bytes = s.is_at.decoded ++ take held.waiting held.chunk.items in
         subst (Consumes reader_old.bytes reader_new.bytes) (append-nil bytes) (Consumes-append reader_old.bytes reader.bytes reader_new.bytes bytes [] s.is_at.read gives.bytes)
 
-    gave : Gave reader_old reader_new AtEnd (s.is_at.decoded ++ take held.waiting held.piece.items)
+    gave : Gave reader_old reader_new AtEnd (s.is_at.decoded ++ take held.waiting held.chunk.items)
     gave =
-        (had_all reader_old.bytes reader_new.bytes (s.is_at.decoded ++ take held.waiting held.piece.items) consumed_all (gives.end refl), gives.passes.failures ∙ s.is_at.failures)
+        (had_all reader_old.bytes reader_new.bytes (s.is_at.decoded ++ take held.waiting held.chunk.items) consumed_all (gives.end refl), gives.passes.failures ∙ s.is_at.failures)
 
-    passed_all : reader_new.passed ≡ reader_old.passed + length (s.is_at.decoded ++ take held.waiting held.piece.items)
+    passed_all : reader_new.passed ≡ reader_old.passed + length (s.is_at.decoded ++ take held.waiting held.chunk.items)
     passed_all = omega (arith, gives.passes.passed, s.is_at.passed)
 
     sent_all : IsSent rules width print reader_old writer_old reader_new s.is_at.sent
     sent_all = record { ahead = omega (arith, gives.passes.passed, s.is_at.ahead) }
 
     -- inside a character
-    finish_inside : (n : ℕ) → 0 < length (take held.waiting held.piece.items) → n ≡ held.decoded → Stops rules width print reader_old writer_old reader_new writer (f.NotUtf8 n) (length (concat s.is_at.sent))
+    finish_inside : (n : ℕ) → 0 < length (take held.waiting held.chunk.items) → n ≡ held.decoded → Stops rules width print reader_old writer_old reader_new writer (f.NotUtf8 n) (length (concat s.is_at.sent))
     finish_inside n some n_is =
-        let waiting = take held.waiting held.piece.items in
+        let waiting = take held.waiting held.chunk.items in
         let decoded = s.is_at.decoded in
         let bytes = decoded ++ waiting in
         let valid : utf8_valid_len bytes ≡ length decoded + utf8_valid_len waiting = utf8_valid_len-after decoded waiting s.is_at.utf8 in
@@ -228,12 +229,12 @@ module _ (rules : Rules) (width : ℕ) (print : Print) (reader_old writer_old : 
       last : List (List ℕ)
       last = if length held.text.items == 0 then [] else held.text.items ∷ []
 
-      nothing_waits : take held.waiting held.piece.items ≡ []
-      nothing_waits = ap (λ n. take n held.piece.items) none
+      nothing_waits : take held.waiting held.chunk.items ≡ []
+      nothing_waits = ap (λ n. take n held.chunk.items) none
 
-      no_fault : input_fault AtEnd (s.is_at.decoded ++ take held.waiting held.piece.items) ≡ None
+      no_fault : input_fault AtEnd (s.is_at.decoded ++ take held.waiting held.chunk.items) ≡ None
       no_fault =
-          let waiting = take held.waiting held.piece.items in
+          let waiting = take held.waiting held.chunk.items in
           let bytes = s.is_at.decoded ++ waiting in
           let all : utf8_valid_len bytes ≡ length bytes =
           omega (arith, utf8_valid_len-after s.is_at.decoded waiting s.is_at.utf8, s.beginning.none, length-append s.is_at.decoded waiting, ap length nothing_waits) in
@@ -243,9 +244,9 @@ module _ (rules : Rules) (width : ℕ) (print : Print) (reader_old writer_old : 
       unfolding last
       last_is = last_pars rules held.text.items s.text
 
-      pars_last : front_paragraphs rules (s.is_at.decoded ++ take held.waiting held.piece.items) ≡ s.is_at.sent ++ last
+      pars_last : front_paragraphs rules (s.is_at.decoded ++ take held.waiting held.chunk.items) ≡ s.is_at.sent ++ last
       pars_last =
-          let waiting = take held.waiting held.piece.items in
+          let waiting = take held.waiting held.chunk.items in
           let text_is : held.text.items ++ front_of waiting ≡ held.text.items =
           ap (λ n. held.text.items ++ chars (take n waiting)) s.beginning.none ∙ ap (λ t. held.text.items ++ t) chars-nil ∙ append-nil held.text.items in
           pars_sent rules width print reader_old reader writer_old writer waiting held.text.items [] s.is_at s.all_sent waiting
@@ -254,13 +255,13 @@ module _ (rules : Rules) (width : ℕ) (print : Print) (reader_old writer_old : 
       within_last : are_within (s.is_at.sent ++ last) ≡ true
       unfolding last
       within_last =
-          within_more s.is_at.sent last (sent_within rules width print reader_old reader writer_old writer (take held.waiting held.piece.items) held.text.items [] s.is_at s.all_sent)
+          within_more s.is_at.sent last (sent_within rules width print reader_old reader writer_old writer (take held.waiting held.chunk.items) held.text.items [] s.is_at s.all_sent)
           ∙ last_within held.text.items s.text.short
 
-      written_last : written_of (front_paragraphs rules (s.is_at.decoded ++ take held.waiting held.piece.items))
-          (is_none (input_fault AtEnd (s.is_at.decoded ++ take held.waiting held.piece.items))) ≡ s.is_at.sent ++ last
+      written_last : written_of (front_paragraphs rules (s.is_at.decoded ++ take held.waiting held.chunk.items))
+          (is_none (input_fault AtEnd (s.is_at.decoded ++ take held.waiting held.chunk.items))) ≡ s.is_at.sent ++ last
       written_last =
-          ap (λ (w : Option RunFault). written_of (front_paragraphs rules (s.is_at.decoded ++ take held.waiting held.piece.items)) (is_none w)) no_fault
+          ap (λ (w : Option RunFault). written_of (front_paragraphs rules (s.is_at.decoded ++ take held.waiting held.chunk.items)) (is_none w)) no_fault
           ∙ ap (λ ps. written_of ps true) pars_last ∙ written_whole (s.is_at.sent ++ last) within_last
 
       lines_last : last_lines rules width print held ≡ page rules width print last
@@ -270,7 +271,7 @@ module _ (rules : Rules) (width : ℕ) (print : Print) (reader_old writer_old : 
       finish_done : (writer_new : Device) (engine_new : Engine) → Wrote (last_lines rules width print held) writer writer_new → Prints (length held.text.items) print engine engine_new
           → Ends rules width print reader_old writer_old engine_old reader_new writer_new engine_new (Ok tt)
       finish_done writer_new engine_new wrote counts =
-          let bytes = s.is_at.decoded ++ take held.waiting held.piece.items in
+          let bytes = s.is_at.decoded ++ take held.waiting held.chunk.items in
           let pars = front_paragraphs rules bytes in
           let within_all : are_within pars ≡ true = ap are_within pars_last ∙ within_last in
           let wrote_all : Wrote (page rules width print (s.is_at.sent ++ last)) writer_old writer_new =
@@ -305,7 +306,7 @@ module _ (rules : Rules) (width : ℕ) (print : Print) (reader_old writer_old : 
           → StoppedAt m (last_lines rules width print held) writer writer_new → n ≡ held.written + m
           → Stops rules width print reader_old writer_old reader_new writer_new (f.Write n) 0
       finish_stopped writer_new m n stopped n_is =
-          let bytes = s.is_at.decoded ++ take held.waiting held.piece.items in
+          let bytes = s.is_at.decoded ++ take held.waiting held.chunk.items in
           ends_write rules width print reader_old writer_old reader_new writer writer_new AtEnd bytes s.is_at.sent last [] [] m n gave
           (pars_last ∙ sym (append-nil (s.is_at.sent ++ last))) (written_last ∙ sym (append-nil (s.is_at.sent ++ last))) s.is_at.wrote sent_all
           (subst (λ (t : List ℕ). StoppedAt m t writer writer_new) lines_last stopped) (omega (arith, n_is, s.written)) 0
@@ -317,7 +318,7 @@ module _ (rules : Rules) (width : ℕ) (print : Print) (reader_old writer_old : 
           → HasStopped rules width print reader_old reader_new writer_old writer_new engine_old engine_new n
       unfolding last
       finish_failed writer_new engine_new m n stopped n_is counts =
-          let bytes = s.is_at.decoded ++ take held.waiting held.piece.items in
+          let bytes = s.is_at.decoded ++ take held.waiting held.chunk.items in
           let sent = s.is_at.sent in
           let all : length (concat sent) + length held.text.items ≡ length (concat (sent ++ last)) =
           omega (arith, ap length (concat-append sent last), length-append (concat sent) (concat last), last_len held.text.items) in
@@ -329,12 +330,12 @@ module _ (rules : Rules) (width : ℕ) (print : Print) (reader_old writer_old : 
 
       -- the last paragraph's lines are still to be written
       left_over : (engine_new : Engine) → 0 < length held.text.items → prints_some print ≡ true
-          → (k : ℕ) × Wrote (page rules width print (take k (front_paragraphs rules (s.is_at.decoded ++ take held.waiting held.piece.items)))) writer_old writer
+          → (k : ℕ) × Wrote (page rules width print (take k (front_paragraphs rules (s.is_at.decoded ++ take held.waiting held.chunk.items)))) writer_old writer
           × (prints_some print ≡ false
-          → Prints (length (concat (take k (front_paragraphs rules (s.is_at.decoded ++ take held.waiting held.piece.items))))) print engine_old engine_new)
-          × (0 < length (s.is_at.decoded ++ take held.waiting held.piece.items)
-          → (if is_bad (s.is_at.decoded ++ take held.waiting held.piece.items) then k + 1 else k)
-          < length (front_paragraphs rules (s.is_at.decoded ++ take held.waiting held.piece.items)))
+          → Prints (length (concat (take k (front_paragraphs rules (s.is_at.decoded ++ take held.waiting held.chunk.items))))) print engine_old engine_new)
+          × (0 < length (s.is_at.decoded ++ take held.waiting held.chunk.items)
+          → (if is_bad (s.is_at.decoded ++ take held.waiting held.chunk.items) then k + 1 else k)
+          < length (front_paragraphs rules (s.is_at.decoded ++ take held.waiting held.chunk.items)))
       unfolding last
       left_over engine_new some prints =
           let sent = s.is_at.sent in
@@ -344,57 +345,57 @@ module _ (rules : Rules) (width : ℕ) (print : Print) (reader_old writer_old : 
             subst (λ (ps : List (List ℕ)). Wrote (page rules width print ps) writer_old writer)
                 (sym (ap (take (length sent)) pars_last ∙ take-append_seam sent last)) s.is_at.wrote,
             λ none. absurd (true≢false (sym prints ∙ none)),
-            λ read. left_by (length sent) _ (is_bad (s.is_at.decoded ++ take held.waiting held.piece.items))
+            λ read. left_by (length sent) _ (is_bad (s.is_at.decoded ++ take held.waiting held.chunk.items))
                 (omega (arith, ap length pars_last, length-append sent last, one)) (λ bad. absurd (true≢false (sym bad ∙ no_bad held s))),
           )
 
     module _ (engine_new : Engine) (at_most : PrintsAtMost (length held.text.items) print engine engine_new) where
-      has_read : HasRead reader_old reader_new (s.is_at.decoded ++ take held.waiting held.piece.items)
+      has_read : HasRead reader_old reader_new (s.is_at.decoded ++ take held.waiting held.chunk.items)
       has_read = (consumed_all, passed_all)
 
       no_more_last : PrintsNoMore print reader_old reader_new engine_old engine_new
       no_more_last =
-          let waiting = take held.waiting held.piece.items in
+          let waiting = take held.waiting held.chunk.items in
           let few = front_len held s waiting in
           no_more reader_new engine_new (s.is_at.decoded ++ waiting) (length (concat s.is_at.sent) + length held.text.items) has_read
           (at_most_more print engine_old engine engine_new (length (concat s.is_at.sent)) (length held.text.items) _ (counted_now held s) at_most (omega arith)) (omega (arith, few))
 
-      pub ends_finish : (piece : Vec ℕ Global) (writer_new : Device) (result : Result (Unit {0}) RunFault) → Finishes rules width print (record held { piece = piece }) writer writer_new result
+      pub ends_finish : (chunk : Vec ℕ Global) (writer_new : Device) (result : Result (Unit {0}) RunFault) → Finishes rules width print (record held { chunk = chunk }) writer writer_new result
           → OnOk result (Prints (length held.text.items) print engine engine_new) → (0 < held.waiting → engine_new ≡ engine)
           → ((n : ℕ) → IsErrOf result (f.Write n) → Prints (length held.text.items) print engine engine_new)
           → Ends rules width print reader_old writer_old engine_old reader_new writer_new engine_new result
-      ends_finish piece writer_new (Ok done) is counts inside failed = finish_done is.0 writer_new engine_new is.1 counts
-      ends_finish piece writer_new (Err (f.NotUtf8 n)) is counts inside failed =
+      ends_finish chunk writer_new (Ok done) is counts inside failed = finish_done is.0 writer_new engine_new is.1 counts
+      ends_finish chunk writer_new (Err (f.NotUtf8 n)) is counts inside failed =
           subst (λ (w : Device). Ends rules width print reader_old writer_old engine_old reader_new w engine_new (Err (f.NotUtf8 n))) (sym is.2)
           (ended reader_new writer engine_new (f.NotUtf8 n) (length (concat s.is_at.sent)) (finish_inside n (omega (arith, is.0, s.waits)) is.1)
           (subst (λ (e : Engine). Prints (length (concat s.is_at.sent)) print engine_old e) (sym (inside is.0)) s.counts) no_more_last (λ same. absurd (cc same)) (λ n same. absurd (cc same)))
-      ends_finish piece writer_new (Err (f.Write n)) is counts inside failed =
+      ends_finish chunk writer_new (Err (f.Write n)) is counts inside failed =
           ended reader_new writer_new engine_new (f.Write n) 0 (finish_stopped is.0 writer_new is.1.0 n is.1.2 is.1.1) tt no_more_last (λ same. absurd (cc same))
           (λ k same. finish_failed is.0 writer_new engine_new is.1.0 k is.1.2 (cc (same, is.1.1)) (failed n refl))
-      ends_finish piece writer_new (Err f.Memory) is counts inside failed =
-          let next = at_read reader_new (take held.waiting held.piece.items) held.text.items [] s.is_at s.all_sent
+      ends_finish chunk writer_new (Err f.Memory) is counts inside failed =
+          let next = at_read reader_new (take held.waiting held.chunk.items) held.text.items [] s.is_at s.all_sent
           s.text.short s.beginning.few gives.bytes (omega (arith, gives.passes.passed)) gives.passes.failures
           (omega arith) in
           subst (λ (w : Device). Ends rules width print reader_old writer_old engine_old reader_new w engine_new (Err f.Memory)) (sym is.3)
           (ended reader_new writer engine_new f.Memory 0
-          (at_memory rules width print reader_old reader_new writer_old writer (take held.waiting held.piece.items
+          (at_memory rules width print reader_old reader_new writer_old writer (take held.waiting held.chunk.items
           ++ []) held.text.items [] next.0 0) tt no_more_last
-          (λ same. (s.is_at.decoded ++ take held.waiting held.piece.items, has_read, (ap are_within (pars_last is.0) ∙ within_last is.0, left_over is.0 engine_new is.1 is.2)))
+          (λ same. (s.is_at.decoded ++ take held.waiting held.chunk.items, has_read, (ap are_within (pars_last is.0) ∙ within_last is.0, left_over is.0 engine_new is.1 is.2)))
           (λ n same. absurd (cc same)))
-      ends_finish piece writer_new (Err f.Read) is counts inside failed = absurd is
-      ends_finish piece writer_new (Err f.ParagraphTooLong) is counts inside failed = absurd is
-      ends_finish piece writer_new (Err (f.BadLine n)) is counts inside failed = absurd is
-      ends_finish piece writer_new (Err f.TextTooLong) is counts inside failed = absurd is
+      ends_finish chunk writer_new (Err f.Read) is counts inside failed = absurd is
+      ends_finish chunk writer_new (Err f.ParagraphTooLong) is counts inside failed = absurd is
+      ends_finish chunk writer_new (Err (f.BadLine n)) is counts inside failed = absurd is
+      ends_finish chunk writer_new (Err f.TextTooLong) is counts inside failed = absurd is
 
   -- ---- bytes that were read
   module _ (reader_new : Device) (n : ℕ) (held held_read : Held)
       (s : Stands rules width print reader_old writer_old engine_old reader writer engine held)
       (read : IsRead n held held_read reader reader_new) where
     abbrev bytes_read : List ℕ
-    bytes_read = take (held_read.waiting + n) held_read.piece.items
+    bytes_read = take (held_read.waiting + n) held_read.chunk.items
 
-    parts : bytes_read ≡ take held.waiting held.piece.items ++ take n read.read.buffer
-    parts = ap (λ (h : Held). take (h.waiting + n) held_read.piece.items) read.same ∙ read.read.piece
+    parts : bytes_read ≡ take held.waiting held.chunk.items ++ take n read.read.buffer
+    parts = ap (λ (h : Held). take (h.waiting + n) held_read.chunk.items) read.same ∙ read.read.chunk
 
     -- none, since the source has ended
     pub read_nothing : n ≡ 0 → (writer_new : Device) (engine_new : Engine) (result : Result (Unit {0}) RunFault) → Finishes rules width print held_read writer writer_new result
@@ -404,7 +405,7 @@ module _ (rules : Rules) (width : ℕ) (print : Print) (reader_old writer_old : 
         → Ends rules width print reader_old writer_old engine_old reader_new writer_new engine_new result
     read_nothing none writer_new engine_new result is counts at_most inside failed =
         ends_finish reader_new read.read.buffer held s (subst (λ k. Gives reader reader_new k read.read.buffer) none read.read.gives) engine_new
-        (subst (λ (h : Held). PrintsAtMost (length h.text.items) print engine engine_new) read.same at_most) held_read.piece writer_new result
+        (subst (λ (h : Held). PrintsAtMost (length h.text.items) print engine engine_new) read.same at_most) held_read.chunk writer_new result
         (subst (λ (h : Held). Finishes rules width print h writer writer_new result) read.same is)
         (subst (λ (h : Held). OnOk result (Prints (length h.text.items) print engine engine_new)) read.same counts)
         (subst (λ (h : Held). 0 < h.waiting → engine_new ≡ engine) read.same inside)
@@ -416,19 +417,19 @@ module _ (rules : Rules) (width : ℕ) (print : Print) (reader_old writer_old : 
         let buffer = read.read.buffer in
         let gives = read.read.gives in
         let len : length (take n buffer) ≡ n = length-take-le n buffer read.read.within in
-        let next = at_read reader_new (take held.waiting held.piece.items) held.text.items (take n buffer) s.is_at
+        let next = at_read reader_new (take held.waiting held.chunk.items) held.text.items (take n buffer) s.is_at
         s.all_sent s.text.short s.beginning.few gives.bytes (omega (arith, len, gives.passes.passed))
         gives.passes.failures (omega (arith, len, read.small, s.room)) in
         subst (λ (t : List ℕ). (next : IsAt rules width print reader_old reader_new writer_old writer t held.text.items
         []) × (next.gathered ≡ []) × (next.decoded ≡ s.is_at.decoded) × (next.sent ≡ s.is_at.sent)) (sym parts) next
 
-    abbrev same : held_read ≡ record held { piece = held_read.piece }
+    abbrev same : held_read ≡ record held { chunk = held_read.chunk }
     same = read.same
 
     bytes_len : length bytes_read ≡ held.waiting + n
-    bytes_len = omega (arith, ap length parts, length-append (take held.waiting held.piece.items) (take n read.read.buffer), s.waits, length-take-le n read.read.buffer read.read.within)
+    bytes_len = omega (arith, ap length parts, length-append (take held.waiting held.chunk.items) (take n read.read.buffer), s.waits, length-take-le n read.read.buffer read.read.within)
 
-    room_is : vec_len held_read.piece ≡ PIECE
+    room_is : vec_len held_read.chunk ≡ CHUNK
     room_is = read.room ∙ s.room
 
     -- whatever the engine did then
@@ -456,8 +457,8 @@ module _ (rules : Rules) (width : ℕ) (print : Print) (reader_old writer_old : 
           let sent = s.is_at.sent in
           let text = held.text.items ++ front_of bytes_read in
           let pars : front_paragraphs rules (s.is_at.decoded ++ bytes_read) ≡ sent ++ paragraphs (cut_by rules) text =
-          pars_sent rules width print reader_old reader writer_old writer (take held.waiting held.piece.items) held.text.items [] s.is_at s.all_sent bytes_read in
-          let sent_is : are_within sent ≡ true = sent_within rules width print reader_old reader writer_old writer (take held.waiting held.piece.items) held.text.items [] s.is_at s.all_sent in
+          pars_sent rules width print reader_old reader writer_old writer (take held.waiting held.chunk.items) held.text.items [] s.is_at s.all_sent bytes_read in
+          let sent_is : are_within sent ≡ true = sent_within rules width print reader_old reader writer_old writer (take held.waiting held.chunk.items) held.text.items [] s.is_at s.all_sent in
           let all : length (front_paragraphs rules (s.is_at.decoded ++ bytes_read)) ≡ length sent + length (paragraphs (cut_by rules) text) =
           omega (arith, ap length pars, length-append sent (paragraphs (cut_by rules) text)) in
           let first : sent ≡ take (length sent) (front_paragraphs rules (s.is_at.decoded ++ bytes_read)) =
@@ -687,7 +688,7 @@ module _ (rules : Rules) (width : ℕ) (print : Print) (reader_old writer_old : 
         stands_on is_open good =
             let at = written_is.0 in
             let last = writes.rest in
-            let waiting : take held_last.waiting held_last.piece.items ≡ left = ap (λ (h : Held). take h.waiting h.piece.items) last ∙ g.waiting in
+            let waiting : take held_last.waiting held_last.chunk.items ≡ left = ap (λ (h : Held). take h.waiting h.chunk.items) last ∙ g.waiting in
             let text : held_last.text.items ≡ held_new.text.items = ap (λ (h : Held). h.text.items) last in
             let left_len : length left + utf8_valid_len bytes_read ≡ length bytes_read = omega (arith, length-drop (utf8_valid_len bytes_read) bytes_read, utf8_valid_len_le bytes_read) in
             let pages : page rules width print at.sent ≡ page rules width print s.is_at.sent ++ page rules width print g.pushed.pars =
@@ -712,7 +713,7 @@ module _ (rules : Rules) (width : ℕ) (print : Print) (reader_old writer_old : 
               record { none = left_none; fault = not_bad left good; few = omega (arith, left_len, g.beginning good) },
               written_counts,
             )
-            s.fits waiting text writes.empty (ap (λ (h : Held). vec_len h.piece) last ∙ g.room ∙ room_is)
+            s.fits waiting text writes.empty (ap (λ (h : Held). vec_len h.chunk) last ∙ g.room ∙ room_is)
             (omega (arith, ap length waiting, left_len, g.few, ap (λ (h : Held). h.waiting) last, bytes_len))
 
         gathers_fault : (wrong : RunFault) → fault ≡ Some wrong
@@ -755,7 +756,7 @@ module _ (rules : Rules) (width : ℕ) (print : Print) (reader_old writer_old : 
       read_failed (inl l) writer_new wrong stops = absurd (found_none held_new engine_new fault l writer_new wrong stops)
       read_failed (inr g) writer_new wrong stops =
           let more = take n read.read.buffer in
-          let waiting = take held.waiting held.piece.items in
+          let waiting = take held.waiting held.chunk.items in
           let front_same : held_read.text.items ++ front_of bytes_read ≡ held.text.items ++ front_of (waiting ++ more) =
           ap₂ (λ t b. t ++ front_of b) (ap (λ (h : Held). h.text.items) same) parts in
           record {

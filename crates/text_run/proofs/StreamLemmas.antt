@@ -1,4 +1,4 @@
--- How a run that reads in pieces ends: as one that has read all would.
+-- How a run that reads in chunks ends: as one that has read all would.
 use Rattle.std.proofs.Common.{◌≡◌, ◌⊎◌, inl, inr, ⊎_elim, ℕ, suc, ◌+◌, ◌-◌, ◌<◌, ◌≤◌, ◌&&◌, Bool, true, false, List, [], ◌∷◌, ◌++◌, length, take, drop, min, Option, Some, None, IfSome, unwrap_or, Err, encode_utf8_all, refl, sym, subst, ap, ◌∙◌, arith, if◌then◌else◌}
 use Rattle.std.specs.Prelude.{take_while, is_none}
 use Rattle.std.specs.List.{concat, prefix_len}
@@ -21,10 +21,11 @@ use Rattle.lines.specs.declared.engine.Engine.{Engine}
 use Rattle.lines.specs.declared.print.Print.{Print}
 use Rattle.text_run.specs.declared.faults.RunFault.{RunFault}
 use Rattle.text_run.specs.declared.faults.RunFault.TheVariants as f
-use Rattle.text_run.specs.TextRun.{Ending, AtEnd, are_within, is_within, written_of, ending_of, input_fault, front_of, front_paragraphs, read_ahead, Gave, EndsWith, HasPrinted, IsTextRun, ReadsAhead}
+use Rattle.stream.specs.Utf8.{front_of}
+use Rattle.text_run.specs.TextRun.{Ending, AtEnd, are_within, is_within, written_of, ending_of, input_fault, front_paragraphs, read_ahead, Gave, EndsWith, HasPrinted, IsTextRun, ReadsAhead}
 use Rattle.text_run.specs.Streaming.{IsAt, IsFront, IsOpen, StartsLong}
-use Rattle.text_run.proofs.Fronts.{first_paragraph}
-use Rattle.text_run.proofs.Utf8Lemmas.{take-valid-after}
+use Rattle.bidi.proofs.FrontLemmas.{first_paragraph}
+use Rattle.stream.proofs.Utf8Lemmas.{take-valid-after}
 
 -- ---- which paragraphs are written
 

@@ -1,7 +1,7 @@
 -- Rows of the definitions, worked.
 use Rattle.std.proofs.Common.{◌≡◌, refl}
-use Rattle.text_run.specs.declared.text.TheConstants.{PIECE}
+use Rattle.stream.specs.declared.reading.TheConstants.{CHUNK}
 
 -- so many bytes are asked of a source at a time
-piece_size : PIECE ≡ 65536
+piece_size : CHUNK ≡ 65536
 piece_size = refl

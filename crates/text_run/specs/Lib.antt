@@ -1,6 +1,4 @@
 pub mod Counts
-pub mod Ends
 pub mod Pages
-pub mod Pieces
 pub mod Streaming
 pub mod TextRun

@@ -5,7 +5,7 @@ use Rattle.std.specs.Str.{chars}
 use Rattle.std.specs.Str.Lossy.{utf8_valid_len, utf8_error_len}
 use Rattle.std.specs.Io.KnownBytes.{Consumes}
 use Rattle.bidi.specs.Cuts.{SplitsAt, paragraphs}
-use Rattle.device.specs.Device.{Device, Gives, Wrote, StoppedAt}
+use Rattle.device.specs.Device.{Device, Wrote, StoppedAt}
 use Rattle.lines.specs.Engine.{Prints}
 use Rattle.lines.specs.Layouts.{Rules, cut_by}
 use Rattle.lines.specs.Pages.{page}
@@ -13,10 +13,12 @@ use Rattle.lines.specs.declared.engine.TheConstants.{PARAGRAPH_LIMIT}
 use Rattle.lines.specs.declared.engine.Engine.{Engine}
 use Rattle.lines.specs.declared.print.Print.{Print}
 use Rattle.text_run.specs.Pages.{prints_some}
-use Rattle.text_run.specs.TextRun.{are_within, is_within, front_of, is_bad, read_ahead, HasRead, HasStopped, IsTextRun, PrintsNoMore, ReadsAhead, WantsMemory}
+use Rattle.stream.specs.Reading.{IsReadTo}
+use Rattle.stream.specs.Utf8.{front_of, is_bad}
+use Rattle.text_run.specs.TextRun.{are_within, is_within, read_ahead, HasRead, HasStopped, IsTextRun, PrintsNoMore, ReadsAhead, WantsMemory}
 use Rattle.text_run.specs.declared.faults.RunFault.{RunFault}
 use Rattle.text_run.specs.declared.faults.RunFault.TheVariants as f
-use Rattle.text_run.specs.declared.text.TheConstants.{PIECE}
+use Rattle.stream.specs.declared.reading.TheConstants.{CHUNK}
 use Rattle.text_run.specs.declared.text.Held.{Held}
 
 module _ (is_cut : ℕ → ℕ → Bool) where
@@ -64,20 +66,12 @@ pub record IsBeginning (bytes : List ℕ) : Type 0 where
   pub fault : utf8_error_len bytes ≡ None
   pub few : length bytes < 4
 
--- n bytes were read to a place of a list
-pub record IsReadTo (place n : ℕ) (old new : List ℕ) (reader_old reader_new : Device) : Type 0 where
-  pub buffer : List ℕ
-  pub gives : Gives reader_old reader_new n buffer
-  pub within : n ≤ length buffer
-  pub small : place + n ≤ length old
-  pub piece : take (place + n) new ≡ take place old ++ take n buffer
-
 -- n bytes were read after those that wait
 pub record IsRead (n : ℕ) (old new : Held) (reader_old reader_new : Device) : Type 0 where
-  pub read : IsReadTo old.waiting n old.piece.items new.piece.items reader_old reader_new
-  pub small : old.waiting + n ≤ vec_len old.piece
-  pub room : vec_len new.piece ≡ vec_len old.piece
-  pub same : new ≡ record old { piece = new.piece }
+  pub read : IsReadTo old.waiting n old.chunk.items new.chunk.items reader_old reader_new
+  pub small : old.waiting + n ≤ vec_len old.chunk
+  pub room : vec_len new.chunk ≡ vec_len old.chunk
+  pub same : new ≡ record old { chunk = new.chunk }
 
 -- Some bytes were decoded, and the lines of the paragraphs that are known to end then were gathered. The bytes after the
 -- characters wait, and are wrong or not.
@@ -85,11 +79,11 @@ pub record Gathers (rules : Rules) (width : ℕ) (print : Print) (bytes : List �
   pub pushed : Pushed rules width print (old.text.items ++ front_of bytes) new.text.items old.page.bytes.items new.page.bytes.items engine_old engine_new
   pub fault_is : fault ≡ (if is_bad bytes then Some (f.NotUtf8 new.decoded) else None)
   pub decoded : new.decoded ≡ old.decoded + utf8_valid_len bytes
-  pub waiting : take new.waiting new.piece.items ≡ drop (utf8_valid_len bytes) bytes
+  pub waiting : take new.waiting new.chunk.items ≡ drop (utf8_valid_len bytes) bytes
   pub few : new.waiting + utf8_valid_len bytes ≡ length bytes
   pub beginning : is_bad bytes ≡ false → length bytes < utf8_valid_len bytes + 4
   pub written : new.written ≡ old.written
-  pub room : vec_len new.piece ≡ vec_len old.piece
+  pub room : vec_len new.chunk ≡ vec_len old.chunk
 
 -- or a fault is found before any paragraph ends, and all is left as it is
 pub record FindsFault (rules : Rules) (bytes : List ℕ) (old new : Held) (engine_old engine_new : Engine) (fault : Option RunFault) : Type 0 where
@@ -126,7 +120,7 @@ pub record StopsAfter (rules : Rules) (print : Print) (held : Held) (reader_old 
   pub read : HasRead reader_old reader_new more
   pub pars : List (List ℕ)
   pub rest : List ℕ
-  pub front : IsFront (cut_by rules) pars (held.text.items ++ front_of (take held.waiting held.piece.items ++ more)) rest
+  pub front : IsFront (cut_by rules) pars (held.text.items ++ front_of (take held.waiting held.chunk.items ++ more)) rest
   pub left : IsOpen (cut_by rules) rest
   pub counts : Prints (length (concat pars)) print engine_old engine_new
 
@@ -156,15 +150,15 @@ pub record IsAt (rules : Rules) (width : ℕ) (print : Print) (reader_old reader
 
 -- so it does between two reads, where all lines are written, and counted
 pub record Stands (rules : Rules) (width : ℕ) (print : Print) (reader_old writer_old : Device) (engine_old : Engine) (reader_new writer_new : Device) (engine_new : Engine) (held : Held) : Type 0 where
-  pub is_at : IsAt rules width print reader_old reader_new writer_old writer_new (take held.waiting held.piece.items) held.text.items []
+  pub is_at : IsAt rules width print reader_old reader_new writer_old writer_new (take held.waiting held.chunk.items) held.text.items []
   pub all_sent : is_at.gathered ≡ []
   pub decoded : held.decoded ≡ length is_at.decoded
   pub written : held.written ≡ length (page rules width print is_at.sent)
   pub text : IsOpen (cut_by rules) held.text.items
   pub lines : held.page.bytes.items ≡ []
-  pub beginning : IsBeginning (take held.waiting held.piece.items)
-  pub room : vec_len held.piece ≡ PIECE
-  pub waits : length (take held.waiting held.piece.items) ≡ held.waiting
+  pub beginning : IsBeginning (take held.waiting held.chunk.items)
+  pub room : vec_len held.chunk ≡ CHUNK
+  pub waits : length (take held.waiting held.chunk.items) ≡ held.waiting
   pub fits : Prints 0 print engine_old engine_old
   pub counts : Prints (length (concat is_at.sent)) print engine_old engine_new
 

@@ -1,8 +1,8 @@
 -- What is written for a text, and how its run ends.
-use Rattle.std.specs.Prelude.{◌≡◌, ◌≢◌, ◌⊎◌, ℕ, ◌+◌, ◌-◌, ◌*◌, ◌<◌, ◌==◌, nat_le, Bool, true, false, List, ◌++◌, ◌≤◌, length, take, drop, take_while, encode_utf8_all, Option, Some, None, IfSome, ⊤, is_some, is_none, Result, Ok, Err, if◌then◌else◌}
+use Rattle.std.specs.Prelude.{◌≡◌, ◌≢◌, ◌⊎◌, ℕ, ◌+◌, ◌-◌, ◌*◌, ◌<◌, ◌==◌, nat_le, Bool, true, false, List, ◌++◌, ◌≤◌, length, take, drop, take_while, encode_utf8_all, Option, Some, None, IfSome, ⊤, is_none, Result, Ok, Err, if◌then◌else◌}
 use Rattle.std.specs.List.{concat, list_all}
 use Rattle.std.specs.Str.{chars}
-use Rattle.std.specs.Str.Lossy.{utf8_valid_len, utf8_error_len}
+use Rattle.std.specs.Str.Lossy.{utf8_valid_len}
 use Rattle.std.specs.Io.KnownBytes.{Consumes, IsAtEnd}
 use Rattle.bidi.specs.Cuts.{paragraphs}
 use Rattle.lines.specs.Layouts.{Rules, cut_by}
@@ -15,16 +15,9 @@ use Rattle.text_run.specs.Counts.{PrintsAtMost}
 use Rattle.text_run.specs.Pages.{prints_some}
 use Rattle.text_run.specs.declared.faults.RunFault.{RunFault}
 use Rattle.text_run.specs.declared.faults.RunFault.TheVariants as fault
-use Rattle.text_run.specs.declared.text.TheConstants.{PIECE}
+use Rattle.stream.specs.Utf8.{front_of, is_bad}
+use Rattle.stream.specs.declared.reading.TheConstants.{CHUNK}
 use Rattle.device.specs.Device.{Device, FailedLast, Took, Wrote, StoppedAt}
-
--- the characters before the first byte that is not UTF-8
-abbrev pub front_of : List ℕ → List ℕ
-front_of bytes = chars (take (utf8_valid_len bytes) bytes)
-
--- whether the bytes after the front can begin no character, whatever follows them
-abbrev pub is_bad : List ℕ → Bool
-is_bad bytes = is_some (utf8_error_len (drop (utf8_valid_len bytes) bytes))
 
 -- how an input ended: the source had no more, or it failed
 pub data Ending : Type 0 where
@@ -137,9 +130,9 @@ HasStopped rules width print reader_old reader_new writer_old writer_new engine_
     × StoppedAt n (page rules width print (take k pars)) writer_old writer_new
     × Prints (length (concat (take k pars))) print engine_old engine_new)
 
--- how many bytes a run reads after the paragraphs that it has written, at most: those of one character more than a paragraph may have, and one piece
+-- how many bytes a run reads after the paragraphs that it has written, at most: those of one character more than a paragraph may have, and one chunk
 abbrev pub read_ahead : ℕ
-read_ahead = 4 * (PARAGRAPH_LIMIT + 1) + PIECE
+read_ahead = 4 * (PARAGRAPH_LIMIT + 1) + CHUNK
 
 -- Where a run ended with a fault, the lines of the first k paragraphs of what the reader gave were written, and n bytes of the next
 -- one's. At most so many bytes after these k paragraphs were read.

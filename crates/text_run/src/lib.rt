@@ -1,6 +1,6 @@
 //! The run of a text: its bytes in, its paragraphs' lines out.
 //!
-//! `run_text` reads any source in pieces, and writes the lines of each paragraph to any sink before it reads
+//! `run_text` reads any source in chunks, and writes the lines of each paragraph to any sink before it reads
 //! more. A `RunFault` is why a run ended early; what was written until then is stated too. The program runs
 //! each of its texts so:
 //!
@@ -21,9 +21,7 @@
 mod faults;
 mod page;
 mod paragraphs;
-mod pieces;
 mod text;
 
 pub use faults::RunFault;
-pub use pieces::front;
-pub use text::{PIECE, run_text, zeroed};
+pub use text::run_text;

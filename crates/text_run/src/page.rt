@@ -1,6 +1,5 @@
-//! What is written for a text, gathered in memory: so the writer gets it in large pieces, however
-//! short the lines are.
-ghost use Rattle.std.specs.Prelude.{◌≡◌, ◌++◌, ◌<◌, [], true, length, OnErr, OnOk};
+//! The lines of a paragraph, added to a page.
+ghost use Rattle.std.specs.Prelude.{◌≡◌, ◌++◌, ◌<◌, true, length, OnErr, OnOk};
 ghost use Rattle.lines.specs.Engine.{rules_of, Prints, SameRules};
 ghost use Rattle.lines.specs.Layouts.{IsParagraph};
 ghost use Rattle.lines.specs.Pages.{paragraph_bytes};
@@ -8,62 +7,9 @@ ghost use Rattle.lines.specs.declared.print.Print.{Print};
 ghost use Rattle.text_run.specs.Counts.{PrintsAtMost};
 ghost use Rattle.text_run.specs.Pages.{prints_some};
 
-use device::Sink;
 use lines::{Engine, Print};
 use std::alloc::{AllocError, Global};
-use std::io::ErrorKind;
-
-/// A sink in memory. It fails only where memory runs out.
-#[derive(Debug, Drop)]
-pub struct Page {
-    pub(crate) bytes: Vec<u8>,
-    failures: u64,
-    failed_at: u64,
-}
-
-impl Page {
-    /// An empty page.
-    pub fn new(alloc: Global) -> Page
-        ensures { result.bytes.items ≡ [] }
-    {
-        Page {
-            bytes: Vec::new(alloc),
-            failures: 0,
-            failed_at: 0,
-        }
-    }
-
-    /// Empties it.
-    pub fn clear(&mut self)
-        ensures { self.new.bytes.items ≡ [] }
-    {
-        self.bytes.clear();
-    }
-
-    /// What it holds.
-    pub fn bytes(&self) -> &[u8]
-        ensures { result.now ≡ self.now.bytes.items }
-    {
-        &self.bytes
-    }
-}
-
-impl Sink for Page {
-    ghost use Rattle.text_run.specs.Pages.{page_state};
-
-    ghost state = { page_state };
-
-    fn write(&mut self, bytes: &[u8]) -> Result<usize, ErrorKind> {
-        match self.bytes.extend_from_slice(bytes) {
-            Ok(()) => Ok(bytes.len()),
-            Err(_) => {
-                self.failures = self.failures.saturating_add(1);
-                self.failed_at = self.bytes.len() as u64;
-                Err(ErrorKind::OutOfMemory)
-            }
-        }
-    }
-}
+use stream::Page;
 
 /// Adds the lines of one paragraph. It takes no memory where nothing is printed of it.
 pub fn push_paragraph(

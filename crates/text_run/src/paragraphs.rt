@@ -12,11 +12,11 @@ ghost use Rattle.text_run.specs.Streaming.{IsEnded, IsFaultAhead, IsOpen, Pushed
 ghost use Rattle.text_run.specs.TextRun.{are_within};
 
 use crate::faults::RunFault;
-use crate::page::{Page, counts_fit, prints_some, push_paragraph};
-use crate::pieces::push_characters;
+use crate::page::{counts_fit, prints_some, push_paragraph};
 use bidi::paragraphs_are_pieces;
 use lines::{Engine, PARAGRAPH_LIMIT, Print};
 use std::alloc::{AllocError, Global};
+use stream::{Page, push_characters};
 
 // What the characters that come after a text make of its first paragraph.
 #[derive(Clone, Copy, Debug, PartialEq, Eq)]

@@ -1,9 +1,9 @@
-//! The run of a text: its bytes are read piece by piece, its paragraphs are laid out as soon as it is known
+//! The run of a text: its bytes are read chunk by chunk, its paragraphs are laid out as soon as it is known
 //! where they end, and their lines are written before more is read. What is written and how the run ends is
 //! one function of what the source gives.
 ghost use Rattle.std.specs.Prelude.{◌≡◌, ◌+◌, ◌-◌, ◌++◌, ◌<◌, ◌≤◌, ◌^◌, ◌⊎◌, ℕ, [], false, true};
 ghost use Rattle.std.specs.Prelude.{None, Some, Ok};
-ghost use Rattle.std.specs.Prelude.{take, drop, length, replicate, vec_len};
+ghost use Rattle.std.specs.Prelude.{take, drop, length, vec_len};
 ghost use Rattle.std.specs.Prelude.{IfOk, IfErr, IsErrOf, OnOk, OnErr, if◌then◌else◌};
 ghost use Rattle.std.specs.Str.Lossy.{utf8_valid_len};
 ghost use Rattle.bidi.specs.Cuts.{paragraphs, SplitsAt};
@@ -14,29 +14,27 @@ ghost use Rattle.lines.specs.declared.engine.Engine.{Engine};
 ghost use Rattle.lines.specs.declared.engine.TheConstants.{PARAGRAPH_LIMIT};
 ghost use Rattle.text_run.specs.Counts.{PrintsAtMost};
 ghost use Rattle.text_run.specs.Pages.{prints_some};
-ghost use Rattle.text_run.specs.Streaming.{FindsFault, Finishes, Gathers, GathersLast, IsRead, IsReadTo};
+ghost use Rattle.text_run.specs.Streaming.{FindsFault, Finishes, Gathers, GathersLast, IsRead};
 ghost use Rattle.text_run.specs.Streaming.{Stands, Steps, StopsAfter, StopsWriting, Writes};
-ghost use Rattle.text_run.specs.TextRun.{are_within, front_of, is_bad};
+ghost use Rattle.stream.specs.Utf8.{front_of, is_bad};
+ghost use Rattle.text_run.specs.TextRun.{are_within};
 ghost use Rattle.text_run.specs.TextRun.{HasStopped, IsTextRun, PrintsNoMore};
 ghost use Rattle.text_run.specs.TextRun.{ReadsAhead, TellsReads, WantsMemory};
 
 use crate::faults::RunFault;
-use crate::page::{Page, counts_fit, push_paragraph};
+use crate::page::{counts_fit, push_paragraph};
 use crate::paragraphs::{bad_at, fault_ahead, push_text};
-use crate::pieces::front;
 use device::{Sink, Source, write_all};
 use lines::{Engine, Print};
 use std::alloc::{AllocError, Global};
 use std::io::ErrorKind;
-
-/// How many bytes are asked of a source at a time.
-pub const PIECE: usize = 65_536;
+use stream::{CHUNK, Page, front, read_to, zeroed};
 
 /// What a run holds between two reads.
 #[derive(Debug)]
 struct Held {
     // What was read last, and how many bytes at its front are the beginning of a character.
-    piece: Vec<u8>,
+    chunk: Vec<u8>,
     waiting: usize,
     // How many bytes before these were decoded.
     decoded: u64,
@@ -50,7 +48,7 @@ struct Held {
 impl Drop for Held {
     fn drop(self) {
         let Held {
-            piece: _,
+            chunk: _,
             waiting: _,
             decoded: _,
             text: _,
@@ -60,38 +58,15 @@ impl Drop for Held {
     }
 }
 
-/// A buffer of `len` zeros.
-pub fn zeroed(alloc: Global, len: usize) -> Result<Vec<u8>, AllocError>
-    ensures len { IfOk result (λ buffer. vec_len buffer ≡ len) }
-    ensures zeros { IfOk result (λ buffer. buffer.items ≡ replicate len 0) }
-{
-    vec![in alloc; 0; len]
-}
-
-// Reads bytes to a place of a buffer, and says how many.
-fn read_to<R: Source>(reader: &mut R, buffer: &mut [u8], place: usize) -> Result<usize, ErrorKind>
-    requires { place < length buffer.old }
-    ensures ok { IfOk result (λ n.
-        IsReadTo place n buffer.old buffer.new (R.state reader.old) (R.state reader.new)) }
-    ensures err { OnErr result (Fails (R.state reader.old) (R.state reader.new)) }
-    ensures len { length buffer.new ≡ length buffer.old }
-{
-    let (_, after) = buffer.split_at_mut(place);
-    match reader.read(after) {
-        Ok(n) => Ok(n),
-        Err(error) => Err(error),
-    }
-}
-
 impl Held {
     fn new(alloc: Global) -> Result<Held, AllocError>
-        ensures room { IfOk result (λ held. vec_len held.piece ≡ PIECE) }
+        ensures room { IfOk result (λ held. vec_len held.chunk ≡ CHUNK) }
         ensures waiting { IfOk result (λ held. (held.waiting ≡ 0) × (held.decoded ≡ 0) × (held.written ≡ 0)) }
         ensures text { IfOk result (λ held. held.text.items ≡ []) }
         ensures page { IfOk result (λ held. held.page.bytes.items ≡ []) }
     {
         Ok(Held {
-            piece: zeroed(alloc, PIECE)?,
+            chunk: zeroed(alloc, CHUNK)?,
             waiting: 0,
             decoded: 0,
             text: Vec::new(alloc),
@@ -102,12 +77,12 @@ impl Held {
 
     // Reads bytes after those that wait, and says how many.
     fn read<R: Source>(&mut self, reader: &mut R) -> Result<usize, ErrorKind>
-        requires { self.old.waiting < vec_len self.old.piece }
+        requires { self.old.waiting < vec_len self.old.chunk }
         ensures ok { IfOk result (λ n.
             IsRead n self.old self.new (R.state reader.old) (R.state reader.new)) }
         ensures err { OnErr result (Fails (R.state reader.old) (R.state reader.new)) }
     {
-        read_to(reader, &mut self.piece, self.waiting)
+        read_to(reader, &mut self.chunk, self.waiting)
     }
 
     // Decodes the bytes that wait and `len` more, and gathers the lines of the paragraphs that are known to
@@ -124,33 +99,33 @@ impl Held {
         requires width { 0 < width }
         requires uncut { SplitsAt (cut_by (rules_of engine.old)) self.old.text.items None }
         requires short { length self.old.text.items ≤ PARAGRAPH_LIMIT }
-        requires room { vec_len self.old.piece ≡ PIECE }
-        requires len { self.old.waiting + len ≤ vec_len self.old.piece }
+        requires room { vec_len self.old.chunk ≡ CHUNK }
+        requires len { self.old.waiting + len ≤ vec_len self.old.chunk }
         requires counted { self.old.decoded + (self.old.waiting + len) ≤ 2 ^ 64 - 1 }
         ensures gathers { IfOk result (λ fault. FindsFault (rules_of engine.old)
-            (take (self.old.waiting + len) self.old.piece.items) self.old self.new
+            (take (self.old.waiting + len) self.old.chunk.items) self.old self.new
             engine.old engine.new fault
             ⊎ Gathers (rules_of engine.old) width print.now
-            (take (self.old.waiting + len) self.old.piece.items) self.old self.new
+            (take (self.old.waiting + len) self.old.chunk.items) self.old self.new
             engine.old engine.new fault) }
         ensures memory { OnErr result (are_within (paragraphs (cut_by (rules_of engine.old))
-            (self.old.text.items ++ front_of (take (self.old.waiting + len) self.old.piece.items))) ≡ true) }
-        ensures ended { OnErr result (is_bad (take (self.old.waiting + len) self.old.piece.items) ≡ true
+            (self.old.text.items ++ front_of (take (self.old.waiting + len) self.old.chunk.items))) ≡ true) }
+        ensures ended { OnErr result (is_bad (take (self.old.waiting + len) self.old.chunk.items) ≡ true
             → 1 < length (paragraphs (cut_by (rules_of engine.old))
-            (self.old.text.items ++ front_of (take (self.old.waiting + len) self.old.piece.items)))) }
+            (self.old.text.items ++ front_of (take (self.old.waiting + len) self.old.chunk.items)))) }
         ensures decoded { OnErr result
-            (0 < utf8_valid_len (take (self.old.waiting + len) self.old.piece.items)) }
+            (0 < utf8_valid_len (take (self.old.waiting + len) self.old.chunk.items)) }
         // Nor for what is printed, where nothing is.
         ensures some { OnErr result (prints_some print.now ≡ false → engine.new ≡ engine.old) }
-        ensures piece { OnErr result ((self.new.piece ≡ self.old.piece)
+        ensures chunk { OnErr result ((self.new.chunk ≡ self.old.chunk)
             × (self.new.waiting ≡ self.old.waiting)) }
         ensures at_most { PrintsAtMost
-            (length (self.old.text.items ++ front_of (take (self.old.waiting + len) self.old.piece.items)))
+            (length (self.old.text.items ++ front_of (take (self.old.waiting + len) self.old.chunk.items)))
             print.now engine.old engine.new }
         ensures rules { SameRules engine.old engine.new }
     {
         let filled = self.waiting + len;
-        let (more, is_bad) = front(&self.piece[..filled]);
+        let (more, is_bad) = front(&self.chunk[..filled]);
         let front = more.len();
         let place = self.decoded + front as u64;
         if let Some(fault) = fault_ahead(engine, &self.text, more, is_bad, place) {
@@ -208,18 +183,18 @@ impl Held {
 
     // Keeps the bytes between two places, which are no characters yet.
     fn keep_bytes(&mut self, start: usize, end: usize)
-        requires within { (start ≤ end) × (end ≤ vec_len self.old.piece) }
+        requires within { (start ≤ end) × (end ≤ vec_len self.old.chunk) }
         requires counted { self.old.decoded + start ≤ 2 ^ 64 - 1 }
-        ensures bytes { take self.new.waiting self.new.piece.items
-            ≡ drop start (take end self.old.piece.items) }
+        ensures bytes { take self.new.waiting self.new.chunk.items
+            ≡ drop start (take end self.old.chunk.items) }
         ensures waiting { self.new.waiting ≡ end - start }
         ensures decoded { self.new.decoded ≡ self.old.decoded + start }
-        ensures room { vec_len self.new.piece ≡ vec_len self.old.piece }
+        ensures room { vec_len self.new.chunk ≡ vec_len self.old.chunk }
         ensures text { self.new.text ≡ self.old.text }
         ensures page { self.new.page ≡ self.old.page }
         ensures written { self.new.written ≡ self.old.written }
     {
-        self.piece.copy_within(start..end, 0);
+        self.chunk.copy_within(start..end, 0);
         self.waiting = end - start;
         self.decoded += start as u64;
     }
@@ -259,7 +234,7 @@ fn finish<W: Sink>(
     held.write(writer)
 }
 
-// Reads a piece, and writes the lines of the paragraphs that are known to end then. Says whether the text
+// Reads a chunk, and writes the lines of the paragraphs that are known to end then. Says whether the text
 // goes on.
 fn step<R: Source, W: Sink>(
     alloc: Global,
@@ -293,7 +268,7 @@ fn step<R: Source, W: Sink>(
     // And where some was, a character of it is decoded.
     ensures decoded { IsErrOf result RunFault.Memory → (n : ℕ)
         → (R.state reader.new).passed ≡ (R.state reader.old).passed + n → 0 < n
-        → 0 < utf8_valid_len (take (held.new.waiting + n) held.new.piece.items) }
+        → 0 < utf8_valid_len (take (held.new.waiting + n) held.new.chunk.items) }
 
     // Where the sink failed after bytes were read, no more was printed than what was to be written.
     ensures stopped { (n : ℕ) → IsErrOf result (RunFault.Write n)
@@ -327,7 +302,7 @@ fn step<R: Source, W: Sink>(
 }
 
 /// Writes the lines of a text's paragraphs at a width in columns, which is not 0. What is known to end is
-/// written before more is read: of the input, no more is held than its last paragraph and one piece.
+/// written before more is read: of the input, no more is held than its last paragraph and one chunk.
 pub fn run_text<R: Source, W: Sink>(
     alloc: Global,
     reader: &mut R,

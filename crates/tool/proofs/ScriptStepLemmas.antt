@@ -26,7 +26,7 @@ use Rattle.text_run.proofs.Devices.{Took-nothing}
 use Rattle.tool.proofs.WorkLemmas.{lines_work_front, lines_work_more, works_none}
 use Rattle.tool.proofs.ScriptLemmas.{IsDone, after_more, answers_more, ends_at_failure, ends_line, ends_short, ends_whole, first_part, lines_after, parts_some}
 use Rattle.text_run.proofs.StreamLemmas.{Consumes-append, Consumes-kept, Wrote-append, had, had_all}
-use Rattle.text_run.specs.declared.text.TheConstants.{PIECE}
+use Rattle.stream.specs.declared.reading.TheConstants.{CHUNK}
 use Rattle.tool.specs.declared.script.TheConstants.{LINE_LIMIT}
 
 with_ends_more : (ls : List (List ℕ)) (l : List ℕ) → length (with_ends (ls ++ l ∷ [])) ≡ length (with_ends ls) + (length l + 1)
@@ -63,7 +63,7 @@ module _ (rules : Rules) (options : ScriptOptions) (start : SessionState) (reade
     -- ---- a piece is read
     pub at_read : (reader_new : Device) (n : ℕ) (buffer : List ℕ)
         → IsAt rules options start reader_old reader writer_old writer now reading []
-        → Gives reader reader_new n buffer → n ≤ length buffer → n ≤ PIECE
+        → Gives reader reader_new n buffer → n ≤ length buffer → n ≤ CHUNK
         → IsAt rules options start reader_old reader_new writer_old writer now reading (take n buffer)
     at_read reader_new n buffer at gives within small =
         let piece = take n buffer in

@@ -19,7 +19,7 @@ use Rattle.tool.specs.ScriptEnds.{IsScriptRun}
 use Rattle.tool.specs.ScriptRun.{after_line, after_lines, answer_line, answer_to, after_request, answers, damage_text, is_good, obeyed, obeyed_text, request_refusal, refusal_text, with_ends}
 use Rattle.tool.specs.Work.{LineWorks, LinesWork}
 use Rattle.text_run.specs.declared.faults.RunFault.{RunFault}
-use Rattle.text_run.specs.declared.text.TheConstants.{PIECE}
+use Rattle.stream.specs.declared.reading.TheConstants.{CHUNK}
 use Rattle.tool.specs.declared.script.TheConstants.{LINE_LIMIT}
 use Rattle.text_run.specs.declared.faults.RunFault.TheVariants as f
 use Rattle.tool.specs.declared.script.Reading.{Reading}
@@ -183,7 +183,7 @@ pub record IsAt (rules : Rules) (options : ScriptOptions) (start : SessionState)
   pub works : LinesWork rules options.queries (held_at start) done start.engine now.engine
   pub lines : reading.lines ≡ length done
   pub written : reading.written ≡ length (answers rules options (held_at start) done)
-  pub ahead : length reading.line.items + length waiting ≤ LINE_LIMIT + PIECE
+  pub ahead : length reading.line.items + length waiting ≤ LINE_LIMIT + CHUNK
   pub short : length reading.line.items ≤ LINE_LIMIT
 
 -- Memory runs out for one line: after those that were obeyed, for the first one that ends in what waits, or that goes on in it.

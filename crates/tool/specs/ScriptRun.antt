@@ -16,7 +16,7 @@ use Rattle.tool.specs.Scripts.{Request, Insert, Delete, SetWidth, Show, Ask, req
 use Rattle.text_run.specs.TextRun.{Ending, AtEnd, AtFailure}
 use Rattle.text_run.specs.declared.faults.RunFault.{RunFault}
 use Rattle.text_run.specs.declared.faults.RunFault.TheVariants as fault
-use Rattle.text_run.specs.declared.text.TheConstants.{PIECE}
+use Rattle.stream.specs.declared.reading.TheConstants.{CHUNK}
 use Rattle.tool.specs.declared.script.ScriptOptions.{ScriptOptions}
 use Rattle.tool.specs.declared.script.TheConstants.{LINE_LIMIT}
 
@@ -119,7 +119,7 @@ script_fault queries ending lines =
 
 -- how many bytes a run reads after the lines that it has answered, at most: a line with its end, and one piece
 abbrev pub line_read_ahead : ℕ
-line_read_ahead = LINE_LIMIT + 1 + PIECE
+line_read_ahead = LINE_LIMIT + 1 + CHUNK
 
 abbrev pub with_ends : List (List ℕ) → List ℕ
 with_ends lines = concat (map (λ line. line ++ 10 ∷ []) lines)

@@ -13,7 +13,7 @@ ghost use Rattle.lines.specs.Writing.{PassedOn};
 ghost use Rattle.session.specs.Sessions.{SessionState, held_at, page_at, IsWholeLayout};
 ghost use Rattle.std.specs.Io.KnownBytes.{IsAtEnd};
 ghost use Rattle.text_run.specs.TextRun.{TellsReads};
-ghost use Rattle.text_run.specs.declared.text.TheConstants.{PIECE};
+ghost use Rattle.stream.specs.declared.reading.TheConstants.{CHUNK};
 ghost use Rattle.tool.specs.Requests.{request_of};
 ghost use Rattle.tool.specs.Reading.{CanFeed, Edited, EndsIn, FailsAt, FailsIn, Feeds, Grows};
 ghost use Rattle.tool.specs.Reading.{GrowsNot, IsAt, NoEnd, Obeys, ObeysLine, ObeysNot, Steps, Stops};
@@ -30,7 +30,8 @@ use lines::Print;
 use session::{Damage, EditFault, Kept, Session};
 use std::alloc::{AllocError, Global};
 use store::ParagraphStore;
-use text_run::{PIECE, RunFault, front, zeroed};
+use stream::{CHUNK, front, push_characters, zeroed};
+use text_run::RunFault;
 
 /// How many bytes a line may have, without its end.
 pub const LINE_LIMIT: usize = 1_048_576;
@@ -245,20 +246,6 @@ fn read_line(
     read_request(queries, text, piece)
 }
 
-fn push_characters(text: &str, characters: &mut Vec<char>) -> Result<(), AllocError>
-    ensures ok { OnOk result (characters.new.items ≡ characters.old.items ++ chars text.now) }
-    ensures memory { OnErr result (0 < length text.now) }
-    ensures part { OnErr result (length characters.new.items
-        < length characters.old.items + length (chars text.now)) }
-    ensures full { OnErr result
-        (vec_capacity characters.old < vec_len characters.old + length (chars text.now)) }
-{
-    for c in text.chars() {
-        characters.push(c)?;
-    }
-    Ok(())
-}
-
 // Obeys the line that was read.
 fn obey_line<W: Sink, S: ParagraphStore<Kept>>(
     session: &mut Session<S>,
@@ -445,7 +432,7 @@ fn step<R: Source, W: Sink, S: ParagraphStore<Kept>>(
     piece: &mut [u8],
     reading: &mut Reading,
 ) -> Result<bool, RunFault>
-    requires room { length piece.old ≡ PIECE }
+    requires room { length piece.old ≡ CHUNK }
     requires stands { (start : SessionState) × (reader_start : Device) × (writer_start : Device)
         × IsAt (rules_of session.old.engine) options.now start reader_start (R.state reader.old)
         writer_start (W.state writer.old) session.old reading.old [] }
@@ -550,7 +537,7 @@ fn run_over<R: Source, W: Sink, S: ParagraphStore<Kept>>(
     ensures reads { TellsReads result (R.state reader.old) (R.state reader.new) }
     ensures rules { SameRules session.old.engine session.new.engine }
 {
-    let Ok(mut piece) = zeroed(alloc, PIECE) else {
+    let Ok(mut piece) = zeroed(alloc, CHUNK) else {
         return Err(RunFault::Memory);
     };
     let mut reading = Reading {

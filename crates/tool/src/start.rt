@@ -7,7 +7,8 @@ use lines::Engine;
 use session::{EditFault, Kept, Session};
 use std::alloc::Global;
 use store::ParagraphStore;
-use text_run::{RunFault, front};
+use stream::front;
+use text_run::RunFault;
 
 /// A session on the text that some bytes are, at a width in columns, which is not 0.
 pub fn open_text<S: ParagraphStore<Kept> + Drop>(

@@ -1,5 +1,5 @@
 use Rattle.lines.specs.Engine.{rules_of}
-use Rattle.text_run.specs.Pages.{page_state}
+use Rattle.stream.specs.Pages.{page_state}
 use Rattle.text_run.proofs.PrintLemmas.{some_printed}
 use Rattle.text_run.proofs.page.push_paragraph.Goals as goal
 

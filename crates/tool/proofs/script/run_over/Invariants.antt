@@ -3,7 +3,7 @@ use Rattle.device.specs.Device.{greatest}
 use Rattle.lines.specs.Engine.{rules_of}
 use Rattle.tool.specs.Reading.{IsAt}
 use Rattle.tool.proofs.script.run_over.Given as goal
-use Rattle.text_run.specs.declared.text.TheConstants.{PIECE}
+use Rattle.stream.specs.declared.reading.TheConstants.{CHUNK}
 
 -- the run stands between two reads
 abbrev pub invariant-loop-reading : goal.invariant-loop-reading
@@ -12,7 +12,7 @@ invariant-loop-reading g l =
     let writer = g.W.Sink.state in
     record {
       kept : rules_of l.session.engine ≡ rules_of l.fn.session.engine;
-      room : vec_len l.piece ≡ PIECE;
+      room : vec_len l.piece ≡ CHUNK;
       stands : IsAt (rules_of l.fn.session.engine) l.options l.fn.session (reader l.fn.reader) (reader l.reader) (writer l.fn.writer) (writer l.writer) l.session l.reading [];
     }
 

@@ -4,10 +4,10 @@ use Rattle.std.proofs.lemmas.Str.{utf8_valid_len_le}
 use Rattle.std.specs.Str.Lossy.{utf8_valid_len}
 use Rattle.lines.specs.Engine.{rules_of}
 use Rattle.lines.specs.Layouts.{cut_by}
-use Rattle.text_run.specs.declared.page.Page.{Page}
+use Rattle.stream.specs.declared.page.Page.{Page}
 use Rattle.text_run.specs.declared.faults.RunFault.TheVariants as f
 use Rattle.text_run.specs.Streaming.{FindsFault, Gathers, IsFaultAhead, Pushed}
-use Rattle.text_run.specs.TextRun.{front_of, is_bad}
+use Rattle.stream.specs.Utf8.{front_of, is_bad}
 use Rattle.text_run.proofs.LongLemmas.{front_few}
 use Rattle.std.specs.Str.{chars}
 use Rattle.text_run.proofs.text.Held.gather.Goals as goal
@@ -33,8 +33,8 @@ pub returns-in-Some-clause-gathers : goal.returns-in-Some-clause-gathers
 returns-in-Some-clause-gathers c =
     let old = c.args.self.now in
     let filled = old.waiting + c.args.len in
-    let piece = c.deref.result.now in
-    let bytes = take filled piece in
+    let chunk = c.deref.result.now in
+    let bytes = take filled chunk in
     let front = c.front-is_bad.result.0.now in
     let found : FindsFault (rules_of c.args.engine.now) bytes old old c.args.engine.now c.args.engine.now (Some c.in-Some.fault) = record {
       wrong = c.in-Some.fault;
@@ -84,9 +84,9 @@ returns-clause-gathers c =
     let new = c.keep_bytes.new.self in
     let engine = c.push_text.new.engine in
     let filled = old.waiting + c.args.len in
-    let piece = c.deref.result.now in
-    let bytes = take filled piece in
-    let bytes_len : length bytes ≡ filled = length-take-le filled piece (omega (arith, c.requires.len, c.deref.ensures.len)) in
+    let chunk = c.deref.result.now in
+    let bytes = take filled chunk in
+    let bytes_len : length bytes ≡ filled = length-take-le filled chunk (omega (arith, c.requires.len, c.deref.ensures.len)) in
     let rest = c.push_text.new.held.items in
     let after = c.push_text.new.page.bytes.items in
     let left : new.text.items ≡ rest = ap (λ (v : _). v.items) c.keep_bytes.ensures.text in

@@ -1,32 +1,31 @@
-//! The characters of a text whose bytes come in pieces, each of which may end inside a character.
+//! The characters of a text whose bytes come in chunks, each of which may end inside a character.
 ghost use Rattle.std.specs.Prelude.{◌≡◌, ◌+◌, ◌++◌, ◌<◌, ◌≤◌, ℕ, false, true, None, OnErr, OnOk};
 ghost use Rattle.std.specs.Prelude.{length, slice_index, take, vec_len, vec_capacity};
 ghost use Rattle.std.specs.Str.{chars};
 ghost use Rattle.std.specs.Str.Lossy.{utf8_valid_len, utf8_error_len};
-ghost use Rattle.text_run.specs.Ends.{Moved};
-ghost use Rattle.text_run.specs.Pieces.{char_len, IsCutOff};
-ghost use Rattle.text_run.specs.TextRun.{is_bad};
+ghost use Rattle.stream.specs.Utf8.{is_bad, char_len, IsCutOff, Moved};
 
 use simdutf8::compat::from_utf8;
 use std::alloc::AllocError;
 use std::mem;
 
-/// Adds the characters of a text.
+/// Adds the characters of a text to a list. If the allocation fails, the list keeps what it has.
 pub fn push_characters(text: &str, characters: &mut Vec<char>) -> Result<(), AllocError>
     ensures ok { OnOk result (characters.new.items ≡ characters.old.items ++ chars text.now) }
+    ensures err { OnErr result (characters.new.items ≡ characters.old.items) }
     ensures memory { OnErr result (0 < length text.now) }
     ensures full { OnErr result (vec_capacity characters.old < vec_len characters.old + length text.now) }
     ensures capacity { vec_capacity characters.old ≤ vec_capacity characters.new }
 {
     characters.reserve(text.len())?;
-    // The list is taken out meanwhile, so that its length isn't written to memory for each character.
+    // Moving the list out keeps its length in a register: else it is stored for each character.
     let alloc = *characters.allocator();
     let list = mem::replace(characters, Vec::new(alloc));
     *characters = with_all(text, list);
     Ok(())
 }
 
-// A list, which has room for the bytes of a text, with the characters of it.
+// Adds the characters of a text to a list with capacity for its bytes.
 fn with_all(text: &str, characters: Vec<char>) -> Vec<char>
     requires { vec_len characters + length text.now ≤ vec_capacity characters }
     ensures items { result.items ≡ characters.items ++ chars text.now }
@@ -40,13 +39,13 @@ fn with_all(text: &str, characters: Vec<char>) -> Vec<char>
     list
 }
 
-// Adds the first characters of a text that have as many bytes, and says what is left of it.
+// Adds the first characters of a text with the same number of bytes, and returns the rest.
 #[inline(always)]
 fn push_some<'a>(text: &'a str, characters: &mut Vec<char>) -> &'a str
     requires some { 0 < length text.now }
-    requires room { vec_len characters.old + length text.now ≤ vec_capacity characters.old }
+    requires capacity_left { vec_len characters.old + length text.now ≤ vec_capacity characters.old }
     ensures pushed { Moved characters.old.items text.now characters.new.items result.now }
-    ensures room { vec_len characters.new + length result.now ≤ vec_capacity characters.new }
+    ensures capacity_left { vec_len characters.new + length result.now ≤ vec_capacity characters.new }
     ensures capacity { vec_capacity characters.new ≡ vec_capacity characters.old }
     ensures less { length result.now < length text.now }
 {
@@ -60,14 +59,14 @@ fn push_some<'a>(text: &'a str, characters: &mut Vec<char>) -> &'a str
     }
 }
 
-// Adds the first character of a text, and those after it up to one whose first byte isn't between two others.
-// A loop for each number of bytes takes fewer steps, and guesses better where it ends.
+// Adds the first character of a text, and those after it while their first byte is between two others. A loop
+// for each number of bytes has fewer steps, and its end is predicted better.
 #[inline(always)]
 fn push_row<'a>(text: &'a str, low: u8, high: u8, characters: &mut Vec<char>) -> &'a str
     requires some { 0 < length text.now }
-    requires room { vec_len characters.old + length text.now ≤ vec_capacity characters.old }
+    requires capacity_left { vec_len characters.old + length text.now ≤ vec_capacity characters.old }
     ensures pushed { Moved characters.old.items text.now characters.new.items result.now }
-    ensures room { vec_len characters.new + length result.now ≤ vec_capacity characters.new }
+    ensures capacity_left { vec_len characters.new + length result.now ≤ vec_capacity characters.new }
     ensures capacity { vec_capacity characters.new ≡ vec_capacity characters.old }
     ensures less { length result.now < length text.now }
 {
@@ -97,13 +96,14 @@ fn begins_between(text: &str, low: u8, high: u8) -> bool
     }
 }
 
-/// The longest front of some bytes that is UTF-8, and whether what stands after it can begin no character.
+/// Returns the longest front of some bytes that is UTF-8, and whether no character begins with the bytes after
+/// it.
 pub fn front(bytes: &[u8]) -> (&str, bool)
     ensures text { result.0.now ≡ take (utf8_valid_len bytes.now) bytes.now }
     ensures bad { result.1 ≡ is_bad bytes.now }
     ensures few { result.1 ≡ false → length bytes.now < utf8_valid_len bytes.now + 4 }
 {
-    // A piece ends inside a character more often than not: so its bytes are looked at once then, too.
+    // A chunk mostly ends inside a character: with this, it is also validated once.
     let (whole, cut) = bytes.split_at(whole_len(bytes));
     match from_utf8(whole) {
         Ok(text) if is_beginning(cut) => (text, false),
@@ -111,7 +111,7 @@ pub fn front(bytes: &[u8]) -> (&str, bool)
     }
 }
 
-// The same, of any bytes.
+// The same, for any bytes.
 fn checked(bytes: &[u8]) -> (&str, bool)
     ensures text { result.0.now ≡ take (utf8_valid_len bytes.now) bytes.now }
     ensures bad { result.1 ≡ is_bad bytes.now }
@@ -127,7 +127,7 @@ fn checked(bytes: &[u8]) -> (&str, bool)
     }
 }
 
-// Whether some bytes are the beginning of a character and no more, or none at all.
+// Whether some bytes are empty, or only the beginning of a character.
 fn is_beginning(bytes: &[u8]) -> bool
     ensures none { result ≡ true → utf8_valid_len bytes.now ≡ 0 }
     ensures fault { result ≡ true → utf8_error_len bytes.now ≡ None }
@@ -140,7 +140,7 @@ fn is_beginning(bytes: &[u8]) -> bool
     }
 }
 
-// Where the last character of some bytes begins, if it seems to be cut off, and else the end.
+// The index of the last character of some bytes, if it seems to be cut off, or else the length.
 fn whole_len(bytes: &[u8]) -> usize
     ensures within { result ≤ length bytes.now }
     ensures cut { result < length bytes.now → IsCutOff bytes.now result }
@@ -163,7 +163,7 @@ fn whole_len(bytes: &[u8]) -> usize
     bytes.len()
 }
 
-// How many bytes a character has that begins with this one, which isn't ASCII.
+// The length of a character by its first byte, which is not ASCII.
 fn char_len(first: u8) -> usize
     ensures { result ≡ char_len first }
 {

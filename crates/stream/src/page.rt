@@ -1,13 +1,13 @@
-//! Bytes that are gathered in memory before they go out to an array, so that nothing is written where it has
-//! too little room.
+//! A sink that collects bytes in memory.
 ghost use Rattle.std.specs.Prelude.{◌≡◌, []};
 
 use device::Sink;
 use std::alloc::Global;
 use std::io::ErrorKind;
 
-/// A sink in memory. It fails only where memory runs out.
-#[derive(Drop)]
+/// Bytes that are collected before they are written, so that the writer gets large chunks, or none at all. As a
+/// sink it fails only if an allocation fails.
+#[derive(Debug, Drop)]
 pub struct Page {
     pub bytes: Vec<u8>,
     failures: u64,
@@ -15,7 +15,7 @@ pub struct Page {
 }
 
 impl Page {
-    /// An empty page.
+    /// An empty page. Allocates nothing.
     pub fn new(alloc: Global) -> Page
         ensures { result.bytes.items ≡ [] }
     {
@@ -25,10 +25,24 @@ impl Page {
             failed_at: 0,
         }
     }
+
+    /// Removes all bytes, and keeps the capacity.
+    pub fn clear(&mut self)
+        ensures { self.new.bytes.items ≡ [] }
+    {
+        self.bytes.clear();
+    }
+
+    /// The bytes.
+    pub fn bytes(&self) -> &[u8]
+        ensures { result.now ≡ self.now.bytes.items }
+    {
+        &self.bytes
+    }
 }
 
 impl Sink for Page {
-    ghost use Rattle.hordguli_c.specs.Texts.{page_state};
+    ghost use Rattle.stream.specs.Pages.{page_state};
 
     ghost state = { page_state };
 

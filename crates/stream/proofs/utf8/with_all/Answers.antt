@@ -1,7 +1,7 @@
 use Rattle.std.proofs.Common.{◌≡◌, ◌∙◌, ◌==◌, ℕ, true, length, sym, arith}
 use Rattle.std.proofs.lemmas.Bool.Decides.{nat_tests}
-use Rattle.text_run.proofs.MoveLemmas.{moved_all}
-use Rattle.text_run.proofs.pieces.with_all.Goals as goal
+use Rattle.stream.proofs.MoveLemmas.{moved_all}
+use Rattle.stream.proofs.utf8.with_all.Goals as goal
 
 nothing : (n : ℕ) → (n == 0) ≡ true → n ≡ 0
 nothing n is = grind (arith, nat_tests)

@@ -1,7 +1,7 @@
 use Rattle.std.proofs.Common.{ℕ, ◌≡◌, ◌+◌, ◌-◌, ◌<◌, ◌≤◌, Bool, true, false, if◌then◌else◌, length, get_or, nat_lt, ⊎_elim, subst, sym, arith}
 use Rattle.std.proofs.lemmas.Bool.{cases_lt}
-use Rattle.text_run.specs.Pieces.{char_len}
-use Rattle.text_run.proofs.pieces.whole_len.Goals as goal
+use Rattle.stream.specs.Utf8.{char_len}
+use Rattle.stream.proofs.utf8.whole_len.Goals as goal
 
 char_len_most : (first : ℕ) → char_len first ≤ 4
 char_len_most first = go (nat_lt first 0xE0) (nat_lt first 0xF0)

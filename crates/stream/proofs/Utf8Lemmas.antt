@@ -10,7 +10,7 @@ use Rattle.std.specs.Prelude.{is_some}
 use Rattle.std.specs.Str.{IsUtf8, IsValidUpTo, is_utf8}
 use Rattle.std.specs.Int.{is_in_range}
 use Rattle.std.specs.Str.Lossy.{utf8_valid_len, utf8_error_len, valid_len_up_to, second_byte_min, second_byte_max, error_len_after_one, error_len_after_two}
-use Rattle.text_run.specs.TextRun.{is_bad}
+use Rattle.stream.specs.Utf8.{is_bad}
 use lib.Utf8.{encode, encodes, scalar, scalars, scalar_cases}
 
 longest_front : (bs : List ℕ) (m : ℕ)

@@ -1,7 +1,7 @@
 use Rattle.std.proofs.Common.{◌≡◌, ◌++◌, ◌∙◌, sym, ap₂, subst}
 use Rattle.std.proofs.lemmas.List.{take-append-drop}
-use Rattle.text_run.proofs.Utf8Lemmas.{IsTextUpTo, text_up_to}
-use Rattle.text_run.proofs.pieces.front.Goals as goal
+use Rattle.stream.proofs.Utf8Lemmas.{IsTextUpTo, text_up_to}
+use Rattle.stream.proofs.utf8.front.Goals as goal
 
 -- all but the beginning of a character at the end
 is_text : (c : goal.After-text-then-is_beginning-1) → IsTextUpTo c.args.bytes.now c.in-Ok.text.now

@@ -1,6 +1,6 @@
 use Rattle.std.proofs.Common.{◌≡◌, ◌∙◌, ◌+◌, ◌++◌, length, take, ap, arith}
 use Rattle.std.proofs.Math.Seq.{take-append-add}
-use Rattle.text_run.proofs.text.read_to.Goals as goal
+use Rattle.stream.proofs.reading.read_to.Goals as goal
 
 pub returns-in-Ok-clause-ok : goal.returns-in-Ok-clause-ok
 returns-in-Ok-clause-ok g c =
@@ -14,5 +14,5 @@ returns-in-Ok-clause-ok g c =
       gives = c.in-Ok.ensures.reads;
       within = c.in-Ok.ensures.bound;
       small = omega (arith, c.in-Ok.ensures.bound, c.split_at_mut-after.ensures.back_len, c.read.auto.buffer, c.requires);
-      piece = ap (λ k. take k (front ++ buffer)) there ∙ take-append-add front buffer n ∙ ap (λ t. t ++ take n buffer) c.split_at_mut-after.ensures.front;
+      chunk = ap (λ k. take k (front ++ buffer)) there ∙ take-append-add front buffer n ∙ ap (λ t. t ++ take n buffer) c.split_at_mut-after.ensures.front;
     }

@@ -4,7 +4,7 @@ use Rattle.std.specs.Prelude.{IsUtf8}
 use Rattle.std.specs.Str.{chars}
 use Rattle.std.proofs.lemmas.List.{append_assoc, append-nil, nil_from_length}
 use Rattle.std.proofs.lemmas.Str.{chars-nil, chars_past_char}
-use Rattle.text_run.specs.Ends.{Moved}
+use Rattle.stream.specs.Utf8.{Moved}
 use lib.Utf8.{encode}
 
 pub moved_one : (before text after new rest more : List ℕ) (c : ℕ) → Moved before text after rest → new ≡ after ++ c ∷ [] → IsUtf8 rest → rest ≡ encode c ++ more → Moved before text new more

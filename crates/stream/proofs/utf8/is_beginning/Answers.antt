@@ -1,8 +1,8 @@
 use Rattle.std.proofs.Common.{◌≡◌, ℕ, ◌==◌, true, length, List, refl, sym, ◌∙◌, arith}
 use Rattle.std.proofs.lemmas.Bool.Decides.{nat_tests}
 use Rattle.std.proofs.lemmas.Str.{utf8_valid_len-IsUtf8}
-use Rattle.text_run.proofs.Utf8Lemmas.{nothing_bad, nothing_valid}
-use Rattle.text_run.proofs.pieces.is_beginning.Goals as goal
+use Rattle.stream.proofs.Utf8Lemmas.{nothing_bad, nothing_valid}
+use Rattle.stream.proofs.utf8.is_beginning.Goals as goal
 
 empty : (bytes : List ℕ) → (length bytes == 0) ≡ true → length bytes ≡ 0
 empty bytes is = grind (arith, nat_tests)

@@ -1,5 +1,5 @@
 use Rattle.std.proofs.Common.{ℕ, ◌+◌, ◌<◌, length, get_or}
-use Rattle.text_run.proofs.pieces.whole_len.Given as goal
+use Rattle.stream.proofs.utf8.whole_len.Given as goal
 
 -- no character of several bytes begins after the place that is looked at
 abbrev pub invariant-loop-after : goal.invariant-loop-after

@@ -1,8 +1,8 @@
 use Rattle.std.proofs.Common.{◌≡◌, ◌+◌, ◌<◌, ◌≤◌, length, vec_len, vec_capacity}
 use denote.Text.{Utf8}
 use denote.Shadow.{shadow}
-use Rattle.text_run.specs.Ends.{Moved}
-use Rattle.text_run.proofs.pieces.push_row.Given as goal
+use Rattle.stream.specs.Utf8.{Moved}
+use Rattle.stream.proofs.utf8.push_row.Given as goal
 
 abbrev pub invariant-loop-c : goal.invariant-loop-c
 invariant-loop-c l = record {
@@ -10,7 +10,7 @@ invariant-loop-c l = record {
   some : 0 < length l.rest;
   few : length l.rest ≤ length l.text;
   moved : Moved l.fn.characters.items l.text l.characters.items l.rest;
-  room : vec_len l.characters + length l.rest ≤ vec_capacity l.characters;
+  capacity_left : vec_len l.characters + length l.rest ≤ vec_capacity l.characters;
   capacity : vec_capacity l.characters ≡ vec_capacity l.fn.characters;
 }
 

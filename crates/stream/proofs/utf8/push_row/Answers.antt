@@ -1,8 +1,8 @@
 use Rattle.std.proofs.Common.{◌≡◌, ◌∙◌, ◌+◌, ◌<◌, ◌++◌, length, sym, ap, arith}
 use Rattle.std.proofs.lemmas.List.{length-append}
 use Rattle.std.proofs.lemmas.Str.{len_utf8_bounds, length-encode}
-use Rattle.text_run.proofs.MoveLemmas.{moved_one}
-use Rattle.text_run.proofs.pieces.push_row.Goals as goal
+use Rattle.stream.proofs.MoveLemmas.{moved_one}
+use Rattle.stream.proofs.utf8.push_row.Goals as goal
 use lib.Utf8.{encode}
 
 pub returns-then-not-begins_between-clause-pushed : goal.returns-then-not-begins_between-clause-pushed
@@ -26,6 +26,6 @@ loop-c-preserved c =
           moved_one c.args.characters.now.items c.args.text.now c.loop-c.characters.items c.push_reserved.new.self.items c.loop-c.rest.now c.as_str-rest.result.now c.in-Some.c
           c.loop-c.invariant.moved c.push_reserved.ensures.items c.loop-c.invariant.utf8
           (sym c.chars-left.ensures.rest ∙ c.in-Some.ensures.steps.0 ∙ ap (λ t. encode c.in-Some.c ++ t) (sym c.as_str-rest.ensures));
-      room = omega (arith, len, least, c.loop-c.invariant.room, c.push_reserved.ensures.len, c.push_reserved.ensures.capacity);
+      capacity_left = omega (arith, len, least, c.loop-c.invariant.capacity_left, c.push_reserved.ensures.len, c.push_reserved.ensures.capacity);
       capacity = c.push_reserved.ensures.capacity ∙ c.loop-c.invariant.capacity;
     }

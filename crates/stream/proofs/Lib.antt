@@ -1,0 +1,2 @@
+mod MoveLemmas
+pub mod Utf8Lemmas

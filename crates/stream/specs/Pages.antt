@@ -1,0 +1,13 @@
+-- A page as a sink.
+use Rattle.std.specs.Prelude.{Some, length}
+use Rattle.device.specs.Device.{Device}
+use Rattle.stream.specs.declared.page.Page.{Page}
+
+-- it shows its bytes, all of which were written
+abbrev pub page_state : Page → Device
+page_state page = record {
+  bytes = Some page.bytes.items;
+  passed = length page.bytes.items;
+  failures = page.failures;
+  failed_at = page.failed_at;
+}

@@ -1,0 +1,17 @@
+//! Chunked reading: bytes from a source, their characters, and bytes that are collected before they are written.
+//!
+//! `front` splits bytes that end anywhere: the text of the whole characters, and whether the rest is invalid.
+//!
+//! ```rust
+//! let (text, is_bad) = front(b"ab\xd7");
+//! assert!(rt; text == "ab" && !is_bad);
+//! ```
+#![tactic(auto)]
+
+mod page;
+mod reading;
+mod utf8;
+
+pub use page::Page;
+pub use reading::{CHUNK, read_to, zeroed};
+pub use utf8::{front, push_characters};
