@@ -78,7 +78,7 @@ scalar_of bytes more c utf8 is =
 chars_one : (c : ℕ) → scalar c ≡ true → chars (encode c) ≡ c ∷ []
 chars_one c valid = chars_past_char (encode c) [] c (IsUtf8-encode c valid) (sym (append-nil (encode c))) ∙ ap (λ t. c ∷ t) chars-nil
 
-some_chars : (bytes : List ℕ) → IsUtf8 bytes → 0 < length bytes → 0 < length (chars bytes)
+pub some_chars : (bytes : List ℕ) → IsUtf8 bytes → 0 < length bytes → 0 < length (chars bytes)
 some_chars bytes utf8 some = go (chars bytes) (encodes-chars bytes utf8)
   where
     go : (cs : List ℕ) → encodes cs ≡ bytes → 0 < length cs

@@ -83,7 +83,7 @@ fn run_settings(rt: &HostRuntime, settings: &Settings<'_>) -> Result<(), Program
     let mut engine = Engine::new(tables, settings.options);
     let mut output = ToWrite::new(rt.stdout());
     match settings.script {
-        Some(script) => obey(rt, script, &mut output, engine, settings),
+        Some(script) => execute(rt, script, &mut output, engine, settings),
         None => write_texts(rt, &mut output, &mut engine, settings),
     }
 }
@@ -172,7 +172,7 @@ fn write_text<R: Read + Drop>(
 }
 
 // Runs an edit script over the one text, which is read first.
-fn obey(
+fn execute(
     rt: &HostRuntime,
     script: &str,
     output: &mut ToWrite<Stdout>,
@@ -182,10 +182,10 @@ fn obey(
     requires { 0 < settings.now.width }
 {
     let text = script_text(rt, settings.files.first().copied())?;
-    obey_over(rt, &text, script, output, engine, settings)
+    execute_over(rt, &text, script, output, engine, settings)
 }
 
-fn obey_over(
+fn execute_over(
     rt: &HostRuntime,
     text: &[u8],
     script: &str,
@@ -196,12 +196,12 @@ fn obey_over(
     requires { 0 < settings.now.width }
 {
     match open_text(rt.alloc(), engine, text, settings.width) {
-        Ok(session) => obey_file(rt, script, output, session, &script_options(settings)),
+        Ok(session) => execute_file(rt, script, output, session, &script_options(settings)),
         Err(fault) => Err(ProgramFault::Run(fault)),
     }
 }
 
-fn obey_file(
+fn execute_file(
     rt: &HostRuntime,
     script: &str,
     output: &mut ToWrite<Stdout>,
@@ -209,7 +209,7 @@ fn obey_file(
     options: &ScriptOptions,
 ) -> Result<(), ProgramFault> {
     match File::open(rt, script) {
-        Ok(script) => obey_lines(rt.alloc(), script, output, session, options),
+        Ok(script) => execute_lines(rt.alloc(), script, output, session, options),
         Err(_) => Err(ProgramFault::Run(RunFault::Read)),
     }
 }
@@ -228,7 +228,7 @@ fn script_text(rt: &HostRuntime, path: Option<&str>) -> Result<Vec<u8>, ProgramF
     }
 }
 
-fn obey_lines(
+fn execute_lines(
     alloc: Global,
     script: File,
     output: &mut ToWrite<Stdout>,

@@ -42,7 +42,7 @@ pub fn run(rt: &HostRuntime, text: &str, script: &str) -> Result<(), ProgramFaul
 
 fn run_script_over(rt: &HostRuntime, text: &[u8], script: File) -> Result<(), ProgramFault> {
     match open_text(rt.alloc(), engine(rt.alloc())?, text, 80) {
-        Ok(session) => obey_lines(rt, script, session),
+        Ok(session) => execute_lines(rt, script, session),
         Err(fault) => Err(ProgramFault::Run(fault)),
     }
 }
@@ -54,7 +54,7 @@ fn engine(alloc: Global) -> Result<Engine, ProgramFault> {
     }
 }
 
-fn obey_lines(
+fn execute_lines(
     rt: &HostRuntime,
     script: File,
     session: Session<VecStore<Kept>>,

@@ -22,7 +22,7 @@ use store::{ParagraphStore, TreeStore, VecStore};
 // tried here, as of a line's printing, may end the program with another status.
 fn main(rt: HostRuntime) -> ExitCode {
     if let Some((text, script)) = list_script::files(&rt) {
-        return obey(&rt, &text, &script);
+        return execute(&rt, &text, &script);
     }
     match print_all(&rt) {
         Ok(()) => ExitCode::SUCCESS,
@@ -30,7 +30,7 @@ fn main(rt: HostRuntime) -> ExitCode {
     }
 }
 
-fn obey(rt: &HostRuntime, text: &str, script: &str) -> ExitCode {
+fn execute(rt: &HostRuntime, text: &str, script: &str) -> ExitCode {
     let Err(fault) = list_script::run(rt, text, script) else {
         return ExitCode::SUCCESS;
     };

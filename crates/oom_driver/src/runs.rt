@@ -62,15 +62,15 @@ const ANSWERS: &[u8] = b"@ 1 1 2\n@ 0 3 1\n@ 0 2 6\na\nb\ny\nd\ne\nf\n";
 // What is written before each of its lines that may want memory.
 const UNFINISHED: [&[u8]; 3] = [b"", b"@ 1 1 2\n", b"@ 1 1 2\n@ 0 3 1\n"];
 
-/// Obeys a script.
+/// Executes a script.
 pub fn try_script<S: ParagraphStore<Kept> + Drop>(alloc: Global) -> Result<(), Wrong> {
     let mut page = Printed::new();
-    if is_refused(obey::<S>(alloc, &mut page)?) {
+    if is_refused(execute::<S>(alloc, &mut page)?) {
         if !page.is_one_of(&UNFINISHED) {
             return Err("answered in part");
         }
         page = Printed::new();
-        if obey::<S>(alloc, &mut page)?.is_err() {
+        if execute::<S>(alloc, &mut page)?.is_err() {
             return Err("refused twice");
         }
     }
@@ -80,15 +80,15 @@ pub fn try_script<S: ParagraphStore<Kept> + Drop>(alloc: Global) -> Result<(), W
     Ok(())
 }
 
-fn obey<S: ParagraphStore<Kept> + Drop>(
+fn execute<S: ParagraphStore<Kept> + Drop>(
     alloc: Global,
     page: &mut Printed,
 ) -> Result<Result<(), RunFault>, Wrong> {
     let session: Session<S> = open(alloc)?;
-    Ok(obey_in(alloc, session, page))
+    Ok(execute_in(alloc, session, page))
 }
 
-fn obey_in<S: ParagraphStore<Kept> + Drop>(
+fn execute_in<S: ParagraphStore<Kept> + Drop>(
     alloc: Global,
     session: Session<S>,
     page: &mut Printed,

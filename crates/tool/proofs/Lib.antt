@@ -1,7 +1,7 @@
 pub mod EscapeLemmas
 pub mod NumberLemmas
 pub mod QueryLemmas
-pub mod RequestLemmas
+pub mod CommandLemmas
 pub mod ScriptLemmas
 pub mod ScriptStepLemmas
 pub mod StartLemmas

@@ -13,9 +13,9 @@ use Rattle.session.specs.Edits.{Held}
 use Rattle.session.specs.Sessions.{SessionState, held_at}
 use Rattle.tool.specs.Reading.{FailsAt, NoEnd}
 use Rattle.tool.specs.declared.script.Reading.{Reading}
-use Rattle.tool.specs.Scripts.{is_line_end, lines_among, request_of_line, script_lines}
+use Rattle.tool.specs.Scripts.{is_line_end, lines_among, command_of_line, script_lines}
 use Rattle.tool.specs.ScriptRun.{after_line, after_lines, answer_line, answers, good_lines, input_fault, is_good, line_read_ahead, script_fault, with_ends}
-use Rattle.tool.specs.ScriptEnds.{Answered, EndsAfter, IsScriptRun, WantsMore, obeyed_lines}
+use Rattle.tool.specs.ScriptEnds.{Answered, EndsAfter, IsScriptRun, WantsMore, executed_lines}
 use Rattle.tool.specs.Work.{LineWorks, LinesWork}
 use Rattle.text_run.specs.TextRun.{Ending, AtEnd, AtFailure, Gave}
 use Rattle.text_run.specs.declared.faults.RunFault.{RunFault}
@@ -87,14 +87,14 @@ module _ (queries : Bool) where
 module _ (rules : Rules) (options : ScriptOptions) where
   pub after_more : (held : Held) (ls ms : List (List ℕ)) → after_lines rules options.queries held (ls ++ ms) ≡ after_lines rules options.queries (after_lines rules options.queries held ls) ms
   after_more held [] ms = refl
-  after_more held (l ∷ ls) ms = after_more (after_line rules held (request_of_line options.queries l)) ls ms
+  after_more held (l ∷ ls) ms = after_more (after_line rules held (command_of_line options.queries l)) ls ms
 
   pub answers_more : (held : Held) (ls ms : List (List ℕ)) → answers rules options held (ls ++ ms)
       ≡ answers rules options held ls ++ answers rules options (after_lines rules options.queries held ls) ms
   answers_more held [] ms = refl
   answers_more held (l ∷ ls) ms =
-      let here = answer_line rules options.print held (request_of_line options.queries l) in
-      let next = after_line rules held (request_of_line options.queries l) in
+      let here = answer_line rules options.print held (command_of_line options.queries l) in
+      let next = after_line rules held (command_of_line options.queries l) in
       ap (λ t. here ++ t) (answers_more next ls ms) ∙ sym (append_assoc here (answers rules options next ls) (answers rules options (after_lines rules options.queries next ls) ms))
 
 -- ---- how the run ends
@@ -113,7 +113,7 @@ module _ (rules : Rules) (options : ScriptOptions) (start now : SessionState) (r
   -- the run ends after the lines done
   ends_after : (lines done others : List (List ℕ)) (wrong stop : Option RunFault) → lines ≡ done ++ others → IsDone done
       → Answered rules options before (done ++ others) wrong (length done) writer_old writer_new stop
-      → held_at now ≡ after_lines rules options.queries before (obeyed_lines (done ++ others) (length done) stop)
+      → held_at now ≡ after_lines rules options.queries before (executed_lines (done ++ others) (length done) stop)
       → LinesWork rules options.queries before (done ++ take 1 others) start.engine now.engine → WantsMore done reader_old reader_new stop
       → After lines wrong (length done) stop
   ends_after lines done others wrong stop is ahead wrote held works wants =
@@ -230,9 +230,9 @@ module _ (rules : Rules) (options : ScriptOptions) (start now : SessionState) (r
       → is_good options.queries line ≡ true → held ≡ after_lines rules options.queries before done → written
       ≡ length (answers rules options before done)
       → Wrote (answers rules options before done) writer_old writer_mid
-      → StoppedIn (answer_line rules options.print held (request_of_line options.queries line)) written writer_mid
+      → StoppedIn (answer_line rules options.print held (command_of_line options.queries line)) written writer_mid
       writer_new n → IsDone done
-      → held_at now ≡ after_line rules held (request_of_line options.queries line) → LinesWork rules options.queries before (done ++ line ∷ []) start.engine now.engine
+      → held_at now ≡ after_line rules held (command_of_line options.queries line) → LinesWork rules options.queries before (done ++ line ∷ []) start.engine now.engine
       → IsScriptRun rules options start now reader_old reader_new writer_old writer_new (Err (f.Write n))
   ends_write ending bytes done line others held written n writer_mid gave lines good here held_is count wrote stopped ahead now_is works =
       let are : good_lines options.queries (script_lines ending bytes) ≡ done
@@ -242,10 +242,10 @@ module _ (rules : Rules) (options : ScriptOptions) (start now : SessionState) (r
       let first : take (length done) (done ++ line ∷ good_lines options.queries others) ≡ done = take-append_seam done (line ∷ good_lines options.queries others) in
       let both : take (length done + 1) (done ++ line ∷ good_lines options.queries others) ≡ done ++ line ∷ [] = take-append-add done (line ∷ good_lines options.queries others) 1 in
       let front = answers rules options before done in
-      let next = answer_line rules options.print (after_lines rules options.queries before done) (request_of_line options.queries line) in
+      let next = answer_line rules options.print (after_lines rules options.queries before done) (command_of_line options.queries line) in
       let m = n - written in
       let stopped_next : StoppedAt m next writer_mid writer_new =
-      subst (λ (h : Held). StoppedAt m (answer_line rules options.print h (request_of_line options.queries line))
+      subst (λ (h : Held). StoppedAt m (answer_line rules options.print h (command_of_line options.queries line))
       writer_mid writer_new) held_is stopped.stopped in
       let m_is : n ≡ length front + m = omega (arith, stopped.after, count) in
       let took : Took writer_old writer_new (front ++ take m next) = Took-append writer_old writer_mid writer_new front (take m next) wrote.0 stopped_next.1 in
@@ -263,7 +263,7 @@ module _ (rules : Rules) (options : ScriptOptions) (start now : SessionState) (r
       (take (length done) (done ++ line ∷ good_lines options.queries others))) ≤ n =
       omega (arith, ap (λ (ls : List (List ℕ)). length (answers rules options before ls)) first, m_is) in
       let held_now : held_at now ≡ after_lines rules options.queries before (take (length done + 1) (done ++ line ∷ good_lines options.queries others)) =
-      now_is ∙ ap (λ (h : Held). after_line rules h (request_of_line options.queries line)) held_is
+      now_is ∙ ap (λ (h : Held). after_line rules h (command_of_line options.queries line)) held_is
       ∙ sym (after_more rules options before done (line ∷ []))
       ∙ ap (after_lines rules options.queries before) (sym both) in (
         ending,

@@ -13,8 +13,8 @@ use Rattle.lines.specs.Layouts.{Rules}
 use Rattle.tool.specs.declared.script.ScriptOptions.{ScriptOptions}
 use Rattle.session.specs.Edits.{Held}
 use Rattle.session.specs.Sessions.{SessionState, held_at}
-use Rattle.tool.specs.Reading.{EndsIn, EndsLine, FailsAt, FailsIn, FailsLine, GoesOn, GrowsNot, IsAt, NoEnd, ObeysLine, Steps, Takes, WantsIn}
-use Rattle.tool.specs.Scripts.{is_last_line, is_line_end, lines_among, request_of_line, script_lines}
+use Rattle.tool.specs.Reading.{EndsIn, EndsLine, FailsAt, FailsIn, FailsLine, GoesOn, GrowsNot, IsAt, NoEnd, ExecutesLine, Steps, Takes, WantsIn}
+use Rattle.tool.specs.Scripts.{is_last_line, is_line_end, lines_among, command_of_line, script_lines}
 use Rattle.tool.specs.ScriptEnds.{IsScriptRun}
 use Rattle.tool.specs.ScriptRun.{after_line, after_lines, answer_line, answers, good_lines, is_good, with_ends}
 use Rattle.tool.specs.Work.{LineWorks, LinesWork}
@@ -110,46 +110,46 @@ module _ (rules : Rules) (options : ScriptOptions) (start : SessionState) (reade
         short = more.grows.short;
       }
 
-      module _ (line : List ℕ) (state : SessionState) (new : Reading) (writer_new : Device) (obeys : ObeysLine rules options line (held_at now) (held_at state) reading new writer writer_new) where
-        next_answer : answer_line rules options.print (held_at now) (request_of_line options.queries line) ≡ answers rules options (after_lines rules options.queries before at.done) (line ∷ [])
-        next_answer = ap (λ h. answer_line rules options.print h (request_of_line options.queries line)) at.held_is
+      module _ (line : List ℕ) (state : SessionState) (new : Reading) (writer_new : Device) (executes : ExecutesLine rules options line (held_at now) (held_at state) reading new writer writer_new) where
+        next_answer : answer_line rules options.print (held_at now) (command_of_line options.queries line) ≡ answers rules options (after_lines rules options.queries before at.done) (line ∷ [])
+        next_answer = ap (λ h. answer_line rules options.print h (command_of_line options.queries line)) at.held_is
             ∙ sym (append-nil (answer_line rules options.print (after_lines rules options.queries before at.done)
-            (request_of_line options.queries line)))
+            (command_of_line options.queries line)))
 
-        answers_are : answers rules options before (at.done ++ line ∷ []) ≡ answers rules options before at.done ++ answer_line rules options.print (held_at now) (request_of_line options.queries line)
+        answers_are : answers rules options before (at.done ++ line ∷ []) ≡ answers rules options before at.done ++ answer_line rules options.print (held_at now) (command_of_line options.queries line)
         answers_are = answers_more rules options before at.done (line ∷ []) ∙ ap (λ t. answers rules options before at.done ++ t) (sym next_answer)
 
-        pub obeyed_good : list_all (is_good options.queries) (at.done ++ line ∷ []) ≡ true
-        obeyed_good = list_all-append (is_good options.queries) at.done (line ∷ []) ∙ ap (λ (b : Bool). b && (is_good options.queries line && true)) at.good ∙ ap (λ (b : Bool). b && true) obeys.good
+        pub executed_good : list_all (is_good options.queries) (at.done ++ line ∷ []) ≡ true
+        executed_good = list_all-append (is_good options.queries) at.done (line ∷ []) ∙ ap (λ (b : Bool). b && (is_good options.queries line && true)) at.good ∙ ap (λ (b : Bool). b && true) executes.good
 
-        pub obeyed_wrote : Wrote (answers rules options before (at.done ++ line ∷ [])) writer_old writer_new
-        obeyed_wrote = subst (λ t. Wrote t writer_old writer_new) (sym answers_are)
+        pub executed_wrote : Wrote (answers rules options before (at.done ++ line ∷ [])) writer_old writer_new
+        executed_wrote = subst (λ t. Wrote t writer_old writer_new) (sym answers_are)
             (Wrote-append writer_old writer writer_new (answers rules options before at.done)
-            (answer_line rules options.print (held_at now) (request_of_line options.queries line)) at.wrote
-            obeys.wrote.wrote)
+            (answer_line rules options.print (held_at now) (command_of_line options.queries line)) at.wrote
+            executes.wrote.wrote)
 
-        pub obeyed_held : held_at state ≡ after_lines rules options.queries before (at.done ++ line ∷ [])
-        obeyed_held = obeys.held ∙ ap (λ h. after_line rules h (request_of_line options.queries line)) at.held_is ∙ sym (after_more rules options before at.done (line ∷ []))
+        pub executed_held : held_at state ≡ after_lines rules options.queries before (at.done ++ line ∷ [])
+        executed_held = executes.held ∙ ap (λ h. after_line rules h (command_of_line options.queries line)) at.held_is ∙ sym (after_more rules options before at.done (line ∷ []))
 
-        pub obeyed_works : LineWorks rules options.queries (held_at now) line now.engine state.engine → LinesWork rules options.queries before (at.done ++ line ∷ []) start.engine state.engine
-        obeyed_works works = lines_work_more rules options.queries before (held_at now) at.done line start.engine now.engine state.engine at.held_is at.works works
+        pub executed_works : LineWorks rules options.queries (held_at now) line now.engine state.engine → LinesWork rules options.queries before (at.done ++ line ∷ []) start.engine state.engine
+        executed_works works = lines_work_more rules options.queries before (held_at now) at.done line start.engine now.engine state.engine at.held_is at.works works
 
-        pub obeyed_written : new.written ≡ length (answers rules options before (at.done ++ line ∷ []))
-        obeyed_written = omega (
+        pub executed_written : new.written ≡ length (answers rules options before (at.done ++ line ∷ []))
+        executed_written = omega (
           arith,
-          obeys.wrote.count,
+          executes.wrote.count,
           at.written,
           ap length answers_are,
           length-append
               (answers rules options before at.done)
-              (answer_line rules options.print (held_at now) (request_of_line options.queries line)),
+              (answer_line rules options.print (held_at now) (command_of_line options.queries line)),
         )
 
       pub at_line : (n : ℕ) (state : SessionState) (new : Reading) (writer_new : Device) (taken : EndsLine rules options waiting n now state reading new writer writer_new)
           → IsAt rules options start reader_old reader writer_old writer_new state new taken.after
       at_line n state new writer_new taken =
           let line = reading.line.items ++ taken.front in
-          let obeys = taken.obeys in
+          let executes = taken.executes in
           let whole = length-append taken.front (10 ∷ taken.after) in
           record {
             bytes = at.bytes;
@@ -160,17 +160,17 @@ module _ (rules : Rules) (options : ScriptOptions) (start : SessionState) (reade
             parts = λ more.
                 at.parts more ∙ ap (λ t. at.done ++ t) (ended_first reading.line.items waiting taken.front taken.after more at.none taken.ends)
                 ∙ sym (append_assoc at.done (line ∷ []) (slice_split is_line_end (taken.after ++ more)))
-                ∙ ap (λ t. (at.done ++ line ∷ []) ++ slice_split is_line_end (t ++ (taken.after ++ more))) (sym obeys.empty);
-            good = obeyed_good line state new writer_new obeys;
-            none = subst NoEnd (sym obeys.empty) (λ k d within. absurd (omega (arith, within)));
-            size = omega (arith, at.size, with_ends_more at.done line, length-append reading.line.items taken.front, ap length taken.ends.whole, whole, ap length obeys.empty);
-            wrote = obeyed_wrote line state new writer_new obeys;
-            held_is = obeyed_held line state new writer_new obeys;
-            works = obeyed_works line state new writer_new obeys taken.works;
-            lines = omega (arith, obeys.lines, at.lines, length-append at.done (line ∷ []));
-            written = obeyed_written line state new writer_new obeys;
-            ahead = omega (arith, at.ahead, ap length taken.ends.whole, whole, ap length obeys.empty);
-            short = omega (arith, ap length obeys.empty);
+                ∙ ap (λ t. (at.done ++ line ∷ []) ++ slice_split is_line_end (t ++ (taken.after ++ more))) (sym executes.empty);
+            good = executed_good line state new writer_new executes;
+            none = subst NoEnd (sym executes.empty) (λ k d within. absurd (omega (arith, within)));
+            size = omega (arith, at.size, with_ends_more at.done line, length-append reading.line.items taken.front, ap length taken.ends.whole, whole, ap length executes.empty);
+            wrote = executed_wrote line state new writer_new executes;
+            held_is = executed_held line state new writer_new executes;
+            works = executed_works line state new writer_new executes taken.works;
+            lines = omega (arith, executes.lines, at.lines, length-append at.done (line ∷ []));
+            written = executed_written line state new writer_new executes;
+            ahead = omega (arith, at.ahead, ap length taken.ends.whole, whole, ap length executes.empty);
+            short = omega (arith, ap length executes.empty);
           }
 
       pub at_taken : (n : ℕ) (state : SessionState) (new : Reading) (writer_new : Device) → Takes rules options waiting n now state reading new writer writer_new
@@ -301,18 +301,18 @@ module _ (rules : Rules) (options : ScriptOptions) (start : SessionState) (reade
               let is_some : nat_lt 0 (length reading.line.items) ≡ true = grind (arith, nat_tests, some) in
               all_lines AtEnd ∙ ap (λ (b : Bool). at.done ++ (if b then reading.line.items ∷ [] else [])) is_some
 
-          pub ends_last : (state : SessionState) (new : Reading) (writer_new : Device) → ObeysLine rules options reading.line.items (held_at now) (held_at state) reading new writer writer_new
+          pub ends_last : (state : SessionState) (new : Reading) (writer_new : Device) → ExecutesLine rules options reading.line.items (held_at now) (held_at state) reading new writer writer_new
               → LineWorks rules options.queries (held_at now) reading.line.items now.engine state.engine → IsScriptRun rules options start state reader_old reader writer_old writer_new (Ok tt)
-          ends_last state new writer_new obeys works =
+          ends_last state new writer_new executes works =
               let line = reading.line.items in
               ends_whole rules options start state reader_old writer_old reader writer_new at.bytes (at.done
-              ++ line ∷ []) gave_all last_line (obeyed_good [] at line state new writer_new obeys) finished
+              ++ line ∷ []) gave_all last_line (executed_good [] at line state new writer_new executes) finished
               at.passed
               (record {
                 done_is = record { ahead = omega (arith, at.passed, at.size, with_ends_more at.done line) };
-                wrote = obeyed_wrote [] at line state new writer_new obeys;
-                held = obeyed_held [] at line state new writer_new obeys;
-                works = obeyed_works [] at line state new writer_new obeys works;
+                wrote = executed_wrote [] at line state new writer_new executes;
+                held = executed_held [] at line state new writer_new executes;
+                works = executed_works [] at line state new writer_new executes works;
               })
 
           pub ends_last_not : (new : Reading) (state : SessionState) (writer_new : Device) (fault : RunFault)
@@ -366,18 +366,18 @@ module _ (rules : Rules) (options : ScriptOptions) (start : SessionState)
   pub written_fits : reading.written ≤ writer.passed
   written_fits = omega (arith, at.written, at.wrote.0.passed)
 
--- the last line was obeyed, or failed
+-- the last line was executed, or failed
 pub ends_finish : (rules : Rules) (options : ScriptOptions) (start : SessionState)
     (reader_old reader writer_old writer : Device) (now state : SessionState) (reading new : Reading)
     (writer_new : Device) → IsAt rules options start reader_old reader writer_old writer now reading []
     → IsAtEnd reader.bytes → 0 < length reading.line.items → (r : Result (Unit {0}) RunFault)
-    → OnOk r (ObeysLine rules options reading.line.items (held_at now) (held_at state) reading new writer
+    → OnOk r (ExecutesLine rules options reading.line.items (held_at now) (held_at state) reading new writer
     writer_new)
     → IfErr r (FailsAt rules options reading.line.items new reading.lines reading.written (held_at now) (held_at state) writer writer_new)
     → LineWorks rules options.queries (held_at now) reading.line.items now.engine state.engine → IsScriptRun rules options start state reader_old reader writer_old writer_new r
-ends_finish rules options start reader_old reader writer_old writer now state reading new writer_new at finished some (Ok tt) obeys fails works =
-    ends_last rules options start reader_old reader writer_old writer now reading at finished some state new writer_new obeys works
-ends_finish rules options start reader_old reader writer_old writer now state reading new writer_new at finished some (Err fault) obeys fails works =
+ends_finish rules options start reader_old reader writer_old writer now state reading new writer_new at finished some (Ok tt) executes fails works =
+    ends_last rules options start reader_old reader writer_old writer now reading at finished some state new writer_new executes works
+ends_finish rules options start reader_old reader writer_old writer now state reading new writer_new at finished some (Err fault) executes fails works =
     ends_last_not rules options start reader_old reader writer_old writer now reading at finished some new state writer_new fault fails works
 
 -- ---- a part of a piece, under the rules that the run began with

@@ -1,4 +1,4 @@
--- How much a session works for a request, and for lines one after another.
+-- How much a session works for a command, and for lines one after another.
 use Rattle.std.proofs.Common.{◌≡◌, ℕ, ◌+◌, ◌≤◌, Bool, List, [], ◌∷◌, ◌++◌, length, map, Option, Some, None, Result, Ok, Err, IfOk, IfErr, is_none, is_some, false, nat_lt, if◌then◌else◌, refl, sym, ap, subst, ◌∙◌, arith}
 use Rattle.std.proofs.lemmas.Bool.{cond-true, true≢false}
 use Rattle.std.proofs.lemmas.List.{append-nil}
@@ -13,9 +13,9 @@ use Rattle.session.specs.Touched.{fresh}
 use Rattle.session.specs.declared.edits.Damage.{Damage}
 use Rattle.session.specs.declared.edits.EditFault.{EditFault}
 use Rattle.session.specs.declared.edits.EditFault.TheVariants.{OutOfRange, WidthOutOfRange, TextTooLong, ParagraphTooLong, NoMemory}
-use Rattle.tool.specs.Scripts.{Request, SetWidth, request_of_line}
-use Rattle.tool.specs.ScriptRun.{after_line, after_lines, is_good, layouts_at, request_refusal}
-use Rattle.tool.specs.Work.{RequestWorks, LineWorks, LinesWork, Works, analysed_by, filled_by, work_of_line, work_of_lines}
+use Rattle.tool.specs.Scripts.{Command, SetWidth, command_of_line}
+use Rattle.tool.specs.ScriptRun.{after_line, after_lines, is_good, layouts_at, command_refusal}
+use Rattle.tool.specs.Work.{CommandWorks, LineWorks, LinesWork, Works, analysed_by, filled_by, work_of_line, work_of_lines}
 
 -- ---- counts
 same_rise : (n old new : ℕ) → new ≡ old → RisesBy n old new
@@ -28,14 +28,14 @@ within_rise : (n m a b : ℕ) → n ≤ m → RisesBy n a b → RisesBy m a b
 within_rise n m a b le r = record { least = r.least; most = omega (arith, r.most, le) }
 
 -- an engine that is as it was has worked no more than anything
-pub works_none : (rules : Rules) (most : (Held → Request → ℕ) → ℕ) (old new : Engine) → new ≡ old → Works rules most old new
+pub works_none : (rules : Rules) (most : (Held → Command → ℕ) → ℕ) (old new : Engine) → new ≡ old → Works rules most old new
 works_none rules most old new e = record {
   analysed = same_rise _ (analysed_of old) (analysed_of new) (ap analysed_of e);
   filled = same_rise _ (filled_of old) (filled_of new) (ap filled_of e);
   written = same_rise _ (written_of old) (written_of new) (ap written_of e);
 }
 
--- ---- one request
+-- ---- one command
 pub record Worked (reason : Option EditFault) (n m : ℕ) (old new : Engine) : Type 0 where
   pub analysed : RisesBy (if is_none reason then n else 0) (analysed_of old) (analysed_of new)
   pub filled : RisesBy (if is_none reason then m else 0) (filled_of old) (filled_of new)
@@ -123,11 +123,11 @@ width_worked width old new (Err fault) m r =
 
 pub width_works : (width : ℕ) (old new : SessionState) (result : Result Damage EditFault) → nat_lt 65535 width ≡ false → IsWholeLayout old
     → IfOk result (SetsWidth width old new) → IfErr result (SetsWidthNot width old new)
-    → RequestWorks (rules_of old.engine) (held_at old) (SetWidth width) old.engine new.engine
+    → CommandWorks (rules_of old.engine) (held_at old) (SetWidth width) old.engine new.engine
 width_works width old new result small whole m r =
     let n = changed width (layouts_at (rules_of old.engine) (held_at old)) in
     let w = subst (λ kept. Worked (width_refusal width) 0 (changed width kept) old.engine new.engine) whole.kept (width_worked width old new result m r) in
-    let reason : request_refusal (rules_of old.engine) (held_at old) (SetWidth width) ≡ width_refusal width = ap (λ b. if b then Some WidthOutOfRange else width_refusal width) small in
+    let reason : command_refusal (rules_of old.engine) (held_at old) (SetWidth width) ≡ width_refusal width = ap (λ b. if b then Some WidthOutOfRange else width_refusal width) small in
     record {
       analysed = subst (λ (o : Option EditFault). RisesBy (if is_none o then 0 else 0) (analysed_of old.engine) (analysed_of new.engine)) (sym reason) w.analysed;
       filled = subst (λ (o : Option EditFault). RisesBy (if is_none o then n else 0) (filled_of old.engine) (filled_of new.engine)) (sym reason) w.filled;
@@ -136,16 +136,16 @@ width_works width old new result small whole m r =
 
 -- ---- lines, one after another
 module _ (rules : Rules) (queries : Bool) where
-  work_more : (work : Held → Request → ℕ) (held : Held) (lines : List (List ℕ)) (line : List ℕ)
+  work_more : (work : Held → Command → ℕ) (held : Held) (lines : List (List ℕ)) (line : List ℕ)
       → work_of_lines rules queries work held (lines ++ line ∷ [])
       ≡ work_of_lines rules queries work held lines + work_of_line rules work
-      (after_lines rules queries held lines) (request_of_line queries line)
+      (after_lines rules queries held lines) (command_of_line queries line)
   work_more work held [] line = omega arith
-  work_more work held (first ∷ lines) line = omega (arith, work_more work (after_line rules held (request_of_line queries first)) lines line)
+  work_more work held (first ∷ lines) line = omega (arith, work_more work (after_line rules held (command_of_line queries first)) lines line)
 
-  work_front : (work : Held → Request → ℕ) (held : Held) (lines others : List (List ℕ)) → work_of_lines rules queries work held lines ≤ work_of_lines rules queries work held (lines ++ others)
+  work_front : (work : Held → Command → ℕ) (held : Held) (lines others : List (List ℕ)) → work_of_lines rules queries work held lines ≤ work_of_lines rules queries work held (lines ++ others)
   work_front work held [] others = omega arith
-  work_front work held (first ∷ lines) others = omega (arith, work_front work (after_line rules held (request_of_line queries first)) lines others)
+  work_front work held (first ∷ lines) others = omega (arith, work_front work (after_line rules held (command_of_line queries first)) lines others)
 
   pub lines_work_front : (start : Held) (lines others : List (List ℕ)) (old new : Engine) → LinesWork rules queries start lines old new → LinesWork rules queries start (lines ++ others) old new
   lines_work_front start lines others old new works = record {
@@ -157,9 +157,9 @@ module _ (rules : Rules) (queries : Bool) where
   pub lines_work_more : (start held : Held) (lines : List (List ℕ)) (line : List ℕ) (old now new : Engine) → held ≡ after_lines rules queries start lines
       → LinesWork rules queries start lines old now → LineWorks rules queries held line now new → LinesWork rules queries start (lines ++ line ∷ []) old new
   lines_work_more start held lines line old now new held_is before works =
-      let sum = λ (work : Held → Request → ℕ). work_more work start lines line
+      let sum = λ (work : Held → Command → ℕ). work_more work start lines line
       ∙ ap (λ (h : Held). work_of_lines rules queries work start lines + work_of_line rules work h
-      (request_of_line queries line)) (sym held_is) in
+      (command_of_line queries line)) (sym held_is) in
       record {
         analysed = more_rise _ _ _ _ _ _ before.analysed works.analysed (sum (analysed_by rules));
         filled = more_rise _ _ _ _ _ _ before.filled works.filled (sum (filled_by rules));
@@ -167,18 +167,18 @@ module _ (rules : Rules) (queries : Bool) where
       }
 
   -- a line that is none asks for nothing
-  no_work : (work : Held → Request → ℕ) (held : Held) (request : Option Request) → is_some request ≡ false → work_of_line rules work held request ≡ 0
+  no_work : (work : Held → Command → ℕ) (held : Held) (command : Option Command) → is_some command ≡ false → work_of_line rules work held command ≡ 0
   no_work work held None bad = refl
-  no_work work held (Some request) bad = absurd (true≢false bad)
+  no_work work held (Some command) bad = absurd (true≢false bad)
 
   pub lines_work_bad : (start held : Held) (lines : List (List ℕ)) (line : List ℕ) (old now new : Engine) → is_good queries line ≡ false
       → LinesWork rules queries start lines old now → LineWorks rules queries held line now new → LinesWork rules queries start (lines ++ []) old new
   lines_work_bad start held lines line old now new bad before works =
-      let sum = λ (work : Held → Request → ℕ).
+      let sum = λ (work : Held → Command → ℕ).
       ap (work_of_lines rules queries work start) (append-nil lines)
       ∙ sum_is (work_of_lines rules queries work start lines)
-      (work_of_line rules work held (request_of_line queries line))
-      (no_work work held (request_of_line queries line) bad) in
+      (work_of_line rules work held (command_of_line queries line))
+      (no_work work held (command_of_line queries line) bad) in
       record {
         analysed = more_rise _ _ _ _ _ _ before.analysed works.analysed (sum (analysed_by rules));
         filled = more_rise _ _ _ _ _ _ before.filled works.filled (sum (filled_by rules));

@@ -1,4 +1,4 @@
--- What is answered to a question about a text at a width.
+-- What is answered to a query about a text at a width.
 use Rattle.std.specs.Prelude.{not, ◌≡◌, ℕ, ◌+◌, ◌-◌, ◌<◌, nat_lt, ◌&&◌, Bool, false, List, [], ◌∷◌, ◌++◌, length, codes, slice_get, slice_index, Option, Some, None, option_map, if◌then◌else◌}
 use Rattle.std.specs.Fmt.{decimal}
 use Rattle.std.specs.List.{flat_map, slice_range}
@@ -19,8 +19,8 @@ use Rattle.session.specs.declared.carets.Caret.{Caret}
 use Rattle.session.specs.declared.hits.Hit.{Hit}
 use Rattle.text_run.specs.declared.faults.RunFault.{RunFault}
 use Rattle.text_run.specs.declared.faults.RunFault.TheVariants as f
-use Rattle.tool.specs.declared.queries.Question.{Question}
-use Rattle.tool.specs.declared.queries.Question.TheVariants as ask
+use Rattle.tool.specs.declared.queries.Query.{Query}
+use Rattle.tool.specs.declared.queries.Query.TheVariants as ask
 
 -- `=` and numbers, each after a space
 abbrev pub told : List ℕ → List ℕ
@@ -95,21 +95,21 @@ module _ (kept : List Layout) where
       if nat_lt (length (text_of kept)) (pos + count) then out_of_range
       else told (length (utf8_part kept pos count) ∷ []) ++ utf8_part kept pos count ++ codes "\n"
 
-abbrev pub question_text : Rules → Print → ℕ → List Layout → Question → List ℕ
-question_text rules print width kept (ask.Lines first count) = lines_text print width kept first count
-question_text rules print width kept (ask.Caret pos) = caret_text print width kept rules pos
-question_text rules print width kept (ask.Hit n column) = hit_text print width kept n column
-question_text rules print width kept (ask.Cluster pos) = cluster_text kept pos
-question_text rules print width kept ask.Size = size_text kept
-question_text rules print width kept (ask.Text pos count) = part_text kept pos count
+abbrev pub query_text : Rules → Print → ℕ → List Layout → Query → List ℕ
+query_text rules print width kept (ask.Lines first count) = lines_text print width kept first count
+query_text rules print width kept (ask.Caret pos) = caret_text print width kept rules pos
+query_text rules print width kept (ask.Hit n column) = hit_text print width kept n column
+query_text rules print width kept (ask.Cluster pos) = cluster_text kept pos
+query_text rules print width kept ask.Size = size_text kept
+query_text rules print width kept (ask.Text pos count) = part_text kept pos count
 
--- the questions for which memory may be wanted: the cluster of a character that is there
-abbrev pub AsksMemory : List ℕ → Question → Type 0
+-- the queries for which memory may be wanted: the cluster of a character that is there
+abbrev pub AsksMemory : List ℕ → Query → Type 0
 AsksMemory text (ask.Cluster pos) = pos < length text
-AsksMemory text question = ⊥
+AsksMemory text query = ⊥
 
 -- an answer was not written whole: a write failed, or memory was wanted and nothing is written
-abbrev pub AnswersNot : List ℕ → List ℕ → Question → ℕ → Device → Device → RunFault → Type 0
-AnswersNot answer text question written old new (f.Write n) = StoppedIn answer written old new n
-AnswersNot answer text question written old new f.Memory = AsksMemory text question × (new ≡ old)
-AnswersNot answer text question written old new fault = ⊥
+abbrev pub AnswersNot : List ℕ → List ℕ → Query → ℕ → Device → Device → RunFault → Type 0
+AnswersNot answer text query written old new (f.Write n) = StoppedIn answer written old new n
+AnswersNot answer text query written old new f.Memory = AsksMemory text query × (new ≡ old)
+AnswersNot answer text query written old new fault = ⊥

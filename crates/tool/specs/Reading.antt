@@ -14,9 +14,9 @@ use Rattle.session.specs.declared.edits.Damage.{Damage}
 use Rattle.session.specs.declared.edits.EditFault.{EditFault}
 use Rattle.session.specs.declared.edits.EditFault.TheVariants.{NoMemory}
 use Rattle.tool.specs.Queries.{AsksMemory}
-use Rattle.tool.specs.Scripts.{LacksPiece, Request, Insert, Delete, SetWidth, Show, Ask, is_line_end, request_of_line}
+use Rattle.tool.specs.Scripts.{LacksPiece, Command, Insert, Delete, SetWidth, Show, Ask, is_line_end, command_of_line}
 use Rattle.tool.specs.ScriptEnds.{IsScriptRun}
-use Rattle.tool.specs.ScriptRun.{after_line, after_lines, answer_line, answer_to, after_request, answers, damage_text, is_good, obeyed, obeyed_text, request_refusal, refusal_text, with_ends}
+use Rattle.tool.specs.ScriptRun.{after_line, after_lines, answer_line, answer_to, after_command, answers, damage_text, is_good, executed, executed_text, command_refusal, refusal_text, with_ends}
 use Rattle.tool.specs.Work.{LineWorks, LinesWork}
 use Rattle.text_run.specs.declared.faults.RunFault.{RunFault}
 use Rattle.stream.specs.declared.reading.TheConstants.{CHUNK}
@@ -26,21 +26,21 @@ use Rattle.tool.specs.declared.script.Reading.{Reading}
 use Rattle.tool.specs.declared.script.ScriptOptions.{ScriptOptions}
 
 -- what memory may be wanted for: an edit where there is a text or a piece, and the cluster of a character that is there
-abbrev pub TakesMemory : Held → Request → Type 0
+abbrev pub TakesMemory : Held → Command → Type 0
 TakesMemory held (Insert pos piece) = 0 < length held.text + length piece
 TakesMemory held (Delete pos count) = 0 < length held.text
 TakesMemory held (SetWidth width) = 0 < length held.text
 TakesMemory held Show = ⊥
-TakesMemory held (Ask question) = AsksMemory held.text question
+TakesMemory held (Ask query) = AsksMemory held.text query
 
 -- an edit was made, and this is its damage; or it was refused, and all stays; which it does for want of memory too, but then
 -- there was no reason to refuse it
-abbrev pub Edited : Rules → Request → Held → Held → Result Damage EditFault → Type 0
-Edited rules request old new (Ok damage) =
-    (request_refusal rules old request ≡ None) × (new ≡ obeyed old request)
-    × ((print : Print) → obeyed_text rules print old request ≡ damage_text damage.first_line damage.old_lines damage.new_lines)
-Edited rules request old new (Err NoMemory) = (request_refusal rules old request ≡ None) × TakesMemory old request × (new ≡ old)
-Edited rules request old new (Err reason) = (request_refusal rules old request ≡ Some reason) × (new ≡ old)
+abbrev pub Edited : Rules → Command → Held → Held → Result Damage EditFault → Type 0
+Edited rules command old new (Ok damage) =
+    (command_refusal rules old command ≡ None) × (new ≡ executed old command)
+    × ((print : Print) → executed_text rules print old command ≡ damage_text damage.first_line damage.old_lines damage.new_lines)
+Edited rules command old new (Err NoMemory) = (command_refusal rules old command ≡ None) × TakesMemory old command × (new ≡ old)
+Edited rules command old new (Err reason) = (command_refusal rules old command ≡ Some reason) × (new ≡ old)
 
 abbrev pub lacks_memory : Result Damage EditFault → Bool
 lacks_memory (Err NoMemory) = true
@@ -56,24 +56,24 @@ abbrev pub Stops : List ℕ → ℕ → Device → Device → RunFault → Type 
 Stops answer written old new (f.Write n) = StoppedIn answer written old new n
 Stops answer written old new fault = ⊥
 
--- a request was obeyed and its answer written
-pub record Obeys (rules : Rules) (print : Print) (request : Request) (written : ℕ) (held_old held_new : Held) (old new : Device) (n : ℕ) : Type 0 where
-  pub held : held_new ≡ after_request rules held_old request
-  pub wrote : PassedOn (answer_to rules print held_old request) written old new n
+-- a command was executed and its answer written
+pub record Executes (rules : Rules) (print : Print) (command : Command) (written : ℕ) (held_old held_new : Held) (old new : Device) (n : ℕ) : Type 0 where
+  pub held : held_new ≡ after_command rules held_old command
+  pub wrote : PassedOn (answer_to rules print held_old command) written old new n
 
--- or it was obeyed, and a write failed; or there was no memory for it, where nothing refuses it and it takes some, and all stays
-abbrev pub ObeysNot : Rules → Print → Request → ℕ → Held → Held → Device → Device → RunFault → Type 0
-ObeysNot rules print request written held_old held_new old new (f.Write n) =
-    (held_new ≡ after_request rules held_old request) × StoppedIn (answer_to rules print held_old request) written old new n
-ObeysNot rules print request written held_old held_new old new f.Memory =
-    (request_refusal rules held_old request ≡ None) × TakesMemory held_old request × (held_new ≡ held_old) × (new ≡ old)
-ObeysNot rules print request written held_old held_new old new fault = ⊥
+-- or it was executed, and a write failed; or there was no memory for it, where nothing refuses it and it takes some, and all stays
+abbrev pub ExecutesNot : Rules → Print → Command → ℕ → Held → Held → Device → Device → RunFault → Type 0
+ExecutesNot rules print command written held_old held_new old new (f.Write n) =
+    (held_new ≡ after_command rules held_old command) × StoppedIn (answer_to rules print held_old command) written old new n
+ExecutesNot rules print command written held_old held_new old new f.Memory =
+    (command_refusal rules held_old command ≡ None) × TakesMemory held_old command × (held_new ≡ held_old) × (new ≡ old)
+ExecutesNot rules print command written held_old held_new old new fault = ⊥
 
--- a line was obeyed
-pub record ObeysLine (rules : Rules) (options : ScriptOptions) (line : List ℕ) (held_old held_new : Held) (old new : Reading) (writer_old writer_new : Device) : Type 0 where
+-- a line was executed
+pub record ExecutesLine (rules : Rules) (options : ScriptOptions) (line : List ℕ) (held_old held_new : Held) (old new : Reading) (writer_old writer_new : Device) : Type 0 where
   pub good : is_good options.queries line ≡ true
-  pub held : held_new ≡ after_line rules held_old (request_of_line options.queries line)
-  pub wrote : PassedOn (answer_line rules options.print held_old (request_of_line options.queries line)) old.written writer_old writer_new new.written
+  pub held : held_new ≡ after_line rules held_old (command_of_line options.queries line)
+  pub wrote : PassedOn (answer_line rules options.print held_old (command_of_line options.queries line)) old.written writer_old writer_new new.written
   pub lines : new.lines ≡ old.lines + 1
   pub empty : new.line.items ≡ []
 
@@ -83,15 +83,15 @@ abbrev pub WantsMemory : Rules → Bool → List ℕ → Reading → Held → Ty
 WantsMemory rules queries line reading held =
     (length reading.text.items < length (chars line))
     ⊎ (LacksPiece (chars line) (chars (string_bytes reading.piece))
-    ⊎ ((request : Request) × (request_of_line queries line ≡ Some request) × (request_refusal rules held request ≡ None) × TakesMemory held request))
+    ⊎ ((command : Command) × (command_of_line queries line ≡ Some command) × (command_refusal rules held command ≡ None) × TakesMemory held command))
 
 -- or it was not
 abbrev pub FailsAt : Rules → ScriptOptions → List ℕ → Reading → ℕ → ℕ → Held → Held → Device → Device → RunFault → Type 0
 FailsAt rules options line reading lines written held_old held_new old new (f.BadLine n) =
     (is_good options.queries line ≡ false) × (n ≡ lines + 1) × (held_new ≡ held_old) × (new ≡ old)
 FailsAt rules options line reading lines written held_old held_new old new (f.Write n) =
-    (is_good options.queries line ≡ true) × (held_new ≡ after_line rules held_old (request_of_line options.queries line))
-    × StoppedIn (answer_line rules options.print held_old (request_of_line options.queries line)) written old new n
+    (is_good options.queries line ≡ true) × (held_new ≡ after_line rules held_old (command_of_line options.queries line))
+    × StoppedIn (answer_line rules options.print held_old (command_of_line options.queries line)) written old new n
 FailsAt rules options line reading lines written held_old held_new old new f.Memory =
     (utf8_valid_len line ≡ length line) × WantsMemory rules options.queries line reading held_old × (held_new ≡ held_old) × (new ≡ old)
 FailsAt rules options line reading lines written held_old held_new old new fault = ⊥
@@ -119,7 +119,7 @@ GrowsNot bytes old new f.Memory =
     (length (old.line.items ++ bytes) ≤ LINE_LIMIT) × (0 < length bytes) × (new.line.items ≡ old.line.items) × (new.lines ≡ old.lines)
 GrowsNot bytes old new fault = ⊥
 
--- Of a piece, the first n bytes were taken: all of it goes on with the line, or a line ended and was obeyed.
+-- Of a piece, the first n bytes were taken: all of it goes on with the line, or a line ended and was executed.
 pub record GoesOn (piece : List ℕ) (n : ℕ) (state_old state_new : SessionState) (old new : Reading) (writer_old writer_new : Device) : Type 0 where
   pub all : n ≡ length piece
   pub none : NoEnd piece
@@ -132,7 +132,7 @@ pub record EndsLine (rules : Rules) (options : ScriptOptions) (piece : List ℕ)
   pub after : List ℕ
   pub ends : EndsIn piece front after
   pub taken : n ≡ length front + 1
-  pub obeys : ObeysLine rules options (old.line.items ++ front) (held_at state_old) (held_at state_new) old new writer_old writer_new
+  pub executes : ExecutesLine rules options (old.line.items ++ front) (held_at state_old) (held_at state_new) old new writer_old writer_new
   pub works : LineWorks rules options.queries (held_at state_old) (old.line.items ++ front) state_old.engine state_new.engine
 
 abbrev pub Takes : Rules → ScriptOptions → List ℕ → ℕ → SessionState → SessionState → Reading → Reading → Device → Device → Type 0
@@ -164,7 +164,7 @@ FailsIn rules options piece state_old state_new old new writer_old writer_new fa
     FailsLine rules options piece state_old state_new old new writer_old writer_new fault
     ⊎ IsNotKept piece state_old state_new old new writer_old writer_new fault
 
--- Between two states of its devices and of its session a run has read some bytes and obeyed some lines. After these it holds the
+-- Between two states of its devices and of its session a run has read some bytes and executed some lines. After these it holds the
 -- beginning of a line, and bytes that wait.
 pub record IsAt (rules : Rules) (options : ScriptOptions) (start : SessionState)
     (reader_old reader_new writer_old writer_new : Device) (now : SessionState) (reading : Reading)
@@ -186,7 +186,7 @@ pub record IsAt (rules : Rules) (options : ScriptOptions) (start : SessionState)
   pub ahead : length reading.line.items + length waiting ≤ LINE_LIMIT + CHUNK
   pub short : length reading.line.items ≤ LINE_LIMIT
 
--- Memory runs out for one line: after those that were obeyed, for the first one that ends in what waits, or that goes on in it.
+-- Memory runs out for one line: after those that were executed, for the first one that ends in what waits, or that goes on in it.
 pub record WantsIn (rules : Rules) (options : ScriptOptions) (start : SessionState)
     (reader_old reader writer_old writer : Device) (state : SessionState) (reading : Reading) : Type 0 where
   pub state_before : SessionState

@@ -20,10 +20,10 @@ Answered rules options held lines wrong k old new (Some (fault.Write n)) =
 Answered rules options held lines wrong k old new (Some fault.Memory) = Wrote (answers rules options held (take k lines)) old new
 Answered rules options held lines wrong k old new stop = (stop ≡ wrong) × (k ≡ length lines) × Wrote (answers rules options held lines) old new
 
--- the lines that were obeyed: those that were answered, and the one whose answer a failed write ended
-abbrev pub obeyed_lines : List (List ℕ) → ℕ → Option RunFault → List (List ℕ)
-obeyed_lines lines k (Some (fault.Write n)) = take (k + 1) lines
-obeyed_lines lines k stop = take k lines
+-- the lines that were executed: those that were answered, and the one whose answer a failed write ended
+abbrev pub executed_lines : List (List ℕ) → ℕ → Option RunFault → List (List ℕ)
+executed_lines lines k (Some (fault.Write n)) = take (k + 1) lines
+executed_lines lines k stop = take k lines
 
 -- memory runs out before anything is read, or for bytes that stand after the lines which were answered
 abbrev pub WantsMore : List (List ℕ) → Device → Device → Option RunFault → Type 0
@@ -31,18 +31,18 @@ WantsMore done old new (Some fault.Memory) =
     ((length done ≡ 0) × (new.passed ≡ old.passed)) ⊎ (old.passed + length (with_ends done) < new.passed)
 WantsMore done old new stop = ⊤
 
--- A run ended after the first k lines. No more lines than these were obeyed, but for the one whose answer was being written; so
+-- A run ended after the first k lines. No more lines than these were executed, but for the one whose answer was being written; so
 -- much was read ahead; and the session worked no more than these lines ask for, and the next one, at which the run ended.
 pub record EndsAfter (rules : Rules) (options : ScriptOptions) (old new : SessionState) (lines : List (List ℕ))
     (wrong : Option RunFault) (k : ℕ) (reader_old reader_new writer_old writer_new : Device)
     (stop : Option RunFault) : Type 0 where
   pub wrote : Answered rules options (held_at old) lines wrong k writer_old writer_new stop
-  pub held : held_at new ≡ after_lines rules options.queries (held_at old) (obeyed_lines lines k stop)
+  pub held : held_at new ≡ after_lines rules options.queries (held_at old) (executed_lines lines k stop)
   pub ahead : reader_new.passed ≤ reader_old.passed + length (with_ends (take k lines)) + line_read_ahead
   pub wants : WantsMore (take k lines) reader_old reader_new stop
   pub works : LinesWork rules options.queries (held_at old) (take (k + 1) lines) old.engine new.engine
 
--- The run of a script over a session: what the reader gave has lines, which are obeyed and answered one after another, up to the
+-- The run of a script over a session: what the reader gave has lines, which are executed and answered one after another, up to the
 -- first that is none.
 abbrev pub IsScriptRun : Rules → ScriptOptions → SessionState → SessionState → Device → Device → Device → Device → Result (Unit {0}) RunFault → Type 0
 IsScriptRun rules options old new reader_old reader_new writer_old writer_new result =

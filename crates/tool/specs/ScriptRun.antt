@@ -11,8 +11,8 @@ use Rattle.session.specs.Kept.{layouts_of, lines_in, pars_of}
 use Rattle.session.specs.Touched.{first_touched, touched_count}
 use Rattle.session.specs.declared.edits.EditFault.{EditFault}
 use Rattle.session.specs.declared.edits.EditFault.TheVariants as refused
-use Rattle.tool.specs.Queries.{question_text}
-use Rattle.tool.specs.Scripts.{Request, Insert, Delete, SetWidth, Show, Ask, request_of_line}
+use Rattle.tool.specs.Queries.{query_text}
+use Rattle.tool.specs.Scripts.{Command, Insert, Delete, SetWidth, Show, Ask, command_of_line}
 use Rattle.text_run.specs.TextRun.{Ending, AtEnd, AtFailure}
 use Rattle.text_run.specs.declared.faults.RunFault.{RunFault}
 use Rattle.text_run.specs.declared.faults.RunFault.TheVariants as fault
@@ -20,26 +20,26 @@ use Rattle.stream.specs.declared.reading.TheConstants.{CHUNK}
 use Rattle.tool.specs.declared.script.ScriptOptions.{ScriptOptions}
 use Rattle.tool.specs.declared.script.TheConstants.{LINE_LIMIT}
 
--- ---- one request
+-- ---- one command
 
--- why a request is refused
-abbrev pub request_refusal : Rules → Held → Request → Option EditFault
-request_refusal rules held (Insert pos piece) = refusal (cut_by rules) held.text (insertion pos piece)
-request_refusal rules held (Delete pos count) = refusal (cut_by rules) held.text (deletion pos count)
-request_refusal rules held (SetWidth width) = if nat_lt 65535 width then Some refused.WidthOutOfRange else width_refusal width
-request_refusal rules held Show = None
-request_refusal rules held (Ask question) = None
+-- why a command is refused
+abbrev pub command_refusal : Rules → Held → Command → Option EditFault
+command_refusal rules held (Insert pos piece) = refusal (cut_by rules) held.text (insertion pos piece)
+command_refusal rules held (Delete pos count) = refusal (cut_by rules) held.text (deletion pos count)
+command_refusal rules held (SetWidth width) = if nat_lt 65535 width then Some refused.WidthOutOfRange else width_refusal width
+command_refusal rules held Show = None
+command_refusal rules held (Ask query) = None
 
 -- what it makes of a text and a width
-abbrev pub obeyed : Held → Request → Held
-obeyed held (Insert pos piece) = record { text = replaced held.text (insertion pos piece); width = held.width }
-obeyed held (Delete pos count) = record { text = replaced held.text (deletion pos count); width = held.width }
-obeyed held (SetWidth width) = record { text = held.text; width = width }
-obeyed held Show = held
-obeyed held (Ask question) = held
+abbrev pub executed : Held → Command → Held
+executed held (Insert pos piece) = record { text = replaced held.text (insertion pos piece); width = held.width }
+executed held (Delete pos count) = record { text = replaced held.text (deletion pos count); width = held.width }
+executed held (SetWidth width) = record { text = held.text; width = width }
+executed held Show = held
+executed held (Ask query) = held
 
-abbrev pub after_request : Rules → Held → Request → Held
-after_request rules held request = if is_none (request_refusal rules held request) then obeyed held request else held
+abbrev pub after_command : Rules → Held → Command → Held
+after_command rules held command = if is_none (command_refusal rules held command) then executed held command else held
 
 -- the layout of a text at a width from scratch
 abbrev pub layouts_at : Rules → Held → List Layout
@@ -57,14 +57,14 @@ edit_text old new edit =
     damage_text (length (lines_in (take first old))) (length (lines_in touched)) (length (lines_in touched) + length (lines_in new) - length (lines_in old))
 
 -- what is answered where it isn't refused
-abbrev pub obeyed_text : Rules → Print → Held → Request → List ℕ
-obeyed_text rules print held (Insert pos piece) = edit_text (layouts_at rules held) (layouts_at rules (obeyed held (Insert pos piece))) (insertion pos piece)
-obeyed_text rules print held (Delete pos count) = edit_text (layouts_at rules held) (layouts_at rules (obeyed held (Delete pos count))) (deletion pos count)
-obeyed_text rules print held (SetWidth width) = damage_text 0 (length (lines_in (layouts_at rules held))) (length (lines_in (layouts_at rules (obeyed held (SetWidth width)))))
-obeyed_text rules print held Show = page rules held.width print (paragraphs (cut_by rules) held.text)
-obeyed_text rules print held (Ask question) = question_text rules print held.width (layouts_at rules held) question
+abbrev pub executed_text : Rules → Print → Held → Command → List ℕ
+executed_text rules print held (Insert pos piece) = edit_text (layouts_at rules held) (layouts_at rules (executed held (Insert pos piece))) (insertion pos piece)
+executed_text rules print held (Delete pos count) = edit_text (layouts_at rules held) (layouts_at rules (executed held (Delete pos count))) (deletion pos count)
+executed_text rules print held (SetWidth width) = damage_text 0 (length (lines_in (layouts_at rules held))) (length (lines_in (layouts_at rules (executed held (SetWidth width)))))
+executed_text rules print held Show = page rules held.width print (paragraphs (cut_by rules) held.text)
+executed_text rules print held (Ask query) = query_text rules print held.width (layouts_at rules held) query
 
--- and where it is; want of memory is no reason to refuse a request
+-- and where it is; want of memory is no reason to refuse a command
 abbrev pub refusal_text : EditFault → List ℕ
 refusal_text refused.OutOfRange = codes "! range\n"
 refusal_text refused.WidthOutOfRange = codes "! width\n"
@@ -76,34 +76,34 @@ abbrev pub answer_by : Option EditFault → List ℕ → List ℕ
 answer_by (Some reason) text = refusal_text reason
 answer_by None text = text
 
-abbrev pub answer_to : Rules → Print → Held → Request → List ℕ
-answer_to rules print held request = answer_by (request_refusal rules held request) (obeyed_text rules print held request)
+abbrev pub answer_to : Rules → Print → Held → Command → List ℕ
+answer_to rules print held command = answer_by (command_refusal rules held command) (executed_text rules print held command)
 
 -- ---- lines
 
 -- what the lines make of a text and a width, one after another, and what is answered. A line that asks for nothing changes nothing.
-abbrev pub after_line : Rules → Held → Option Request → Held
+abbrev pub after_line : Rules → Held → Option Command → Held
 after_line rules held None = held
-after_line rules held (Some request) = after_request rules held request
+after_line rules held (Some command) = after_command rules held command
 
-abbrev pub answer_line : Rules → Print → Held → Option Request → List ℕ
+abbrev pub answer_line : Rules → Print → Held → Option Command → List ℕ
 answer_line rules print held None = []
-answer_line rules print held (Some request) = answer_to rules print held request
+answer_line rules print held (Some command) = answer_to rules print held command
 
 abbrev pub after_lines : Rules → Bool → Held → List (List ℕ) → Held
 after_lines rules queries held [] = held
-after_lines rules queries held (line ∷ lines) = after_lines rules queries (after_line rules held (request_of_line queries line)) lines
+after_lines rules queries held (line ∷ lines) = after_lines rules queries (after_line rules held (command_of_line queries line)) lines
 
 abbrev pub answers : Rules → ScriptOptions → Held → List (List ℕ) → List ℕ
 answers rules options held [] = []
 answers rules options held (line ∷ lines) =
-    answer_line rules options.print held (request_of_line options.queries line) ++ answers rules options (after_line rules held (request_of_line options.queries line)) lines
+    answer_line rules options.print held (command_of_line options.queries line) ++ answers rules options (after_line rules held (command_of_line options.queries line)) lines
 
 -- ---- the run
 
 -- the lines before the first that is no line of a script
 abbrev pub is_good : Bool → List ℕ → Bool
-is_good queries line = is_some (request_of_line queries line)
+is_good queries line = is_some (command_of_line queries line)
 
 abbrev pub good_lines : Bool → List (List ℕ) → List (List ℕ)
 good_lines queries lines = take_while (is_good queries) lines

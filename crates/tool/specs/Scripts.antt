@@ -5,8 +5,8 @@ use Rattle.std.specs.Cmp.Lexicographic.{pointwise}
 use Rattle.std.specs.List.{after_first, before_first, list_all, position_or_len, slice_split}
 use Rattle.std.specs.Str.{chars}
 use Rattle.std.specs.Str.Lossy.{utf8_valid_len}
-use Rattle.tool.specs.declared.queries.Question.{Question}
-use Rattle.tool.specs.declared.queries.Question.TheVariants as ask
+use Rattle.tool.specs.declared.queries.Query.{Query}
+use Rattle.tool.specs.declared.queries.Query.TheVariants as ask
 use Rattle.tool.specs.declared.script.TheConstants.{LINE_LIMIT}
 use Rattle.text_run.specs.TextRun.{Ending, AtEnd, AtFailure}
 
@@ -34,13 +34,13 @@ script_lines ending bytes = lines_among ending (slice_split is_line_end bytes)
 -- ---- what a line asks for
 
 -- to put a piece before the character at a place, to take characters out from a place on, to set the width, to show all lines, or to
--- answer a question
-pub data Request : Type 0 where
-  Insert : (pos : ℕ) (piece : List ℕ) → Request
-  Delete : (pos count : ℕ) → Request
-  SetWidth : (width : ℕ) → Request
-  Show : Request
-  Ask : (question : Question) → Request
+-- answer a query
+pub data Command : Type 0 where
+  Insert : (pos : ℕ) (piece : List ℕ) → Command
+  Delete : (pos count : ℕ) → Command
+  SetWidth : (width : ℕ) → Command
+  Show : Command
+  Ask : (query : Query) → Command
 
 -- a number is 1 to 9 decimal digits
 abbrev pub number_by : ℕ → List ℕ → ℕ
@@ -101,12 +101,12 @@ abbrev pub stripped : List ℕ → List ℕ → Option (List ℕ)
 stripped word text = if pointwise (◌==◌) (take (length word) text) word then Some (drop (length word) text) else None
 
 -- `insert POS TEXT`, `delete POS COUNT`, `width N` and `show`
-abbrev pub insertion_of : Option ℕ → Option (List ℕ) → Option Request
+abbrev pub insertion_of : Option ℕ → Option (List ℕ) → Option Command
 insertion_of (Some pos) (Some piece) = Some (Insert pos piece)
 insertion_of (Some pos) None = None
 insertion_of None piece = None
 
-abbrev pub insertion_in : Option (List ℕ × List ℕ) → Option Request
+abbrev pub insertion_in : Option (List ℕ × List ℕ) → Option Command
 insertion_in None = None
 insertion_in (Some (pos, text)) = insertion_of (number_in pos) (unescaped text)
 
@@ -130,25 +130,25 @@ pub record LacksPiece (line kept : List ℕ) : Type 0 where
   pub word : stripped (codes "insert ") line ≡ Some rest
   pub piece : LacksPieceIn rest kept
 
-abbrev pub deletion_of : Option ℕ → Option ℕ → Option Request
+abbrev pub deletion_of : Option ℕ → Option ℕ → Option Command
 deletion_of (Some pos) (Some count) = Some (Delete pos count)
 deletion_of (Some pos) None = None
 deletion_of None count = None
 
-abbrev pub deletion_in : Option (List ℕ × List ℕ) → Option Request
+abbrev pub deletion_in : Option (List ℕ × List ℕ) → Option Command
 deletion_in None = None
 deletion_in (Some (pos, count)) = deletion_of (number_in pos) (number_in count)
 
-abbrev pub request_by : Option (List ℕ) → Option (List ℕ) → Option (List ℕ) → Option (List ℕ) → Option Request
-request_by (Some rest) insert delete width = if length rest == 0 then Some Show else None
-request_by None (Some rest) delete width = insertion_in (parted rest)
-request_by None None (Some rest) width = deletion_in (parted rest)
-request_by None None None (Some rest) = option_map SetWidth (number_in rest)
-request_by None None None None = None
+abbrev pub command_by : Option (List ℕ) → Option (List ℕ) → Option (List ℕ) → Option (List ℕ) → Option Command
+command_by (Some rest) insert delete width = if length rest == 0 then Some Show else None
+command_by None (Some rest) delete width = insertion_in (parted rest)
+command_by None None (Some rest) width = deletion_in (parted rest)
+command_by None None None (Some rest) = option_map SetWidth (number_in rest)
+command_by None None None None = None
 
-abbrev pub edit_request_in : List ℕ → Option Request
-edit_request_in line =
-    request_by (stripped (codes "show") line) (stripped (codes "insert ") line) (stripped (codes "delete ") line) (stripped (codes "width ") line)
+abbrev pub edit_command_in : List ℕ → Option Command
+edit_command_in line =
+    command_by (stripped (codes "show") line) (stripped (codes "insert ") line) (stripped (codes "delete ") line) (stripped (codes "width ") line)
 
 -- `lines FIRST COUNT`, `caret POS`, `hit LINE COLUMN`, `cluster POS`, `size` and `text POS COUNT`
 abbrev pub both_of : Option ℕ → Option ℕ → Option (ℕ × ℕ)
@@ -160,29 +160,29 @@ abbrev pub both_in : Option (List ℕ × List ℕ) → Option (ℕ × ℕ)
 both_in None = None
 both_in (Some (a, b)) = both_of (number_in a) (number_in b)
 
-abbrev pub question_by : Option (List ℕ) → Option (List ℕ) → Option (List ℕ) → Option (List ℕ) → Option (List ℕ) → Option (List ℕ) → Option Question
-question_by (Some rest) caret hit cluster size text = option_map (λ n. ask.Lines n.0 n.1) (both_in (parted rest))
-question_by None (Some rest) hit cluster size text = option_map ask.Caret (number_in rest)
-question_by None None (Some rest) cluster size text = option_map (λ n. ask.Hit n.0 n.1) (both_in (parted rest))
-question_by None None None (Some rest) size text = option_map ask.Cluster (number_in rest)
-question_by None None None None (Some rest) text = if length rest == 0 then Some ask.Size else None
-question_by None None None None None (Some rest) = option_map (λ n. ask.Text n.0 n.1) (both_in (parted rest))
-question_by None None None None None None = None
+abbrev pub query_by : Option (List ℕ) → Option (List ℕ) → Option (List ℕ) → Option (List ℕ) → Option (List ℕ) → Option (List ℕ) → Option Query
+query_by (Some rest) caret hit cluster size text = option_map (λ n. ask.Lines n.0 n.1) (both_in (parted rest))
+query_by None (Some rest) hit cluster size text = option_map ask.Caret (number_in rest)
+query_by None None (Some rest) cluster size text = option_map (λ n. ask.Hit n.0 n.1) (both_in (parted rest))
+query_by None None None (Some rest) size text = option_map ask.Cluster (number_in rest)
+query_by None None None None (Some rest) text = if length rest == 0 then Some ask.Size else None
+query_by None None None None None (Some rest) = option_map (λ n. ask.Text n.0 n.1) (both_in (parted rest))
+query_by None None None None None None = None
 
-abbrev pub question_in : List ℕ → Option Question
-question_in line =
-    question_by (stripped (codes "lines ") line) (stripped (codes "caret ") line) (stripped (codes "hit ") line) (stripped (codes "cluster ") line)
+abbrev pub query_in : List ℕ → Option Query
+query_in line =
+    query_by (stripped (codes "lines ") line) (stripped (codes "caret ") line) (stripped (codes "hit ") line) (stripped (codes "cluster ") line)
     (stripped (codes "size") line) (stripped (codes "text ") line)
 
--- a line that asks for none of the others is a question, where these are allowed
-abbrev pub or_question : Option Request → Option Question → Option Request
-or_question (Some request) question = Some request
-or_question None question = option_map Ask question
+-- a line that asks for none of the others is a query, where these are allowed
+abbrev pub or_query : Option Command → Option Query → Option Command
+or_query (Some command) query = Some command
+or_query None query = option_map Ask query
 
-abbrev pub request_in : Bool → List ℕ → Option Request
-request_in queries line = or_question (edit_request_in line) (if queries then question_in line else None)
+abbrev pub command_in : Bool → List ℕ → Option Command
+command_in queries line = or_query (edit_command_in line) (if queries then query_in line else None)
 
 -- what the bytes of a line ask for, if they are UTF-8 and no more than may be
-abbrev pub request_of_line : Bool → List ℕ → Option Request
-request_of_line queries line =
-    if nat_le (length line) LINE_LIMIT && utf8_valid_len line == length line then request_in queries (chars line) else None
+abbrev pub command_of_line : Bool → List ℕ → Option Command
+command_of_line queries line =
+    if nat_le (length line) LINE_LIMIT && utf8_valid_len line == length line then command_in queries (chars line) else None

@@ -1,4 +1,4 @@
--- How much work the lines of a script ask for at most: each request what its edit asks of a session, one that is refused nothing.
+-- How much work the lines of a script ask for at most: each command what its edit asks of a session, one that is refused nothing.
 use Rattle.std.specs.Prelude.{ℕ, ◌+◌, Bool, List, [], ◌∷◌, Option, Some, None, is_none, if◌then◌else◌}
 use Rattle.bidi.specs.Cuts.{paragraphs}
 use Rattle.lines.specs.Engine.{analysed_of, filled_of, written_of, RisesBy}
@@ -7,49 +7,49 @@ use Rattle.lines.specs.declared.engine.Engine.{Engine}
 use Rattle.session.specs.Edits.{Held, deletion, insertion}
 use Rattle.session.specs.Kept.{changed}
 use Rattle.session.specs.Touched.{fresh}
-use Rattle.tool.specs.ScriptRun.{after_line, layouts_at, request_refusal}
-use Rattle.tool.specs.Scripts.{Request, Insert, Delete, SetWidth, Show, Ask, request_of_line}
+use Rattle.tool.specs.ScriptRun.{after_line, layouts_at, command_refusal}
+use Rattle.tool.specs.Scripts.{Command, Insert, Delete, SetWidth, Show, Ask, command_of_line}
 
 module _ (rules : Rules) where
-  -- how many characters a request that isn't refused has analysed at most, and how many filled into lines and written
-  abbrev pub analysed_by : Held → Request → ℕ
+  -- how many characters a command that isn't refused has analysed at most, and how many filled into lines and written
+  abbrev pub analysed_by : Held → Command → ℕ
   analysed_by held (Insert pos piece) = fresh (paragraphs (cut_by rules) held.text) (insertion pos piece)
   analysed_by held (Delete pos count) = fresh (paragraphs (cut_by rules) held.text) (deletion pos count)
   analysed_by held (SetWidth width) = 0
   analysed_by held Show = 0
-  analysed_by held (Ask question) = 0
+  analysed_by held (Ask query) = 0
 
-  abbrev pub filled_by : Held → Request → ℕ
+  abbrev pub filled_by : Held → Command → ℕ
   filled_by held (Insert pos piece) = fresh (paragraphs (cut_by rules) held.text) (insertion pos piece)
   filled_by held (Delete pos count) = fresh (paragraphs (cut_by rules) held.text) (deletion pos count)
   filled_by held (SetWidth width) = changed width (layouts_at rules held)
   filled_by held Show = 0
-  filled_by held (Ask question) = 0
+  filled_by held (Ask query) = 0
 
-  -- of any request, of a line, and of lines one after another
-  abbrev pub work_of : (Held → Request → ℕ) → Held → Request → ℕ
-  work_of work held request = if is_none (request_refusal rules held request) then work held request else 0
+  -- of any command, of a line, and of lines one after another
+  abbrev pub work_of : (Held → Command → ℕ) → Held → Command → ℕ
+  work_of work held command = if is_none (command_refusal rules held command) then work held command else 0
 
-  abbrev pub work_of_line : (Held → Request → ℕ) → Held → Option Request → ℕ
+  abbrev pub work_of_line : (Held → Command → ℕ) → Held → Option Command → ℕ
   work_of_line work held None = 0
-  work_of_line work held (Some request) = work_of work held request
+  work_of_line work held (Some command) = work_of work held command
 
-  abbrev pub work_of_lines : Bool → (Held → Request → ℕ) → Held → List (List ℕ) → ℕ
+  abbrev pub work_of_lines : Bool → (Held → Command → ℕ) → Held → List (List ℕ) → ℕ
   work_of_lines queries work held [] = 0
   work_of_lines queries work held (line ∷ lines) =
-      work_of_line work held (request_of_line queries line) + work_of_lines queries work (after_line rules held (request_of_line queries line)) lines
+      work_of_line work held (command_of_line queries line) + work_of_lines queries work (after_line rules held (command_of_line queries line)) lines
 
   -- an engine has worked no more than this, of each kind
-  pub record Works (most : (Held → Request → ℕ) → ℕ) (old new : Engine) : Type 0 where
+  pub record Works (most : (Held → Command → ℕ) → ℕ) (old new : Engine) : Type 0 where
     pub analysed : RisesBy (most analysed_by) (analysed_of old) (analysed_of new)
     pub filled : RisesBy (most filled_by) (filled_of old) (filled_of new)
     pub written : RisesBy (most filled_by) (written_of old) (written_of new)
 
-  abbrev pub RequestWorks : Held → Request → Engine → Engine → Type 0
-  RequestWorks held request = Works (λ work. work_of work held request)
+  abbrev pub CommandWorks : Held → Command → Engine → Engine → Type 0
+  CommandWorks held command = Works (λ work. work_of work held command)
 
   abbrev pub LineWorks : Bool → Held → List ℕ → Engine → Engine → Type 0
-  LineWorks queries held line = Works (λ work. work_of_line work held (request_of_line queries line))
+  LineWorks queries held line = Works (λ work. work_of_line work held (command_of_line queries line))
 
   abbrev pub LinesWork : Bool → Held → List (List ℕ) → Engine → Engine → Type 0
   LinesWork queries held lines = Works (λ work. work_of_lines queries work held lines)

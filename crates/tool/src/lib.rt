@@ -14,13 +14,13 @@
 mod answers;
 mod program;
 mod queries;
-mod requests;
+mod commands;
 mod script;
 mod start;
 
 pub use command_line::{LineFault, Settings, settings};
 pub use program::ProgramFault;
-pub use queries::Question;
+pub use queries::Query;
 pub use script::{LINE_LIMIT, ScriptOptions, run_script, run_script_in};
 pub use start::open_text;
 pub use text_run::{RunFault, run_text};

@@ -7,7 +7,7 @@ use thiserror::Error;
 use ucd::TableFault;
 
 /// Why the program ended. The displayed text is its message on standard error; the text of a
-/// request for help is for standard output.
+/// command for help is for standard output.
 #[derive(Debug, Drop, Error)]
 pub enum ProgramFault {
     #[error("{0}")]

@@ -1,11 +1,11 @@
-//! The questions of a script about the text as it stands, and what is answered to each.
+//! The queries of a script about the text as it stands, and what is answered to each.
 ghost use Rattle.std.specs.Prelude.{◌≡◌, ◌^◌, ◌<◌, ◌≤◌, IfOk, IfErr, OnErr, length, slice_index};
 ghost use Rattle.lines.specs.Engine.{rules_of};
 ghost use Rattle.reorder.specs.Order.{is_odd};
 ghost use Rattle.lines.specs.Writing.{PassedOn};
 ghost use Rattle.session.specs.Kept.{text_of};
 ghost use Rattle.tool.specs.Queries.{caret_text, cluster_text, hit_text, lines_text, part_text};
-ghost use Rattle.tool.specs.Queries.{question_text, size_text};
+ghost use Rattle.tool.specs.Queries.{query_text, size_text};
 ghost use Rattle.tool.specs.Queries.{empty_left, is_odd_at, screen_hit, screen_left, AnswersNot};
 ghost use Rattle.tool.specs.Reading.{Stops};
 
@@ -20,7 +20,7 @@ use text_run::RunFault;
 /// What a line of a script asks about the text as it stands. Positions count characters, and like lines and
 /// columns they count from 0.
 #[derive(Clone, Copy, Debug, PartialEq, Eq)]
-pub enum Question {
+pub enum Query {
     /// So many lines, from one on.
     Lines(usize, usize),
     /// Where a caret stands on the screen before the character at a position.
@@ -208,32 +208,32 @@ fn write_part<W: Sink, S: ParagraphStore<Kept>>(
     write_bytes(writer, part, b"\n")
 }
 
-/// Writes the answer to a question after so many bytes. It takes memory for the cluster of a character alone.
+/// Writes the answer to a query after so many bytes. It takes memory for the cluster of a character alone.
 pub fn write_query<W: Sink, S: ParagraphStore<Kept>>(
     session: &Session<S>,
     writer: &mut W,
     written: u64,
     print: &Print,
-    question: &Question,
+    query: &Query,
 ) -> Result<u64, RunFault>
     requires { written ≤ (W.state writer.old).passed }
-    ensures ok { IfOk result (PassedOn (question_text (rules_of session.now.engine) print.now
-        session.now.width session.now.kept question.now) written
+    ensures ok { IfOk result (PassedOn (query_text (rules_of session.now.engine) print.now
+        session.now.width session.now.kept query.now) written
         (W.state writer.old) (W.state writer.new)) }
-    ensures err { IfErr result (AnswersNot (question_text (rules_of session.now.engine) print.now
-        session.now.width session.now.kept question.now) (text_of session.now.kept) question.now written
+    ensures err { IfErr result (AnswersNot (query_text (rules_of session.now.engine) print.now
+        session.now.width session.now.kept query.now) (text_of session.now.kept) query.now written
         (W.state writer.old) (W.state writer.new)) }
     ensures counted { IfOk result (λ n. n ≤ (W.state writer.new).passed) }
 {
-    let answer = match *question {
-        Question::Lines(first, count) => {
+    let answer = match *query {
+        Query::Lines(first, count) => {
             return write_lines(session, writer, written, print, first, count);
         }
-        Question::Text(pos, count) => return write_part(session, writer, written, pos, count),
-        Question::Caret(pos) => caret_answer(session, print, pos),
-        Question::Hit(n, column) => hit_answer(session, print, n, column),
-        Question::Size => size_answer(session),
-        Question::Cluster(pos) => match cluster_answer(session, pos) {
+        Query::Text(pos, count) => return write_part(session, writer, written, pos, count),
+        Query::Caret(pos) => caret_answer(session, print, pos),
+        Query::Hit(n, column) => hit_answer(session, print, n, column),
+        Query::Size => size_answer(session),
+        Query::Cluster(pos) => match cluster_answer(session, pos) {
             Ok(answer) => answer,
             Err(_) => return Err(RunFault::Memory),
         },

@@ -1,4 +1,4 @@
-//! The run of an edit script: its bytes are read piece by piece, each line is obeyed as soon as its end was
+//! The run of an edit script: its bytes are read piece by piece, each line is executed as soon as its end was
 //! read, and its answer is written before more is read.
 ghost use Rattle.std.specs.Prelude.{◌≡◌, ◌+◌, ◌-◌, ◌<◌, ◌≤◌, ◌++◌, ◌^◌, ◌∷◌, ◌⊎◌, [], true, false};
 ghost use Rattle.std.specs.Prelude.{None, Ok};
@@ -14,17 +14,17 @@ ghost use Rattle.session.specs.Sessions.{SessionState, held_at, page_at, IsWhole
 ghost use Rattle.std.specs.Io.KnownBytes.{IsAtEnd};
 ghost use Rattle.text_run.specs.TextRun.{TellsReads};
 ghost use Rattle.stream.specs.declared.reading.TheConstants.{CHUNK};
-ghost use Rattle.tool.specs.Requests.{request_of};
+ghost use Rattle.tool.specs.Commands.{command_of};
 ghost use Rattle.tool.specs.Reading.{CanFeed, Edited, EndsIn, FailsAt, FailsIn, Feeds, Grows};
-ghost use Rattle.tool.specs.Reading.{GrowsNot, IsAt, NoEnd, Obeys, ObeysLine, ObeysNot, Steps, Stops};
+ghost use Rattle.tool.specs.Reading.{GrowsNot, IsAt, NoEnd, Executes, ExecutesLine, ExecutesNot, Steps, Stops};
 ghost use Rattle.tool.specs.Reading.{Takes, WantsIn, answer_text, lacks_memory};
 ghost use Rattle.tool.specs.ScriptEnds.{IsScriptRun};
-ghost use Rattle.tool.specs.Scripts.{Ask, Delete, LacksPiece, SetWidth, Insert, request_of_line};
-ghost use Rattle.tool.specs.Work.{LineWorks, RequestWorks};
+ghost use Rattle.tool.specs.Scripts.{Ask, Delete, LacksPiece, SetWidth, Insert, command_of_line};
+ghost use Rattle.tool.specs.Work.{LineWorks, CommandWorks};
 
 use crate::answers::{answer_of, write_bytes};
-use crate::queries::{Question, write_query};
-use crate::requests::{Request, read_request};
+use crate::queries::{Query, write_query};
+use crate::commands::{Command, read_command};
 use device::{Sink, Source};
 use lines::Print;
 use session::{Damage, EditFault, Kept, Session};
@@ -41,7 +41,7 @@ pub const LINE_LIMIT: usize = 1_048_576;
 pub struct ScriptOptions {
     /// What is printed of lines.
     pub print: Print,
-    /// Whether lines of the script may be questions.
+    /// Whether lines of the script may be queries.
     pub queries: bool,
 }
 
@@ -50,7 +50,7 @@ pub struct ScriptOptions {
 struct Reading {
     // The bytes after the last end of a line.
     line: Vec<u8>,
-    // How many lines were obeyed, and how many bytes are written.
+    // How many lines were executed, and how many bytes are written.
     lines: u64,
     written: u64,
     // The characters of a line, and the text of an insert.
@@ -77,7 +77,7 @@ fn set_width<S: ParagraphStore<Kept>>(
 ) -> Result<Damage, EditFault>
     ensures edited { Edited (rules_of session.old.engine) (SetWidth width)
         (held_at session.old) (held_at session.new) result }
-    ensures works { RequestWorks (rules_of session.old.engine) (held_at session.old) (SetWidth width)
+    ensures works { CommandWorks (rules_of session.old.engine) (held_at session.old) (SetWidth width)
         session.old.engine session.new.engine }
     ensures rules { SameRules session.old.engine session.new.engine }
 {
@@ -96,7 +96,7 @@ fn insert<S: ParagraphStore<Kept>>(
 ) -> Result<Damage, EditFault>
     ensures edited { Edited (rules_of session.old.engine) (Insert pos (chars piece.now))
         (held_at session.old) (held_at session.new) result }
-    ensures works { RequestWorks (rules_of session.old.engine) (held_at session.old)
+    ensures works { CommandWorks (rules_of session.old.engine) (held_at session.old)
         (Insert pos (chars piece.now)) session.old.engine session.new.engine }
     ensures rules { SameRules session.old.engine session.new.engine }
 {
@@ -112,7 +112,7 @@ fn delete<S: ParagraphStore<Kept>>(
 ) -> Result<Damage, EditFault>
     ensures edited { Edited (rules_of session.old.engine) (Delete pos count)
         (held_at session.old) (held_at session.new) result }
-    ensures works { RequestWorks (rules_of session.old.engine) (held_at session.old) (Delete pos count)
+    ensures works { CommandWorks (rules_of session.old.engine) (held_at session.old) (Delete pos count)
         session.old.engine session.new.engine }
     ensures rules { SameRules session.old.engine session.new.engine }
 {
@@ -157,24 +157,24 @@ fn show<W: Sink, S: ParagraphStore<Kept>>(
     }
 }
 
-// Answers a question after so many bytes.
+// Answers a query after so many bytes.
 fn ask<W: Sink, S: ParagraphStore<Kept>>(
     session: &Session<S>,
     writer: &mut W,
     written: u64,
     print: &Print,
-    question: &Question,
+    query: &Query,
 ) -> Result<u64, RunFault>
     requires { written ≤ (W.state writer.old).passed }
-    ensures ok { IfOk result (Obeys (rules_of session.now.engine) print.now (Ask question.now)
+    ensures ok { IfOk result (Executes (rules_of session.now.engine) print.now (Ask query.now)
         written (held_at session.now) (held_at session.now) (W.state writer.old) (W.state writer.new)) }
-    ensures err { IfErr result (ObeysNot (rules_of session.now.engine) print.now (Ask question.now)
+    ensures err { IfErr result (ExecutesNot (rules_of session.now.engine) print.now (Ask query.now)
         written (held_at session.now) (held_at session.now) (W.state writer.old) (W.state writer.new)) }
     ensures counted { IfOk result (λ n. n ≤ (W.state writer.new).passed) }
 {
     // Shows that what is kept is laid out.
     let _width = session.width();
-    write_query(session, writer, written, print, question)
+    write_query(session, writer, written, print, query)
 }
 
 fn lacks_memory(edit: &Result<Damage, EditFault>) -> bool
@@ -186,33 +186,33 @@ fn lacks_memory(edit: &Result<Damage, EditFault>) -> bool
     }
 }
 
-// Obeys a line, and writes its answer after so many bytes.
-fn obey<W: Sink, S: ParagraphStore<Kept>>(
+// Executes a line, and writes its answer after so many bytes.
+fn execute<W: Sink, S: ParagraphStore<Kept>>(
     session: &mut Session<S>,
     writer: &mut W,
     written: u64,
     print: &Print,
-    request: &Request,
+    command: &Command,
     piece: &str,
 ) -> Result<u64, RunFault>
     requires { written ≤ (W.state writer.old).passed }
-    ensures ok { IfOk result (Obeys (rules_of session.old.engine) print.now
-        (request_of piece.now request.now) written (held_at session.old) (held_at session.new)
+    ensures ok { IfOk result (Executes (rules_of session.old.engine) print.now
+        (command_of piece.now command.now) written (held_at session.old) (held_at session.new)
         (W.state writer.old) (W.state writer.new)) }
-    ensures err { IfErr result (ObeysNot (rules_of session.old.engine) print.now
-        (request_of piece.now request.now) written (held_at session.old) (held_at session.new)
+    ensures err { IfErr result (ExecutesNot (rules_of session.old.engine) print.now
+        (command_of piece.now command.now) written (held_at session.old) (held_at session.new)
         (W.state writer.old) (W.state writer.new)) }
-    ensures works { RequestWorks (rules_of session.old.engine) (held_at session.old)
-        (request_of piece.now request.now) session.old.engine session.new.engine }
+    ensures works { CommandWorks (rules_of session.old.engine) (held_at session.old)
+        (command_of piece.now command.now) session.old.engine session.new.engine }
     ensures counted { IfOk result (λ n. n ≤ (W.state writer.new).passed) }
     ensures rules { SameRules session.old.engine session.new.engine }
 {
-    let edit = match request {
-        Request::Insert(pos) => insert(session, *pos, piece),
-        Request::Delete(pos, count) => delete(session, *pos, *count),
-        Request::SetWidth(width) => set_width(session, *width),
-        Request::Show => return show(session, writer, written, print),
-        Request::Ask(question) => return ask(session, writer, written, print, question),
+    let edit = match command {
+        Command::Insert(pos) => insert(session, *pos, piece),
+        Command::Delete(pos, count) => delete(session, *pos, *count),
+        Command::SetWidth(width) => set_width(session, *width),
+        Command::Show => return show(session, writer, written, print),
+        Command::Ask(query) => return ask(session, writer, written, print, query),
     };
     if lacks_memory(&edit) {
         return Err(RunFault::Memory);
@@ -228,10 +228,10 @@ fn read_line(
     line: &[u8],
     text: &mut Vec<char>,
     piece: &mut String,
-) -> Result<Option<Request>, AllocError>
+) -> Result<Option<Command>, AllocError>
     requires { length line.now ≤ LINE_LIMIT }
-    ensures ok { IfOk result (λ request. option_map (request_of (string_bytes piece.new)) request
-        ≡ request_of_line queries line.now) }
+    ensures ok { IfOk result (λ command. option_map (command_of (string_bytes piece.new)) command
+        ≡ command_of_line queries line.now) }
     ensures err { OnErr result (utf8_valid_len line.now ≡ length line.now) }
     ensures memory { OnErr result (0 < length line.now) }
     ensures part { OnErr result ((length text.new.items < length (chars line.now))
@@ -243,11 +243,11 @@ fn read_line(
     }
     text.clear();
     push_characters(characters, text)?;
-    read_request(queries, text, piece)
+    read_command(queries, text, piece)
 }
 
-// Obeys the line that was read.
-fn obey_line<W: Sink, S: ParagraphStore<Kept>>(
+// Executes the line that was read.
+fn execute_line<W: Sink, S: ParagraphStore<Kept>>(
     session: &mut Session<S>,
     writer: &mut W,
     options: &ScriptOptions,
@@ -256,7 +256,7 @@ fn obey_line<W: Sink, S: ParagraphStore<Kept>>(
     requires short { length reading.old.line.items ≤ LINE_LIMIT }
     requires written { reading.old.written ≤ (W.state writer.old).passed }
     requires lines { reading.old.lines < 2 ^ 64 - 1 }
-    ensures ok { OnOk result (ObeysLine (rules_of session.old.engine) options.now reading.old.line.items
+    ensures ok { OnOk result (ExecutesLine (rules_of session.old.engine) options.now reading.old.line.items
         (held_at session.old) (held_at session.new) reading.old reading.new
         (W.state writer.old) (W.state writer.new)) }
     ensures err { IfErr result (FailsAt (rules_of session.old.engine) options.now
@@ -268,18 +268,18 @@ fn obey_line<W: Sink, S: ParagraphStore<Kept>>(
     ensures rules { SameRules session.old.engine session.new.engine }
 {
     let (text, piece) = (&mut reading.text, &mut reading.piece);
-    let request = match read_line(options.queries, &reading.line, text, piece) {
-        Ok(Some(request)) => request,
+    let command = match read_line(options.queries, &reading.line, text, piece) {
+        Ok(Some(command)) => command,
         Ok(None) => return Err(RunFault::BadLine(reading.lines + 1)),
         Err(_) => return Err(RunFault::Memory),
     };
     let written = reading.written;
-    match obey(
+    match execute(
         session,
         writer,
         written,
         &options.print,
-        &request,
+        &command,
         &reading.piece,
     ) {
         Ok(written) => {
@@ -324,7 +324,7 @@ fn line_end(piece: &[u8]) -> Option<usize>
     piece.iter().position(|&b| b == b'\n')
 }
 
-// Takes the bytes of a piece up to the first end of a line, and obeys the line; or, where none ends there,
+// Takes the bytes of a piece up to the first end of a line, and executes the line; or, where none ends there,
 // takes all of them. Says how many it took.
 fn take_part<W: Sink, S: ParagraphStore<Kept>>(
     session: &mut Session<S>,
@@ -347,7 +347,7 @@ fn take_part<W: Sink, S: ParagraphStore<Kept>>(
                 Ok(()) => (),
                 Err(fault) => return Err(fault),
             }
-            match obey_line(session, writer, options, reading) {
+            match execute_line(session, writer, options, reading) {
                 Ok(()) => Ok(end + 1),
                 Err(fault) => Err(fault),
             }
@@ -359,7 +359,7 @@ fn take_part<W: Sink, S: ParagraphStore<Kept>>(
     }
 }
 
-// Obeys the lines that end in a piece, and keeps what stands after them.
+// Executes the lines that end in a piece, and keeps what stands after them.
 fn feed<W: Sink, S: ParagraphStore<Kept>>(
     session: &mut Session<S>,
     writer: &mut W,
@@ -375,7 +375,7 @@ fn feed<W: Sink, S: ParagraphStore<Kept>>(
         → Feeds (rules_of session.old.engine) options.now start reader_start writer_start reader_now
         (W.state writer.new) session.new reading.new result }
 
-    // Memory is wanted for one line, after those that were obeyed.
+    // Memory is wanted for one line, after those that were executed.
     ensures wants { (start : SessionState) (reader_start writer_start reader_now : Device)
         → IsAt (rules_of session.old.engine) options.now start reader_start reader_now
         writer_start (W.state writer.old) session.old reading.old piece.now
@@ -420,10 +420,10 @@ fn finish<W: Sink, S: ParagraphStore<Kept>>(
     if reading.line.is_empty() {
         return Ok(());
     }
-    obey_line(session, writer, options, reading)
+    execute_line(session, writer, options, reading)
 }
 
-// Reads a piece, and obeys the lines that end in it. Says whether the script goes on.
+// Reads a piece, and executes the lines that end in it. Says whether the script goes on.
 fn step<R: Source, W: Sink, S: ParagraphStore<Kept>>(
     reader: &mut R,
     writer: &mut W,
@@ -443,7 +443,7 @@ fn step<R: Source, W: Sink, S: ParagraphStore<Kept>>(
         (R.state reader.new) (W.state writer.new) session.new reading.new result }
     ensures reads { TellsReads result (R.state reader.old) (R.state reader.new) }
 
-    // Memory is wanted for one line, after those that were obeyed; where no more was read, for the line that
+    // Memory is wanted for one line, after those that were executed; where no more was read, for the line that
     // stands at the end, if one does.
     ensures wants { (start : SessionState) (reader_start writer_start : Device)
         → IsAt (rules_of session.old.engine) options.now start reader_start (R.state reader.old)

@@ -14,14 +14,14 @@ returns-in-Err-grow-clause-err g c = inr (record {
   writer = refl;
 })
 
-pub returns-in-Err-obey_line-clause-err : goal.returns-in-Err-obey_line-clause-err
-returns-in-Err-obey_line-clause-err g c =
+pub returns-in-Err-execute_line-clause-err : goal.returns-in-Err-execute_line-clause-err
+returns-in-Err-execute_line-clause-err g c =
     let grows = c.in-Ok.ensures.ok in
     inl (record {
       front = take c.in-Some.end c.args.piece.now;
       after = drop (c.in-Some.end + 1) c.args.piece.now;
       ends = c.in-Some.ensures.1;
-      fails = rw (grows.line, grows.lines, grows.written) at c.in-Err-obey_line.ensures.err;
-      works = rw grows.line at c.in-Err-obey_line.ensures.works;
-      lines = c.in-Err-obey_line.ensures.lines ∙ grows.lines;
+      fails = rw (grows.line, grows.lines, grows.written) at c.in-Err-execute_line.ensures.err;
+      works = rw grows.line at c.in-Err-execute_line.ensures.works;
+      lines = c.in-Err-execute_line.ensures.lines ∙ grows.lines;
     })

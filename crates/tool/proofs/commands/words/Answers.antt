@@ -4,7 +4,7 @@ use Rattle.std.proofs.lemmas.Bool.Decides.{nat_tests}
 use Rattle.std.proofs.lemmas.List.Sums.{position_or_len_is}
 use Rattle.std.proofs.lemmas.List.{take_rest}
 use Rattle.tool.specs.Scripts.{is_space, parted}
-use Rattle.tool.proofs.requests.words.Goals as goal
+use Rattle.tool.proofs.commands.words.Goals as goal
 
 -- what stands on both sides of a place, if it is one of the text
 abbrev sides : List ℕ → ℕ → Bool → Option (List ℕ × List ℕ)

@@ -1,6 +1,6 @@
 use Rattle.std.proofs.Common.{arith}
 use Rattle.tool.proofs.NumberLemmas.{product_fits}
-use Rattle.tool.proofs.requests.value.Goals as goal
+use Rattle.tool.proofs.commands.value.Goals as goal
 
 pub overflow_mul-number : goal.overflow_mul-number
 overflow_mul-number c =

@@ -6,7 +6,7 @@ use Rattle.std.proofs.lemmas.List.{take_rest}
 use Rattle.std.proofs.lemmas.Str.{IsUtf8-string_bytes, chars-nil}
 use Rattle.tool.specs.Scripts.{unescaped, written}
 use Rattle.tool.proofs.EscapeLemmas.{all_written, chars-push, lacks_next, next_written, none_written}
-use Rattle.tool.proofs.requests.unescape.Goals as goal
+use Rattle.tool.proofs.commands.unescape.Goals as goal
 
 -- nothing before
 id_map : (o : Option (List ℕ)) → option_map (λ cs. [] ++ cs) o ≡ o

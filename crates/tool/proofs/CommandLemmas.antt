@@ -10,28 +10,28 @@ use Rattle.session.specs.Edits.{Held}
 use Rattle.session.specs.declared.edits.Damage.{Damage}
 use Rattle.session.specs.declared.edits.EditFault.{EditFault}
 use Rattle.session.specs.declared.edits.EditFault.TheVariants as e
-use Rattle.tool.specs.Reading.{Edited, Obeys, ObeysNot, Stops, TakesMemory, answer_text, lacks_memory}
-use Rattle.tool.specs.ScriptRun.{after_request, answer_by, answer_to, obeyed, obeyed_text, request_refusal}
-use Rattle.tool.specs.Scripts.{Request}
+use Rattle.tool.specs.Reading.{Edited, Executes, ExecutesNot, Stops, TakesMemory, answer_text, lacks_memory}
+use Rattle.tool.specs.ScriptRun.{after_command, answer_by, answer_to, executed, executed_text, command_refusal}
+use Rattle.tool.specs.Scripts.{Command}
 use Rattle.text_run.specs.declared.faults.RunFault.{RunFault}
 use Rattle.text_run.specs.declared.faults.RunFault.TheVariants as f
 
-module _ (rules : Rules) (print : Print) (request : Request) (old new : Held) where
+module _ (rules : Rules) (print : Print) (command : Command) (old new : Held) where
   -- what became of the text and the width, and what is answered
   record Told (edit : Result Damage EditFault) : Type 0 where
-    pub held : new ≡ after_request rules old request
-    pub text : answer_to rules print old request ≡ answer_text edit
+    pub held : new ≡ after_command rules old command
+    pub text : answer_to rules print old command ≡ answer_text edit
 
-  refused : (reason : EditFault) → request_refusal rules old request ≡ Some reason → new ≡ old → Told (Err reason)
+  refused : (reason : EditFault) → command_refusal rules old command ≡ Some reason → new ≡ old → Told (Err reason)
   refused reason is stays = record {
-    held = stays ∙ sym (ap (λ (o : Option EditFault). if is_none o then obeyed old request else old) is);
-    text = ap (λ (o : Option EditFault). answer_by o (obeyed_text rules print old request)) is;
+    held = stays ∙ sym (ap (λ (o : Option EditFault). if is_none o then executed old command else old) is);
+    text = ap (λ (o : Option EditFault). answer_by o (executed_text rules print old command)) is;
   }
 
-  told : (edit : Result Damage EditFault) → Edited rules request old new edit → lacks_memory edit ≡ false → Told edit
+  told : (edit : Result Damage EditFault) → Edited rules command old new edit → lacks_memory edit ≡ false → Told edit
   told (Ok damage) (accepted, made, text) room = record {
-    held = made ∙ sym (ap (λ (o : Option EditFault). if is_none o then obeyed old request else old) accepted);
-    text = ap (λ (o : Option EditFault). answer_by o (obeyed_text rules print old request)) accepted ∙ text print;
+    held = made ∙ sym (ap (λ (o : Option EditFault). if is_none o then executed old command else old) accepted);
+    text = ap (λ (o : Option EditFault). answer_by o (executed_text rules print old command)) accepted ∙ text print;
   }
   told (Err e.NoMemory) replaced room = absurd (true≢false room)
   told (Err e.OutOfRange) (is, stays) room = refused e.OutOfRange is stays
@@ -39,14 +39,14 @@ module _ (rules : Rules) (print : Print) (request : Request) (old new : Held) wh
   told (Err e.TextTooLong) (is, stays) room = refused e.TextTooLong is stays
   told (Err e.ParagraphTooLong) (is, stays) room = refused e.ParagraphTooLong is stays
 
-  module _ (edit : Result Damage EditFault) (replaced : Edited rules request old new edit) (room : lacks_memory edit ≡ false) (written : ℕ) (writer_old writer_new : Device) where
-    pub obeys : (r : Result ℕ RunFault) → IfOk r (PassedOn (answer_text edit) written writer_old writer_new) → IfOk r (Obeys rules print request written old new writer_old writer_new)
-    obeys (Ok n) passed =
+  module _ (edit : Result Damage EditFault) (replaced : Edited rules command old new edit) (room : lacks_memory edit ≡ false) (written : ℕ) (writer_old writer_new : Device) where
+    pub executes : (r : Result ℕ RunFault) → IfOk r (PassedOn (answer_text edit) written writer_old writer_new) → IfOk r (Executes rules print command written old new writer_old writer_new)
+    executes (Ok n) passed =
         let t = told edit replaced room in
         record { held = t.held; wrote = subst (λ text. PassedOn text written writer_old writer_new n) (sym t.text) passed }
-    obeys (Err fault) passed = tt
+    executes (Err fault) passed = tt
 
-    stops_at : (fault : RunFault) → Stops (answer_text edit) written writer_old writer_new fault → ObeysNot rules print request written old new writer_old writer_new fault
+    stops_at : (fault : RunFault) → Stops (answer_text edit) written writer_old writer_new fault → ExecutesNot rules print command written old new writer_old writer_new fault
     stops_at (f.Write n) stopped =
         let t = told edit replaced room in (t.held, subst (λ text. StoppedIn text written writer_old writer_new n) (sym t.text) stopped)
     stops_at f.Read stopped = absurd stopped
@@ -56,12 +56,12 @@ module _ (rules : Rules) (print : Print) (request : Request) (old new : Held) wh
     stops_at f.Memory stopped = absurd stopped
     stops_at f.TextTooLong stopped = absurd stopped
 
-    pub stops : (r : Result ℕ RunFault) → IfErr r (Stops (answer_text edit) written writer_old writer_new) → IfErr r (ObeysNot rules print request written old new writer_old writer_new)
+    pub stops : (r : Result ℕ RunFault) → IfErr r (Stops (answer_text edit) written writer_old writer_new) → IfErr r (ExecutesNot rules print command written old new writer_old writer_new)
     stops (Ok n) stopped = tt
     stops (Err fault) stopped = stops_at fault stopped
 
   -- where memory ran out nothing refuses what is asked, it takes some, and all stays
-  pub wants : (edit : Result Damage EditFault) → Edited rules request old new edit → lacks_memory edit ≡ true → (request_refusal rules old request ≡ None) × TakesMemory old request × (new ≡ old)
+  pub wants : (edit : Result Damage EditFault) → Edited rules command old new edit → lacks_memory edit ≡ true → (command_refusal rules old command ≡ None) × TakesMemory old command × (new ≡ old)
   wants (Ok damage) replaced short = absurd (true≢false (sym short))
   wants (Err e.NoMemory) replaced short = replaced
   wants (Err e.OutOfRange) replaced short = absurd (true≢false (sym short))

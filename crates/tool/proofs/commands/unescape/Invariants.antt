@@ -1,7 +1,7 @@
 use Rattle.std.proofs.Common.{◌≡◌, ◌≤◌, ◌-◌, ◌++◌, length, drop, option_map, string_bytes}
 use Rattle.std.specs.Str.{chars}
 use Rattle.tool.specs.Scripts.{unescaped}
-use Rattle.tool.proofs.requests.unescape.Given as goal
+use Rattle.tool.proofs.commands.unescape.Given as goal
 
 -- the piece and what the rest writes are what the whole text writes
 abbrev pub invariant-loop-at : goal.invariant-loop-at

@@ -5,18 +5,18 @@ ghost use Rattle.std.specs.Prelude.{if◌then◌else◌, string_bytes};
 ghost use Rattle.std.specs.List.{prefix_len};
 ghost use Rattle.std.specs.Char.{is_digit};
 ghost use Rattle.std.specs.Str.{chars};
-ghost use Rattle.tool.specs.Requests.{request_of};
+ghost use Rattle.tool.specs.Commands.{command_of};
 ghost use Rattle.tool.specs.Scripts.{LacksPiece, LacksPieceIn, LacksText};
 ghost use Rattle.tool.specs.Scripts.{Ask, SetWidth, are_digits, both_in, braced, deletion_in};
-ghost use Rattle.tool.specs.Scripts.{edit_request_in, escaped, insertion_in, number_by, number_in};
-ghost use Rattle.tool.specs.Scripts.{parted, question_in, request_in, stripped, unescaped, written};
+ghost use Rattle.tool.specs.Scripts.{edit_command_in, escaped, insertion_in, number_by, number_in};
+ghost use Rattle.tool.specs.Scripts.{parted, query_in, command_in, stripped, unescaped, written};
 
-use crate::queries::Question;
+use crate::queries::Query;
 use std::alloc::AllocError;
 
 /// What a line of a script asks for.
 #[derive(Clone, Copy, Debug, PartialEq, Eq)]
-pub enum Request {
+pub enum Command {
     /// To put a text, which is handed out beside this, before the character at a place.
     Insert(usize),
     /// To take so many characters out, from a place on.
@@ -25,8 +25,8 @@ pub enum Request {
     SetWidth(usize),
     /// To write all lines.
     Show,
-    /// To answer a question.
-    Ask(Question),
+    /// To answer a query.
+    Ask(Query),
 }
 
 const SHOW: [char; 4] = ['s', 'h', 'o', 'w'];
@@ -49,57 +49,57 @@ const SIZE: [char; 4] = ['s', 'i', 'z', 'e'];
 
 const TEXT: [char; 5] = ['t', 'e', 'x', 't', ' '];
 
-/// What the characters of a line ask for, if it is a line of a script, in which there may be questions or
+/// What the characters of a line ask for, if it is a line of a script, in which there may be queries or
 /// not. The text of an insert is put into `piece`.
-pub fn read_request(
+pub fn read_command(
     queries: bool,
     line: &[char],
     piece: &mut String,
-) -> Result<Option<Request>, AllocError>
-    ensures ok { IfOk result (λ request. option_map (request_of (string_bytes piece.new)) request
-        ≡ request_in queries line.now) }
+) -> Result<Option<Command>, AllocError>
+    ensures ok { IfOk result (λ command. option_map (command_of (string_bytes piece.new)) command
+        ≡ command_in queries line.now) }
     ensures memory { OnErr result (LacksPiece line.now (chars (string_bytes piece.new))) }
 {
-    match read_edit_request(line, piece) {
-        Ok(None) if queries => Ok(read_question(line)),
-        request => request,
+    match read_edit_command(line, piece) {
+        Ok(None) if queries => Ok(read_query(line)),
+        command => command,
     }
 }
 
-// A line that asks for none of the others may be a question.
-fn read_question(line: &[char]) -> Option<Request>
+// A line that asks for none of the others may be a query.
+fn read_query(line: &[char]) -> Option<Command>
     ensures { (piece : List ℕ)
-        → option_map (request_of piece) result ≡ option_map Ask (question_in line.now) }
+        → option_map (command_of piece) result ≡ option_map Ask (query_in line.now) }
 {
-    Some(Request::Ask(question(line)?))
+    Some(Command::Ask(query(line)?))
 }
 
-fn question(line: &[char]) -> Option<Question>
-    ensures { result ≡ question_in line.now }
+fn query(line: &[char]) -> Option<Query>
+    ensures { result ≡ query_in line.now }
 {
     if let Some(rest) = after(&LINES, line) {
         let (first, count) = both(rest)?;
-        return Some(Question::Lines(first, count));
+        return Some(Query::Lines(first, count));
     }
     if let Some(rest) = after(&CARET, line) {
-        return Some(Question::Caret(number(rest)?));
+        return Some(Query::Caret(number(rest)?));
     }
     if let Some(rest) = after(&HIT, line) {
         let (n, column) = both(rest)?;
-        return Some(Question::Hit(n, column));
+        return Some(Query::Hit(n, column));
     }
     if let Some(rest) = after(&CLUSTER, line) {
-        return Some(Question::Cluster(number(rest)?));
+        return Some(Query::Cluster(number(rest)?));
     }
     if let Some(rest) = after(&SIZE, line) {
         return if rest.is_empty() {
-            Some(Question::Size)
+            Some(Query::Size)
         } else {
             None
         };
     }
     let (pos, count) = both(after(&TEXT, line)?)?;
-    Some(Question::Text(pos, count))
+    Some(Query::Text(pos, count))
 }
 
 // Two numbers with a space between them.
@@ -110,15 +110,15 @@ fn both(text: &[char]) -> Option<(usize, usize)>
     Some((number(one)?, number(other)?))
 }
 
-// What a line asks for that is no question.
-fn read_edit_request(line: &[char], piece: &mut String) -> Result<Option<Request>, AllocError>
-    ensures ok { IfOk result (λ request. option_map (request_of (string_bytes piece.new)) request
-        ≡ edit_request_in line.now) }
+// What a line asks for that is no query.
+fn read_edit_command(line: &[char], piece: &mut String) -> Result<Option<Command>, AllocError>
+    ensures ok { IfOk result (λ command. option_map (command_of (string_bytes piece.new)) command
+        ≡ edit_command_in line.now) }
     ensures memory { OnErr result (LacksPiece line.now (chars (string_bytes piece.new))) }
 {
     if let Some(rest) = after(&SHOW, line) {
         return Ok(if rest.is_empty() {
-            Some(Request::Show)
+            Some(Command::Show)
         } else {
             None
         });
@@ -135,8 +135,8 @@ fn read_edit_request(line: &[char], piece: &mut String) -> Result<Option<Request
     }
 }
 
-fn insertion(text: &[char], piece: &mut String) -> Result<Option<Request>, AllocError>
-    ensures ok { IfOk result (λ request. option_map (request_of (string_bytes piece.new)) request
+fn insertion(text: &[char], piece: &mut String) -> Result<Option<Command>, AllocError>
+    ensures ok { IfOk result (λ command. option_map (command_of (string_bytes piece.new)) command
         ≡ insertion_in (parted text.now)) }
     ensures memory { OnErr result (LacksPieceIn text.now (chars (string_bytes piece.new))) }
 {
@@ -147,24 +147,24 @@ fn insertion(text: &[char], piece: &mut String) -> Result<Option<Request>, Alloc
         return Ok(None);
     };
     match unescape(text, piece) {
-        Ok(true) => Ok(Some(Request::Insert(pos))),
+        Ok(true) => Ok(Some(Command::Insert(pos))),
         Ok(false) => Ok(None),
         Err(error) => Err(error),
     }
 }
 
-fn deletion(text: &[char]) -> Option<Request>
-    ensures { (piece : List ℕ) → option_map (request_of piece) result ≡ deletion_in (parted text.now) }
+fn deletion(text: &[char]) -> Option<Command>
+    ensures { (piece : List ℕ) → option_map (command_of piece) result ≡ deletion_in (parted text.now) }
 {
     let (pos, count) = words(text)?;
-    Some(Request::Delete(number(pos)?, number(count)?))
+    Some(Command::Delete(number(pos)?, number(count)?))
 }
 
-fn width(text: &[char]) -> Option<Request>
+fn width(text: &[char]) -> Option<Command>
     ensures { (piece : List ℕ)
-        → option_map (request_of piece) result ≡ option_map SetWidth (number_in text.now) }
+        → option_map (command_of piece) result ≡ option_map SetWidth (number_in text.now) }
 {
-    Some(Request::SetWidth(number(text)?))
+    Some(Command::SetWidth(number(text)?))
 }
 
 // What stands after a beginning of a text, if it begins so.

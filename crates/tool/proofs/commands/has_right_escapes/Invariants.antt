@@ -1,7 +1,7 @@
 use Rattle.std.proofs.Common.{◌≡◌, ◌≤◌, ◌-◌, length, drop}
 use Rattle.std.specs.Prelude.{is_some}
 use Rattle.tool.specs.Scripts.{unescaped}
-use Rattle.tool.proofs.requests.has_right_escapes.Given as goal
+use Rattle.tool.proofs.commands.has_right_escapes.Given as goal
 
 -- the whole text is right where the rest is
 abbrev pub invariant-loop-at : goal.invariant-loop-at
