@@ -1,4 +1,4 @@
--- What a session keeps before and after an edit, and why one is refused.
+-- A session's layouts before and after an edit, and why an edit is refused.
 use Rattle.std.proofs.Common.{◌≡◌, ℕ, ◌+◌, ◌-◌, ◌^◌, ◌<◌, ◌≤◌, Bool, true, false, List, [], ◌∷◌, ◌++◌, length, map, take, drop, sum_by, Some, None, Result, Ok, Err, nat_lt, if◌then◌else◌, refl, sym, ap, subst, ◌∙◌, arith}
 use Rattle.std.specs.List.{concat, slice_range, splice}
 use Rattle.std.specs.Result.{is_err, IfOk, IfErr, OnOk, OnErr}

@@ -1,4 +1,4 @@
--- The bytes of all paragraphs, one after the other.
+-- The bytes of all paragraphs in order.
 use Rattle.std.proofs.Common.{◌≡◌, ℕ, zero, suc, ◌+◌, ◌-◌, ◌<◌, ◌≤◌, min, List, [], ◌∷◌, ◌++◌, length, map, take, drop, get_or, Some, unwrap_or, inl, inr, arith, refl, sym, ap, ap₂, subst, ◌∙◌}
 use Rattle.std.specs.List.{concat, flat_map, slice_get}
 use Rattle.std.proofs.lemmas.List.{append-nil, append_assoc, drop_at, get_or-map, length-drop, length-map, length-take, take-append-le, take_all}

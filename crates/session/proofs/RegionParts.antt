@@ -1,4 +1,4 @@
--- The touched paragraphs of a text after an edit: what the first has before it, the piece, and what the last has after it.
+-- The touched paragraphs of a text after an edit: the first one's front, the inserted text, and the last one's rest.
 use Rattle.std.proofs.Common.{◌≡◌, ℕ, zero, suc, zero-add, suc-add, ◌+◌, ◌-◌, ◌<◌, ◌≤◌, List, [], ◌∷◌, ◌++◌, length, take, drop, get_or, refl, sym, ap, ap₂, ◌∙◌, ◌⊎◌, inl, inr, arith}
 use Rattle.std.specs.List.{concat, slice_range}
 use Rattle.std.proofs.lemmas.Bool.{cases_eq, cases_lt}

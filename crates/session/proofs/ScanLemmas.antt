@@ -1,4 +1,4 @@
--- What one more character makes of the paragraphs of a text, and of what a scan knows of them.
+-- The paragraphs of a text with one more character, and what a scan knows of them.
 use Rattle.std.proofs.Common.{◌≡◌, ℕ, ◌+◌, ◌-◌, ◌<◌, ◌≤◌, min, nat_le, Bool, true, false, not, ◌&&◌, List, [], ◌∷◌, ◌++◌, length, get_or, Option, Some, None, MatchOption, refl, sym, ap, subst, ◌∙◌, arith, sub-one, if◌then◌else◌}
 use Rattle.std.specs.List.{onto_first, slice_get}
 use Rattle.std.proofs.lemmas.Bool.{le-leb, lt-leb, leb-true, and_right}

@@ -1,4 +1,4 @@
--- A text whose middle is changed: the paragraphs before and after stay, where the middle keeps its first and its last character.
+-- A text whose middle is changed: if the middle keeps its first and last character, the paragraphs around it stay.
 use Rattle.std.proofs.Common.{◌≡◌, ℕ, ◌+◌, ◌-◌, ◌<◌, ◌≤◌, Bool, true, ◌&&◌, List, [], ◌∷◌, ◌++◌, length, take, drop, slice_index, nat_le, zero-add, suc-add, add_assoc, refl, sym, ap, ◌∙◌, arith}
 use Rattle.std.specs.List.{concat}
 use Rattle.std.proofs.lemmas.List.{append-nil, append_assoc, get_or-append-add, get_or_append_left, length-append, length-drop, length-take-le, get_or-take, get_or-drop, take-append-le, drop-append-le}

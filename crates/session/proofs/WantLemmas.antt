@@ -1,4 +1,4 @@
--- Memory is wanted only where there is a text to keep.
+-- An allocation can fail only if there is a text.
 use Rattle.std.proofs.Common.{◌≡◌, ℕ, ◌+◌, ◌-◌, ◌<◌, ◌≤◌, List, [], ◌++◌, length, take, drop, get_or, ap, ◌∙◌, inl, inr, Result, Ok, Err, arith}
 use Rattle.std.specs.Result.{OnErr}
 use Rattle.std.proofs.Math.Seq.{take-nil}

@@ -1,4 +1,4 @@
--- The definitions of touched paragraphs, of what a width changes, and of lists of edits, worked on rows.
+-- Worked examples of touched paragraphs, of what a width change fills again, and of lists of edits.
 use Rattle.std.proofs.Common.{◌≡◌, ℕ, ◌==◌, Bool, List, [], ◌∷◌, refl}
 use Rattle.lines.specs.Layouts.{Layout}
 use Rattle.lines.specs.Visual.{Line}
