@@ -1,4 +1,4 @@
--- Characters beside which no rule on grapheme clusters joins any: a cluster ends after each of them.
+-- Characters that no grapheme cluster rule joins to a neighbour: a cluster ends after each of them.
 use Rattle.std.proofs.Common.{◌≡◌, ℕ, zero, suc, ◌+◌, ◌<◌, ◌≤◌, nat_le, Bool, true, false, not, ◌&&◌, ◌||◌, List, []}
 use Rattle.std.proofs.Common.{◌∷◌, length, map, replicate, unwrap_or, Option, Some, None, refl, sym, ap, ◌∙◌, inl, inr, arith}
 use Rattle.std.specs.List.{list_all}

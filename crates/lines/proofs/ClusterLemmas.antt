@@ -1,4 +1,4 @@
--- The ends of the clusters of a text, one after the other, are the ends that the rules give.
+-- The ends of a text's clusters, in order, are the ends by the rules.
 use Rattle.std.proofs.Common.{◌≡◌, ℕ, suc, ◌-◌, Bool, true, false, ◌&&◌, cond, List, [], ◌∷◌, ◌++◌, map, length, replicate, refl, sym, ap, ap₂, ◌∙◌, append-nil, arith}
 use Rattle.std.proofs.Math.Utf8.{scalars}
 use Rattle.std.proofs.lemmas.Bool.{and_parts}

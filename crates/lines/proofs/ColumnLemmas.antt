@@ -1,4 +1,4 @@
--- The columns of a line, place by place.
+-- The columns of a line at each visual position.
 use Rattle.std.proofs.Common.{◌≡◌, ℕ, suc, ◌+◌, ◌-◌, ◌<◌, ◌≤◌, min, length, take, get_or, sum_by, nat_lt, Some, None, if◌then◌else◌, sym, ap, ◌∙◌, inl, inr, arith}
 use Rattle.std.proofs.lemmas.Bool.{cases_lt, cond-true, cond-false, lt-ltb, le-ltb}
 use Rattle.std.proofs.lemmas.List.{get_or-map, length-map, take_all, take_more}

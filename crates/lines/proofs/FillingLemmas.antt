@@ -1,4 +1,4 @@
--- What the walk along a line finds: sums of columns, and the positions at which the line may end.
+-- What the scan of a line finds: sums of columns, and the positions at which the line may end.
 use Rattle.std.proofs.Common.{take-take, length-append, get_or, subst, ◌≡◌, ℕ, zero, suc, ◌+◌, ◌-◌, ◌*◌, ◌<◌, ◌≤◌, Bool, true, false, ◌&&◌, ◌||◌}
 use Rattle.std.proofs.Common.{Option, Some, unwrap_or, List, [], ◌∷◌, ◌++◌, length, take, drop, if◌then◌else◌, refl, sym, ap, ◌∙◌, inl, inr, arith}
 use Rattle.std.proofs.Math.ListN.{get_or-append}

@@ -1,4 +1,4 @@
--- What is written of one line after the other makes up the lines of the paragraph.
+-- Lines that are written one at a time make up the lines of the paragraph.
 use Rattle.std.proofs.Common.{◌≡◌, ℕ, zero, suc, ◌+◌, ◌-◌, ◌<◌, ◌≤◌, List, [], ◌∷◌, ◌++◌, length, map, take}
 use Rattle.std.proofs.Common.{drop, get_or, refl, sym, ap, ap₂, subst, ◌∙◌, take-take, drop-drop, below_more, length-append, arith, inl, inr}
 use borrow.Rule.Slice.PartMut.{put_mid}

@@ -1,4 +1,4 @@
--- A paragraph of one line has this line at each width that it fits.
+-- A paragraph of one line has the same line at each width that it fits.
 use Rattle.std.proofs.Common.{◌≡◌, ◌∙◌, ℕ, zero, suc, ◌+◌, ◌-◌, ◌<◌, ◌≤◌, Bool, true, false, ◌&&◌, ◌||◌, Option, Some}
 use Rattle.std.proofs.Common.{None, unwrap_or, List, [], ◌∷◌, length, get_or, take, drop, refl, sym, ap, subst, inl, inr, arith}
 use Rattle.std.specs.List.{slice_get, slice_range}

@@ -1,4 +1,4 @@
--- A paragraph whose characters but the last end no line is one line, where lines end at mandatory breaks only.
+-- A paragraph without a mandatory break before its end is one line, if lines end at mandatory breaks only.
 use Rattle.std.proofs.Common.{◌≡◌, ℕ, zero, suc, ◌+◌, ◌-◌, ◌<◌, ◌≤◌, Bool, true, false, not, ◌&&◌, ◌⊎◌, List, [], ◌∷◌, ◌++◌, length, map, take, drop, get_or}
 use Rattle.std.proofs.Common.{slice_range, if◌then◌else◌, refl, sym, ap, ap₂, subst, ◌∙◌, inl, inr, arith}
 use Rattle.std.specs.List.{suffix_len}

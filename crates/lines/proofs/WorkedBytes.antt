@@ -1,4 +1,4 @@
--- Rows of what is printed of a line, worked.
+-- Worked examples of the bytes of a line.
 use Rattle.std.proofs.Common.{◌≡◌, true, false, [], ◌∷◌, ◌++◌, codes, refl}
 use Rattle.std.specs.Char.{encode_utf8}
 use Rattle.std.specs.Fmt.{digits}

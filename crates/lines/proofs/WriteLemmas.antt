@@ -1,4 +1,4 @@
--- One part written after another, and lists of parts.
+-- Parts written one after another, and lists of parts.
 use Rattle.std.proofs.Common.{◌≡◌, ℕ, zero, suc, ◌+◌, ◌-◌, ◌<◌, ◌≤◌, ◌==◌, false, min, List, [], ◌∷◌, ◌++◌, length, map, get_or, take}
 use Rattle.std.proofs.Common.{drop, replicate, Option, Some, None, Result, Ok, Err, IfOk, IfErr, IsErrAnd, encode_utf8, encode_utf8_all, if◌then◌else◌, refl, sym, ap, ◌∙◌, arith}
 use Rattle.std.specs.Io.KnownBytes.{Appends}

@@ -232,7 +232,7 @@ fn encode_number<I: Integer>(number: I, is_first: bool, buffer: &mut [u8], at: u
 }
 
 // Copies bytes to an index of a buffer, and returns the index after them. Up to four bytes are copied one by
-// one, which is faster than a call of `memcpy`.
+// one, which is faster than a general copy.
 fn put_few(buffer: &mut [u8], at: usize, bytes: &[u8]) -> usize
     requires { at + length bytes.now ≤ length buffer.old }
     ensures end { result ≡ at + length bytes.now }

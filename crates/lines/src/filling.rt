@@ -157,8 +157,8 @@ fn line_end(rest: &[CharInfo], width: u16) -> usize
     }
 }
 
-// Returns two characters up to which a line fits, each at most the first after which a line must end: the
-// last one after which it may end, and the last one after which a cluster ends.
+// Reads up to the first character after which a line must end. Of the characters up to which the line fits,
+// returns the last one after which it may end, and the last one after which a cluster ends.
 fn fitting_ends(rest: &[CharInfo], width: u16) -> (Option<usize>, Option<usize>)
     requires { (0 < length rest.now) × (length rest.now ≤ PARAGRAPH_LIMIT) }
     ensures by_break { result.0 ≡ by_break width rest.now }
