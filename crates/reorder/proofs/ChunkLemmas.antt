@@ -1,4 +1,4 @@
--- The groups of a base and its marks, each reversed where it stands before L2, which then puts them into reading order.
+-- A base and its marks are reversed in place before L2, which then puts the base first.
 use Rattle.std.proofs.Common.{◌≡◌, ℕ, zero, suc, ◌+◌, ◌-◌, ◌<◌, ◌≤◌, ◌==◌, Bool, true, false, ◌&&◌, ◌||◌, not, List, [], ◌∷◌}
 use Rattle.std.proofs.Common.{length, get_or, map, take, drop, reverse, Option, None, refl, sym, ap, subst, ◌∙◌, inl, inr, arith}
 use Rattle.std.specs.Prelude.{nat_lt}

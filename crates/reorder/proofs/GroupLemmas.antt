@@ -1,4 +1,4 @@
--- Marks and their bases in the visual order of a line, and the walk that reverses them.
+-- Marks and their bases in the visual order of a line, and the scan that reverses them.
 use Rattle.std.proofs.Common.{◌≡◌, ℕ, zero, suc, ◌+◌, ◌-◌, ◌<◌, ◌≤◌, ◌==◌, Bool, true, false, ◌&&◌, ◌||◌, not, List, [], ◌∷◌}
 use Rattle.std.proofs.Common.{◌++◌, length, get_or, take, drop, reverse, refl, sym, ap, ap₂, ◌∙◌, inl, inr, arith, add-one, append_assoc, length-append}
 use Rattle.std.proofs.lemmas.Bool.{and_from, and_left, and_parts, both_ways, cases_Bool, cases_eq, cases_lt, cond-true, cond-false, eq-eqb, eqb-true, or_right}

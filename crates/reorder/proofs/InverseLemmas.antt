@@ -1,4 +1,4 @@
--- Places in another order, and where each of them stands there.
+-- A permutation of positions, and its inverse.
 use Rattle.std.proofs.Common.{◌≡◌, ℕ, zero, suc, ◌+◌, ◌<◌, ◌≤◌, ◌==◌, Bool, cond, List, length, get_or, set, take, drop, map, refl, sym, ap, ◌∙◌, inl, inr, arith}
 use Rattle.std.specs.List.{count_by, position_or_len, range_with_len, Contains}
 use Rattle.std.specs.List.Sorted.{IsPermutation}

@@ -1,4 +1,4 @@
--- In L2's order two neighbours of a line that are at the same, odd level stand next to one another, the second one first.
+-- In L2's order, two adjacent characters of a line at the same odd level are adjacent, the second one first.
 use Rattle.std.proofs.Common.{◌≡◌, ℕ, zero, suc, ◌+◌, ◌-◌, ◌%◌, ◌/◌, ◌<◌, ◌≤◌, ◌==◌, max, Bool, true, false, not, List, []}
 use Rattle.std.proofs.Common.{◌∷◌, ◌++◌, length, get_or, Option, Some, None, refl, sym, ap, subst, ◌∙◌, inl, inr, arith, append_assoc, zero-add}
 use Rattle.std.specs.List.{fold, list_any, range_with_len}

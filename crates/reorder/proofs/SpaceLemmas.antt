@@ -1,4 +1,4 @@
--- A walk over a line from its end, which sets the levels that L1 names.
+-- A scan of a line from its end, which sets the levels that L1 resets.
 use Rattle.std.proofs.Common.{suc, refl, ap₂, ◌≡◌, ℕ, ◌+◌, ◌<◌, ◌≤◌, Bool, true, false, zero, ◌-◌, ◌&&◌, ◌||◌, if◌then◌else◌, List, [], ◌∷◌}
 use Rattle.std.proofs.Common.{◌++◌, length, get_or, set, take, drop, sym, ap, subst, ◌∙◌, inl, inr, arith, append_assoc}
 use Rattle.std.proofs.lemmas.Bool.{cases_Bool, cond-true, cond-false}

@@ -1,4 +1,4 @@
--- Rows of L1, L2 and L4, worked.
+-- Worked examples of L1, L2 and L4.
 use Rattle.std.proofs.Common.{◌≡◌, true, false, [], ◌∷◌, Some, None, unwrap_or, refl}
 use Rattle.ucd.specs.Tables.{mirror_of}
 use Rattle.ucd.specs.declared.bidi_class.BidiClass.TheVariants.{L, R, EN, NSM, S, B, WS, PDI, RLI, RLE, PDF}
