@@ -85,8 +85,8 @@ const CASES: [Case; 12] = [
     },
 ];
 
-/// Prints a line for each case, with a paragraph of this length: the least times in nanoseconds of laying it
-/// out and of filling it again, the number of lines, the width and the name.
+/// Prints a line for each case, with a paragraph of this length. It has the least times in nanoseconds of
+/// laying it out and of filling it again, the number of lines, the width and the name.
 pub fn run(rt: &HostRuntime, folder: &str, characters: usize) -> Result<()> {
     let mut engine = engine(rt, folder)?;
     let answer = show_cases(rt, &mut engine, &CASES, characters);

@@ -80,9 +80,9 @@ const NARROW: u16 = 60;
 
 const WIDE: u16 = 80;
 
-/// Prints times in nanoseconds for the text of a file: laying out each paragraph; filling each again at the
-/// narrow width, and at the wide one; setting the width of a session over a list or a tree to the narrow one,
-/// and back. All but the first are the least of several runs.
+/// Prints times in nanoseconds for the text of a file. First, laying out each paragraph, and filling each
+/// again at the narrow width and at the wide one. Then, setting the width of a session over a list or a tree
+/// to the narrow one, and back. All but the first are the least of several runs.
 pub fn set_width(rt: &HostRuntime, folder: &str, kind: StoreKind, file: &str) -> Result<()> {
     let text = fs::read_to_string(rt, file)?;
     set_width_of(rt, folder, kind, text.as_str())

@@ -207,8 +207,8 @@ fn character(word: &str) -> Result<char> {
     }
 }
 
-// Prints the base level of a paragraph of one line and, of its shown part, the levels after L1 and the
-// logical positions in visual order: `1; 1 2; 1 0`.
+// Prints a paragraph of one line as `1; 1 2; 1 0`: its base level and, of its shown part, the levels after L1
+// and the logical positions in visual order.
 fn write_line<W: Write>(output: &mut W, laid: &Laid) -> Result<()> {
     let Some(line) = laid.line(0) else {
         bail!("there is no line");

@@ -9,9 +9,9 @@ use Rattle.reorder.specs.Spaces.{line_levels}
 use Rattle.lines.specs.declared.options.Options.{Options}
 use Rattle.lines.specs.declared.char_info.CharInfo.{CharInfo}
 
--- A line of a paragraph: where it starts and, for its shown part, the columns, the levels after L1 in logical order,
--- the visual position of each logical one, the logical position of each visual one, and the characters in visual order,
--- mirrored. Positions count from the start of the line.
+-- A line of a paragraph, by where it starts. Its other fields are those of its shown part: the columns, the levels
+-- after L1 in logical order, and the visual position of each logical one. Then the logical position of each visual one,
+-- and the characters in visual order, mirrored. Positions count from the start of the line.
 pub record Line : Type 0 where
   pub start : ℕ
   pub columns : ℕ
@@ -52,8 +52,8 @@ end_of n (s ∷ []) k = n
 end_of n (s ∷ t ∷ starts) zero = t
 end_of n (s ∷ t ∷ starts) (suc k) = end_of n (t ∷ starts) k
 
--- A line with what it has of its paragraph: whether it is the first, the base level, its length with its tail, and the
--- characters of its shown part in logical order.
+-- A line with what it has of its paragraph: whether it is the first, the base level, and its length with its tail. The
+-- text has the characters of its shown part in logical order.
 pub record Visual : Type 0 where
   pub is_first : Bool
   pub base : ℕ

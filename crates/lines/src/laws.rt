@@ -15,8 +15,8 @@ pub fn lines_are_few()
         → length (lines_of rules width text) ≤ length text }
 {}
 
-/// States, as a theorem, that the lines of a paragraph have all its characters, including those in tails:
-/// their lengths add up to its length, by any rules and at any width. Costs nothing at run time.
+/// States, as a theorem, that the lines of a paragraph have all its characters, including those in tails.
+/// Their lengths add up to its length, by any rules and at any width. Costs nothing at run time.
 pub fn lines_have_all_characters()
     ensures { (rules : Rules) (width : ℕ) (text : List ℕ)
         → sum_by (λ line. line.len) (visuals (layout_of rules width text)) ≡ length text }

@@ -16,8 +16,8 @@ abbrev pub is_blank : BidiClass → Bool
 is_blank WS = true
 is_blank class = is_initiator class || is_pdi class || is_removed class
 
--- The first character gets the paragraph level if it is a separator, or if it is blank and only blanks are between it
--- and the next separator or the end of the line.
+-- The first character gets the paragraph level if it is a separator. A blank gets it if only blanks are between it and
+-- the next separator or the end of the line.
 abbrev pub is_reset : List BidiClass → Bool
 is_reset [] = true
 is_reset (class ∷ classes) = ends_segment class || (is_blank class && is_reset classes)

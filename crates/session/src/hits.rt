@@ -12,7 +12,7 @@ pub struct Hit {
     /// Its position in the text.
     pub pos: usize,
     /// Whether the column is past the character in the character's direction, so that a caret belongs after
-    /// it: right of a character at an even level, left of one at an odd level.
+    /// it. That is right of a character at an even level, left of one at an odd level.
     pub trailing: bool,
 }
 

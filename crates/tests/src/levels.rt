@@ -424,8 +424,8 @@ const INNER: &[BidiClass] = &[
 ];
 
 // The third character opens a pair that the last one closes, by the caller's numbers or by code points. Then
-// two brackets with different numbers, a closing bracket before an opening one, a pair around an isolate that
-// has a closing bracket, brackets that are not ON, and lists without brackets.
+// two brackets with different numbers, and a closing bracket before an opening one. Then a pair around an
+// isolate that has a closing bracket, brackets that are not ON, and lists without brackets.
 static LIST_ROWS: [ListRow; 8] = [
     ListRow {
         classes: INNER,

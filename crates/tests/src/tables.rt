@@ -15,8 +15,8 @@ const EMPTY: UcdFiles<'_> = UcdFiles {
     emoji_data: b"",
 };
 
-// A character, its classes, its pair and whether it opens it if it is a bracket, its mirror, whether it is
-// wide, a mark and a future pictograph, and its number for line breaking.
+// A character and its classes. Its pair, and whether it opens it, if it is a bracket. Its mirror. Whether it
+// is wide, a mark and a future pictograph. Its number for line breaking.
 type Row = (
     char,
     Bidi,

@@ -86,8 +86,8 @@ fn is_part<S: ParagraphStore<Kept>>(session: &Session<S>, row: &Part<'_>) -> boo
     session.text(pos, count) == wanted
 }
 
-// In `ab`, `cd` and `ef` on their own lines: a position, a count and the new text; the first line, the old
-// and the new lines of the damage, or why the edit is refused; and the text after it.
+// In `ab`, `cd` and `ef` on their own lines: a position, a count and the new text. Then the first line, the
+// old and the new lines of the damage, or why the edit is refused. Then the text after it.
 type Replaced<'a> = (
     usize,
     usize,

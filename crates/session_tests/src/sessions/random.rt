@@ -82,7 +82,7 @@ fn push_part(new: &mut String, text: &str, start: usize, count: usize) -> Result
 }
 
 // Returns the damage of an edit that touches the paragraphs whose closed spans meet the closed range from
-// `pos` to `end`, without the new counts, and the length of these paragraphs.
+// `pos` to `end`. The new counts are 0. Also returns the length of these paragraphs.
 fn touched<T: ParagraphStore<Kept>>(old: &Session<T>, pos: usize, end: usize) -> (Damage, usize) {
     let (mut first_line, mut old_lines, mut first_par, mut old_pars) = (0, 0, 0, 0);
     let (mut start, mut chars) = (0usize, 0usize);
