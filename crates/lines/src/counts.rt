@@ -68,7 +68,7 @@ impl Model for Counted {
     ghost view = { λ c. c.len };
 }
 
-/// How many characters were analysed, how many filled into lines, and of how many the lines were written.
+/// The numbers of characters that were analysed, that were filled into lines, and whose lines were written.
 #[derive(Debug)]
 pub(crate) struct Counts {
     pub(crate) analysed: Count,

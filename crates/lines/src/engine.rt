@@ -137,21 +137,21 @@ impl Engine {
         base_level(&self.tables, &[], self.options.base)
     }
 
-    /// Returns how many characters were analysed. The count stops at 2^64−1.
+    /// Returns the number of characters that were analysed. The count stops at 2^64−1.
     pub fn analysed(&self) -> u64
         ensures { result ≡ analysed_of self.now }
     {
         self.counts.analysed.get()
     }
 
-    /// Returns how many characters were filled into lines. The count stops at 2^64−1.
+    /// Returns the number of characters that were filled into lines. The count stops at 2^64−1.
     pub fn filled(&self) -> u64
         ensures { result ≡ filled_of self.now }
     {
         self.counts.filled.get()
     }
 
-    /// Returns of how many characters the lines were written. The count stops at 2^64−1.
+    /// Returns the number of characters whose lines were written. The count stops at 2^64−1.
     pub fn written(&self) -> u64
         ensures { result ≡ written_of self.now }
     {

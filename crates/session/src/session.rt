@@ -335,21 +335,21 @@ impl<S: ParagraphStore<Kept>> Session<S> {
         self.width
     }
 
-    /// Returns how many characters were analysed. The count stops at 2^64−1.
+    /// Returns the number of characters that were analysed. The count stops at 2^64−1.
     pub fn analysed(&self) -> u64
         ensures { result ≡ analysed_of self.now.engine }
     {
         self.engine.analysed()
     }
 
-    /// Returns how many characters were filled into lines. The count stops at 2^64−1.
+    /// Returns the number of characters that were filled into lines. The count stops at 2^64−1.
     pub fn filled(&self) -> u64
         ensures { result ≡ filled_of self.now.engine }
     {
         self.engine.filled()
     }
 
-    /// Returns of how many characters the lines were written. The count stops at 2^64−1.
+    /// Returns the number of characters whose lines were written. The count stops at 2^64−1.
     pub fn written(&self) -> u64
         ensures { result ≡ written_of self.now.engine }
     {
