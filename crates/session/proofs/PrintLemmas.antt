@@ -65,7 +65,7 @@ page_by_lines law state print whole = sym (page_of_kept state print whole) ∙ b
 
 -- ---- some lines of all
 
--- a line among so many from one on
+-- a line of a range of lines
 part_get : {A : Type 0} (xs : List A) (from count n : ℕ) → n < count → slice_get (take count (drop from xs)) n ≡ slice_get xs (from + n)
 part_get [] zero zero n below = absurd (omega (arith, below))
 part_get [] zero (suc count) n below = refl
