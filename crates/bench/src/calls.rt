@@ -1,4 +1,4 @@
-//! How long the calls of a session take on the text of a file, beside the same calls through C
+//! Times the calls of a session on the text of a file, for comparison with the same calls through C
 //! (`tests/c/speed.c`).
 use crate::edits::{close, open};
 use crate::numbers::Numbers;
@@ -11,9 +11,9 @@ use std::fs;
 use std::time::Instant;
 use store::TreeStore;
 
-/// Prints how long in nanoseconds it takes to open a session on the text, to make so many inserts of a letter
-/// at places that look random, and to read the starts, characters and levels of all lines; and the sum of
-/// these.
+/// Prints times in nanoseconds: opening a session on the text, inserting a letter `inserts` times at
+/// pseudorandom positions, and reading the starts, characters and levels of all lines. Then prints the sum of
+/// these starts, characters and levels.
 pub fn run(rt: &HostRuntime, folder: &str, file: &str, inserts: usize) -> Result<()> {
     let text = fs::read_to_string(rt, file)?;
     measure(rt, folder, text.as_str(), inserts)
@@ -38,7 +38,7 @@ fn measure_on(rt: &HostRuntime, engine: Engine, text: &str, inserts: usize) -> R
     answer
 }
 
-// The session's opening began at `start` and has just ended.
+// `start` is when the opening of the session began. It has just ended.
 fn measure_calls(
     rt: &HostRuntime,
     session: &mut Session<TreeStore<Kept>>,

@@ -1,4 +1,4 @@
-//! Edits at places that look random, in a text of many paragraphs that a session keeps.
+//! Edits at pseudorandom positions of a session's text of many paragraphs.
 use crate::numbers::Numbers;
 use crate::paragraphs::let_go;
 use anyhow::Result;
@@ -22,14 +22,14 @@ const FILES: UcdFiles<'_> = UcdFiles {
 const PARAGRAPH: &str =
     "the quick brown fox jumps over שלום עולם and (then) runs away before a dog wake\n";
 
-/// In what a session keeps its paragraphs.
+/// The store of a session's paragraphs.
 #[derive(Clone, Copy)]
 pub enum StoreKind {
     List,
     Tree,
 }
 
-/// Makes the edits in a session over a list or a tree, and prints what it keeps in the end.
+/// Makes edits in a session over a list or a tree, and prints the counts of its contents.
 pub fn run(rt: &HostRuntime, kind: StoreKind, paragraphs: usize, edits: usize) -> Result<()> {
     match kind {
         StoreKind::List => show::<VecStore<Kept>>(rt, paragraphs, edits),
@@ -70,7 +70,7 @@ fn show_counts<S: ParagraphStore<Kept>>(rt: &HostRuntime, session: &Session<S>) 
     Ok(())
 }
 
-/// Paragraphs of 80 characters.
+/// Returns a text of paragraphs of 80 characters.
 pub fn text_of(alloc: Global, paragraphs: usize) -> Result<String, AllocError> {
     let mut text = String::new(alloc);
     for _ in 0..paragraphs {
@@ -79,7 +79,7 @@ pub fn text_of(alloc: Global, paragraphs: usize) -> Result<String, AllocError> {
     Ok(text)
 }
 
-/// A session on a text, 80 columns wide.
+/// Opens a session on a text, at 80 columns.
 pub fn open<S: ParagraphStore<Kept> + Drop>(
     alloc: Global,
     engine: Engine,
@@ -94,11 +94,11 @@ pub fn open<S: ParagraphStore<Kept> + Drop>(
     }
 }
 
-/// Lets go of a session, as `let_go` does of an engine.
+/// Drops a session. Only this function does, as `let_go` for an engine.
 pub fn close<S: ParagraphStore<Kept> + Drop>(_session: Session<S>) {}
 
-/// Edits of two characters, as many put in as taken out. Paragraphs are split about as often as joined, so
-/// that they stay as many and as long.
+/// Inserts and deletes two characters at a time. Paragraphs are split about as often as joined, so that their
+/// number and length stay about the same.
 pub fn make_edits<S: ParagraphStore<Kept>>(session: &mut Session<S>, edits: usize) {
     let mut numbers = Numbers::new();
     for _ in 0..edits {

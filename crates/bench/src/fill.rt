@@ -1,5 +1,4 @@
-//! How long one paragraph takes to be laid out, and to be filled again, by what it is made of and by
-//! the width.
+//! Times laying out one paragraph and filling it again, by its contents and the width.
 ghost use Rattle.std.specs.Prelude.{◌<◌, IfOk};
 ghost use Rattle.lines.specs.Engine.{rules_of, SameRules};
 ghost use Rattle.lines.specs.Layouts.{IsLaidOut};
@@ -10,7 +9,7 @@ use anyhow::{Result, bail};
 use lines::{Engine, Laid, PARAGRAPH_LIMIT};
 use std::time::Instant;
 
-// A paragraph of these words, in an order that looks random, and a width in columns.
+// The words of a paragraph, in pseudorandom order, and a width in columns.
 struct Case {
     name: &'static str,
     words: &'static [&'static str],
@@ -86,8 +85,8 @@ const CASES: [Case; 12] = [
     },
 ];
 
-/// Prints a line for each case, with a paragraph of so many characters: its least times in
-/// nanoseconds, laid out and filled again, how many lines it has, the width, and its name.
+/// Prints a line for each case, with a paragraph of this length. It has the least times in nanoseconds of
+/// laying it out and of filling it again, the number of lines, the width and the name.
 pub fn run(rt: &HostRuntime, folder: &str, characters: usize) -> Result<()> {
     let mut engine = engine(rt, folder)?;
     let answer = show_cases(rt, &mut engine, &CASES, characters);
@@ -126,8 +125,8 @@ fn show_filled(
     show(rt, &numbers, case.name)
 }
 
-/// The least time in nanoseconds in which a paragraph of so many characters of these words is laid out, and
-/// the paragraph.
+/// Lays out a paragraph of this length, of these words. Returns the least time in nanoseconds, and the
+/// layout.
 pub fn lay_out(
     rt: &HostRuntime,
     engine: &mut Engine,
@@ -178,7 +177,7 @@ fn lay_out_text(
     Ok((since(rt, start)?, laid))
 }
 
-// The least time of some runs.
+// Returns the least time of several runs.
 fn refill(rt: &HostRuntime, engine: &mut Engine, laid: &Laid, width: u16) -> Result<u64>
     requires { IsLaidOut (rules_of engine.old) laid.now }
 {

@@ -1,15 +1,15 @@
-//! How long the levels of one paragraph take, and its whole layout, by what the paragraph is made of.
+//! Times the levels of one paragraph, and its whole layout, by its contents.
 use crate::fill::lay_out;
 use crate::paragraphs::{Kind, Subject, engine, let_go, measure_all};
 use crate::rows::show;
 use anyhow::Result;
 use lines::Engine;
 
-// As many openers as are held, and a closer for each.
+// The maximum number of open brackets, and their closing brackets.
 const DEEP: &str = "(((((((((((((((((((((((((((((((((((((((((((((((((((((((((((((((\
     )))))))))))))))))))))))))))))))))))))))))))))))))))))))))))))))";
 
-// Plain letters, plain words and real text, and then what some rule has most work with.
+// Plain letters, plain words and real text, and then the most work for some rule.
 const KINDS: [Kind; 18] = [
     Kind {
         name: "plain letters",
@@ -110,14 +110,14 @@ const KINDS: [Kind; 18] = [
     },
 ];
 
-/// Prints a line for each kind of paragraph of so many characters: its least time in nanoseconds, its
-/// highest level and its name.
+/// Prints a line for each kind of paragraph of this length: its least time in nanoseconds, its highest level
+/// and its name.
 pub fn run(rt: &HostRuntime, folder: &str, characters: usize) -> Result<()> {
     measure_all(rt, Subject::Levels, &KINDS, folder, characters)
 }
 
-/// Prints a line for each kind of paragraph of so many characters that is laid out at 80 columns: its least
-/// time in nanoseconds, how many lines it has, and its name.
+/// Prints a line for each kind of paragraph of this length, laid out at 80 columns: its least time in
+/// nanoseconds, the number of lines and its name.
 pub fn lay_out_each(rt: &HostRuntime, folder: &str, characters: usize) -> Result<()> {
     let mut engine = engine(rt, folder)?;
     let answer = show_layouts(rt, &mut engine, &KINDS, characters);

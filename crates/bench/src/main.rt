@@ -1,18 +1,15 @@
-//! Measures what the command itself can't show, for the scripts of `bench/`:
+//! Measures what the command itself cannot show, for the scripts of `bench/`. Times are in nanoseconds. UCD
+//! is the folder of the table files; KIND is `list` or `tree`, the store of the paragraphs.
 //!
-//! - `bench edits KIND PARAGRAPHS EDITS` makes edits in a session over a `list` or a `tree` of paragraphs,
-//!   and prints what it keeps in the end.
-//! - `bench session UCD KIND PARAGRAPHS EDITS` prints how long a session takes to be opened, and for an edit.
-//! - `bench calls UCD FILE INSERTS` prints how long a session takes to be opened on a text, for inserts,
-//!   and to be read line by line.
-//! - `bench width UCD KIND FILE` prints how long width changes of a text take, beside laying out and filling.
-//! - `bench levels UCD CHARACTERS` prints how long the levels of a paragraph take, for texts of many
-//!   kinds, with the table files of the folder UCD.
-//! - `bench layouts UCD CHARACTERS` prints how long the same paragraphs take to be laid out.
-//! - `bench marks UCD CHARACTERS` prints the same of break marks.
-//! - `bench fill UCD CHARACTERS` prints how long a paragraph takes to be laid out and filled again.
-//! - `bench store KIND PARAGRAPHS TIMES` prints how long a store of paragraphs takes, a `list` or a
-//!   `tree`, to be made, and for a replacement and for a search.
+//! - `bench edits KIND PARAGRAPHS EDITS` makes edits in a session, and prints the counts of its contents.
+//! - `bench session UCD KIND PARAGRAPHS EDITS` times opening a session, and an edit.
+//! - `bench calls UCD FILE INSERTS` times opening a session on a text, inserts, and reading it line by line.
+//! - `bench width UCD KIND FILE` times width changes of a text, and laying out and filling its paragraphs.
+//! - `bench levels UCD CHARACTERS` times the levels of a paragraph, for texts of many kinds.
+//! - `bench layouts UCD CHARACTERS` times the layouts of the same paragraphs.
+//! - `bench marks UCD CHARACTERS` times the break marks of a paragraph, for texts of several kinds.
+//! - `bench fill UCD CHARACTERS` times laying out a paragraph and filling it again.
+//! - `bench store KIND PARAGRAPHS TIMES` times making a store of paragraphs, a replacement and a search.
 #![tactic(auto)]
 
 mod calls;
@@ -60,9 +57,9 @@ const SUBJECTS: [(&str, Subject); 9] = [
     ("store", Subject::Store),
 ];
 
-// What is asked for. Functions here hold little where one of many calls may fail, since all that is held
-// there makes the proof longer, and names are found in tables, since a `match` has a path for each of their
-// bytes.
+// Runs the named measurement. Functions here own little where one of many calls may fail, since all that is
+// dropped there makes the proof longer. Names are found in tables, since a `match` has a path for each of
+// their bytes.
 fn run(rt: &HostRuntime, words: &[String]) -> Result<()> {
     let name = word(words, 1);
     for (known, subject) in &SUBJECTS {
@@ -101,7 +98,7 @@ fn run_on_tables(rt: &HostRuntime, subject: Subject, folder: &str, words: &[Stri
     }
 }
 
-// The word at a place, where the first is the name of the program. One that is missing is empty.
+// Returns an argument, or an empty string if it is missing. The first one is the program's name.
 fn word(words: &[String], place: usize) -> &str {
     match words.get(place) {
         Some(word) => word.as_str(),
@@ -128,7 +125,7 @@ fn kind(words: &[String], place: usize) -> Result<StoreKind> {
     bail!("a list or a tree?")
 }
 
-// The number that a word is, and 0 for any other and where it is missing.
+// Returns an argument as a number, or 0 if it is no number or missing.
 fn number(words: &[String], place: usize) -> usize {
     match word(words, place).parse() {
         Ok(number) => number,

@@ -1,8 +1,8 @@
-//! How long the break marks of one paragraph take, by what the paragraph is made of.
+//! Times the break marks of one paragraph, by its contents.
 use crate::paragraphs::{Kind, Subject, measure_all};
 use anyhow::Result;
 
-// Plain letters and real text, and then what some rule has most work with.
+// Plain letters and real text, and then the most work for some rule.
 const KINDS: [Kind; 8] = [
     Kind {
         name: "plain letters",
@@ -51,8 +51,8 @@ const KINDS: [Kind; 8] = [
     },
 ];
 
-/// Prints a line for each kind of paragraph of so many characters: its least time in nanoseconds, at
-/// how many positions a line may end, and its name.
+/// Prints a line for each kind of paragraph of this length: its least time in nanoseconds, the number of
+/// break opportunities and its name.
 pub fn run(rt: &HostRuntime, folder: &str, characters: usize) -> Result<()> {
     measure_all(rt, Subject::Marks, &KINDS, folder, characters)
 }

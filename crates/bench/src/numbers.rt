@@ -1,6 +1,6 @@
-//! Numbers that look random, the same in each run.
+//! Pseudorandom numbers, the same in each run.
 
-/// A source of them, from its seed on.
+/// A generator with a fixed seed.
 #[derive(Clone, Copy)]
 pub struct Numbers(u64);
 
@@ -9,7 +9,7 @@ impl Numbers {
         Numbers(15)
     }
 
-    /// The next number.
+    /// Returns the next number.
     pub fn next(&mut self) -> u64 {
         self.0 = self
             .0

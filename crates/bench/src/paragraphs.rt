@@ -1,4 +1,4 @@
-//! How long it takes to analyse one paragraph, by what it is made of.
+//! Times the analysis of one paragraph, by its contents.
 ghost use Rattle.std.specs.Prelude.{◌<◌, IfOk};
 ghost use Rattle.lines.specs.Engine.{rules_of, SameRules};
 ghost use Rattle.lines.specs.Layouts.{IsLaidOut};
@@ -14,13 +14,13 @@ use std::time::Instant;
 use tables::in_folder;
 use ucd::Tables;
 
-/// A paragraph of these words, in an order that looks random.
+/// The words of a paragraph, in pseudorandom order.
 pub struct Kind {
     pub name: &'static str,
     pub words: &'static [&'static str],
 }
 
-/// What is found of a paragraph.
+/// What is computed of a paragraph.
 #[derive(Clone, Copy)]
 pub enum Subject {
     Levels,
@@ -30,8 +30,8 @@ pub enum Subject {
 /// How often a paragraph is analysed. The least time counts.
 pub const RUNS: usize = 5;
 
-/// Prints a line for each kind of paragraph of so many characters: its least time in nanoseconds, a
-/// number that tells something of what was found, and its name.
+/// Prints a line for each kind of paragraph of this length: its least time in nanoseconds, the highest level
+/// or the number of break opportunities, and its name.
 pub fn measure_all(
     rt: &HostRuntime,
     subject: Subject,
@@ -67,16 +67,15 @@ fn measure_kind(
     measure(rt, subject, tables, &text, kind.name)
 }
 
-/// An engine with the tables of the files of a folder.
+/// Makes an engine with the tables of a folder.
 pub fn engine(rt: &HostRuntime, folder: &str) -> Result<Engine> {
     Ok(Engine::new(in_folder(rt, folder)?, Options::default()))
 }
 
-/// Lets go of an engine. Only this function does, since the proof of each that does walks through all the
-/// lists that an engine has.
+/// Drops an engine. Only this function does, since a proof takes long if it drops all lists of an engine.
 pub fn let_go(_engine: Engine) {}
 
-/// So many characters of these words.
+/// Returns a text of this length, of these words.
 pub fn text_of(alloc: Global, words: &[&str], characters: usize) -> Result<Vec<char>, AllocError> {
     let mut text = Vec::new(alloc);
     let mut numbers = Numbers::new();
@@ -92,7 +91,7 @@ pub fn text_of(alloc: Global, words: &[&str], characters: usize) -> Result<Vec<c
     Ok(text)
 }
 
-/// A paragraph that is laid out at a width in columns.
+/// Lays out a paragraph at a width in columns.
 pub fn lay_out(alloc: Global, engine: &mut Engine, text: Vec<char>, width: u16) -> Result<Laid>
     requires { 0 < width }
     ensures laid { IfOk result (IsLaidOut (rules_of engine.old)) }
@@ -108,7 +107,7 @@ pub fn lay_out(alloc: Global, engine: &mut Engine, text: Vec<char>, width: u16) 
     }
 }
 
-// Prints the least time in nanoseconds, what was found and the name.
+// Prints the least time in nanoseconds, what was computed and the name.
 fn measure(
     rt: &HostRuntime,
     subject: Subject,
@@ -126,7 +125,7 @@ fn measure(
     show(rt, &[least, found as u64], name)
 }
 
-// The highest level, or at how many positions a line may end.
+// Returns the highest level, or the number of break opportunities.
 fn analyse(
     alloc: Global,
     subject: Subject,

@@ -1,15 +1,15 @@
-//! Times, and the lines that tell them.
+//! Times, and the lines that are printed.
 use anyhow::Result;
 use std::io;
 use std::time::Instant;
 
-/// How many nanoseconds have gone by since then.
+/// Returns the nanoseconds since `start`.
 pub fn since(rt: &HostRuntime, start: Instant) -> Result<u64> {
     let time = start.elapsed(rt)?.as_nanos();
     Ok(u64::try_from(time).unwrap_or(u64::MAX))
 }
 
-/// Prints numbers, and after them a name, in one line.
+/// Prints numbers and a name in one line.
 pub fn show(rt: &HostRuntime, numbers: &[u64], name: &str) -> Result<()> {
     print_numbers(rt, numbers)?;
     println!(rt; " {name}")?;

@@ -1,4 +1,4 @@
-//! How long the calls of a session take on long texts.
+//! Times the calls of a session on long texts.
 ghost use Rattle.std.specs.Prelude.{◌<◌, IfOk};
 ghost use Rattle.std.specs.List.{All};
 ghost use Rattle.lines.specs.Engine.{rules_of, SameRules};
@@ -14,8 +14,9 @@ use std::fs;
 use std::time::Instant;
 use store::{ParagraphStore, TreeStore, VecStore};
 
-/// Prints how long in nanoseconds a session over a list or a tree takes, on a text of so many paragraphs of
-/// 80 characters: to be opened, and for an edit at a place that looks random, on average.
+/// Opens a session over a list or a tree, on a text of `paragraphs` paragraphs of 80 characters, and makes
+/// edits at pseudorandom positions. Prints the time of opening and the average time of an edit, in
+/// nanoseconds.
 pub fn run(
     rt: &HostRuntime,
     folder: &str,
@@ -60,7 +61,7 @@ fn measure_on<S: ParagraphStore<Kept> + Drop>(
     answer
 }
 
-// The session's opening began at `start` and has just ended.
+// `start` is when the opening of the session began. It has just ended.
 fn measure_edits<S: ParagraphStore<Kept>>(
     rt: &HostRuntime,
     session: &mut Session<S>,
@@ -74,14 +75,14 @@ fn measure_edits<S: ParagraphStore<Kept>>(
     show_numbers(rt, &[opening, editing])
 }
 
-// The widths that are changed to, in turns, and that at which all is laid out first.
+// The widths that alternate; first, everything is laid out at `WIDE`.
 const NARROW: u16 = 60;
 
 const WIDE: u16 = 80;
 
-/// Prints how long in nanoseconds it takes, on the text of a file: to lay out each paragraph; to fill each
-/// again at the narrow width, and at the wide one; to change the width of a session over a list or a tree to
-/// the narrow one, and back. All but the first are the least of some runs.
+/// Prints times in nanoseconds for the text of a file. First, laying out each paragraph, and filling each
+/// again at the narrow width and at the wide one. Then, setting the width of a session over a list or a tree
+/// to the narrow one, and back. All but the first are the least of several runs.
 pub fn set_width(rt: &HostRuntime, folder: &str, kind: StoreKind, file: &str) -> Result<()> {
     let text = fs::read_to_string(rt, file)?;
     set_width_of(rt, folder, kind, text.as_str())
@@ -129,7 +130,7 @@ impl Times {
     }
 }
 
-// How long width changes take.
+// Times width changes.
 fn time_widths<S: ParagraphStore<Kept> + Drop>(
     rt: &HostRuntime,
     engine: Engine,
@@ -164,7 +165,7 @@ fn time_of_width<S: ParagraphStore<Kept>>(
     since(rt, start)
 }
 
-// How long it takes to lay out each paragraph, and to fill each again.
+// Times laying out each paragraph, and filling each again.
 fn lay_out_and_fill(rt: &HostRuntime, folder: &str, text: &str) -> Result<(u64, Times)> {
     let mut engine = engine(rt, folder)?;
     let answer = lay_out_and_fill_text(rt, &mut engine, text);
@@ -191,7 +192,7 @@ fn lay_out_and_fill_by(
     Ok((since(rt, start)?, fill(rt, engine, &all)?))
 }
 
-// How long it takes to fill each paragraph again.
+// Times filling each paragraph again.
 fn fill(rt: &HostRuntime, engine: &mut Engine, all: &[Laid]) -> Result<Times>
     requires { All (IsLaidOut (rules_of engine.old)) all.now }
 {
@@ -204,7 +205,7 @@ fn fill(rt: &HostRuntime, engine: &mut Engine, all: &[Laid]) -> Result<Times>
     Ok(times)
 }
 
-// The paragraphs of a text, laid out.
+// Lays out the paragraphs of a text.
 fn lay_out_all(rt: &HostRuntime, engine: &mut Engine, text: &[char]) -> Result<Vec<Laid>>
     ensures laid { IfOk result (λ all. All (IsLaidOut (rules_of engine.old)) all.items) }
     ensures rules { SameRules engine.old engine.new }

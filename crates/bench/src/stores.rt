@@ -1,5 +1,4 @@
-//! How long it takes to make a store of paragraphs, to replace one of them at a place that looks random,
-//! and to search for a character.
+//! Times making a store of paragraphs, replacing one at a pseudorandom index, and searching for a character.
 ghost use Rattle.std.specs.Prelude.{◌^◌, ◌<◌, if◌then◌else◌};
 
 use crate::edits::StoreKind;
@@ -11,7 +10,7 @@ use std::ops::Range;
 use std::time::Instant;
 use store::{Measured, ParagraphStore, TreeStore, VecStore};
 
-// A paragraph of at most one character and line, with some room.
+// A paragraph of at most one character and line, with some more bytes.
 #[derive(Clone, Copy)]
 struct Small {
     has_text: bool,
@@ -32,13 +31,13 @@ impl Measured for Small {
     }
 }
 
-// No store has more paragraphs.
+// The limit of a store's paragraphs.
 const LIMIT: usize = 1 << 40;
 
-/// Makes a store of so many paragraphs, as a list or as a tree, by one replacement into an empty one,
-/// and then so many replacements of one paragraph and as many searches. It prints the times in
-/// nanoseconds: of the making, and of a replacement and of a search on average; and how many nodes a
-/// search visits on average.
+/// Makes a store of `count` paragraphs, as a list or as a tree, by one replacement in an empty one. Then
+/// replaces one paragraph and searches for a character, `times` times each. Prints the time of making the
+/// store, the average times of a replacement and of a search, all in nanoseconds, and the average number of
+/// nodes that a search visits.
 pub fn run(rt: &HostRuntime, kind: StoreKind, count: usize, times: usize) -> Result<()> {
     match kind {
         StoreKind::List => measure(rt, &mut VecStore::new(rt.alloc()), count, times),
@@ -108,7 +107,7 @@ fn replace_some<S: ParagraphStore<Small>>(
     Ok(())
 }
 
-// How many nodes the searches visit.
+// Returns how many nodes the searches visit.
 fn search_some<S: ParagraphStore<Small>>(store: &S, numbers: &mut Numbers, times: usize) -> u64 {
     let mut visits: u64 = 0;
     for _ in 0..times {
@@ -121,7 +120,7 @@ fn search_some<S: ParagraphStore<Small>>(store: &S, numbers: &mut Numbers, times
     visits
 }
 
-// A place that looks random.
+// Returns a pseudorandom index.
 fn place(numbers: &mut Numbers, count: usize) -> usize
     ensures { result < 2 ^ 63 }
 {

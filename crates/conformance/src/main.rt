@@ -1,15 +1,15 @@
-//! Tells what is found of the paragraphs that standard input names, one a line, each by the hexadecimal
-//! numbers of its characters, with the table files of the folder UCD:
+//! Prints properties of paragraphs. Each line of standard input is a paragraph, given by the hexadecimal code
+//! points of its characters. UCD is the folder of the table files.
 //!
 //! - `conformance marks-of UCD` prints the break marks of each.
 //! - `conformance lines-of UCD DIRECTION` prints the base level, the levels and the order of each, in one
-//! line.
+//!   line.
 //! - `conformance levels-of UCD DIRECTION` prints the levels of each before L1.
 //! - `conformance starts-of UCD WIDTH` prints where the lines of each start, filled again at a width.
 //!
-//! Without words it says this. The first two are for Unicode's conformance tests (`tests/conformance/run`);
-//! the others call what the command calls nowhere, so that `tests/resources/run` sees what these calls take.
-//! Marks and levels are told by a copy of the tables, for the same reason.
+//! Without arguments it prints its usage. The first two are for Unicode's conformance tests
+//! (`tests/conformance/run`). The others make calls that the command never makes, so that
+//! `tests/resources/run` can measure them. Marks and levels use a copy of the tables, for the same reason.
 #![tactic(auto)]
 
 ghost use Rattle.std.specs.Prelude.{◌<◌, IfOk};
@@ -52,7 +52,7 @@ fn run(rt: &HostRuntime, words: &[String]) -> Result<()> {
     Ok(())
 }
 
-// The word at a place, where the first is the name of the program. One that is missing is empty.
+// Returns an argument, or an empty string if it is missing. The first one is the program's name.
 fn word(words: &[String], place: usize) -> &str {
     match words.get(place) {
         Some(word) => word.as_str(),
@@ -67,7 +67,7 @@ const DIRECTIONS: [(&str, Base); 4] = [
     ("wrtl", Base::WeakRtl),
 ];
 
-// The direction that is named, as the command's options have it.
+// Returns the base direction with this name, as in the command's options.
 fn base(direction: &str) -> Result<Base> {
     for (name, base) in &DIRECTIONS {
         if direction == *name {
@@ -81,7 +81,7 @@ fn width(digits: &str) -> Result<u16> {
     Ok(u16::from_str_radix(digits, 10)?)
 }
 
-// Lines end at the ends of paragraphs alone.
+// Options by which each paragraph is one line.
 fn in_one_line(base: Base) -> Options {
     Options {
         base,
@@ -90,7 +90,7 @@ fn in_one_line(base: Base) -> Options {
     }
 }
 
-// What is told of paragraphs by the tables alone.
+// What is printed by the tables alone.
 #[derive(Clone, Copy)]
 enum Subject {
     Marks,
@@ -102,7 +102,7 @@ fn tell_by_tables(rt: &HostRuntime, folder: &str, subject: Subject) -> Result<()
     write_by_tables(rt, &tables, subject)
 }
 
-// The tables of a folder, copied.
+// Reads the tables of a folder, and returns a copy.
 fn copied(rt: &HostRuntime, folder: &str) -> Result<Tables> {
     Ok(in_folder(rt, folder)?.copy(rt.alloc())?)
 }
@@ -132,8 +132,8 @@ fn write_subject<W: Write>(
     }
 }
 
-// Prints the marks of the positions of a paragraph, one after each of its characters: `x` where no line
-// ends, `/` where one may and `!` where one must.
+// Prints the mark after each character of a paragraph: `x` if no line may end there, `/` if one may and `!`
+// if one must.
 fn write_marks<W: Write>(
     alloc: Global,
     tables: &Tables,
@@ -154,7 +154,7 @@ fn sign(mark: Mark) -> char {
     }
 }
 
-// Lays paragraphs out, and tells of each in one line, or where its lines start at a width.
+// Lays out paragraphs, and prints each as one line, or where its lines start at a width.
 fn tell_by_engine(
     rt: &HostRuntime,
     folder: &str,
@@ -190,7 +190,7 @@ fn write_laid_out<W: Write>(
     }
 }
 
-// The characters that a line names by their hexadecimal numbers.
+// Returns the characters whose hexadecimal code points a line has.
 fn characters(alloc: Global, line: &str) -> Result<Vec<char>> {
     let mut text = Vec::new(alloc);
     for word in line.split_whitespace() {
@@ -207,8 +207,8 @@ fn character(word: &str) -> Result<char> {
     }
 }
 
-// Prints the base level of a paragraph in one line and, of what is shown, the levels after L1 and the logical
-// positions in visual order: `1; 1 2; 1 0`.
+// Prints a paragraph of one line as `1; 1 2; 1 0`: its base level and, of its shown part, the levels after L1
+// and the logical positions in visual order.
 fn write_line<W: Write>(output: &mut W, laid: &Laid) -> Result<()> {
     let Some(line) = laid.line(0) else {
         bail!("there is no line");
@@ -222,7 +222,7 @@ fn write_line<W: Write>(output: &mut W, laid: &Laid) -> Result<()> {
     write_places(output, line.vtol())
 }
 
-// Fills the lines of a paragraph again at a width, puts them in, and prints where they start.
+// Fills the lines of a paragraph again at a width, exchanges them, and prints where they start.
 fn write_starts<W: Write>(
     alloc: Global,
     engine: &mut Engine,
@@ -255,7 +255,7 @@ fn write_places<W: Write>(output: &mut W, places: &[u32]) -> Result<()> {
     Ok(writeln!(output)?)
 }
 
-// Lays a paragraph out in as few lines as there can be.
+// Lays out a paragraph in as few lines as possible.
 fn lay_out(alloc: Global, engine: &mut Engine, text: Vec<char>) -> Result<Laid>
     ensures { IfOk result (IsLaidOut (rules_of engine.new)) }
 {
@@ -269,6 +269,5 @@ fn lay_out(alloc: Global, engine: &mut Engine, text: Vec<char>) -> Result<Laid>
     }
 }
 
-// Lets go of an engine. Only this function does, since the proof of each that does walks through all the
-// lists that an engine has.
+// Drops an engine. Only this function does, since a proof takes long if it drops all lists of an engine.
 fn let_go(_engine: Engine) {}

@@ -1,4 +1,4 @@
-//! The table files that are installed with the program: `../share/hordguli/ucd`, from its own folder.
+//! The installed table files: `../share/hordguli/ucd`, relative to the program's folder.
 use std::alloc::{AllocError, Global};
 use std::io::ErrorKind;
 use std::path::{Path, PathBuf};
@@ -8,7 +8,7 @@ use tool::ProgramFault;
 
 const FOLDER: &str = "../share/hordguli/ucd";
 
-/// Their folder, if there is one. A program that can't tell where it lies is not installed.
+/// Returns their folder, if there is one. A program whose own path is unknown is not installed.
 pub fn installed_folder(rt: &HostRuntime) -> Result<Option<PathBuf>, ProgramFault> {
     match env::current_exe(rt) {
         Ok(program) => folder_beside(rt, program.as_path()),
@@ -33,7 +33,7 @@ fn folder_beside(rt: &HostRuntime, program: Path<'_>) -> Result<Option<PathBuf>,
     }
 }
 
-/// Words of the command line, with a folder of table files before them.
+/// Returns arguments, with `--ucd` and a folder before them.
 pub fn with_folder<'a>(
     alloc: Global,
     folder: &'a str,

@@ -1,4 +1,4 @@
-//! The command `fribidi`: its words, its files and its streams. What they mean is in `tool`.
+//! The command `fribidi`: its arguments, files and streams. The crate `tool` defines what they do.
 #![tactic(auto)]
 
 ghost use Rattle.std.specs.Prelude.{◌<◌};
@@ -25,8 +25,8 @@ fn main(rt: HostRuntime) -> ExitCode {
         return ExitCode::SUCCESS;
     };
     let reported = report(&rt, &fault);
-    // Help or a version that can't be written is a failure. Of another message the status is all that is left
-    // to tell.
+    // If help or the version cannot be written, that is an error. After any other message, only the status is
+    // left.
     if reported.is_err() && fault.status() == 0 {
         let _ = eprintln!(&rt; "fribidi: cannot write help");
         return ExitCode::FAILURE;
@@ -34,7 +34,7 @@ fn main(rt: HostRuntime) -> ExitCode {
     ExitCode::from(fault.status())
 }
 
-// Help and the version go to standard output, and each other message to standard error.
+// Writes help and the version to standard output, all other messages to standard error.
 fn report(rt: &HostRuntime, fault: &ProgramFault) -> io::Result<()> {
     match fault {
         ProgramFault::Line(LineFault::Words(error)) => error.print(rt),
@@ -50,8 +50,8 @@ fn run(rt: &HostRuntime) -> Result<(), ProgramFault> {
     run_words(rt, &words)
 }
 
-// What the words ask for. It and those that it calls hold one value each that takes memory, since all that is
-// held when one of many calls fails makes the proof longer.
+// Executes arguments. This function and those that it calls own one allocated value each, since all that is
+// dropped when one of many calls fails makes the proof longer.
 fn run_words(rt: &HostRuntime, words: &[&str]) -> Result<(), ProgramFault> {
     match settings(rt.alloc(), words) {
         Ok(settings) => run_settings(rt, &settings),
@@ -60,7 +60,7 @@ fn run_words(rt: &HostRuntime, words: &[&str]) -> Result<(), ProgramFault> {
     }
 }
 
-// Words that name no folder ask for what they ask for with the installed one before them, where there is one.
+// Without `--ucd`, executes the arguments with the installed folder before them, if there is one.
 fn run_installed(rt: &HostRuntime, words: &[&str], fault: LineFault) -> Result<(), ProgramFault> {
     match installed_folder(rt)? {
         Some(folder) => run_over(rt, folder.as_str(), words),
@@ -88,14 +88,14 @@ fn run_settings(rt: &HostRuntime, settings: &Settings<'_>) -> Result<(), Program
     }
 }
 
-// The words after the program's name.
+// Returns the arguments after the program's name.
 fn words(rt: &HostRuntime) -> io::Result<Vec<String>> {
     let mut words = env::args(rt)?;
     let _ = words.next();
     Ok(words.collect(rt.alloc())?)
 }
 
-// Words that are no text can't be read.
+// An argument that is not UTF-8 cannot be read.
 fn word_fault(error: io::Error) -> ProgramFault {
     if error.kind() == ErrorKind::OutOfMemory {
         ProgramFault::Line(LineFault::NoMemory)
@@ -116,7 +116,7 @@ fn table_fault(fault: FolderFault) -> ProgramFault {
     }
 }
 
-// Writes what each text asks for.
+// Writes the output of each text.
 fn write_texts(
     rt: &HostRuntime,
     output: &mut ToWrite<Stdout>,
@@ -149,7 +149,7 @@ fn write_file(
     }
 }
 
-// Writes what one text asks for.
+// Writes the output of one text.
 fn write_text<R: Read + Drop>(
     rt: &HostRuntime,
     text: R,
@@ -171,7 +171,7 @@ fn write_text<R: Read + Drop>(
     .map_err(ProgramFault::Run)
 }
 
-// Runs an edit script over the one text, which is read first.
+// Runs an edit script over its text, which is read first.
 fn execute(
     rt: &HostRuntime,
     script: &str,
@@ -214,7 +214,7 @@ fn execute_file(
     }
 }
 
-// The bytes of the text that a script begins with.
+// Reads the text that a script edits.
 fn script_text(rt: &HostRuntime, path: Option<&str>) -> Result<Vec<u8>, ProgramFault> {
     let Some(path) = path else {
         return Err(ProgramFault::Line(LineFault::ScriptFiles));
@@ -240,7 +240,7 @@ fn execute_lines(
     run_script_in(alloc, &mut reader, output, &mut session, options).map_err(ProgramFault::Run)
 }
 
-// What the run of the script goes by.
+// Returns the options of a script.
 fn script_options(settings: &Settings<'_>) -> ScriptOptions {
     ScriptOptions {
         print: settings.print,

@@ -1,4 +1,4 @@
--- Characters beside which no rule on grapheme clusters joins any: a cluster ends after each of them.
+-- Characters that no grapheme cluster rule joins to a neighbour: a cluster ends after each of them.
 use Rattle.std.proofs.Common.{◌≡◌, ℕ, zero, suc, ◌+◌, ◌<◌, ◌≤◌, nat_le, Bool, true, false, not, ◌&&◌, ◌||◌, List, []}
 use Rattle.std.proofs.Common.{◌∷◌, length, map, replicate, unwrap_or, Option, Some, None, refl, sym, ap, ◌∙◌, inl, inr, arith}
 use Rattle.std.specs.List.{list_all}
@@ -96,7 +96,7 @@ alone_is_apart c =
     (either _ _ (is_apart c ≡ true) (apart_in 1569 41 c arabic)
     (either _ _ (is_apart c ≡ true) (apart_in 8232 6 c embeddings) (apart_in 8294 3 c isolates)))))
 
--- no rule on pairs joins two of them, and no other rule asks for either
+-- no rule on pairs joins two of them, and no other rule concerns them
 by_pair : (g h : GraphemeClusterBreak) → stands_apart g ≡ true → stands_apart h ≡ true → unwrap_or (break_by_pair true g h) true ≡ true
 by_pair Control Control one other = refl
 by_pair Control Lf one other = refl

@@ -1,4 +1,4 @@
--- Places without their clusters: what filling and showing read of them but clusters.
+-- Filling and showing read nothing of the ends of clusters, except where no break opportunity fits.
 use Rattle.std.proofs.Common.{◌≡◌, ℕ, zero, suc, ◌+◌, ◌-◌, ◌<◌, ◌≤◌, nat_le, Bool, true, false, ◌&&◌, List, [], ◌∷◌, ◌++◌}
 use Rattle.std.proofs.Common.{length, map, take, drop, reverse, set, get_or, Some, unwrap_or, slice_range, refl, sym, ap, ap₂, ◌∙◌, arith}
 use Rattle.std.proofs.Math.Seq.{set-append_seam, get_or-append_seam}
@@ -90,7 +90,7 @@ break_bare width xs =
     ∙ greatest_same (λ k. may_end (map bare xs) k && fits_to width (map bare xs) k) (λ k. may_end xs k && fits_to width xs k) (suc (stop xs))
     (λ k. ap₂ ◌&&◌ (ap (λ (p : CharInfo). is_break p.mark) (at_bare xs k)) (fits_bare width xs k))
 
--- places that differ in their clusters alone have the same breaks
+-- lists that differ in their cluster ends alone have the same break opportunities
 pub same_stop : (xs ys : List CharInfo) → AreAlike xs ys → stop xs ≡ stop ys
 same_stop xs ys alike = sym (stop_bare xs) ∙ ap stop alike ∙ stop_bare ys
 
@@ -151,7 +151,7 @@ length_with [] ends size = refl
 length_with (x ∷ xs) [] size = absurd (omega (arith, size))
 length_with (x ∷ xs) (e ∷ ends) size = ap suc (length_with xs ends (omega (arith, size)))
 
--- one place more with its end
+-- one more item gets its cluster end
 pub with_more : (old current : List CharInfo) (ends : List Bool) (k : ℕ) (e : Bool) → k < length old → length ends ≡ length old → e ≡ get_or ends k e
     → current ≡ with_ends (take k old) (take k ends) ++ drop k old
     → set current k (record (place_at current k) { ends_cluster = e }) ≡ with_ends (take (k + 1) old) (take (k + 1) ends) ++ drop (k + 1) old
@@ -210,7 +210,7 @@ parts_bare n xs (s ∷ t ∷ starts) = ap₂ (λ (p : Shown) (ps : List Shown). 
 pub same_shown : (n : ℕ) (xs ys : List CharInfo) (starts : List ℕ) → AreAlike xs ys → shown_from n xs starts ≡ shown_from n ys starts
 same_shown n xs ys starts alike = sym (parts_bare n xs starts) ∙ ap (λ zs. shown_from n zs starts) alike ∙ parts_bare n ys starts
 
--- the first k places are put, and those of what is left make the whole with them
+-- the first k items are written, and with those that are left they make up the whole
 pub record PlacesPut (t : Tables) (text : List ℕ) (marks : List Mark) (current : List CharInfo) (k : ℕ) : Type 0 where
   pub sizes : length current ≡ length text
   pub within : k ≤ length text

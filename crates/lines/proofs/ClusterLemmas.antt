@@ -1,4 +1,4 @@
--- The ends of the clusters of a text, one after the other, are the ends that the rules give.
+-- The ends of a text's clusters, in order, are the ends by the rules.
 use Rattle.std.proofs.Common.{◌≡◌, ℕ, suc, ◌-◌, Bool, true, false, ◌&&◌, cond, List, [], ◌∷◌, ◌++◌, map, length, replicate, refl, sym, ap, ap₂, ◌∙◌, append-nil, arith}
 use Rattle.std.proofs.Math.Utf8.{scalars}
 use Rattle.std.proofs.lemmas.Bool.{and_parts}
@@ -24,13 +24,13 @@ attach_begins true c pieces = ([], pieces, refl)
 attach_begins false c [] = ([], [], refl)
 attach_begins false c (p ∷ ps) = (p, ps, refl)
 
--- the first piece begins with the first character
+-- the first part starts with the first character
 cut_begins : (rule : Rule) (before : List ℕ) (c : ℕ) (cs after : List ℕ)
     → (p : List ℕ) × (ps : List (List ℕ)) × (cut rule before (c ∷ cs) after ≡ (c ∷ p) ∷ ps)
 unfolding cut
 cut_begins rule before c cs after = attach_begins (rule (c ∷ before) (cs ++ after)) c (cut rule (c ∷ before) cs after)
 
--- one more character before them has an end after it where it is a piece of its own
+-- one more character in front has an end after it if it is a part of its own
 ends_attach : (b : Bool) (c d : ℕ) (p : List ℕ) (ps : List (List ℕ))
     → flat_map ends_of_piece (attach b c ((d ∷ p) ∷ ps)) ≡ b ∷ flat_map ends_of_piece ((d ∷ p) ∷ ps)
 ends_attach true c d p ps = refl

@@ -1,4 +1,4 @@
--- A paragraph has no more lines than characters.
+-- A paragraph has at most as many lines as characters.
 use Rattle.std.proofs.Common.{◌≡◌, ℕ, zero, suc, ◌-◌, ◌≤◌, Bool, List, [], ◌∷◌, length, refl, ap, arith}
 use Rattle.ucd.specs.declared.tables.Tables.{Tables}
 use Rattle.breaks.specs.declared.mark.Mark.{Mark}

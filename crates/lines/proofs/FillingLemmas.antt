@@ -1,4 +1,4 @@
--- What the walk along a line finds: sums of columns, and the positions at which the line may end.
+-- What the scan of a line finds: sums of columns, and the positions at which the line may end.
 use Rattle.std.proofs.Common.{take-take, length-append, get_or, subst, ◌≡◌, ℕ, zero, suc, ◌+◌, ◌-◌, ◌*◌, ◌<◌, ◌≤◌, Bool, true, false, ◌&&◌, ◌||◌}
 use Rattle.std.proofs.Common.{Option, Some, unwrap_or, List, [], ◌∷◌, ◌++◌, length, take, drop, if◌then◌else◌, refl, sym, ap, ◌∙◌, inl, inr, arith}
 use Rattle.std.proofs.Math.ListN.{get_or-append}
@@ -138,9 +138,9 @@ pub first_end_none : (rest : List CharInfo) → ((j : ℕ) → j < length rest �
 first_end_none rest fails =
     ap (λ o. unwrap_or o (length rest - 1)) (least_none (λ j. may_end rest j || cluster_ends_at rest j) 0 (length rest) (λ m from below. fails m (omega (arith, below))))
 
--- ---- what the walk keeps
+-- ---- what the scan keeps
 
--- of the characters before k, which all fit and after none of which a line must end
+-- of the characters before k, up to which the line fits and after none of which it must end
 pub record IsWalked (width : ℕ) (rest : List CharInfo) (k : ℕ) (sums : Sums) (break cluster : Option ℕ) : Type 0 where
   pub within : k ≤ length rest
   pub sums_are : AreSumsOf (take k rest) sums
@@ -158,7 +158,7 @@ greatest_more test fit k best here so_far =
       | inr f ↦ cond-false (test k) (Some k) best f ∙ so_far ∙ sym (cond-false (test k && fit k) (Some k) (greatest (λ j. test j && fit j) k) (ap (λ b. b && fit k) f))
     ]
 
--- what is found stands within the range, and not before numbers that fail
+-- what is found is inside the range, and not before numbers that fail
 pub least_within : (p : ℕ → Bool) (low count n d k : ℕ) → low + count ≡ n → k ≤ d → d < n → ((m : ℕ) → low ≤ m → m < k → p m ≡ false)
     → (k ≤ unwrap_or (least p low count) d) × (unwrap_or (least p low count) d < n)
 least_within p low zero n d k e above below fails = (above, below)
@@ -176,12 +176,12 @@ least_within p low (suc count) n d k e above below fails =
           (omega (arith, skipped, rest.0), omega (arith, skipped, rest.1))
     ]
 
--- the stop stands at k or after it
+-- the stop is at least k
 pub stop_from : (rest : List CharInfo) (k : ℕ) → k < length rest → ((j : ℕ) → j < k → must_end rest j ≡ false) → (k ≤ stop rest) × (stop rest < length rest)
 stop_from rest k within fails =
     least_within (must_end rest) 0 (length rest) (length rest) (length rest - 1) k (omega arith) (omega (arith, within)) (omega (arith, within)) (λ m from below. fails m below)
 
--- a step of the walk
+-- a step of the scan
 pub walk_more : (width : ℕ) (rest : List CharInfo) (k : ℕ) (sums next : Sums) (break cluster : Option ℕ) → k < length rest → IsWalked width rest k sums break cluster
     → next ≡ sums_after sums (place_at rest k) → next.columns ≤ sums.columns + 255 → next.shown ≤ width → must_end rest k ≡ false
     → IsWalked width rest (k + 1) next (if may_end rest k then Some k else break) (if cluster_ends_at rest k then Some k else cluster)
@@ -201,7 +201,7 @@ walk_more width rest k sums next break cluster within walked e most fitting must
       cluster_is = greatest_more (cluster_ends_at rest) (fits_to width rest) k cluster fit walked.cluster_is;
     })
 
--- the walk ends where a line must
+-- the scan ends where the line must end
 pub walk_stops : (width : ℕ) (rest : List CharInfo) (test : ℕ → Bool) (k : ℕ) (sums next : Sums) (best : Option ℕ) → k < length rest
     → AreSumsOf (take k rest) sums → ((j : ℕ) → j < k → must_end rest j ≡ false) → next ≡ sums_after sums (place_at rest k) → next.shown ≤ width → must_end rest k ≡ true
     → best ≡ greatest (λ j. test j && fits_to width rest j) k
@@ -212,7 +212,7 @@ walk_stops width rest test k sums next best within are no_must e fitting must so
     greatest_more test (fits_to width rest) k best fit so_far
     ∙ ap (λ n. greatest (λ j. test j && fits_to width rest j) (suc n)) (sym (stop_at rest k within no_must must))
 
--- the walk ends with the characters
+-- the scan ends with the characters
 pub walk_ends : (width : ℕ) (rest : List CharInfo) (test : ℕ → Bool) (k : ℕ) → 0 < length rest → k ≡ length rest → ((j : ℕ) → j < k → must_end rest j ≡ false)
     → greatest (λ j. test j && fits_to width rest j) k ≡ greatest (λ j. test j && fits_to width rest j) (suc (stop rest))
 walk_ends width rest test k some e no_must =
@@ -220,7 +220,7 @@ walk_ends width rest test k some e no_must =
     let same : k ≡ suc (stop rest) = omega (arith, e, none, some) in
     ap (greatest (λ j. test j && fits_to width rest j)) same
 
--- the walk ends where the line does not fit, nor from there on
+-- the scan ends where the line does not fit, and it does not fit later either
 pub walk_misfits : (width : ℕ) (rest : List CharInfo) (test : ℕ → Bool) (k : ℕ) (sums next : Sums) → k < length rest
     → AreSumsOf (take k rest) sums → ((j : ℕ) → j < k → must_end rest j ≡ false) → next ≡ sums_after sums (place_at rest k) → width < next.shown
     → greatest (λ j. test j && fits_to width rest j) k ≡ greatest (λ j. test j && fits_to width rest j) (suc (stop rest))
@@ -254,7 +254,7 @@ starts_line nobreak width place (p ∷ rest) some within =
     ∙ starts_skip nobreak width (suc place) n rest (omega (arith, within))
     ∙ ap (λ m. starts nobreak width m 0 (drop n rest)) more)
 
--- what is found in a line stands in it
+-- what is found in a line is inside it
 pub found_within : (rest : List CharInfo) (test : ℕ → Bool) (k : ℕ) → 0 < length rest → greatest test (suc (stop rest)) ≡ Some k → k < length rest
 found_within rest test k some e =
     omega (arith, (stop_from rest 0 some (λ j below. absurd (omega (arith, below)))).1, (greatest_found test (suc (stop rest)) k e).0)

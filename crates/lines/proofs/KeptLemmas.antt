@@ -1,4 +1,4 @@
--- The lines that are kept, one by one.
+-- The stored lines, one by one.
 use Rattle.std.proofs.Common.{◌≡◌, ℕ, zero, suc, ◌+◌, ◌<◌, ◌≤◌, false, List, [], ◌∷◌, length, map, Some, slice_get, slice_index, slice_index_or, slice_range, refl, ap, ap₂, subst, ◌∙◌, arith}
 use Rattle.std.proofs.lemmas.List.Elements.{All-get_or}
 use Rattle.std.proofs.lemmas.Option.{get_or_from_slice_get, slice_get_within}
@@ -11,7 +11,7 @@ use Rattle.lines.specs.declared.fill.Shown.{Shown}
 use Rattle.lines.proofs.ShowLemmas.{length_range}
 
 module _ (levels ltov vtol chars : List ℕ) where
-  -- they start where it is said
+  -- they start at the listed positions
   pub starts_of_lines : (starts : List ℕ) (shown : List Shown) → length shown ≡ length starts → map start_of (lines_by levels ltov vtol chars starts shown) ≡ starts
   starts_of_lines [] shown e = refl
   starts_of_lines (s ∷ starts) [] e = absurd (omega (arith, e))

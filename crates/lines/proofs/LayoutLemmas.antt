@@ -1,4 +1,4 @@
--- A layout from its parts, and what an exchange leaves.
+-- A layout from its parts, and after an exchange of lines.
 use Rattle.std.proofs.Common.{◌≡◌, ℕ, List, Result, Ok, Err, IfOk, length, refl, ap, ap₂, subst, sym, ◌∙◌}
 use Rattle.breaks.specs.declared.mark.Mark.{Mark}
 use Rattle.lines.specs.Extents.{extents_of, reflowed, LineExtents}

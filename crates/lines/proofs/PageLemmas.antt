@@ -1,4 +1,4 @@
--- The bytes of a paragraph's lines, one line after the other.
+-- The bytes of a paragraph's lines, one line at a time.
 use Rattle.std.proofs.Common.{◌≡◌, ◌∙◌, ℕ, zero, suc, ◌+◌, ◌<◌, ◌≤◌, List, [], ◌∷◌, ◌++◌, length, map, take, get_or, Option, Some, None, refl, sym, ap, arith}
 use Rattle.std.specs.Prelude.{option_map, slice_get}
 use Rattle.std.specs.List.{concat, enumerate_from, flat_map}

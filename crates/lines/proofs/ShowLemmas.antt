@@ -1,4 +1,4 @@
--- What is written of one line after the other makes up the lines of the paragraph.
+-- Lines that are written one at a time make up the lines of the paragraph.
 use Rattle.std.proofs.Common.{◌≡◌, ℕ, zero, suc, ◌+◌, ◌-◌, ◌<◌, ◌≤◌, List, [], ◌∷◌, ◌++◌, length, map, take}
 use Rattle.std.proofs.Common.{drop, get_or, refl, sym, ap, ap₂, subst, ◌∙◌, take-take, drop-drop, below_more, length-append, arith, inl, inr}
 use borrow.Rule.Slice.PartMut.{put_mid}
@@ -153,7 +153,7 @@ length_put a k xs ys within size below =
     ∙ ap₂ ◌+◌ (length-take-le a xs within) (length-append ys (drop k (drop a xs)))
     ∙ omega (arith, size, below, length-drop k (drop a xs), length-drop a xs)
 
--- lists that agree from a place on agree from a later one on
+-- lists that agree from an index on agree from a later one on
 drop_later : (a b : ℕ) (xs ys : List ℕ) → a ≤ b → drop a xs ≡ drop a ys → drop b xs ≡ drop b ys
 drop_later a b xs ys order same =
     let e : a + (b - a) ≡ b = omega (arith, order) in
@@ -163,7 +163,7 @@ same_line : (s c c2 : ℕ) (l t v h l2 t2 v2 h2 : List ℕ) → c ≡ c2 → l �
 same_line s c c2 l t v h l2 t2 v2 h2 a b d e f = rw (a, b, d, e, f) refl
 
 module _ (tables : Tables) (options : Options) (base : ℕ) (text old : List ℕ) where
-  -- a line that ends where the write begins, or before
+  -- a line that ends at or before the start of what is written
   placed_still : (s e a k : ℕ) (part : Shown) (levels ltov vtol chars l t v h : List ℕ) → IsPlaced tables options base text old s e part levels ltov vtol chars
       → e ≤ a → a ≤ length levels → a ≤ length ltov → a ≤ length vtol → a ≤ length chars
       → IsPlaced tables options base text old s e part (put_mid a k levels l) (put_mid a k ltov t) (put_mid a k vtol v) (put_mid a k chars h)

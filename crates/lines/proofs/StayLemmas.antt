@@ -1,4 +1,4 @@
--- A paragraph of one line has this line at each width that it fits.
+-- A paragraph of one line has the same line at each width that it fits.
 use Rattle.std.proofs.Common.{◌≡◌, ◌∙◌, ℕ, zero, suc, ◌+◌, ◌-◌, ◌<◌, ◌≤◌, Bool, true, false, ◌&&◌, ◌||◌, Option, Some}
 use Rattle.std.proofs.Common.{None, unwrap_or, List, [], ◌∷◌, length, get_or, take, drop, refl, sym, ap, subst, inl, inr, arith}
 use Rattle.std.specs.List.{slice_get, slice_range}
@@ -26,7 +26,7 @@ use Rattle.lines.proofs.SkippedLemmas.{length-infos, some_text}
 
 -- ---- where the first line ends
 
--- what a stricter test finds stands no earlier
+-- what a stricter test finds is not earlier
 least_low : (p q : ℕ → Bool) (low count d : ℕ) → low + count ≡ suc d → ((m : ℕ) → q m ≡ true → p m ≡ true)
     → unwrap_or (least p low count) d ≤ unwrap_or (least q low count) d
 least_low p q low zero d e stricter = omega arith
@@ -47,7 +47,7 @@ least_low p q low (suc count) d e stricter =
       ]
     ]
 
--- where a line must end it may
+-- where a line must end, it may end
 must_may : (mark : Mark) (ends : Bool) → is_must mark ≡ true → (is_break mark || ends) ≡ true
 must_may Never ends h = cc
 must_may May ends h = cc
@@ -124,7 +124,7 @@ same_starts nobreak old width s (p ∷ rest) some e ends fit =
     (subst (λ ps. columns (shown ps) ≤ width) all fit) (none_left nobreak old 1 (line_len nobreak old (p ∷ rest) - 1) rest none) in
     ap (λ xs. 0 ∷ xs) (all_left nobreak width 1 (line_len nobreak width (p ∷ rest) - 1) rest whole ∙ sym none)
 
--- ---- the last place
+-- ---- the last position
 
 mark_at : (t : Tables) (text : List ℕ) (marks : List Mark) (clusters : List Bool) (k : ℕ) (mark : Mark) → slice_get marks k ≡ Some mark → k < length text
     → length clusters ≡ length text → (place_at (infos t text marks clusters) k).mark ≡ mark

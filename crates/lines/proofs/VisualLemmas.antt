@@ -1,4 +1,4 @@
--- Each line's shown part stands in the paragraph.
+-- Each line's shown part is inside the paragraph.
 use Rattle.std.proofs.Common.{◌≡◌, ℕ, zero, suc, ◌+◌, ◌-◌, ◌<◌, ◌≤◌, Bool, List, [], ◌∷◌, length, map, take, drop, slice_index, slice_range, subst, refl, arith}
 use Rattle.std.proofs.lemmas.List.{length-take}
 use Rattle.std.proofs.lemmas.List.Elements.{All-cons, All-nil}
@@ -46,7 +46,7 @@ starts_rise nobreak width place zero n (p ∷ rest) e = (
 starts_rise nobreak width place (suc left) n (p ∷ rest) e =
     rise_from (place + suc left) (suc place + left) n (starts nobreak width (suc place) left rest) (omega arith) (starts_rise nobreak width (suc place) left n rest (omega (arith, e)))
 
--- there are no more places than characters
+-- there are at most as many items as characters
 length-infos : (t : Tables) (text : List ℕ) (marks : List Mark) (clusters : List Bool) → length (infos t text marks clusters) ≤ length text
 length-infos t [] marks clusters = omega arith
 length-infos t (c ∷ text) [] clusters = omega arith
@@ -56,7 +56,7 @@ length-infos t (c ∷ text) (mark ∷ marks) (ends ∷ clusters) = omega (arith,
 length-take-most : {X : Type 0} (n : ℕ) (xs : List X) → length (take n xs) ≤ n
 length-take-most n xs = omega (arith, length-take n xs)
 
--- what is shown between two places is no longer than what stands there
+-- what is shown between two positions is no longer than the text between them
 levels_most : (tables : Tables) (options : Options) (base : ℕ) (text levels : List ℕ) (ps : List CharInfo) (s e : ℕ) → length (line_between tables options base text levels ps s e).levels ≤ e - s
 levels_most tables options base text levels ps s e =
     let span : List CharInfo = slice_range ps s e in
@@ -77,7 +77,7 @@ from_within tables options base text levels ps low n (s ∷ t ∷ at) e rise =
     All-cons (λ (line : Line). line.start + length line.levels ≤ n) (line_between tables options base text levels ps s t) (lines_from tables options base text levels ps (t ∷ at))
     (omega (arith, levels_most tables options base text levels ps s t, rise.2.0, rise.2.1)) (from_within tables options base text levels ps (suc s) n (t ∷ at) e rise.2)
 
--- the lines of a paragraph stand in it
+-- the lines of a paragraph are inside it
 pub lines_within : (rules : Rules) (width : ℕ) (text : List ℕ) → AreWithin (length text) (lines_of rules width text)
 unfolding line_starts_of infos_of
 lines_within rules width text =

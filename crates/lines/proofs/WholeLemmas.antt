@@ -1,4 +1,4 @@
--- A paragraph whose characters but the last end no line is one line, where lines end at mandatory breaks only.
+-- A paragraph without a mandatory break before its end is one line, if lines end at mandatory breaks only.
 use Rattle.std.proofs.Common.{◌≡◌, ℕ, zero, suc, ◌+◌, ◌-◌, ◌<◌, ◌≤◌, Bool, true, false, not, ◌&&◌, ◌⊎◌, List, [], ◌∷◌, ◌++◌, length, map, take, drop, get_or}
 use Rattle.std.proofs.Common.{slice_range, if◌then◌else◌, refl, sym, ap, ap₂, subst, ◌∙◌, inl, inr, arith}
 use Rattle.std.specs.List.{suffix_len}
@@ -35,7 +35,7 @@ use Rattle.lines.proofs.SkippedLemmas.{length-infos}
 
 -- ---- rules that give no mandatory break
 
--- each gives another mark, or doesn't hold
+-- each has another mark, or does not apply
 Quiet : List Rule → List Base → List Base → Type 0
 Quiet [] before after = Unit {0}
 Quiet (rule ∷ rules) before after = ((is_must rule.mark ≡ false) ⊎ (rule.holds before after ≡ false)) × Quiet rules before after
@@ -63,7 +63,7 @@ tame_quiet (rule ∷ rules) before after is =
     let both = and_parts (not (is_must rule.mark)) (tame rules) is in
     (inl (not-true (is_must rule.mark) both.0), tame_quiet rules before after both.1)
 
--- a base after which no rule asks for one, but at the end
+-- a base after which no rule requires an end, except at the end of the paragraph
 abbrev ends_no_line : Base → Type 0
 ends_no_line b = (is_one_of (BK ∷ []) (base_class_of b) ≡ false) × (is_one_of (CR ∷ LF ∷ NL ∷ []) (base_class_of b) ≡ false)
 
@@ -183,7 +183,7 @@ quiet_marks : (t : Tables) (whole_numbers : Bool) (text : List ℕ) → IsWhole 
 unfolding marks_of
 quiet_marks t whole_numbers text is = tame_marks whole_numbers [] (bases_of (map (character t) text)) (bases_quiet (map (character t) text) (whole_quiet t text is))
 
--- ---- places with such marks
+-- ---- items with such marks
 
 tame_infos : (t : Tables) (text : List ℕ) (marks : List Mark) (ends : List Bool) (j : ℕ) → Tame marks → j + 1 < length (infos t text marks ends)
     → must_end (infos t text marks ends) j ≡ false
@@ -227,7 +227,7 @@ one_start width (p ∷ rest) some fails =
     let last = stop_last (p ∷ rest) some fails in
     ap (λ (ss : List ℕ). 0 ∷ ss) (passed true width 1 (suc (stop (p ∷ rest)) - 1) rest (omega (arith, last)))
 
--- ---- what is printed of such a paragraph, where it isn't its characters
+-- ---- what is printed of such a paragraph, if its characters are not
 
 whole_range : {X : Type 0} (xs : List X) (n : ℕ) → n ≡ length xs → slice_range xs 0 n ≡ xs
 whole_range xs n e = take_all (n - 0) xs (omega arith)

@@ -1,4 +1,4 @@
--- Rows of what is printed of a line, worked.
+-- Worked examples of the bytes of a line.
 use Rattle.std.proofs.Common.{◌≡◌, true, false, [], ◌∷◌, ◌++◌, codes, refl}
 use Rattle.std.specs.Char.{encode_utf8}
 use Rattle.std.specs.Fmt.{digits}
@@ -58,7 +58,7 @@ blank = record { is_first = true; base = 0; len = 0; text = []; columns = 0; lev
 empty_lines : line_bytes 80 (record all { basedir = false }) blank ≡ codes "\n\n\n\n"
 empty_lines = refl
 
--- and where the paragraph is from right to left
+-- and in a right-to-left paragraph
 blank_padded : line_bytes 2 plain (record blank { base = 1 }) ≡ codes "  \n"
 blank_padded = refl
 

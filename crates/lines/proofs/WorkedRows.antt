@@ -1,4 +1,4 @@
--- Rows of the definitions, worked.
+-- Worked examples of the definitions.
 use Rattle.std.proofs.Common.{◌≡◌, ℕ, ◌-◌, ◌^◌, true, false, List, [], ◌∷◌, refl}
 use Rattle.breaks.specs.declared.mark.Mark.TheVariants.{Never, May, Must}
 use Rattle.lines.specs.Engine.{counted}
@@ -59,7 +59,7 @@ inside : starts 1 (letter ∷ record last_space { ends_cluster = false } ∷ rec
 unfolding line_starts_of
 inside = refl
 
--- a line ends where it must, whatever the width
+-- a line ends where it must, at any width
 ends : starts 80 (letter ∷ record space { mark = Must } ∷ last ∷ []) ≡ 0 ∷ 2 ∷ []
 unfolding line_starts_of
 ends = refl
@@ -80,11 +80,11 @@ too_wide = refl
 count_stays : counted (2 ^ 64 - 3) 7 ≡ 2 ^ 64 - 1
 count_stays = refl
 
--- a paragraph has at most so many characters
+-- the limit of a paragraph
 paragraph_limit : PARAGRAPH_LIMIT ≡ 1048576
 paragraph_limit = refl
 
--- what is written at once stands on the stack
+-- the size of a buffer on the stack
 row_room : ROW_BYTES_AT_ONCE ≡ 512
 row_room = refl
 

@@ -1,4 +1,4 @@
--- One part written after another, and lists of parts.
+-- Parts written one after another, and lists of parts.
 use Rattle.std.proofs.Common.{◌≡◌, ℕ, zero, suc, ◌+◌, ◌-◌, ◌<◌, ◌≤◌, ◌==◌, false, min, List, [], ◌∷◌, ◌++◌, length, map, get_or, take}
 use Rattle.std.proofs.Common.{drop, replicate, Option, Some, None, Result, Ok, Err, IfOk, IfErr, IsErrAnd, encode_utf8, encode_utf8_all, if◌then◌else◌, refl, sym, ap, ◌∙◌, arith}
 use Rattle.std.specs.Io.KnownBytes.{Appends}
@@ -49,7 +49,7 @@ module _ {old mid : Device} {xs : List ℕ} {before n : ℕ} (first : PassedOn x
         );
       }
 
--- a front of a part is one of what begins with it
+-- a prefix of a part is a prefix of a longer part
 pub stopped-before : {old new : Device} {xs : List ℕ} {before w : ℕ} (ys : List ℕ) → StoppedIn xs before old new w → StoppedIn (xs ++ ys) before old new w
 stopped-before {old = old} {new = new} {xs = xs} {before = before} {w = w} ys stopped = record {
   after = stopped.after;
@@ -104,7 +104,7 @@ pub same_fault : {T : Type 0} (r : Result T WriteFault) (fault : WriteFault) (Q 
 same_fault (Ok x) fault Q is holds = tt
 same_fault (Err y) fault Q is holds = rw is holds
 
--- one part more in a piece, after what stands before the piece
+-- one more part, after what precedes it
 pub part-more : (front piece part : List ℕ) {new whole : List ℕ} → new ≡ piece ++ part → front ++ piece ≡ whole → front ++ new ≡ whole ++ part
 part-more front piece part new_is piece_is =
     ap (λ xs. front ++ xs) new_is ∙ sym (append_assoc front piece part) ∙ ap (λ xs. xs ++ part) piece_is
@@ -163,7 +163,7 @@ take-spaced (x ∷ xs) (suc k) = ap (λ more. x ∷ more) (sym (take-map (λ (y 
 joined-front : (xs : List (List ℕ)) (k : ℕ) → join_with_byte 32 (take k xs) ≡ concat (take k (spaced xs))
 joined-front xs k = sym (spaced-whole (take k xs)) ∙ ap concat (take-spaced xs k)
 
--- a row with one item more, and its rest after the first ones
+-- a list with one more item, and the rest of it
 pub joined-more : (xs : List (List ℕ)) (k : ℕ) (x : List ℕ) → k < length xs → x ≡ get_or xs k []
     → join_with_byte 32 (take (k + 1) xs) ≡ join_with_byte 32 (take k xs) ++ ((if k == 0 then [] else 32 ∷ []) ++ x)
 joined-more xs k x within is =
@@ -179,7 +179,7 @@ joined-rest xs k =
 pub some_spaces : (n : ℕ) → n ≤ 64 → take n SPACES ≡ replicate n 32
 some_spaces n within = take-replicate n 64 32 within
 
--- so many spaces
+-- `count` spaces
 abbrev pub spaces : ℕ → List ℕ
 spaces n = replicate n 32
 
@@ -197,6 +197,6 @@ all_spaces count left some within part =
     ap spaces sum ∙ spaces-add (count - (left - some)) (left - some)
     ∙ ap (λ xs. xs ++ spaces (left - some)) (more_spaces count left some within part)
 
--- a part before which nothing stands is all of it
+-- a part with nothing before it is all of it
 pub stopped-whole : {xs : List ℕ} {old new : Device} {w : ℕ} → StoppedIn xs 0 old new w → StoppedAt w xs old new
 stopped-whole {w = w} stopped = let all : w ≡ w - 0 = omega arith in rw all stopped.stopped

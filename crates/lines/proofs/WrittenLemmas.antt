@@ -78,7 +78,7 @@ module _ (tables : Tables) (options : Options) (base : ℕ) where
     length-lines_shown (s ∷ []) (part ∷ parts) same = refl
     length-lines_shown (s ∷ t ∷ starts) (part ∷ parts) same = ap suc (length-lines_shown (t ∷ starts) parts (omega (arith, same)))
 
-    -- so much is shown of each as its places say
+    -- how much is shown of each line, by its `CharInfo`s
     pub shown_lines : (infos : List CharInfo) (starts : List ℕ)
         → lines_shown tables options base text old starts (shown_from (length text) infos starts) ≡ lines_from tables options base text old infos starts
     shown_lines infos [] = refl

@@ -1,4 +1,4 @@
--- A line of which only what is printed is found. Only the code speaks of these.
+-- A line of which only what is printed is computed. Only the code uses these definitions.
 use Rattle.std.specs.Prelude.{ℕ, Bool, ◌&&◌, ◌||◌, not, List, length, map, take}
 use Rattle.ucd.specs.Tables.{class_of}
 use Rattle.ucd.specs.declared.tables.Tables.{Tables}
@@ -10,7 +10,7 @@ use Rattle.lines.specs.declared.options.Options.{Options}
 use Rattle.lines.specs.declared.fill.Shown.{Shown}
 use Rattle.lines.specs.declared.print.Print.{Print}
 
--- a line of a paragraph, or what is shown of it, by its characters
+-- a line of a paragraph, and its visual line
 module _ (tables : Tables) (options : Options) (base : ℕ) (is_first : Bool) (line : List ℕ) where
   -- by the levels of its shown part after L1
   abbrev pub visual_part : ℕ → List ℕ → Visual
@@ -33,6 +33,6 @@ module _ (tables : Tables) (options : Options) (base : ℕ) (is_first : Bool) (l
   abbrev pub visual_shown : List ℕ → Shown → Visual
   visual_shown old part = visual_part part.columns (take part.len (line_levels base (map (class_of tables) line) old))
 
--- a print in which places stand, or characters as they are
+-- whether position maps are printed, or unmirrored characters, which are found by these maps
 abbrev pub asks_places : Print → Bool
 asks_places print = print.ltov || (print.vtol || (not print.novisual && print.nomirror))

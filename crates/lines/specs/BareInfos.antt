@@ -1,4 +1,4 @@
--- The places of a paragraph without their clusters.
+-- The `CharInfo`s of a paragraph, without the ends of clusters.
 use Rattle.std.specs.Prelude.{ℕ, false, List, [], ◌∷◌}
 use Rattle.ucd.specs.declared.tables.Tables.{Tables}
 use Rattle.breaks.specs.declared.mark.Mark.{Mark}

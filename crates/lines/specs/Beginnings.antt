@@ -1,10 +1,10 @@
--- Where the lines of a paragraph begin.
+-- Where the lines of a paragraph start.
 use Rattle.std.specs.Prelude.{◌≡◌, ℕ, ◌<◌, List, length, map, Some, slice_get}
 use Rattle.lines.specs.Kept.{AreStarts}
 use Rattle.lines.specs.Layouts.{start_of}
 use Rattle.lines.specs.Visual.{Line}
 
--- The lines of a text begin one after another within it, the first of them where it begins. Without a character it has no line.
+-- the lines of a text start in order inside it, the first at 0; an empty text has no line
 pub record BeginInOrder (text : List ℕ) (lines : List Line) : Type 0 where
   pub starts : AreStarts (length text) (map start_of lines)
   pub first : 0 < length text → slice_get (map start_of lines) 0 ≡ Some 0

@@ -1,4 +1,4 @@
--- What is printed of a line.
+-- The bytes that are printed of a line.
 use Rattle.std.specs.Prelude.{ℕ, ◌-◌, ◌&&◌, not, List, [], ◌++◌, codes, map, replicate, slice_index, encode_utf8_all, if◌then◌else◌}
 use Rattle.std.specs.Fmt.{decimal}
 use Rattle.std.specs.List.{join_with_byte}
@@ -6,20 +6,20 @@ use Rattle.reorder.specs.Order.{is_odd}
 use Rattle.lines.specs.Visual.{Visual}
 use Rattle.lines.specs.declared.print.Print.{Print}
 
--- the paragraph's direction, by its base level
+-- the base direction, by the base level
 abbrev pub direction_line : ℕ → List ℕ
 direction_line base = if is_odd base then codes "RTL\n" else codes "LTR\n"
 
--- decimal numbers, with one space between
+-- decimal numbers, with one space between them
 abbrev pub numbers_line : List ℕ → List ℕ
 numbers_line numbers = join_with_byte 32 (map decimal numbers) ++ codes "\n"
 
--- the spaces before a line that is shorter than the width, where the paragraph is from right to left
+-- the spaces before a line that is shorter than the width, in a right-to-left paragraph
 abbrev pub padding : ℕ → Print → Visual → List ℕ
 padding width print visual =
     if is_odd visual.base && not print.nopad then replicate (width - visual.columns) 32 else []
 
--- the characters in visual order, mirrored or as they are
+-- the characters in visual order, mirrored or unchanged
 abbrev pub shown_chars : Print → Visual → List ℕ
 shown_chars print visual = if print.nomirror then map (slice_index visual.text) visual.vtol else visual.chars
 

@@ -1,4 +1,4 @@
--- What filling reads of each character of a paragraph: its columns, and what stands after it.
+-- What filling needs to know of each character of a paragraph.
 use Rattle.std.specs.Prelude.{ℕ, Bool, false, List, [], ◌∷◌, unwrap_or}
 use Rattle.ucd.specs.Tables.{line_class_of, is_mark_in}
 use Rattle.ucd.specs.declared.line_class.LineClass.TheVariants.{BK, CR, LF, NL, SP}
@@ -11,11 +11,11 @@ use Rattle.breaks.specs.declared.mark.Mark.{Mark}
 use Rattle.lines.specs.Clusters.{cluster_ends}
 use Rattle.lines.specs.declared.char_info.CharInfo.{CharInfo}
 
--- the columns of a character are those of the crate `unicode_width`, 0 where it gives none
+-- the columns of a character by the crate `unicode_width`, or 0 if it has none there
 abbrev pub columns_of : ℕ → ℕ
 columns_of c = unwrap_or (char_width false c) 0
 
--- a character that counts for nothing at the end of a line: its class, after LB1, is SP, BK, CR, LF or NL
+-- whether a character may be in a tail: its class, after LB1, is SP, BK, CR, LF or NL
 abbrev pub is_trailing_in : Tables → ℕ → Bool
 is_trailing_in t c = is_one_of (SP ∷ BK ∷ CR ∷ LF ∷ NL ∷ []) (resolved (line_class_of t c) (is_mark_in t c))
 

@@ -3,7 +3,7 @@ use Rattle.std.specs.Prelude.{ℕ, ◌-◌, nat_le, Bool, true, false, ◌&&◌,
 use Rattle.std.specs.Str.{chars}
 use Rattle.unicode_segmentation.specs.Grapheme.{is_grapheme_break}
 
--- whether a cluster ends after each character of a text, of which others stand before, the nearest first
+-- whether a cluster ends after each character of a text; `before` has the characters before the text, the nearest first
 abbrev pub ends_after : List ℕ → List ℕ → List Bool
 ends_after before [] = []
 ends_after before (c ∷ text) = is_grapheme_break true (c ∷ before) text ∷ ends_after (c ∷ before) text
@@ -11,12 +11,12 @@ ends_after before (c ∷ text) = is_grapheme_break true (c ∷ before) text ∷ 
 unfoldable pub cluster_ends : List ℕ → List Bool
 cluster_ends text = ends_after [] text
 
--- the ends of one cluster, of its bytes: none but after its last character
+-- the ends of one cluster, given its bytes: true for its last character only
 abbrev pub ends_of : List ℕ → List Bool
 ends_of cluster = replicate (length (chars cluster) - 1) false ++ true ∷ []
 
--- Characters that no rule joins to one another: those of Latin-1 with the tab and the line feed, but no other control before the
--- space; Hebrew and Arabic letters; separators, embeddings and isolates. Only the code speaks of these.
+-- Characters that no rule joins to one another: Latin-1 without controls below U+0020 except tab and line feed; Hebrew
+-- and Arabic letters; separators, embeddings and isolates. Only the code uses these definitions.
 abbrev pub lies_in : ℕ → ℕ → ℕ → Bool
 lies_in first last c = nat_le first c && nat_le c last
 

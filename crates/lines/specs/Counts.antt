@@ -1,4 +1,4 @@
--- How the counts of work rise. Only the code speaks of these.
+-- How the work counters rise. Only the code uses these definitions.
 use Rattle.std.specs.Prelude.{◌≡◌, ℕ}
 use Rattle.lines.specs.Engine.{counted, RisesBy}
 use Rattle.lines.specs.declared.counts.Counts.{Counts}
@@ -9,13 +9,13 @@ pub record LaysOutAll (n : ℕ) (old new : Counts) : Type 0 where
   pub filled : new.filled ≡ counted old.filled n
   pub written : new.written ≡ counted old.written n
 
--- of n characters, as far as memory allowed
+-- as far as allocations succeeded
 pub record LaysOutSome (n : ℕ) (old new : Counts) : Type 0 where
   pub analysed : RisesBy n old.analysed new.analysed
   pub filled : RisesBy n old.filled new.filled
   pub written : RisesBy n old.written new.written
 
--- n characters were filled into lines, and these written
+-- n characters were filled into lines, and these lines written
 pub record FillsAll (n : ℕ) (old new : Counts) : Type 0 where
   pub analysed : new.analysed ≡ old.analysed
   pub filled : new.filled ≡ counted old.filled n
@@ -26,7 +26,7 @@ pub record FillsSome (n : ℕ) (old new : Counts) : Type 0 where
   pub filled : RisesBy n old.filled new.filled
   pub written : RisesBy n old.written new.written
 
--- it was found where the lines of n characters stand
+-- the line starts of n characters were found
 pub record FindsAll (n : ℕ) (old new : Counts) : Type 0 where
   pub analysed : new.analysed ≡ old.analysed
   pub filled : new.filled ≡ counted old.filled n

@@ -1,4 +1,4 @@
--- What calls of an engine do to what it shows.
+-- What the calls of an engine do to its rules and work counters.
 use Rattle.std.specs.Prelude.{◌≡◌, ℕ, ◌+◌, ◌-◌, ◌^◌, ◌≤◌, min, if◌then◌else◌}
 use Rattle.lines.specs.Layouts.{Rules}
 use Rattle.lines.specs.Printing.{skips_lines}
@@ -17,15 +17,15 @@ filled_of engine = engine.filled
 abbrev pub written_of : Engine → ℕ
 written_of engine = engine.written
 
--- an engine keeps its rules
+-- the rules stay the same
 abbrev pub SameRules : Engine → Engine → Type 0
 SameRules old new = rules_of new ≡ rules_of old
 
--- a count after n more, which stays at the greatest number of 64 bits once there
+-- a count after n more, which stops at 2^64−1
 abbrev pub counted : ℕ → ℕ → ℕ
 counted count n = min (count + n) (2 ^ 64 - 1)
 
--- a count rises, by at most n
+-- a count rises by at most n
 pub record RisesBy (n old new : ℕ) : Type 0 where
   pub least : old ≤ new
   pub most : new ≤ old + n
@@ -41,7 +41,7 @@ pub record LaysOutAtMost (n : ℕ) (old new : Engine) : Type 0 where
   pub filled : RisesBy n (filled_of old) (filled_of new)
   pub written : RisesBy n (written_of old) (written_of new)
 
--- n characters were filled and their lines written, and none analysed
+-- n characters were filled into lines, and these lines written; none were analysed
 pub record Fills (n : ℕ) (old new : Engine) : Type 0 where
   pub analysed : analysed_of new ≡ analysed_of old
   pub filled : filled_of new ≡ counted (filled_of old) n
@@ -52,7 +52,7 @@ pub record FillsAtMost (n : ℕ) (old new : Engine) : Type 0 where
   pub filled : RisesBy n (filled_of old) (filled_of new)
   pub written : RisesBy n (written_of old) (written_of new)
 
--- n characters were filled, so that it is known where their lines stand, and no line was written
+-- n characters were filled: their line starts were found, and no line was written
 pub record FindsExtents (n : ℕ) (old new : Engine) : Type 0 where
   pub analysed : analysed_of new ≡ analysed_of old
   pub filled : filled_of new ≡ counted (filled_of old) n
@@ -63,7 +63,7 @@ pub record FindsExtentsAtMost (n : ℕ) (old new : Engine) : Type 0 where
   pub filled : RisesBy n (filled_of old) (filled_of new)
   pub written : written_of new ≡ written_of old
 
--- the lines of n characters were written anew, and no more was done
+-- the lines of n characters were written again, and nothing else was done
 pub record Rewrites (n : ℕ) (old new : Engine) : Type 0 where
   pub analysed : analysed_of new ≡ analysed_of old
   pub filled : filled_of new ≡ filled_of old
@@ -74,7 +74,7 @@ pub record RewritesAtMost (n : ℕ) (old new : Engine) : Type 0 where
   pub filled : filled_of new ≡ filled_of old
   pub written : RisesBy n (written_of old) (written_of new)
 
--- n characters were printed: all of them were analysed, and filled and their lines written too, unless no line is printed
+-- n characters were printed: all were analysed and, if lines are printed, filled into lines, and these lines written
 pub record Prints (n : ℕ) (print : Print) (old new : Engine) : Type 0 where
   pub analysed : analysed_of new ≡ counted (analysed_of old) n
   pub filled : filled_of new ≡ (if skips_lines print then filled_of old else counted (filled_of old) n)

@@ -1,4 +1,4 @@
--- Where the lines of a paragraph start, and how much of each is shown: what a width decides of them.
+-- Where the lines of a paragraph start, and how much of each is shown. Of a layout, only this depends on the width.
 use Rattle.std.specs.Prelude.{ℕ, List, [], ◌∷◌, length, map, slice_range}
 use Rattle.lines.specs.Filling.{columns, line_starts_of, shown}
 use Rattle.lines.specs.Layouts.{Layout, Rules, start_of}
@@ -11,39 +11,39 @@ pub record LineExtents : Type 0 where
   pub starts : List ℕ
   pub shown : List Shown
 
--- how many characters, and in how many columns, are shown of the line from s up to e
+-- how many characters of the line from s to e are shown, and their columns
 abbrev pub shown_between : List CharInfo → ℕ → ℕ → Shown
 shown_between infos s e =
     let part = shown (slice_range infos s e) in
     record { len = length part; columns = columns part }
 
--- each line ends where the next one starts, the last one with the paragraph of n characters
+-- each line ends where the next one starts, the last one at the end of the paragraph of n characters
 abbrev pub shown_from : ℕ → List CharInfo → List ℕ → List Shown
 shown_from n infos [] = []
 shown_from n infos (s ∷ []) = shown_between infos s n ∷ []
 shown_from n infos (s ∷ t ∷ starts) = shown_between infos s t ∷ shown_from n infos (t ∷ starts)
 
--- those of a paragraph at a width
+-- of a paragraph at a width
 abbrev pub extents_of : Rules → ℕ → List ℕ → LineExtents
 extents_of rules width text =
     let infos = infos_of rules.tables rules.options.whole_numbers text in
     let starts = line_starts_of rules.options.nobreak width infos in
     record { starts = starts; shown = shown_from (length text) infos starts }
 
--- those of lines
+-- of given lines
 abbrev pub shown_in : Line → Shown
 shown_in line = record { len = length line.levels; columns = line.columns }
 
 abbrev pub extents_in : List Line → LineExtents
 extents_in lines = record { starts = map start_of lines; shown = map shown_in lines }
 
--- a paragraph with the lines that start there in place of its own
+-- a paragraph with the lines that start at these extents
 abbrev pub reflowed : Rules → Layout → LineExtents → Layout
 reflowed rules l extents =
     let infos = infos_of rules.tables rules.options.whole_numbers l.text in
     record l { lines = lines_from rules.tables rules.options l.base l.text l.levels infos extents.starts }
 
--- scratch space: for how many characters, and of how many the lines were written with it
+-- scratch space: its capacity in characters, and of how many characters the lines were written with it
 pub record ScratchState : Type 0 where
   pub len : ℕ
   pub written : ℕ

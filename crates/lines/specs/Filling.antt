@@ -1,4 +1,4 @@
--- Where the lines of a paragraph end, by the width.
+-- Where the lines of a paragraph end at a width.
 use Rattle.std.specs.Prelude.{ℕ, zero, suc, ◌-◌, nat_le, Bool, true, false, ◌&&◌, ◌||◌, List, [], ◌∷◌, length, take, sum_by, slice_index_or, Option, Some, None, unwrap_or, if◌then◌else◌}
 use Rattle.std.specs.List.{suffix_len}
 use Rattle.bidi.specs.Brackets.{greatest}
@@ -7,15 +7,15 @@ use Rattle.breaks.specs.declared.mark.Mark.{Mark}
 use Rattle.breaks.specs.declared.mark.Mark.TheVariants.{Never, Must}
 use Rattle.lines.specs.declared.char_info.CharInfo.{CharInfo}
 
--- the columns of a piece are the sum of those of its characters
+-- the columns of a part of a line
 abbrev pub columns : List CharInfo → ℕ
 columns piece = sum_by (λ p. p.columns) piece
 
--- The tail of a piece is its longest ending of characters that count for nothing there, and the shown part is the rest.
+-- The tail is the longest ending of characters that may be in a tail. The shown part is the rest.
 abbrev pub shown : List CharInfo → List CharInfo
 shown piece = take (length piece - suffix_len (λ p. p.is_trailing) piece) piece
 
--- a piece fits if its shown part takes at most the width
+-- whether the shown part is no wider than the width
 abbrev pub fits : ℕ → List CharInfo → Bool
 fits width piece = nat_le (columns (shown piece)) width
 
@@ -27,21 +27,21 @@ abbrev pub is_break : Mark → Bool
 is_break Never = false
 is_break mark = true
 
--- the place at an index, and nothing after the last
+-- the character at an index, and `nothing` past the end
 abbrev pub nothing : CharInfo
 nothing = record { columns = 0; is_trailing = false; mark = Never; ends_cluster = false }
 
 abbrev pub place_at : List CharInfo → ℕ → CharInfo
 place_at rest k = slice_index_or rest k nothing
 
--- the first answer that there is
+-- the first of two results that exists
 abbrev pub or_else : Option ℕ → Option ℕ → Option ℕ
 or_else (Some k) other = Some k
 or_else None other = other
 
--- A line begins at the first of these characters, and others follow. Positions are named by the character that they lie after.
+-- A line that starts at the first of these characters. A position is named by the character before it.
 module _ (rest : List CharInfo) where
-  -- a line must end after a character, or may; a cluster ends there
+  -- whether a line must or may end after a character, and whether a cluster ends there
   abbrev pub must_end : ℕ → Bool
   must_end k = is_must (place_at rest k).mark
 
@@ -59,12 +59,13 @@ module _ (rest : List CharInfo) where
   abbrev pub first_end : ℕ
   first_end = unwrap_or (least (λ k. may_end k || cluster_ends_at k) 0 (length rest)) (length rest - 1)
 
--- the line up to a position fits
+-- whether the line up to a position fits
 abbrev pub fits_to : ℕ → List CharInfo → ℕ → Bool
 fits_to width rest k = fits width (take (suc k) rest)
 
--- The line ends at the greatest position, up to the first at which it must end, at which it may end and up to which it fits; without one
--- at the greatest such at which a cluster ends; and without one of these at the first position at which it may end or a cluster ends.
+-- The line ends at the greatest position, up to the first at which it must end, at which it may end and up to which it
+-- fits. If there is none, it ends at the greatest such position at which a cluster ends. If there is none either, it
+-- ends at the first position at which it may end or a cluster ends.
 abbrev pub by_break : ℕ → List CharInfo → Option ℕ
 by_break width rest = greatest (λ k. may_end rest k && fits_to width rest k) (suc (stop rest))
 
@@ -74,11 +75,11 @@ by_cluster width rest = greatest (λ k. cluster_ends_at rest k && fits_to width 
 abbrev pub line_end : ℕ → List CharInfo → ℕ
 line_end width rest = unwrap_or (or_else (by_break width rest) (by_cluster width rest)) (first_end rest)
 
--- how many characters the first line takes; where lines end at mandatory breaks only, it ends at the first of these
+-- the length of the first line; with `nobreak`, it ends at the first mandatory break
 abbrev pub line_len : Bool → ℕ → List CharInfo → ℕ
 line_len nobreak width rest = suc (if nobreak then stop rest else line_end width rest)
 
--- where lines start, from a place on, where the first `left` characters of the rest belong to an earlier line
+-- where lines start, from a position on; the first `left` of the remaining characters belong to an earlier line
 abbrev pub starts : Bool → ℕ → ℕ → ℕ → List CharInfo → List ℕ
 starts nobreak width place left [] = []
 starts nobreak width place zero (p ∷ rest) = place ∷ starts nobreak width (suc place) (line_len nobreak width (p ∷ rest) - 1) rest

@@ -1,4 +1,5 @@
--- The lines of a paragraph as they are kept: in lists of the paragraph's length, where each line's part stands from its start on.
+-- The lines of a paragraph as they are stored: in lists of the paragraph's length, in which the items of a line start
+-- at the index of its first character.
 use Rattle.std.specs.Prelude.{◌≡◌, ℕ, ◌+◌, ◌<◌, ◌≤◌, List, [], ◌∷◌, length, slice_index, slice_index_or, slice_range, All}
 use Rattle.ucd.specs.Within.{AreWithin}
 use Rattle.lines.specs.Visual.{Line}
@@ -23,7 +24,7 @@ module _ (levels ltov vtol chars : List ℕ) where
 abbrev pub lines_in : List ℕ → List Shown → List ℕ → List ℕ → List ℕ → List ℕ → List Line
 lines_in starts shown levels ltov vtol chars = lines_by levels ltov vtol chars starts shown
 
--- the lists are of one length, and each line's shown part stands in them
+-- the lists have the same length, and each line's shown part is inside them
 pub record IsSound (starts : List ℕ) (shown : List Shown) (levels ltov vtol chars : List ℕ) : Type 0 where
   pub all_shown : length shown ≡ length starts
   pub ltov_len : length ltov ≡ length levels
@@ -32,7 +33,7 @@ pub record IsSound (starts : List ℕ) (shown : List Shown) (levels ltov vtol ch
   pub places : All (λ line. AreWithin (length line.levels) line.vtol) (lines_in starts shown levels ltov vtol chars)
   pub within : (k : ℕ) → k < length starts → slice_index starts k + (slice_index_or shown k (record { len = 0; columns = 0 })).len ≤ length levels
 
--- each line starts before the next one and before the end
+-- each line starts before the next one, and before the end
 pub record AreStarts (n : ℕ) (starts : List ℕ) : Type 0 where
   pub below : (k : ℕ) → k < length starts → slice_index starts k < n
   pub rising : (k : ℕ) → k + 1 < length starts → slice_index starts k < slice_index starts (k + 1)

@@ -1,4 +1,4 @@
--- The layout of a paragraph, as what it consists of.
+-- The layout of a paragraph.
 use Rattle.std.specs.Prelude.{◌≡◌, ℕ, ◌+◌, ◌≤◌, nat_le, Bool, false, List, [], ◌∷◌, length, map, All}
 use Rattle.std.specs.List.{enumerate_from}
 use Rattle.ucd.specs.Tables.{class_of}
@@ -14,7 +14,7 @@ use Rattle.lines.specs.Visual.{Line, Visual, lines_from, visual_of}
 use Rattle.lines.specs.declared.engine.TheConstants.{PARAGRAPH_LIMIT}
 use Rattle.lines.specs.declared.options.Options.{Options}
 
--- what a layout goes by
+-- what a layout depends on, besides the width
 pub record Rules : Type 0 where
   pub tables : Tables
   pub options : Options
@@ -35,7 +35,7 @@ lines_of rules width text =
     let infos = infos_of rules.tables rules.options.whole_numbers text in
     lines_from rules.tables rules.options (base_of rules text) text (levels_of rules.tables text rules.options.base) infos (line_starts_of rules.options.nobreak width infos)
 
--- the layout of a paragraph from scratch
+-- the fresh layout of a paragraph
 abbrev pub layout_of : Rules → ℕ → List ℕ → Layout
 layout_of rules width text = record {
   text = text;
@@ -45,11 +45,11 @@ layout_of rules width text = record {
   lines = lines_of rules width text;
 }
 
--- its lines as they are shown
+-- its visual lines
 abbrev pub visuals : Layout → List Visual
 visuals layout = map (λ nth. visual_of layout.base layout.text layout.lines nth.0 nth.1) (enumerate_from 0 layout.lines)
 
--- lines alone, and how many characters their paragraph has
+-- lines, with the length of their paragraph
 pub record Filled : Type 0 where
   pub lines : List Line
   pub len : ℕ
@@ -60,25 +60,25 @@ fill_of rules width text = record { lines = lines_of rules width text; len = len
 abbrev pub start_of : Line → ℕ
 start_of line = line.start
 
--- the shown part of each line stands before the n-th character
+-- the shown part of each line is in the first n characters
 abbrev pub AreWithin : ℕ → List Line → Type 0
 AreWithin n lines = All (λ line. line.start + length line.levels ≤ n) lines
 
--- one line and no other, which takes at most a width
+-- there is one line, no wider than the width
 abbrev pub is_line_within : ℕ → List Line → Bool
 is_line_within width (line ∷ []) = nat_le line.columns width
 is_line_within width lines = false
 
--- where paragraphs are cut
+-- where paragraph boundaries are
 abbrev pub cut_by : Rules → ℕ → ℕ → Bool
 cut_by rules = cut (class_of rules.tables)
 
--- a text is one paragraph, of a length that is allowed
+-- a text is one paragraph, within the limit
 pub record IsParagraph (rules : Rules) (text : List ℕ) : Type 0 where
   pub whole : paragraphs (cut_by rules) text ≡ text ∷ []
   pub within : length text ≤ PARAGRAPH_LIMIT
 
--- a layout is that of its text, which is one paragraph, at some width
+-- a layout is the fresh layout of its text, which is one paragraph, at some width
 pub record IsLaidOut (rules : Rules) (layout : Layout) : Type 0 where
   pub width : ℕ
   pub paragraph : IsParagraph rules layout.text
@@ -89,7 +89,7 @@ pub record AreLinesOf (rules : Rules) (text : List ℕ) (fill : Filled) : Type 0
   pub width : ℕ
   pub from_scratch : fill ≡ fill_of rules width text
 
--- A paragraph and lines of it are exchanged. The paragraph is then laid out at the width of those lines, and they are its old ones.
+-- A paragraph's lines are exchanged for others. It is then laid out at the width of those.
 pub record Exchanges (old new : Layout) (fill_old fill_new : Filled) : Type 0 where
   pub put : new ≡ record old { lines = fill_old.lines }
   pub taken : fill_new ≡ record { lines = old.lines; len = length old.text }
@@ -97,8 +97,7 @@ pub record Exchanges (old new : Layout) (fill_old fill_new : Filled) : Type 0 wh
       → (new ≡ layout_of rules other old.text) × (fill_new ≡ fill_of rules width old.text)
   pub stay : (rules : Rules) → IsLaidOut rules old → AreLinesOf rules old.text fill_old → IsLaidOut rules new × AreLinesOf rules new.text fill_new
 
--- What an engine shows: the rules that it goes by, how many characters it analysed, how many it filled into lines, and of how many it
--- wrote the lines.
+-- What an engine shows: its rules, and how many characters it analysed, filled into lines, and wrote the lines of.
 pub record EngineState : Type 0 where
   pub rules : Rules
   pub analysed : ℕ

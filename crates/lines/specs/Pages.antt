@@ -1,4 +1,4 @@
--- What is printed of a paragraph, and of several.
+-- The bytes that are printed of paragraphs.
 use Rattle.std.specs.Prelude.{ℕ, List}
 use Rattle.std.specs.List.{enumerate_from, flat_map}
 use Rattle.lines.specs.Bytes.{line_bytes}
@@ -11,16 +11,16 @@ abbrev pub lines_bytes : ℕ → Print → ℕ → List ℕ → List Line → Li
 lines_bytes width print base text lines =
     flat_map (λ nth. line_bytes width print (visual_of base text lines nth.0 nth.1)) (enumerate_from 0 lines)
 
--- what is printed of a paragraph that is laid out: the bytes of its lines, in order
+-- the bytes of a layout's lines, in order
 abbrev pub layout_bytes : ℕ → Print → Layout → List ℕ
 layout_bytes width print layout =
     flat_map (λ nth. line_bytes width print (visual_of layout.base layout.text layout.lines nth.0 nth.1)) (enumerate_from 0 layout.lines)
 
 module _ (rules : Rules) (width : ℕ) (print : Print) where
-  -- what is printed of a paragraph that is laid out from scratch
+  -- the bytes of a paragraph's fresh layout
   abbrev pub paragraph_bytes : List ℕ → List ℕ
   paragraph_bytes text = layout_bytes width print (layout_of rules width text)
 
-  -- and of several, in order
+  -- of several paragraphs, in order
   abbrev pub page : List (List ℕ) → List ℕ
   page pars = flat_map paragraph_bytes pars

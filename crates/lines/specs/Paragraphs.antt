@@ -1,4 +1,5 @@
--- What is known of a paragraph, or of one of its lines, before the lines are ordered. Only the code uses these definitions.
+-- What is known of a paragraph, or of one of its lines, before the lines are ordered. Only the code uses these
+-- definitions.
 use Rattle.std.specs.Prelude.{◌≡◌, ℕ, ◌≤◌, List, length, map, take}
 use Rattle.ucd.specs.Properties.{properties_of}
 use Rattle.ucd.specs.Tables.{class_of}
@@ -32,12 +33,12 @@ pub record IsResolved (text : Text) (levels : List ℕ) : Type 0 where
   pub levels_are : levels ≡ levels_of text.rules.tables.now text.characters.now text.rules.options.base
   pub len : length levels ≡ length text.characters.now
 
--- and with its break marks
+-- with its break marks
 pub record IsPrepared (paragraph : Paragraph) : Type 0 where
   pub text : IsResolved paragraph.text paragraph.levels.now
   pub marks : paragraph.marks.now ≡ marks_of paragraph.text.rules.tables.now paragraph.text.rules.options.whole_numbers paragraph.text.characters.now
 
--- its lines at a width, by the levels that its characters have before L1
+-- its lines at a width, by the levels of its characters before L1
 abbrev pub lines_at : Text → List ℕ → ℕ → List Line
 lines_at text levels width =
     let tables = text.rules.tables.now in
@@ -45,7 +46,7 @@ lines_at text levels width =
     let infos = infos_of tables options.whole_numbers text.characters.now in
     lines_from tables options text.base text.characters.now levels infos (line_starts_of options.nobreak width infos)
 
--- what is shown of a line, by the levels of its shown part after L1
+-- the visual line, by the levels of the shown part after L1
 abbrev pub shown_by : LogicalLine → List ℕ → Visual
 shown_by line levels =
     visual_part line.text.rules.tables.now line.text.rules.options line.text.base line.is_first line.text.characters.now line.shown.columns levels
@@ -55,11 +56,11 @@ abbrev pub shown_levels : LogicalLine → List ℕ
 shown_levels line =
     take line.shown.len (line_levels line.text.base (map (class_of line.text.rules.tables.now) line.text.characters.now) line.levels.now)
 
--- what is shown of a line
+-- the visual line
 abbrev pub shown_of : LogicalLine → Visual
 shown_of line = shown_by line (shown_levels line)
 
--- a line that buffers hold
+-- the visual line that buffers hold
 abbrev pub held_line : LogicalLine → VisualBuffers → Visual
 held_line line visual =
     let n = line.shown.len in

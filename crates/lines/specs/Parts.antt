@@ -1,4 +1,4 @@
--- A line as the fill that keeps it hands it out.
+-- A line as a `Fill` returns it.
 use Rattle.lines.specs.Visual.{Line}
 use Rattle.lines.specs.declared.fill.Part.{Part}
 

@@ -1,15 +1,15 @@
--- Which lines of a paragraph are printed, and how printing them fails.
+-- Whether lines of a paragraph are printed, and how printing fails.
 use Rattle.std.specs.Prelude.{◌≡◌, ℕ, Bool, ◌&&◌, not, List}
 use Rattle.device.specs.Device.{Device, StoppedAt}
 use Rattle.lines.specs.declared.print.Print.{Print}
 use Rattle.lines.specs.declared.print.PrintFault.{PrintFault}
 use Rattle.lines.specs.declared.print.PrintFault.TheVariants.{Memory, Write}
 
--- nothing is printed of a line but the direction
+-- nothing but the base direction is printed
 abbrev pub skips_lines : Print → Bool
 skips_lines print = print.novisual && (not print.ltov && (not print.vtol && not print.levels))
 
--- where there is no memory nothing is written, and else the sink failed within these bytes
+-- `Memory`: nothing was written. `Write`: the sink failed within these bytes.
 abbrev pub FailedAs : PrintFault → List ℕ → Device → Device → Type 0
 FailedAs Memory bytes old new = new ≡ old
 FailedAs (Write fault) bytes old new = StoppedAt fault.written bytes old new

@@ -1,4 +1,4 @@
--- What is written of the lines of a paragraph, each at the place of its characters.
+-- What is written for the lines of a paragraph, each at the indices of its characters.
 use Rattle.std.specs.Prelude.{◌≡◌, ℕ, ◌+◌, ◌<◌, ◌≤◌, List, [], ◌∷◌, length, map, take, slice_index, slice_index_or, slice_range}
 use Rattle.ucd.specs.Tables.{class_of}
 use Rattle.ucd.specs.declared.tables.Tables.{Tables}
@@ -11,7 +11,7 @@ use Rattle.lines.specs.Visual.{Line, end_of}
 use Rattle.lines.specs.declared.options.Options.{Options}
 use Rattle.lines.specs.declared.fill.Shown.{Shown}
 
--- what is written of one line, of which `part` is shown
+-- what is written for one line, of which `part` is shown
 pub record IsShown (tables : Tables) (options : Options) (base : ℕ) (line old : List ℕ) (part : Shown) (levels ltov vtol chars : List ℕ) : Type 0 where
   pub within : part.len ≤ length line
   pub levels_are : take part.len levels ≡ take part.len (line_levels base (map (class_of tables) line) old)
@@ -24,7 +24,7 @@ pub record IsShown (tables : Tables) (options : Options) (base : ℕ) (line old 
 abbrev pub nothing_shown : Shown
 nothing_shown = record { len = 0; columns = 0 }
 
--- the line from s up to e of which `part` is shown
+-- the line from s to e, of which `part` is shown
 module _ (tables : Tables) (options : Options) (base : ℕ) (text levels : List ℕ) where
   abbrev pub line_showing : Shown → ℕ → ℕ → Line
   line_showing part s e =
@@ -41,19 +41,20 @@ module _ (tables : Tables) (options : Options) (base : ℕ) (text levels : List 
         chars = visual_chars tables part_levels (take part.len line) vtol;
       }
 
-  -- the lines that start there, of which so much is shown; each ends where the next one starts, the last one with the paragraph
+  -- the lines that start at these positions, with these shown parts; each ends where the next one starts, the last one
+  -- at the end of the paragraph
   abbrev pub lines_shown : List ℕ → List Shown → List Line
   lines_shown (s ∷ []) (part ∷ parts) = line_showing part s (length text) ∷ []
   lines_shown (s ∷ t ∷ starts) (part ∷ parts) = line_showing part s t ∷ lines_shown (t ∷ starts) parts
   lines_shown starts parts = []
 
--- its shown part stands in the lists
+-- the lists have the shown part of a line
 pub record IsPlaced (tables : Tables) (options : Options) (base : ℕ) (text old : List ℕ) (s e : ℕ) (part : Shown) (levels ltov vtol chars : List ℕ) : Type 0 where
   pub line_is : line_in levels ltov vtol chars s part ≡ line_showing tables options base text old part s e
   pub within : s + part.len ≤ e
   pub vtol_within : AreWithin part.len (slice_range vtol s (s + part.len))
 
--- so do those of the first k lines
+-- the lists have those of the first k lines
 abbrev pub AreShown : Tables → Options → ℕ → List ℕ → List ℕ → List ℕ → ℕ → List Shown → List ℕ → List ℕ → List ℕ → List ℕ → Type 0
 AreShown tables options base text old starts k parts levels ltov vtol chars =
     (j : ℕ) → j < k

@@ -9,9 +9,9 @@ use Rattle.reorder.specs.Spaces.{line_levels}
 use Rattle.lines.specs.declared.options.Options.{Options}
 use Rattle.lines.specs.declared.char_info.CharInfo.{CharInfo}
 
--- A line of a paragraph, by the character that it starts at. All else is of its shown part, whose positions count from its start: the
--- columns, the levels after L1 in logical order, of each position the visual one and of each visual position the logical one, and the
--- characters in visual order, mirrored.
+-- A line of a paragraph, by where it starts. Its other fields are those of its shown part: the columns, the levels
+-- after L1 in logical order, and the visual position of each logical one. Then the logical position of each visual one,
+-- and the characters in visual order, mirrored. Positions count from the start of the line.
 pub record Line : Type 0 where
   pub start : ℕ
   pub columns : ℕ
@@ -22,7 +22,7 @@ pub record Line : Type 0 where
 
 -- a paragraph of which all is known but its lines
 module _ (tables : Tables) (options : Options) (base : ℕ) (text levels : List ℕ) (infos : List CharInfo) where
-  -- L1 is applied to the whole line from s up to e, L2, L3 and L4 to its shown part
+  -- L1 is applied to the whole line from s to e; L2, L3 and L4 to its shown part
   abbrev pub line_between : ℕ → ℕ → Line
   line_between s e =
       let part = shown (slice_range infos s e) in
@@ -39,21 +39,21 @@ module _ (tables : Tables) (options : Options) (base : ℕ) (text levels : List 
         chars = visual_chars tables part_levels (take (length part) line) vtol;
       }
 
-  -- each line ends where the next one starts, the last one with the paragraph
+  -- each line ends where the next one starts, the last one at the end of the paragraph
   abbrev pub lines_from : List ℕ → List Line
   lines_from [] = []
   lines_from (s ∷ []) = line_between s (length text) ∷ []
   lines_from (s ∷ t ∷ starts) = line_between s t ∷ lines_from (t ∷ starts)
 
--- where a line ends, of a paragraph of n characters, by where its lines start
+-- where line k ends, in a paragraph of n characters whose lines start at these positions
 abbrev pub end_of : ℕ → List ℕ → ℕ → ℕ
 end_of n [] k = n
 end_of n (s ∷ []) k = n
 end_of n (s ∷ t ∷ starts) zero = t
 end_of n (s ∷ t ∷ starts) (suc k) = end_of n (t ∷ starts) k
 
--- A line with what it has of its paragraph: whether it is the first, the base level, how many characters it has, those that are not shown
--- among them, and the characters of its shown part in logical order.
+-- A line with what it has of its paragraph: whether it is the first, the base level, and its length with its tail. The
+-- text has the characters of its shown part in logical order.
 pub record Visual : Type 0 where
   pub is_first : Bool
   pub base : ℕ

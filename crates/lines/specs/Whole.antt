@@ -1,5 +1,5 @@
--- Paragraphs inside which no line must end (UAX #14, LB4 and LB5): one line, where lines end at mandatory breaks only. Only the code
--- speaks of these.
+-- Paragraphs without a mandatory break before their end (UAX #14, LB4 and LB5). If lines end at mandatory breaks only,
+-- each is one line. Only the code uses these definitions.
 use Rattle.std.specs.Prelude.{◌≡◌, ℕ, ◌+◌, ◌-◌, ◌<◌, ◌≤◌, Bool, true, false, ◌||◌, List, [], ◌∷◌, length, slice_index}
 use Rattle.ucd.specs.declared.line_class.LineClass.{LineClass}
 use Rattle.ucd.specs.declared.line_class.LineClass.TheVariants.{BK, CR, LF, NL}
@@ -8,15 +8,15 @@ use Rattle.breaks.specs.Bases.{base_class, character}
 use Rattle.breaks.specs.Classes.{is_one_of}
 use Rattle.lines.specs.CharInfos.{is_trailing_in}
 
--- a line must end after a character of a class, after LB1, unless another one is between CR and LF
+-- whether a line must end after a character of a class, after LB1, except between CR and LF
 abbrev pub ends_line : LineClass → Bool
 ends_line class = is_one_of (BK ∷ []) (base_class class) || is_one_of (CR ∷ LF ∷ NL ∷ []) (base_class class)
 
--- it is so of no character but the last
+-- no character but the last is one of these
 abbrev pub IsWhole : Tables → List ℕ → Type 0
 IsWhole t text = (j : ℕ) → j + 1 < length text → ends_line (character t (slice_index text j)).class ≡ false
 
--- so many characters are before those at the end that count for nothing there
+-- the length without the tail
 pub record IsShownLen (t : Tables) (text : List ℕ) (len : ℕ) : Type 0 where
   pub within : len ≤ length text
   pub tail : (k : ℕ) → len ≤ k → k < length text → is_trailing_in t (slice_index text k) ≡ true

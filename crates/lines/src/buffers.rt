@@ -1,4 +1,4 @@
-//! Buffers for the layout of one paragraph, which are used again for the next.
+//! Buffers for the layout of one paragraph, which are reused for the next.
 ghost use Rattle.std.specs.Prelude.{◌≡◌, length, max, OnOk};
 ghost use Rattle.lines.specs.Buffers.{CanHold};
 
@@ -7,8 +7,8 @@ use crate::reserve::grow;
 use breaks::Mark;
 use std::alloc::{AllocError, Global};
 
-/// The levels, both position maps and the characters in visual order. Each line has its own at the index of its
-/// first character, or at 0 if only one line at a time is needed.
+/// The levels, both position maps and the characters in visual order. The items of a line start at the index
+/// of its first character, or at 0 if only one line at a time is needed.
 #[derive(Debug, Drop)]
 pub(crate) struct VisualBuffers {
     pub(crate) levels: Vec<u8>,
@@ -18,7 +18,7 @@ pub(crate) struct VisualBuffers {
 }
 
 impl VisualBuffers {
-    /// Empty buffers. Allocates nothing.
+    /// Makes empty buffers. Allocates nothing.
     pub(crate) fn new(alloc: Global) -> VisualBuffers {
         VisualBuffers {
             levels: Vec::new(alloc),
@@ -43,7 +43,7 @@ impl VisualBuffers {
     }
 }
 
-/// Where the lines of a paragraph start, how much of each is shown, and what is shown of each.
+/// Where the lines of a paragraph start, how much of each is shown, and the visual lines.
 #[derive(Debug, Drop)]
 pub(crate) struct LineBuffers {
     pub(crate) starts: Vec<u32>,
@@ -52,7 +52,7 @@ pub(crate) struct LineBuffers {
 }
 
 impl LineBuffers {
-    /// Empty buffers. Allocates nothing.
+    /// Makes empty buffers. Allocates nothing.
     pub(crate) fn new(alloc: Global) -> LineBuffers {
         LineBuffers {
             starts: Vec::new(alloc),
@@ -62,7 +62,7 @@ impl LineBuffers {
     }
 }
 
-/// The layout of a paragraph, but for its text and its base level.
+/// The layout of a paragraph, without its text and its base level.
 #[derive(Debug, Drop)]
 pub(crate) struct LayoutBuffers {
     pub(crate) levels: Vec<u8>,
@@ -71,7 +71,7 @@ pub(crate) struct LayoutBuffers {
 }
 
 impl LayoutBuffers {
-    /// Empty buffers. Allocates nothing.
+    /// Makes empty buffers. Allocates nothing.
     pub(crate) fn new(alloc: Global) -> LayoutBuffers {
         LayoutBuffers {
             levels: Vec::new(alloc),

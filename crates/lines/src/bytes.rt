@@ -1,5 +1,5 @@
-//! The bytes of a line, passed to a sink as they are made. Each function writes a part of them after
-//! `before` bytes, and answers how many are written then.
+//! The bytes of a line, passed to a sink as they are made. Each function writes a part of them after `before`
+//! bytes, and returns the number of bytes written then.
 ghost use Rattle.std.specs.Prelude.{◌≡◌, [], ◌∷◌, ◌++◌, ◌≤◌, ◌&&◌, IfOk, IfErr, if◌then◌else◌};
 ghost use Rattle.std.specs.Prelude.{◌+◌, ◌*◌, ◌<◌, take, codes};
 ghost use Rattle.std.specs.Prelude.{length, map, replicate, encode_utf8, encode_utf8_all, slice_index};
@@ -14,14 +14,14 @@ use device::{Sink, write_all};
 use itoa::{Buffer, Integer};
 use thiserror::Error;
 
-/// Where a sink failed: how many of the bytes were written before.
+/// A sink failed after this many bytes.
 #[derive(Clone, Copy, Debug, PartialEq, Eq, Error)]
 #[error("cannot write after {written} bytes")]
 pub struct WriteFault {
     pub written: u64,
 }
 
-// Spaces before a line.
+// The padding of a line, written from here in parts.
 static SPACES: [u8; 64] = [b' '; 64];
 
 fn write_part<W: Sink>(writer: &mut W, before: u64, part: &[u8]) -> Result<u64, WriteFault>
@@ -40,11 +40,11 @@ fn write_part<W: Sink>(writer: &mut W, before: u64, part: &[u8]) -> Result<u64, 
     }
 }
 
-// How many characters are written at a time.
+// The number of characters encoded for each write.
 const CHARACTERS_AT_ONCE: usize = 64;
 
-/// Writes characters as UTF-8 after `before` bytes that the sink passed before, and says how many bytes that
-/// makes; a fault counts these too. It takes no memory.
+/// Writes characters as UTF-8 after `before` bytes, and returns the number of bytes written then; a fault
+/// counts these too. Allocates nothing.
 pub fn write_chars<W: Sink>(writer: &mut W, before: u64, chars: &[char]) -> Result<u64, WriteFault>
     requires { before ≤ (W.state writer.old).passed }
     ensures ok { IfOk result (λ n. PassedOn (encode_utf8_all chars.now) before
@@ -68,7 +68,7 @@ pub fn write_chars<W: Sink>(writer: &mut W, before: u64, chars: &[char]) -> Resu
     Ok(written)
 }
 
-// Puts the bytes of some characters to the front of a buffer, and says how many they are.
+// Encodes characters at the front of a buffer, and returns the number of bytes.
 fn encode(piece: &[char], buffer: &mut [u8]) -> usize
     requires { 4 * length piece.now ≤ length buffer.old }
     ensures within { result ≤ length buffer.old }
@@ -81,7 +81,7 @@ fn encode(piece: &[char], buffer: &mut [u8]) -> usize
     len
 }
 
-// Puts the bytes of a character to a place of a buffer, and says where they end.
+// Encodes a character at an index of a buffer, and returns the index after its bytes.
 fn encode_at(c: char, buffer: &mut [u8], at: usize) -> usize
     requires { at + 4 ≤ length buffer.old }
     ensures within { result ≤ at + 4 }
@@ -91,7 +91,7 @@ fn encode_at(c: char, buffer: &mut [u8], at: usize) -> usize
     put_few(buffer, at, c.encode_utf8(&mut bytes).as_bytes())
 }
 
-// Puts a byte to a place of a buffer, and says where it ends.
+// Writes a byte at an index of a buffer, and returns the next index.
 fn put(buffer: &mut [u8], at: usize, byte: u8) -> usize
     requires { at < length buffer.old }
     ensures end { result ≡ at + 1 }
@@ -101,7 +101,7 @@ fn put(buffer: &mut [u8], at: usize, byte: u8) -> usize
     at + 1
 }
 
-// The characters of a text at some places, in their order.
+// Writes the characters of a text at the given indices, in their order.
 fn write_places<W: Sink>(
     writer: &mut W,
     before: u64,
@@ -129,8 +129,8 @@ fn write_places<W: Sink>(
     Ok(written)
 }
 
-// Puts the bytes of the characters at the places from `from` on to the front of a buffer, as many as fit
-// into it, and says which place is next, and how many bytes they are.
+// Encodes the characters at `places[from..]` at the front of a buffer, as many as fit. Returns the index of
+// the first place left, and the number of bytes.
 fn encode_places(text: &[char], places: &[u32], from: usize, buffer: &mut [u8]) -> (usize, usize)
     requires within { AreWithin (length text.now) places.now }
     requires some { (from < length places.now) × (4 ≤ length buffer.old) }
@@ -168,13 +168,13 @@ fn write_spaces<W: Sink>(writer: &mut W, before: u64, count: usize) -> Result<u6
     Ok(written)
 }
 
-// How many bytes of a row of numbers are written at a time.
+// The size of the buffer for numbers.
 const ROW_BYTES_AT_ONCE: usize = 512;
 
-// How many bytes a number has at most, with the space before it.
+// The maximum length of a number, with the space before it.
 const NUMBER_LEN: usize = 41;
 
-// (It stands apart, so that a line of which no numbers are printed has no room for them.)
+// Not inlined, so that lines without numbers need no stack for the buffer.
 #[inline(never)]
 fn write_row<W: Sink, I: Integer>(
     writer: &mut W,
@@ -200,8 +200,8 @@ fn write_row<W: Sink, I: Integer>(
     Ok(written)
 }
 
-// Puts the numbers of a row from `from` on to the front of a buffer, as many as fit into it, and says which
-// one is next, and how many bytes they are.
+// Formats the numbers from `from` on at the front of a buffer, as many as fit. Returns the index of the first
+// number left, and the number of bytes.
 fn encode_row<I: Integer>(numbers: &[I], from: usize, buffer: &mut [u8]) -> (usize, usize)
     requires { (from < length numbers.now) × (41 ≤ length buffer.old) }
     ensures next { (from < result.0) × (result.0 ≤ length numbers.now) }
@@ -218,8 +218,8 @@ fn encode_row<I: Integer>(numbers: &[I], from: usize, buffer: &mut [u8]) -> (usi
     (next, len)
 }
 
-// Puts a number to a place of a buffer, after a space where it isn't the first of its row, and says where
-// it ends.
+// Formats a number at an index of a buffer, after a space unless it is the first, and returns the index after
+// it.
 fn encode_number<I: Integer>(number: I, is_first: bool, buffer: &mut [u8], at: usize) -> usize
     requires { at + 41 ≤ length buffer.old }
     ensures within { result ≤ at + 41 }
@@ -231,8 +231,8 @@ fn encode_number<I: Integer>(number: I, is_first: bool, buffer: &mut [u8], at: u
     put_few(buffer, start, digits.format(number).as_bytes())
 }
 
-// Puts some bytes to a place of a buffer, and says where they end: up to four byte by byte, since so few are
-// no work for a copy.
+// Copies bytes to an index of a buffer, and returns the index after them. Up to four bytes are copied one by
+// one, which is faster than a general copy.
 fn put_few(buffer: &mut [u8], at: usize, bytes: &[u8]) -> usize
     requires { at + length bytes.now ≤ length buffer.old }
     ensures end { result ≡ at + length bytes.now }
@@ -259,7 +259,7 @@ fn put_few(buffer: &mut [u8], at: usize, bytes: &[u8]) -> usize
     }
 }
 
-// Puts some bytes to a place of a buffer, and says where they end.
+// Copies bytes to an index of a buffer, and returns the index after them.
 fn put_all(buffer: &mut [u8], at: usize, bytes: &[u8]) -> usize
     requires { at + length bytes.now ≤ length buffer.old }
     ensures end { result ≡ at + length bytes.now }
@@ -270,7 +270,7 @@ fn put_all(buffer: &mut [u8], at: usize, bytes: &[u8]) -> usize
     end
 }
 
-// The padding of a line, its characters in visual order, and its end.
+// Writes the padding of a line, its characters in visual order, and U+000A.
 pub(crate) fn write_shown<W: Sink>(
     writer: &mut W,
     before: u64,
@@ -295,7 +295,7 @@ pub(crate) fn write_shown<W: Sink>(
     write_part(writer, shown, b"\n")
 }
 
-// The characters of a line in visual order, mirrored or as they are.
+// Writes the characters of a line in visual order, mirrored or unchanged.
 fn write_shown_chars<W: Sink>(
     writer: &mut W,
     before: u64,
@@ -318,7 +318,7 @@ fn write_shown_chars<W: Sink>(
     }
 }
 
-// How many spaces stand before a line.
+// Returns the number of spaces before a line.
 fn padding(line: &VisualLine<'_>, width: u16, print: &Print) -> usize
     ensures { replicate result 32 ≡ padding width print.now line.now }
 {
@@ -329,7 +329,7 @@ fn padding(line: &VisualLine<'_>, width: u16, print: &Print) -> usize
     }
 }
 
-// The direction of a paragraph, on its first line.
+// Writes the base direction of a paragraph, on its first line.
 pub(crate) fn write_direction<W: Sink>(
     writer: &mut W,
     before: u64,
@@ -348,7 +348,7 @@ pub(crate) fn write_direction<W: Sink>(
     write_base(writer, before, print.basedir && line.is_first, line.base)
 }
 
-// The direction of a paragraph of a base level, if it is asked for.
+// Writes the base direction for a base level, if `asked`.
 pub(crate) fn write_base<W: Sink>(
     writer: &mut W,
     before: u64,
@@ -369,7 +369,7 @@ pub(crate) fn write_base<W: Sink>(
     write_part(writer, before, direction)
 }
 
-// A line of numbers, if it is asked for.
+// Writes a line of numbers, if `asked`.
 fn write_numbers<W: Sink, I: Integer>(
     writer: &mut W,
     before: u64,
@@ -392,7 +392,7 @@ fn write_numbers<W: Sink, I: Integer>(
     write_part(writer, written, b"\n")
 }
 
-// Of each logical position the visual one.
+// Writes the visual position of each logical position.
 pub(crate) fn write_ltov<W: Sink>(
     writer: &mut W,
     before: u64,
@@ -411,7 +411,7 @@ pub(crate) fn write_ltov<W: Sink>(
     write_numbers(writer, before, print.ltov, line.ltov)
 }
 
-// Of each visual position the logical one.
+// Writes the logical position of each visual position.
 pub(crate) fn write_vtol<W: Sink>(
     writer: &mut W,
     before: u64,
@@ -430,7 +430,7 @@ pub(crate) fn write_vtol<W: Sink>(
     write_numbers(writer, before, print.vtol, line.vtol)
 }
 
-// The level of each character.
+// Writes the level of each character.
 pub(crate) fn write_levels<W: Sink>(
     writer: &mut W,
     before: u64,

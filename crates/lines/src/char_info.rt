@@ -1,4 +1,4 @@
-//! What filling reads of each character of a paragraph.
+//! What filling needs to know of each character of a paragraph.
 ghost use Rattle.std.specs.Prelude.{◌≡◌, false, Bool, [], ◌∷◌, length, map, OnOk};
 ghost use Rattle.ucd.specs.Properties.{properties_of};
 ghost use Rattle.ucd.specs.declared.line_class.LineClass.TheVariants.{BK, CR, LF, NL, SP};
@@ -18,12 +18,12 @@ use std::alloc::AllocError;
 use ucd::{LineClass, Properties, Tables};
 use unicode_width::UnicodeWidthChar;
 
-/// What filling reads of a character.
+/// What filling needs to know of a character.
 #[derive(Clone, Copy, Debug)]
 pub struct CharInfo {
     /// Its width in columns.
     pub columns: u8,
-    /// Whether it takes no columns at the end of a line.
+    /// Whether it may be in a tail: at the end of a line, it is not shown.
     pub is_trailing: bool,
     /// The break mark after it.
     pub mark: Mark,
@@ -31,7 +31,7 @@ pub struct CharInfo {
     pub ends_cluster: bool,
 }
 
-// Fills a new list, before the characters are known.
+// Fills a new list, before its items are overwritten.
 const NOTHING: CharInfo = CharInfo {
     columns: 0,
     is_trailing: false,
@@ -40,7 +40,7 @@ const NOTHING: CharInfo = CharInfo {
 };
 
 impl CharInfo {
-    // What is known of a character, but for the end of its cluster.
+    // All that is known of a character, without the end of its cluster.
     fn of(properties: Properties, c: char, mark: Mark) -> CharInfo
         ensures { (t : Tables) → properties ≡ properties_of t c → result ≡ info t c mark false }
     {
@@ -53,11 +53,11 @@ impl CharInfo {
     }
 }
 
-// The width of a character in columns, 0 if `unicode_width` has none.
+// Returns the width of a character in columns, or 0 if `unicode_width` has none.
 fn columns(c: char) -> u8
     ensures { result ≡ columns_of c }
 {
-    // Most characters are ASCII letters, which need no table.
+    // Most characters are ASCII, which needs no table.
     let code = c as u32;
     if code >= 0x20 && code < 0x7f {
         return 1;
@@ -68,7 +68,7 @@ fn columns(c: char) -> u8
     }
 }
 
-/// Whether characters of a class take no columns at the end of a line.
+/// Whether characters of a class may be in a tail.
 pub(crate) fn is_trailing(class: LineClass) -> bool
     ensures { (is_mark : Bool) → result
         ≡ is_one_of (SP ∷ BK ∷ CR ∷ LF ∷ NL ∷ []) (resolved class is_mark) }
@@ -83,7 +83,7 @@ pub(crate) fn is_trailing(class: LineClass) -> bool
     }
 }
 
-/// Replaces `infos` with what filling reads of a paragraph's characters, but for the ends of clusters.
+/// Replaces `infos` with those of a paragraph's characters, without the ends of clusters.
 pub(crate) fn fill_infos(
     text: &Text<'_>,
     marks: &[Mark],
@@ -104,7 +104,7 @@ pub(crate) fn fill_infos(
     Ok(())
 }
 
-// Overwrites `infos` with what is known of each character.
+// Overwrites `infos` with those of each character, without the ends of clusters.
 fn put_infos(
     tables: &Tables,
     text: &[char],

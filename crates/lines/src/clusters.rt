@@ -1,5 +1,4 @@
-//! Where the grapheme clusters of a paragraph end (UAX #29), as the crate `unicode_segmentation` has
-//! them.
+//! Where the grapheme clusters of a paragraph end (UAX #29), by the crate `unicode_segmentation`.
 ghost use Rattle.std.specs.Prelude.{◌≡◌, ◌<◌, ◌++◌, length, IfOk, OnErr, OnOk};
 ghost use Rattle.std.specs.List.{list_all};
 ghost use Rattle.lines.specs.Bare.{with_ends};
@@ -9,7 +8,7 @@ use crate::char_info::CharInfo;
 use std::alloc::{AllocError, Global};
 use unicode_segmentation::UnicodeSegmentation;
 
-/// Whether a cluster ends after each character of a paragraph.
+/// Returns for each character of a paragraph whether a cluster ends after it.
 pub fn cluster_ends(alloc: Global, text: &[char]) -> Result<Vec<bool>, AllocError>
     ensures ends { IfOk result (λ ends. ends.items ≡ cluster_ends text.now) }
     ensures len { IfOk result (λ ends. length ends.items ≡ length text.now) }
@@ -29,7 +28,7 @@ pub fn cluster_ends(alloc: Global, text: &[char]) -> Result<Vec<bool>, AllocErro
     Ok(ends)
 }
 
-/// Marks the characters of a paragraph after which a grapheme cluster ends.
+/// Marks the characters of a paragraph after which a cluster ends.
 pub fn mark_clusters(alloc: Global, text: &[char], infos: &mut [CharInfo]) -> Result<(), AllocError>
     requires { length infos.old ≡ length text.now }
     ensures { OnOk result (infos.new ≡ with_ends infos.old (cluster_ends text.now)) }
@@ -39,7 +38,7 @@ pub fn mark_clusters(alloc: Global, text: &[char], infos: &mut [CharInfo]) -> Re
     Ok(())
 }
 
-// Whether all characters are of those that no rule joins to one another.
+// Whether no rule joins any of these characters to another.
 fn are_alone(text: &[char]) -> bool
     ensures { result ≡ list_all is_alone text.now }
 {
@@ -70,7 +69,7 @@ fn put_ends(infos: &mut [CharInfo], ends: &[bool])
     }
 }
 
-// Adds the ends of one cluster: none but after its last character.
+// Appends the ends of one cluster: `true` for its last character only.
 fn push_ends(ends: &mut Vec<bool>, cluster: &str) -> Result<(), AllocError>
     ensures { OnOk result (ends.new.items ≡ ends.old.items ++ ends_of cluster.now) }
 {

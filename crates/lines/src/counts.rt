@@ -1,12 +1,12 @@
-//! How much work was done. Each count is raised by what does the work, so that work done twice counts twice.
+//! Work counters. The function that does some work raises the counter, so work done twice is counted twice.
 ghost use Rattle.std.specs.Prelude.{◌≡◌, ◌≤◌, ℕ};
 ghost use Rattle.lines.specs.Engine.{counted};
 
 use std::marker::Model;
 use ucd::Tables;
 
-/// So many characters, up to the greatest `u64`, at which a count stays. It is neither `Copy` nor `Drop`: who
-/// makes one adds it to another, or lets go of it with the tables by which the work was done.
+/// A number of characters, which stops at 2^64−1. It is neither `Copy` nor `Drop`: it can only be added to
+/// another count, or end together with the tables that the work was done by.
 #[derive(Debug)]
 pub(crate) struct Count {
     value: u64,
@@ -23,21 +23,19 @@ impl Model for Count {
 impl Count {
     ghost use Rattle.lines.specs.Engine.{counted};
 
-    /// None.
     pub(crate) fn zero() -> Count
         ensures { result ≡ 0 }
     {
         Count { value: 0 }
     }
 
-    /// How many.
     pub(crate) fn get(&self) -> u64
         ensures { result ≡ self.now }
     {
         self.value
     }
 
-    /// Raises it by so many characters.
+    /// Adds a number of characters.
     pub(crate) fn raise(&mut self, len: usize)
         ensures counts { self.new ≡ counted self.old len }
         ensures least { self.old ≤ self.new }
@@ -45,7 +43,7 @@ impl Count {
         self.value = self.value.saturating_add(len as u64);
     }
 
-    /// Raises it by what another counted.
+    /// Adds another count.
     pub(crate) fn add(&mut self, other: Count)
         ensures counts { self.new ≡ counted self.old other }
         ensures least { self.old ≤ self.new }
@@ -55,8 +53,8 @@ impl Count {
     }
 }
 
-/// So many characters that are counted as filled into lines. It isn't `Copy`: who fills them twice has to
-/// count them twice.
+/// Proof that a number of characters was counted as filled into lines. It is not `Copy`: filling them twice
+/// needs two of them.
 #[derive(Debug, Drop)]
 pub(crate) struct Counted {
     len: usize,
@@ -70,7 +68,7 @@ impl Model for Counted {
     ghost view = { λ c. c.len };
 }
 
-/// How many characters were analysed, how many filled into lines, and of how many the lines were written.
+/// The numbers of characters that were analysed, that were filled into lines, and whose lines were written.
 #[derive(Debug)]
 pub(crate) struct Counts {
     pub(crate) analysed: Count,
@@ -81,7 +79,6 @@ pub(crate) struct Counts {
 impl Counts {
     ghost use Rattle.lines.specs.Engine.{counted};
 
-    /// None of any.
     pub(crate) fn zero() -> Counts
         ensures { result ≡ record { analysed = 0; filled = 0; written = 0 } }
     {
@@ -92,7 +89,7 @@ impl Counts {
         }
     }
 
-    /// Raises that of what is filled into lines by so many characters, before they are.
+    /// Counts characters as filled, before they are.
     pub(crate) fn take_filled(&mut self, len: usize) -> Counted
         ensures counted { result ≡ len }
         ensures analysed { self.new.analysed ≡ self.old.analysed }
@@ -104,7 +101,8 @@ impl Counts {
         Counted { len }
     }
 
-    /// Lets go of them with the tables by which the work was done. There is no other way.
+    /// Ends the counts together with the tables that the work was done by. There is no other way to drop a
+    /// count.
     pub(crate) fn end(self, _tables: Tables) {
         let Counts {
             analysed: Count { value: _ },

@@ -1,4 +1,4 @@
-//! What lays paragraphs out: the tables and options, and how much was analysed, filled and written.
+//! Lays out paragraphs by tables and options, and counts the work.
 ghost use Rattle.std.specs.Prelude.{◌≡◌, ◌<◌, ◌≤◌, ℕ, [], true, false, length, map};
 ghost use Rattle.std.specs.Prelude.{IfOk, IfErr, IsErrOf, OnErr, OnOk};
 ghost use Rattle.std.specs.Prelude.{if◌then◌else◌};
@@ -29,20 +29,21 @@ use std::alloc::{AllocError, Global};
 use std::marker::Model;
 use ucd::Tables;
 
-/// How many characters a paragraph may have.
+/// The maximum number of characters of a paragraph.
 pub const PARAGRAPH_LIMIT: usize = 1_048_576;
 
-/// Owns the tables and lends none of them out, so that all work on them is counted.
+/// Tables, options and work counters, which lay out paragraphs. The tables are lent to no caller, so all work
+/// on them is counted.
 #[derive(Debug)]
 pub struct Engine {
     tables: Tables,
     options: Options,
     counts: Counts,
-    // Made for the first paragraph, and kept for the next ones.
+    // Allocated for the first paragraph, and reused for the next ones.
     work: Option<Workspace>,
 }
 
-// The layout of a paragraph, but for its text.
+// The layout of a paragraph, without its text.
 #[derive(Debug, Drop)]
 struct Parts {
     base: u8,
@@ -89,7 +90,7 @@ impl Engine {
     ghost use Rattle.lines.specs.Engine.{LaysOut, LaysOutAtMost, Prints, Rewrites, RewritesAtMost};
     ghost use Rattle.lines.specs.Engine.{SameRules};
 
-    /// An engine that has not worked yet.
+    /// Makes an engine whose counters are 0. Allocates nothing.
     pub fn new(tables: Tables, options: Options) -> Engine
         ensures rules { rules_of result ≡ record { tables = tables; options = options } }
         ensures analysed { analysed_of result ≡ 0 }
@@ -104,14 +105,14 @@ impl Engine {
         }
     }
 
-    /// Whether a paragraph ends between two neighbours.
+    /// Whether there is a paragraph boundary between two adjacent characters.
     pub fn is_cut(&self, before: char, after: char) -> bool
         ensures { result ≡ cut_by (rules_of self.now) before after }
     {
         is_cut(&self.tables, before, after)
     }
 
-    /// Where the first paragraph of a text ends, if another follows it.
+    /// Returns the first paragraph boundary of a text, or `None` if the text is one paragraph or empty.
     pub fn first_cut(&self, text: &[char]) -> Option<usize>
         ensures place { result ≡ first_cut (cut_by (rules_of self.now)) text.now }
         ensures paragraphs { SplitsAt (cut_by (rules_of self.now)) text.now result }
@@ -128,36 +129,36 @@ impl Engine {
         first_cut_in_text(&self.tables, before, text)
     }
 
-    /// The base level of a paragraph that has no characters yet, 0 or 1.
+    /// Returns the base level, 0 or 1, of a paragraph without characters.
     pub fn empty_base(&self) -> u8
         ensures { result ≡ base_of (rules_of self.now) [] }
     {
         base_level(&self.tables, &[], self.options.base)
     }
 
-    /// How many characters were analysed, up to the greatest `u64`, at which the count stays.
+    /// Returns the number of characters that were analysed. The count stops at 2^64−1.
     pub fn analysed(&self) -> u64
         ensures { result ≡ analysed_of self.now }
     {
         self.counts.analysed.get()
     }
 
-    /// How many characters were filled into lines, up to the greatest `u64`, at which the count stays.
+    /// Returns the number of characters that were filled into lines. The count stops at 2^64−1.
     pub fn filled(&self) -> u64
         ensures { result ≡ filled_of self.now }
     {
         self.counts.filled.get()
     }
 
-    /// Of how many characters the lines were written, up to the greatest `u64`, at which the count stays.
+    /// Returns the number of characters whose lines were written. The count stops at 2^64−1.
     pub fn written(&self) -> u64
         ensures { result ≡ written_of self.now }
     {
         self.counts.written.get()
     }
 
-    /// Lays out one paragraph at a width in columns, which is not 0. Where there is no memory, the
-    /// text comes back.
+    /// Lays out one paragraph at a width in columns, which is not 0. If an allocation fails, returns the
+    /// text.
     pub fn lay_out(
         &mut self,
         alloc: Global,
@@ -173,7 +174,7 @@ impl Engine {
         ensures unwritten { OnErr result (written_of self.new ≡ written_of self.old) }
         ensures at_most { LaysOutAtMost (length text.items) self.old self.new }
 
-        // Also where there is no memory, the characters count as analysed and as filled.
+        // After an allocation failure too, the characters count as analysed and filled.
         ensures analysed { analysed_of self.new ≡ counted (analysed_of self.old) (length text.items) }
         ensures filled { filled_of self.new ≡ counted (filled_of self.old) (length text.items) }
         ensures rules { SameRules self.old self.new }
@@ -190,8 +191,8 @@ impl Engine {
         }
     }
 
-    /// The lines of a paragraph at another width, which is not 0. The paragraph is laid out by this
-    /// engine's rules.
+    /// Finds the lines of a paragraph at another width, which is not 0. The paragraph must be laid out by
+    /// this engine's tables and options.
     pub fn refill(&mut self, alloc: Global, laid: &Laid, width: u16) -> Result<Fill, AllocError>
         requires laid { IsLaidOut (rules_of self.old) laid.now }
         requires width { 0 < width }
@@ -211,8 +212,8 @@ impl Engine {
         work.fill(alloc, &rules, laid, width, &mut self.counts)
     }
 
-    /// Writes the lines of one paragraph at a width in columns, which is not 0, and keeps nothing of them.
-    /// Where there is no memory, nothing is written; it takes none where no line is printed.
+    /// Writes the lines of one paragraph at a width in columns, which is not 0, and keeps nothing of them. If
+    /// an allocation fails, writes nothing. If no line is printed, allocates nothing.
     pub fn write_paragraph<W: Sink>(
         &mut self,
         alloc: Global,
@@ -231,14 +232,14 @@ impl Engine {
         ensures memory { IsErrOf result PrintFault.Memory → skips_lines print.now ≡ false }
         ensures counts { OnOk result (Prints (length text.now) print.now self.old self.new) }
 
-        // Also where the sink failed: the lines are found by then.
+        // After a failed write too: by then the lines have been found.
         ensures failed { ¬ (IsErrOf result PrintFault.Memory)
             → Prints (length text.now) print.now self.old self.new }
         ensures unwritten { IsErrOf result PrintFault.Memory → written_of self.new ≡ written_of self.old }
         ensures at_most { LaysOutAtMost (length text.now) self.old self.new }
 
-        // Also after a fault: the characters count as analysed, and as filled too, unless they aren't laid
-        // out into lines. They count as neither filled nor written then.
+        // After each fault too, the characters count as analysed. They also count as filled if lines are
+        // printed, and else as neither filled nor written.
         ensures analysed { analysed_of self.new ≡ counted (analysed_of self.old) (length text.now) }
         ensures filled { skips_lines print.now ≡ false
             → filled_of self.new ≡ counted (filled_of self.old) (length text.now) }
@@ -260,8 +261,8 @@ impl Engine {
         work.write(alloc, &rules, text, &form, &mut self.counts, writer)
     }
 
-    /// Where the lines of a paragraph start at another width, which is not 0, and how much of each is shown.
-    /// The paragraph is laid out by this engine's rules.
+    /// Finds where the lines of a paragraph start at another width, which is not 0, and how much of each is
+    /// shown. The paragraph must be laid out by this engine's tables and options.
     pub fn extents(&mut self, alloc: Global, laid: &Laid, width: u16) -> Result<Extents, AllocError>
         requires laid { IsLaidOut (rules_of self.old) laid.now }
         requires width { 0 < width }
@@ -289,9 +290,9 @@ impl Engine {
         ReflowScratch::new(alloc, &self.tables, len)
     }
 
-    /// Replaces the lines of a paragraph with those at another width, by their extents at that width.
-    /// `extents` then holds those of the old lines. The paragraph is laid out by this engine's rules. `scratch`
-    /// has space for it, and counts the characters. Allocates nothing.
+    /// Replaces the lines of a paragraph with those at another width, given their extents at that width.
+    /// `extents` then holds those of the old lines. The paragraph must be laid out by this engine's tables
+    /// and options. `scratch` must have capacity for its characters, and counts them. Allocates nothing.
     pub fn reflow(&self, laid: &mut Laid, extents: &mut Extents, scratch: &mut ReflowScratch)
         requires laid { IsLaidOut (rules_of self.now) laid.old }
         requires extents { (width : ℕ)
@@ -312,8 +313,8 @@ impl Engine {
         laid.reflow(&self.tables, self.options, extents, properties, written);
     }
 
-    /// Frees scratch space, and counts the characters whose lines were written with it. There is no other way to
-    /// free it.
+    /// Frees scratch space, and counts the characters whose lines were written with it. There is no other way
+    /// to free it.
     pub fn take_back(&mut self, scratch: ReflowScratch)
         ensures counts { Rewrites scratch.written self.old self.new }
         ensures at_most { RewritesAtMost scratch.written self.old self.new }
@@ -322,7 +323,7 @@ impl Engine {
         self.counts.written.add(scratch.end());
     }
 
-    // The base level of a paragraph. Counts the characters.
+    // Finds the base level of a paragraph. Counts the characters.
     fn find_base(&mut self, text: &[char]) -> u8
         ensures base { result ≡ base_of (rules_of self.old) text.now }
         ensures counts { self.new ≡ record self.old {
@@ -334,7 +335,7 @@ impl Engine {
         base_level(&self.tables, text, self.options.base)
     }
 
-    // Writes the direction of a paragraph, if it is asked for.
+    // Writes the base direction of a paragraph, if it is printed.
     fn write_base<W: Sink>(
         &mut self,
         text: &[char],
@@ -360,7 +361,7 @@ impl Engine {
         }
     }
 
-    // What a paragraph's layout consists of beside its text.
+    // Finds the layout of a paragraph, without its text.
     fn parts(&mut self, alloc: Global, text: &[char], width: u16) -> Result<Parts, AllocError>
         requires { length text.now ≤ PARAGRAPH_LIMIT }
         ensures base { IfOk result (λ parts.

@@ -1,5 +1,5 @@
-//! The lines of a paragraph at a width as they are kept: one by one, written over by those at another width,
-//! and what is written of all of them.
+//! The lines of a paragraph at a width: reading them, writing those at another width over them, and printing
+//! them.
 ghost use Rattle.std.specs.Prelude.{◌≡◌, ◌+◌, ◌≤◌, List, length, map, option_map, slice_get};
 ghost use Rattle.std.specs.Prelude.{IfErr, IfOk, IfSome};
 ghost use Rattle.ucd.specs.Within.{AreWithin};
@@ -27,14 +27,14 @@ use std::marker::Model;
 /// How much of a line is shown.
 #[derive(Clone, Copy, Debug)]
 pub struct Shown {
-    /// How many of its characters.
+    /// The number of its characters that are shown.
     pub len: u32,
-    /// In how many columns.
+    /// Their width in columns.
     pub columns: u32,
 }
 
-/// The lines of a paragraph at some width. What belongs to a line stands at the place of the line's
-/// characters.
+/// The lines of a paragraph at a width. In each list, the items of a line start at the index of its first
+/// character.
 #[derive(Debug)]
 pub struct Fill {
     pub(crate) starts: Vec<u32>,
@@ -82,7 +82,7 @@ impl Fill {
     ghost use Rattle.lines.specs.Visual.{visual_of};
     ghost use Rattle.lines.specs.Writing.{PassedOn, StoppedIn};
 
-    /// The lines that buffers hold.
+    /// Takes the lines that buffers hold.
     pub(crate) fn of(lines: LineBuffers) -> Fill
         requires { AreSound lines }
         ensures { result ≡ held_in lines }
@@ -103,8 +103,8 @@ impl Fill {
         }
     }
 
-    /// Writes other lines of the paragraph over these: L1 on each line, and L2 and L4 on its shown part.
-    /// Their extents are exchanged for those of the old lines.
+    /// Writes other lines of the paragraph over these: L1 on each line, and L2, L3 and L4 on its shown part.
+    /// Exchanges their extents for those of the old lines.
     pub(crate) fn reflow(
         &mut self,
         text: &Text<'_>,
@@ -147,14 +147,14 @@ impl Fill {
         );
     }
 
-    /// Where each line starts.
+    /// Returns where each line starts.
     pub(crate) fn starts(&self) -> &[u32]
         ensures { result.now ≡ map start_of self.now.lines }
     {
         &self.starts
     }
 
-    /// Whether it is one line, which takes at most a width.
+    /// Whether there is one line, no wider than `width`.
     pub(crate) fn is_line_within(&self, width: u16) -> bool
         ensures { result ≡ is_line_within width self.now.lines }
     {
@@ -165,7 +165,7 @@ impl Fill {
         shown[0].columns <= u32::from(width)
     }
 
-    /// A line, counted from 0.
+    /// Returns a line, or `None` past the last one.
     pub(crate) fn part(&self, n: usize) -> Option<Part<'_>>
         ensures line { option_map line_of result ≡ slice_get self.now.lines n }
         ensures within { IfSome result (λ part. AreWithin (length part.levels.now) part.vtol.now) }
@@ -183,7 +183,7 @@ impl Fill {
         ))
     }
 
-    /// A line of the paragraph of this text and base level, counted from 0.
+    /// Returns a line of the paragraph with this text and base level, or `None` past the last one.
     pub(crate) fn line<'a>(&'a self, text: &'a [char], base: u8, n: usize) -> Option<VisualLine<'a>>
         requires { Layouts.AreWithin (length text.now) self.now.lines }
         ensures { result
@@ -205,8 +205,8 @@ impl Fill {
         })
     }
 
-    /// Writes all lines of the paragraph of this text and base level after so many bytes, and says how
-    /// many are written then.
+    /// Writes all lines of the paragraph with this text and base level after `before` bytes, and returns the
+    /// number of bytes written then.
     pub(crate) fn write_after<W: Sink>(
         &self,
         text: &[char],
@@ -237,7 +237,7 @@ impl Fill {
     }
 }
 
-/// A line without what it has of its paragraph.
+/// A line, without what it shares with its paragraph.
 #[derive(Clone, Copy)]
 pub(crate) struct Part<'a> {
     pub(crate) start: u32,
@@ -248,7 +248,7 @@ pub(crate) struct Part<'a> {
     pub(crate) chars: &'a [char],
 }
 
-// The line that starts there and of which so much is shown.
+// Returns the line that starts at `start`, of which `shown` is shown.
 fn part_of<'a>(
     start: u32,
     shown: Shown,

@@ -16,9 +16,8 @@ use crate::counts::Counted;
 use breaks::Mark;
 use std::alloc::{AllocError, Global};
 
-/// Puts where each line of a paragraph starts, at a width, in place of what a list has. Where clusters end
-/// isn't known of the places: it is found, and put to them, for the first line that needs it. The characters
-/// are counted.
+/// Replaces `starts` with where each line of a paragraph starts at a width. `infos` need not have the ends of
+/// clusters: they are found, and written into it, for the first line that needs them.
 pub fn line_starts(
     alloc: Global,
     text: &[char],
@@ -48,8 +47,7 @@ pub fn line_starts(
     Ok(())
 }
 
-// How many characters the line takes that begins at `start`, and whether it is known of the places where
-// clusters end.
+// Returns the length of the line that begins at `start`, and whether `infos` has the ends of clusters.
 fn line_len(
     alloc: Global,
     text: &[char],
@@ -79,7 +77,8 @@ fn line_len(
     Ok((line_end(&infos[start..], width) + 1, true))
 }
 
-// How many characters the first line takes, if it ends at a break: so clusters don't matter.
+// Returns the length of the first line if clusters do not matter: it ends at a break opportunity, or
+// `nobreak` is set.
 fn broken_len(rest: &[CharInfo], width: u16, nobreak: bool) -> Option<usize>
     requires { (0 < length rest.now) × (length rest.now ≤ PARAGRAPH_LIMIT) }
     ensures len { (known : List CharInfo) → AreAlike rest.now known
@@ -96,14 +95,14 @@ fn broken_len(rest: &[CharInfo], width: u16, nobreak: bool) -> Option<usize>
     }
 }
 
-// Whether a line must end there.
+// Whether a line must end after a mark.
 fn is_must(mark: Mark) -> bool
     ensures { result ≡ is_must mark }
 {
     mark == Mark::Must
 }
 
-// Whether a line may end there, or must.
+// Whether a line may or must end after a mark.
 fn is_break(mark: Mark) -> bool
     ensures { result ≡ is_break mark }
 {
@@ -117,7 +116,7 @@ fn is_candidate(info: &CharInfo) -> bool
     is_break(info.mark) || info.ends_cluster
 }
 
-// The first character after which a line must end.
+// Returns the first character after which a line must end, or the last one.
 fn first_must(rest: &[CharInfo]) -> usize
     requires { 0 < length rest.now }
     ensures end { result ≡ stop rest.now }
@@ -131,7 +130,7 @@ fn first_must(rest: &[CharInfo]) -> usize
     rest.len() - 1
 }
 
-// The first character after which a line may end, or a cluster ends.
+// Returns the first character after which a line may end or a cluster ends, or the last one.
 fn first_end(rest: &[CharInfo]) -> usize
     requires { 0 < length rest.now }
     ensures end { result ≡ first_end rest.now }
@@ -145,7 +144,7 @@ fn first_end(rest: &[CharInfo]) -> usize
     rest.len() - 1
 }
 
-// The last character of the first line.
+// Returns the last character of the first line.
 fn line_end(rest: &[CharInfo], width: u16) -> usize
     requires { (0 < length rest.now) × (length rest.now ≤ PARAGRAPH_LIMIT) }
     ensures end { result ≡ line_end width rest.now }
@@ -158,8 +157,8 @@ fn line_end(rest: &[CharInfo], width: u16) -> usize
     }
 }
 
-// The last characters, up to the first after which a line must end, up to which a line fits: of
-// those after which it may end, and of those after which a cluster ends.
+// Reads up to the first character after which a line must end. Of the characters up to which the line fits,
+// returns the last one after which it may end, and the last one after which a cluster ends.
 fn fitting_ends(rest: &[CharInfo], width: u16) -> (Option<usize>, Option<usize>)
     requires { (0 < length rest.now) × (length rest.now ≤ PARAGRAPH_LIMIT) }
     ensures by_break { result.0 ≡ by_break width rest.now }
@@ -188,7 +187,7 @@ fn fitting_ends(rest: &[CharInfo], width: u16) -> (Option<usize>, Option<usize>)
     (by_break, by_cluster)
 }
 
-// The columns of a piece, and those of its shown part.
+// The columns of a part of a line, and those of its shown part.
 #[derive(Clone, Copy)]
 struct Sums {
     columns: usize,
@@ -196,7 +195,7 @@ struct Sums {
 }
 
 impl Sums {
-    // Those of the piece with one more character.
+    // Adds one character.
     fn after(self, info: CharInfo) -> Sums
         requires { self.columns < 2 ^ 40 }
         ensures sums { result ≡ sums_after self info }
@@ -217,7 +216,7 @@ impl Sums {
     }
 }
 
-// The number, if it passes, else the one that passed before.
+// Returns `k` if it passes, else the number that passed before.
 fn later(before: Option<usize>, k: usize, passes: bool) -> Option<usize>
     ensures { result ≡ if passes then Some k else before }
 {

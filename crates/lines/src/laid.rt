@@ -1,4 +1,4 @@
-//! A paragraph that is laid out, and the lines that it has at another width.
+//! The layout of a paragraph.
 ghost use Rattle.std.specs.Prelude.{◌≡◌, ◌<◌, ◌≤◌, ℕ, length, map, option_map, slice_get};
 ghost use Rattle.std.specs.Prelude.{IfErr, IfOk, IsTrue, OnErr, OnOk};
 ghost use Rattle.device.specs.Device.{StoppedAt, Wrote};
@@ -17,7 +17,7 @@ use device::Sink;
 use std::marker::Model;
 use ucd::{Properties, Tables};
 
-/// A paragraph that is laid out: its text, base level, levels, break marks and lines.
+/// The layout of a paragraph: its text, base level, levels, break marks and lines.
 #[derive(Debug)]
 pub struct Laid {
     pub(crate) text: Vec<char>,
@@ -67,21 +67,21 @@ impl Laid {
     ghost use Rattle.lines.specs.Visual.{visual_of};
     ghost use Rattle.lines.specs.Writing.{PassedOn, StoppedIn};
 
-    /// The characters.
+    /// Returns the characters.
     pub fn text(&self) -> &[char]
         ensures { result.now ≡ self.now.text }
     {
         &self.text
     }
 
-    /// The base level, 0 or 1.
+    /// Returns the base level, 0 or 1.
     pub fn base(&self) -> u8
         ensures { result ≡ self.now.base }
     {
         self.base
     }
 
-    /// The level of each character, before L1.
+    /// Returns the level of each character, before L1.
     pub fn levels(&self) -> &[u8]
         ensures levels { result.now ≡ self.now.levels }
         ensures len { length result.now ≡ length self.now.text }
@@ -89,40 +89,40 @@ impl Laid {
         &self.levels
     }
 
-    /// The mark of the position after each character.
+    /// Returns the break mark after each character.
     pub fn marks(&self) -> &[Mark]
         ensures { result.now ≡ self.now.marks }
     {
         &self.marks
     }
 
-    /// Where each line starts, counted in characters from the start of the paragraph.
+    /// Returns where each line starts, in characters from the start of the paragraph.
     pub fn line_starts(&self) -> &[u32]
         ensures { result.now ≡ map start_of self.now.lines }
     {
         self.lines.starts()
     }
 
-    /// How many lines the paragraph has.
+    /// Returns the number of lines.
     pub fn line_count(&self) -> usize
         ensures { result ≡ length self.now.lines }
     {
         self.lines.starts().len()
     }
 
-    /// Whether the paragraph has one line, which takes at most a width in columns. At that width it then
-    /// has this line and no other.
+    /// Whether the paragraph has one line, no wider than `width` columns. If so, it has the same line at that
+    /// width.
     pub fn keeps_lines(&self, width: u16) -> bool
         ensures value { result ≡ is_line_within width self.now.lines }
         ensures lines { IsTrue result → (rules : Rules) → IsLaidOut rules self.now
             → lines_of rules width self.now.text ≡ self.now.lines }
     {
-        // The law by which a line that takes all characters may end there.
+        // By this theorem, a line of all characters may end after the last one.
         paragraphs_end_at_must();
         self.lines.is_line_within(width)
     }
 
-    /// A line, counted from 0.
+    /// Returns a line, or `None` past the last one.
     pub fn line(&self, n: usize) -> Option<VisualLine<'_>>
         ensures line { result
             ≡ option_map (visual_of self.now.base self.now.text self.now.lines n)
@@ -132,7 +132,7 @@ impl Laid {
         self.lines.line(&self.text, self.base, n)
     }
 
-    /// Writes the paragraph's lines, and no more after a failure of the sink. It takes no memory.
+    /// Writes the paragraph's lines, and nothing after a failed write. Allocates nothing.
     pub fn write<W: Sink>(
         &self,
         writer: &mut W,
@@ -149,8 +149,8 @@ impl Laid {
         Ok(())
     }
 
-    /// Writes the lines after `before` bytes, and returns the number of bytes written then;
-    /// a fault counts these too.
+    /// Writes the lines after `before` bytes, and returns the number of bytes written then; a fault counts
+    /// these too.
     pub fn write_after<W: Sink>(
         &self,
         writer: &mut W,
@@ -169,7 +169,7 @@ impl Laid {
             .write_after(&self.text, self.base, writer, before, width, print)
     }
 
-    // Writes the lines at another width over those that it has, by their extents.
+    // Writes the lines at another width over the old ones, by their extents.
     pub(crate) fn reflow(
         &mut self,
         tables: &Tables,
@@ -201,8 +201,7 @@ impl Laid {
         self.lines.reflow(&text, &self.levels, extents, written);
     }
 
-    /// Puts the lines of this paragraph at another width in, and hands the old ones out. Both are
-    /// by the same rules.
+    /// Exchanges the lines for those at another width, found by the same tables and options.
     pub fn exchange(&mut self, fill: &mut Fill)
         requires { (rules : Rules) × IsLaidOut rules self.old × AreLinesOf rules self.old.text fill.old }
         ensures { Exchanges self.old self.new fill.old fill.new }
@@ -217,17 +216,17 @@ impl Laid {
     ghost use Rattle.lines.specs.Clusters.{cluster_ends};
     ghost use Rattle.lines.specs.Layouts.{Rules, lines_of};
 
-    /// The lines of a paragraph begin one after another, the first at 0, by whatever rules and at whatever
-    /// width: a law, which takes no time. (`Laid::line_starts` tells where.)
+    /// States, as a theorem, that the lines of a paragraph start in order, the first one at 0, by any rules
+    /// and at any width. `Laid::line_starts` returns where. Costs nothing at run time.
     pub fn lines_begin_in_order()
         ensures { (rules : Rules) (width : ℕ) (text : List ℕ)
             → BeginInOrder text (lines_of rules width text) }
     {
-        // Each paragraph has marks.
+        // By this theorem, each paragraph has break marks.
         paragraphs_end_at_must();
     }
 
-    /// Whether a grapheme cluster ends after each character (UAX #29).
+    /// Returns for each character whether a grapheme cluster ends after it (UAX #29).
     pub fn cluster_ends(
         &self,
         alloc: std::alloc::Global,

@@ -1,4 +1,4 @@
-//! What holds of all layouts.
+//! Theorems about all layouts.
 ghost use Rattle.std.specs.Prelude.{◌≡◌, ◌≤◌, ℕ, List, length, sum_by};
 ghost use Rattle.std.specs.List.{flat_map};
 ghost use Rattle.lines.specs.Bytes.{line_bytes};
@@ -8,26 +8,25 @@ ghost use Rattle.lines.specs.declared.print.Print.{Print};
 
 use breaks::paragraphs_end_at_must;
 
-/// A paragraph has no more lines than characters, by whatever rules and at whatever width: a law,
-/// which takes no time.
+/// States, as a theorem, that a paragraph has at most as many lines as characters, by any rules and at any
+/// width. Costs nothing at run time.
 pub fn lines_are_few()
     ensures { (rules : Rules) (width : ℕ) (text : List ℕ)
         → length (lines_of rules width text) ≤ length text }
 {}
 
-/// The lines of a paragraph have all its characters, with those of their ends that are not shown: their
-/// lengths sum up to its own, by whatever rules and at whatever width. A law, which takes no time.
+/// States, as a theorem, that the lines of a paragraph have all its characters, including those in tails.
+/// Their lengths add up to its length, by any rules and at any width. Costs nothing at run time.
 pub fn lines_have_all_characters()
     ensures { (rules : Rules) (width : ℕ) (text : List ℕ)
         → sum_by (λ line. line.len) (visuals (layout_of rules width text)) ≡ length text }
 {
-    // Each paragraph has marks.
+    // By this theorem, each paragraph has break marks.
     paragraphs_end_at_must();
 }
 
-/// What is written of a paragraph is what is written of each of its lines, one after another: a law,
-/// which takes no time. (`Laid::line` tells the n-th of these lines, and `VisualLine::write` what is
-/// written of it.)
+/// States, as a theorem, that the bytes of a paragraph are those of its lines, in order, as `Laid::line`
+/// returns them and `VisualLine::write` writes them. Costs nothing at run time.
 pub fn paragraphs_print_their_lines()
     ensures { (width : ℕ) (print : Print) (layout : Layout)
         → layout_bytes width print layout ≡ flat_map (line_bytes width print) (visuals layout) }

@@ -25,7 +25,7 @@ impl Workspace {
     ghost use Rattle.lines.specs.Buffers.{held_lines, AreSound};
     ghost use Rattle.lines.specs.Paragraphs.{rules_in};
 
-    /// Lays out a paragraph: returns its base level, and replaces what `kept` holds with the rest.
+    /// Lays out a paragraph: returns its base level, and replaces the contents of `kept` with the rest.
     pub(crate) fn lay_out(
         &mut self,
         alloc: Global,
@@ -76,7 +76,7 @@ impl Workspace {
     }
 }
 
-/// Replaces what `lines` holds with the lines of a paragraph.
+/// Replaces the contents of `lines` with the lines of a paragraph.
 pub(crate) fn fill_lines(
     alloc: Global,
     paragraph: &Paragraph<'_>,
@@ -104,7 +104,7 @@ pub(crate) fn fill_lines(
     fill_lines_by(alloc, paragraph, infos, width, lines, filled, written)
 }
 
-// Fills them by what is known of each character, but for the ends of clusters.
+// The same, with `infos` that need not have the ends of clusters.
 fn fill_lines_by(
     alloc: Global,
     paragraph: &Paragraph<'_>,

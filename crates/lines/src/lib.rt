@@ -1,4 +1,4 @@
-//! Lines of a paragraph: where each starts at a width, over the levels and the break marks.
+//! Lines of a paragraph: where each starts at a width, and how it is shown.
 //!
 //! An `Engine` has the tables and the options, and lays out one paragraph at a time:
 //!
@@ -12,7 +12,7 @@
 //! }
 //! ```
 //!
-//! A `Laid` is the layout, and lends its lines, each as it is shown:
+//! A `Laid` is the layout. Its lines borrow from it:
 //!
 //! ```rust
 //! assert!(rt; laid.line_starts() == [0, 4].as_slice());
@@ -22,8 +22,8 @@
 //! }
 //! ```
 //!
-//! An engine also writes a paragraph's lines without keeping them (`write_paragraph`), and brings a layout to
-//! another width in place (`extents`, `reflow`). A text of many paragraphs is a session's matter.
+//! An engine also writes a paragraph's lines without keeping them (`write_paragraph`), and changes the width
+//! of a layout in place (`extents`, `reflow`). For a text of many paragraphs, see the crate `session`.
 #![tactic(auto)]
 
 mod buffers;

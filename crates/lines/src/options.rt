@@ -1,25 +1,25 @@
-//! What a layout goes by beside the tables and the width.
+//! The options of a layout.
 ghost use Rattle.std.specs.Prelude.{◌≡◌, false};
 ghost use Rattle.bidi.specs.declared.base.Base.TheVariants.{WeakLtr};
 
 use bidi::Base;
 
-/// The options of an engine.
+/// What a layout depends on, besides the tables and the width.
 #[derive(Clone, Copy, Debug, PartialEq, Eq)]
 pub struct Options {
-    /// How the base level of a paragraph is found.
+    /// How base levels are found.
     pub base: Base,
     /// Whether lines end at mandatory breaks only.
     pub nobreak: bool,
-    /// Each character at an odd level stands left of the marks that follow it at the same level, which
-    /// stand in reading order, and not right of them (UAX #9, L3).
+    /// Whether nonspacing marks at odd levels are put after their base, in logical order, instead of before
+    /// it (UAX #9, L3).
     pub reordernsm: bool,
-    /// Whether no line ends inside a number (a rule in place of UAX #14, LB25).
+    /// Whether no line ends inside a number (replaces UAX #14, LB25).
     pub whole_numbers: bool,
 }
 
 impl Default for Options {
-    // Those of a command line that has none of these options.
+    // The options of a command without arguments.
     ghost is_default = { λ options. options
         ≡ record { base = WeakLtr; nobreak = false; reordernsm = false; whole_numbers = false } };
 

@@ -11,7 +11,7 @@ pub(crate) struct LentRules<'a> {
     pub(crate) options: Options,
 }
 
-/// The characters of a paragraph or of one of its lines, with their properties and the base level.
+/// The characters of a paragraph or of a line, with their properties and the base level.
 #[derive(Clone, Copy)]
 pub(crate) struct Text<'a> {
     pub(crate) rules: LentRules<'a>,
@@ -20,8 +20,8 @@ pub(crate) struct Text<'a> {
     pub(crate) base: u8,
 }
 
-/// A paragraph that is prepared for finding its lines: the level of each character before L1, and the break
-/// mark after it.
+/// A paragraph whose lines can be found: with the level of each character before L1, and the break mark after
+/// it.
 #[derive(Clone, Copy)]
 pub(crate) struct Paragraph<'a> {
     pub(crate) text: Text<'a>,
@@ -36,7 +36,7 @@ pub(crate) struct Spans<'a> {
     pub(crate) shown: &'a [Shown],
 }
 
-/// A line in logical order: the level of each character before L1, and how much of the line is shown.
+/// A line in logical order, with the level of each character before L1, and how much of the line is shown.
 #[derive(Clone, Copy)]
 pub(crate) struct LogicalLine<'a> {
     pub(crate) text: Text<'a>,

@@ -4,7 +4,7 @@ ghost use Rattle.std.specs.Prelude.{◌≡◌, false};
 use crate::bytes::WriteFault;
 use thiserror::Error;
 
-/// What is printed of a line. The default, with no field set, is its visual form alone, padded and mirrored.
+/// What is printed of a line. By default, with no field set, this is the visual line, padded and mirrored.
 #[derive(Clone, Copy, Debug, PartialEq, Eq)]
 pub struct Print {
     /// Omits the line in visual order.
@@ -51,14 +51,14 @@ impl Print {
     ghost use Rattle.lines.specs.Asked.{asks_places};
     ghost use Rattle.lines.specs.Printing.{skips_lines};
 
-    // Whether nothing is printed of a line but the direction, which needs no lines.
+    // Whether nothing but the base direction is printed, which needs no lines.
     pub(crate) fn skips_lines(&self) -> bool
         ensures { result ≡ skips_lines self.now }
     {
         self.novisual && !self.ltov && !self.vtol && !self.levels
     }
 
-    // Whether places are printed, or characters as they are, which are found by their places.
+    // Whether position maps are printed, or unmirrored characters, which are found by these maps.
     pub(crate) fn asks_places(&self) -> bool
         ensures { result ≡ asks_places self.now }
     {
@@ -66,10 +66,10 @@ impl Print {
     }
 }
 
-/// Why the lines of a paragraph were not printed, or not all of them.
+/// Why the lines of a paragraph were not, or not completely, printed.
 #[derive(Clone, Copy, Debug, PartialEq, Eq, Error)]
 pub enum PrintFault {
-    /// Memory ran out, and nothing was written.
+    /// An allocation failed, and nothing was written.
     #[error("out of memory")]
     Memory,
     /// The sink failed.

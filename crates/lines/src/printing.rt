@@ -1,4 +1,4 @@
-//! The lines of a paragraph that are printed and not kept.
+//! Prints the lines of a paragraph, and keeps nothing of them.
 ghost use Rattle.std.specs.Prelude.{◌≡◌, ◌<◌, ◌≤◌, true, false, length, IfErr, IsErrOf, OnOk};
 ghost use Rattle.device.specs.Device.{Wrote};
 ghost use Rattle.lines.specs.Engine.{counted, RisesBy};
@@ -29,7 +29,7 @@ impl Workspace {
     ghost use Rattle.lines.specs.Paragraphs.{rules_in};
     ghost use Rattle.lines.specs.Printing.{FailedAs};
 
-    /// Writes the lines of a paragraph. If an allocation fails, nothing is written.
+    /// Writes the lines of a paragraph. If an allocation fails, writes nothing.
     pub(crate) fn write<W: Sink>(
         &mut self,
         alloc: Global,
@@ -105,7 +105,7 @@ fn is_one_line(form: &Form<'_>, text: &Text<'_>) -> bool
     is_whole(text)
 }
 
-// Writes such a paragraph.
+// Writes the line of such a paragraph.
 fn write_one_line<W: Sink>(
     writer: &mut W,
     form: &Form<'_>,
@@ -170,7 +170,7 @@ fn fill_spans(
     fill_spans_by(alloc, text.characters, infos, width, nobreak, lines, filled)
 }
 
-// Writes the lines of a paragraph, which start and are shown as the buffers say.
+// Writes the lines of a paragraph, by their starts and shown parts in `lines`.
 fn write_lines<W: Sink>(
     writer: &mut W,
     form: &Form<'_>,

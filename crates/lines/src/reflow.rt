@@ -20,8 +20,8 @@ use std::alloc::{AllocError, Global};
 use std::marker::Model;
 use ucd::{Properties, Tables};
 
-/// Scratch space for writing the lines of a paragraph over its old ones. It counts the characters whose lines
-/// are written, so it is not `Drop`: it is given back to an engine.
+/// Scratch space for writing the lines of a paragraph over the old ones. It counts the characters whose lines
+/// are written. So it is not `Drop`: `Engine::take_back` adds its count.
 #[derive(Debug)]
 pub struct ReflowScratch {
     pub(crate) properties: Vec<Properties>,
@@ -38,7 +38,7 @@ impl Model for ReflowScratch {
 }
 
 impl ReflowScratch {
-    /// Scratch space for paragraphs of at most `len` characters.
+    /// Allocates scratch space for paragraphs of at most `len` characters.
     pub(crate) fn new(
         alloc: Global,
         tables: &Tables,
@@ -144,7 +144,7 @@ impl Workspace {
     }
 }
 
-// The extents of the lines of a paragraph, by what is known of each character but for the ends of clusters.
+// Finds the extents of the lines of a paragraph. `infos` need not have the ends of clusters.
 fn extents_by(
     alloc: Global,
     text: &[char],

@@ -1,16 +1,16 @@
-//! Lists that are used again.
+//! Allocation for reused lists.
 ghost use Rattle.std.specs.Prelude.{◌≡◌, ◌≤◌, length, max, OnOk};
 
 use std::alloc::AllocError;
 
-/// Sees to it that a list can hold so many items without memory, and no more where it is new.
+/// Makes the capacity of a list at least `len`, and exactly `len` if the list is new.
 pub fn reserve<T>(list: &mut Vec<T>, len: usize) -> Result<(), AllocError>
     ensures { list.new.items ≡ list.old.items }
 {
     list.reserve_exact(len.saturating_sub(list.len()))
 }
 
-/// Sees to it that a list has at least so many items.
+/// Makes the length of a list at least `len`.
 pub fn grow<T: Copy>(list: &mut Vec<T>, len: usize, item: T) -> Result<(), AllocError>
     ensures least { OnOk result (len ≤ length list.new.items) }
     ensures most { OnOk result (length list.new.items ≡ max (length list.old.items) len) }

@@ -1,5 +1,5 @@
-//! What is shown of each line of a paragraph: its levels after L1, and its shown part in visual order (L2)
-//! with mirrors (L4).
+//! The visual lines of a paragraph: the levels of each line after L1, and its shown part in visual order (L2,
+//! L3) with mirrors (L4).
 ghost use Rattle.std.specs.Prelude.{◌≡◌, ◌-◌, ◌<◌, ◌≤◌, ℕ, List, true, false, OnErr, OnOk};
 ghost use Rattle.std.specs.Prelude.{length, map, take, slice_index};
 ghost use Rattle.std.specs.List.{range_with_len, suffix_len};
@@ -33,7 +33,7 @@ use reorder::{
 use std::alloc::AllocError;
 use ucd::{KnownClasses, Properties};
 
-/// Fills in the lines of a paragraph, which start where `lines.starts` says: L1 on each line, and L2 and L4 on
+/// Fills in the lines of a paragraph, which start at `lines.starts`: L1 on each line, and L2, L3 and L4 on
 /// its shown part.
 pub(crate) fn show_lines(
     paragraph: &Paragraph<'_>,
@@ -83,7 +83,7 @@ pub(crate) fn show_lines(
     Ok(())
 }
 
-// The levels before L1, to be changed, in place of what a list has.
+// Replaces the contents of a list with the levels before L1, which L1 then changes.
 fn copy(levels: &[u8], list: &mut Vec<u8>) -> Result<(), AllocError>
     ensures { OnOk result (list.new.items ≡ levels.now) }
 {
@@ -92,7 +92,7 @@ fn copy(levels: &[u8], list: &mut Vec<u8>) -> Result<(), AllocError>
     list.extend_from_slice(levels)
 }
 
-// Gives a list a number for each character. What it has stays, since all that is read is written before.
+// Sets the length of a list. Its old items remain, since each item is written before it is read.
 fn make_numbers(list: &mut Vec<u32>, len: usize) -> Result<(), AllocError>
     ensures { OnOk result (length list.new.items ≡ len) }
 {
@@ -100,7 +100,7 @@ fn make_numbers(list: &mut Vec<u32>, len: usize) -> Result<(), AllocError>
     list.resize(len, 0)
 }
 
-// Gives a list so many characters, of which the same holds.
+// The same for a list of characters.
 fn make_characters(list: &mut Vec<char>, len: usize) -> Result<(), AllocError>
     ensures { OnOk result (length list.new.items ≡ len) }
 {
@@ -130,7 +130,7 @@ pub(crate) fn fill_shown(
     Ok(())
 }
 
-/// Writes what belongs to each line to its place, over the levels before L1. Counts the characters.
+/// Writes the items of each line, over the levels before L1. Counts the characters.
 pub(crate) fn show_each(
     text: &Text<'_>,
     spans: &Spans<'_>,
@@ -182,7 +182,7 @@ pub(crate) fn show_each(
     }
 }
 
-/// Where a line ends: where the next one starts, the last one with the paragraph.
+/// Returns the end of a line: the start of the next one, or the end of the paragraph.
 pub(crate) fn end_of(starts: &[u32], k: usize, len: usize) -> usize
     requires { k < length starts.now }
     ensures end { result ≡ end_of len starts.now k }
@@ -195,7 +195,7 @@ pub(crate) fn end_of(starts: &[u32], k: usize, len: usize) -> usize
     }
 }
 
-// Writes the levels of a line after L1, and what belongs to its shown part.
+// Writes the levels of a line after L1, and the other items of its shown part.
 fn show_line(
     line: &Text<'_>,
     shown: Shown,
@@ -226,7 +226,7 @@ fn show_line(
     );
 }
 
-/// L1 on a line; true only where all levels are 0 then.
+/// Applies L1 to a line. Returns `true` only if all levels are then 0.
 pub(crate) fn reset_line(properties: &[Properties], base: u8, levels: &mut [u8]) -> bool
     requires { length properties.now ≡ length levels.old }
     ensures levels { levels.new ≡ line_levels base (map class_in properties.now) levels.old }
@@ -261,7 +261,7 @@ fn are_even(levels: &[u8]) -> bool
     odd == 0
 }
 
-/// Whether no level is odd, which needs no look at levels that are all 0.
+/// Whether no level is odd. If all are known to be 0, the list is not read.
 pub(crate) fn is_plain(levels: &[u8], is_flat: bool) -> bool
     requires { is_flat ≡ true → (k : ℕ) → slice_index levels.now k ≡ 0 }
     ensures { result ≡ true → (k : ℕ) → is_odd (slice_index levels.now k) ≡ false }
@@ -269,7 +269,7 @@ pub(crate) fn is_plain(levels: &[u8], is_flat: bool) -> bool
     is_flat || are_even(levels)
 }
 
-// Writes what belongs to the shown part of a line without an odd level: it is its own order.
+// Writes the items of a shown part without odd levels, whose visual order is its logical order.
 fn show_plain(part: &[char], ltov: &mut [u32], vtol: &mut [u32], chars: &mut [char])
     requires part { length part.now ≤ PARAGRAPH_LIMIT }
     requires ltov { length ltov.old ≡ length part.now }
@@ -284,8 +284,8 @@ fn show_plain(part: &[char], ltov: &mut [u32], vtol: &mut [u32], chars: &mut [ch
     chars.copy_from_slice(part);
 }
 
-/// Writes what belongs to the shown part of a line, which is as long as these levels: its order, and its
-/// characters in visual order.
+/// Writes the position maps of a line's shown part, and its characters in visual order. `levels` are those of
+/// the shown part.
 pub(crate) fn show_part(
     line: &Text<'_>,
     levels: &[u8],
@@ -328,8 +328,8 @@ pub(crate) fn show_part(
     }
 }
 
-/// Writes the characters of the shown part of a line, which is as long as these levels, in visual order, and
-/// nothing else of it: the list of places is left with whatever it took to find that order.
+/// Writes the characters of a line's shown part in visual order, and nothing else of it. `levels` are those
+/// of the shown part. `places` is scratch space.
 pub(crate) fn show_chars(line: &Text<'_>, levels: &[u8], places: &mut [u32], chars: &mut [char])
     requires line { IsLookedUp line.now }
     requires limit { length line.now.characters.now ≤ PARAGRAPH_LIMIT }
@@ -363,7 +363,7 @@ pub(crate) fn show_chars(line: &Text<'_>, levels: &[u8], places: &mut [u32], cha
     }
 }
 
-// How much of a line is shown: all but its tail.
+// Returns how much of a line is shown: all but its tail.
 fn shown_of(line: &[CharInfo]) -> Shown
     requires { length line.now ≤ PARAGRAPH_LIMIT }
     ensures len { result.len ≡ length (shown line.now) }
@@ -377,7 +377,7 @@ fn shown_of(line: &[CharInfo]) -> Shown
     }
 }
 
-// How many of its characters: all but the trailing ones at its end.
+// Returns the number of characters before the tail.
 fn shown_len(line: &[CharInfo]) -> usize
     ensures { result ≡ length line.now - suffix_len (λ p. p.is_trailing) line.now }
 {
@@ -388,7 +388,7 @@ fn shown_len(line: &[CharInfo]) -> usize
     len
 }
 
-// The columns of a piece.
+// Returns the columns of a part of a line.
 fn columns(piece: &[CharInfo]) -> u32
     requires { length piece.now ≤ PARAGRAPH_LIMIT }
     ensures { result ≡ columns piece.now }

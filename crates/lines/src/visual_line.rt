@@ -1,4 +1,4 @@
-//! One line of a paragraph as it is shown, which borrows from the paragraph.
+//! A visual line, which borrows from its paragraph.
 ghost use Rattle.std.specs.Prelude.{◌≡◌, false, ◌^◌, ◌<◌, ◌≤◌, true, length, slice_index, OnOk, IfOk, IfErr};
 ghost use Rattle.device.specs.Device.{Wrote, StoppedAt};
 ghost use Rattle.ucd.specs.Within.{AreWithin};
@@ -16,8 +16,8 @@ use device::Sink;
 use std::marker::Model;
 use unicode_width::UnicodeWidthChar;
 
-/// A line as it is shown. All but `is_first`, `base` and `len` speak of its shown part, which is the line
-/// without the spaces and separators at its end; positions count from its start.
+/// A visual line. All methods but `is_first`, `base` and `len` are about its shown part, which is the line
+/// without the spaces and separators at its end. Positions count from the start of the shown part.
 #[derive(Debug, Drop)]
 pub struct VisualLine<'a> {
     pub(crate) is_first: bool,
@@ -50,69 +50,68 @@ impl<'a> Model for VisualLine<'a> {
       chars = l.chars.now;
     } };
 
-    // So that no place lies outside the text.
+    // So each logical position is inside the text.
     ghost invariant = { λ l. AreWithin (length l.text.now) l.vtol.now };
 }
 
 impl<'a> VisualLine<'a> {
-    /// Whether it is the first line of its paragraph.
     pub fn is_first(&self) -> bool
         ensures { result ≡ self.now.is_first }
     {
         self.is_first
     }
 
-    /// The base level of its paragraph, 0 or 1.
+    /// Returns the base level of the paragraph, 0 or 1.
     pub fn base(&self) -> u8
         ensures { result ≡ self.now.base }
     {
         self.base
     }
 
-    /// How many characters the line has, those of its end that are not shown among them.
+    /// Returns the number of characters of the line, including its tail.
     pub fn len(&self) -> usize
         ensures { result ≡ self.now.len }
     {
         self.len
     }
 
-    /// The characters in visual order, mirrored.
+    /// Returns the characters in visual order, mirrored.
     pub fn chars(&self) -> &[char]
         ensures { result.now ≡ self.now.chars }
     {
         self.chars
     }
 
-    /// The level of each character after L1, in logical order.
+    /// Returns the level of each character after L1, in logical order.
     pub fn levels(&self) -> &[u8]
         ensures { result.now ≡ self.now.levels }
     {
         self.levels
     }
 
-    /// Of each logical position the visual one.
+    /// Returns the visual position of each logical position.
     pub fn ltov(&self) -> &[u32]
         ensures { result.now ≡ self.now.ltov }
     {
         self.ltov
     }
 
-    /// Of each visual position the logical one.
+    /// Returns the logical position of each visual position.
     pub fn vtol(&self) -> &[u32]
         ensures { result.now ≡ self.now.vtol }
     {
         self.vtol
     }
 
-    /// How many columns it takes.
+    /// Returns the width of the line in columns.
     pub fn columns(&self) -> u32
         ensures { result ≡ self.now.columns }
     {
         self.columns
     }
 
-    /// How many columns are left of a visual position, or of the line's end where it has no such position.
-    /// They are those of the characters in the text, and not of their mirrors.
+    /// Returns the columns left of a visual position, or the line's width past the last position. They are
+    /// those of the text's characters, not of their mirrors.
     pub fn columns_left(&self, place: usize) -> usize
         ensures value { result ≡ columns_left self.now place }
         ensures fits { result < 2 ^ 63 }
@@ -124,8 +123,8 @@ impl<'a> VisualLine<'a> {
         columns
     }
 
-    /// How many columns the character at a visual position takes, in the text and not its mirror: none where
-    /// the line has no such position.
+    /// Returns the width in columns of the text's character at a visual position, not of its mirror, or 0
+    /// past the last position.
     pub fn columns_at(&self, place: usize) -> usize
         ensures { result ≡ columns_at self.now place }
     {
@@ -136,8 +135,8 @@ impl<'a> VisualLine<'a> {
         }
     }
 
-    /// The visual position whose character covers a column, counted from 0 at the left edge: none right of
-    /// the line. A character that takes no columns covers none.
+    /// Returns the visual position of the character whose columns include `column`, counted from the left
+    /// edge, or `None` past the right edge. No column belongs to a character of width 0.
     pub fn covering(&self, column: usize) -> Option<usize>
         ensures { result ≡ covering self.now column }
     {
@@ -151,8 +150,8 @@ impl<'a> VisualLine<'a> {
         None
     }
 
-    /// How many columns printing at a width leaves free left of the line, unless it pads no lines: those
-    /// that it doesn't take, where the paragraph is from right to left.
+    /// Returns how many columns of padding the line has at a width, unless printing omits padding. Only lines
+    /// of right-to-left paragraphs have any.
     pub fn padding(&self, width: u16) -> u32
         ensures value { result ≡ padding_of width self.now }
         ensures spaces { (print : Print) → print.nopad ≡ false
@@ -164,7 +163,7 @@ impl<'a> VisualLine<'a> {
         0
     }
 
-    /// Writes the line, and no more after a failure of the sink. It takes no memory.
+    /// Writes the line, and nothing after a failed write. Allocates nothing.
     pub fn write<W: Sink>(
         &self,
         writer: &mut W,
@@ -181,8 +180,8 @@ impl<'a> VisualLine<'a> {
         Ok(())
     }
 
-    /// Writes the line after `before` bytes, and returns the number of bytes written then; a
-    /// fault counts these too.
+    /// Writes the line after `before` bytes, and returns the number of bytes written then; a fault counts
+    /// these too.
     pub fn write_after<W: Sink>(
         &self,
         writer: &mut W,
@@ -205,7 +204,7 @@ impl<'a> VisualLine<'a> {
     }
 }
 
-// The columns of the character at a visual position.
+// Returns the columns of the character at a visual position.
 fn columns_at(text: &[char], vtol: &[u32], place: usize) -> usize
     requires within { AreWithin (length text.now) vtol.now }
     requires place { place < length vtol.now }

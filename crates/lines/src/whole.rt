@@ -1,5 +1,6 @@
-//! A paragraph inside which no line must end, where lines end at mandatory breaks only and none of its
-//! characters are printed: it is one line, of which neither break marks nor columns are found.
+//! A fast path for paragraphs without a mandatory break before their end, if lines end at mandatory breaks
+//! only and no characters are printed. Such a paragraph is one line, and neither break marks nor columns are
+//! found.
 ghost use Rattle.std.specs.Prelude.{◌≡◌, ◌<◌, ◌≤◌, Bool, true, false, length, IfOk, IfErr};
 ghost use Rattle.breaks.specs.Bases.{resolved};
 ghost use Rattle.lines.specs.Buffers.{CanHold};
@@ -21,7 +22,7 @@ use breaks::marks_are_as_many;
 use device::Sink;
 use ucd::LineClass;
 
-/// Whether no line must end after a character of a paragraph but the last.
+/// Whether no line must end before the last character.
 pub(crate) fn is_whole(text: &Text<'_>) -> bool
     requires { IsLookedUp text.now }
     ensures yes { result ≡ true → IsWhole text.now.rules.tables.now text.now.characters.now }
@@ -39,7 +40,7 @@ pub(crate) fn is_whole(text: &Text<'_>) -> bool
     true
 }
 
-// Whether a line must end after a class, unless it is CR before LF.
+// Whether a line must end after a character of a class, except between CR and LF.
 fn ends_line(class: LineClass) -> bool
     ensures { (is_mark : Bool) → result ≡ ends_line (resolved class is_mark) }
 {
@@ -52,7 +53,7 @@ fn ends_line(class: LineClass) -> bool
     }
 }
 
-// How many characters of a paragraph that is one line are shown: all but its tail.
+// Returns how many characters of a paragraph of one line are shown: all but its tail.
 fn shown_len(text: &Text<'_>) -> usize
     requires { IsLookedUp text.now }
     ensures { IsShownLen text.now.rules.tables.now text.now.characters.now result }

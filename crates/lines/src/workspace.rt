@@ -1,4 +1,4 @@
-//! The buffers of an engine, and what is found of a paragraph before its lines.
+//! The buffers of an engine, and the levels and break marks of a paragraph.
 ghost use Rattle.std.specs.Prelude.{◌≡◌, ◌≤◌, length, map, IfOk, OnOk};
 ghost use Rattle.ucd.specs.Properties.{properties_of};
 ghost use Rattle.bidi.specs.Levels.{levels_of};
@@ -18,12 +18,12 @@ use breaks::{Mark, marks_into};
 use std::alloc::{AllocError, Global};
 use ucd::Properties;
 
-/// The buffers of an engine. A paragraph that fits in allocates only what is kept of it.
+/// The buffers of an engine. If they are large enough for a paragraph, only what is kept of it is allocated.
 #[derive(Debug)]
 pub(crate) struct Workspace {
     pub(crate) analysis: Analysis,
     pub(crate) infos: Vec<CharInfo>,
-    // What is found of a paragraph that is printed and not kept.
+    // For paragraphs that are printed and not kept.
     pub(crate) printed: LayoutBuffers,
 }
 
@@ -38,7 +38,7 @@ impl Drop for Workspace {
 }
 
 impl Workspace {
-    /// Empty buffers. Allocates nothing.
+    /// Makes empty buffers. Allocates nothing.
     pub(crate) fn new(alloc: Global) -> Workspace {
         Workspace {
             analysis: Analysis {

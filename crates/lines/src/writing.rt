@@ -1,4 +1,5 @@
-//! The lines of a paragraph, written one after another and not kept. Of each line only what is printed is found.
+//! Writes the lines of a paragraph one after another, and keeps nothing of them. Only what is printed of a
+//! line is computed.
 ghost use Rattle.std.specs.Prelude.{◌≡◌, ◌≤◌, ℕ, List, true, false, length, slice_index, take, IfOk, IfErr};
 ghost use Rattle.ucd.specs.Within.{AreWithin};
 ghost use Rattle.lines.specs.Asked.{asks_places};
@@ -23,15 +24,15 @@ use crate::showing::{end_of, is_plain, reset_line, show_chars, show_part};
 use crate::visual_line::VisualLine;
 use device::Sink;
 
-/// What is printed of each line, and at which width.
+/// What is printed of each line, and the width.
 #[derive(Clone, Copy)]
 pub(crate) struct Form<'a> {
     pub(crate) width: u16,
     pub(crate) print: &'a Print,
 }
 
-/// Writes all lines of a paragraph, by the levels before L1, and returns the number of bytes. Uses the front of
-/// the buffers for each line. Counts the characters.
+/// Writes all lines of a paragraph, by the levels before L1, and returns the number of bytes. Uses the front
+/// of the buffers for each line. Counts the characters.
 pub(crate) fn write_each<W: Sink>(
     writer: &mut W,
     form: &Form<'_>,
@@ -116,7 +117,7 @@ pub(crate) fn write_line<W: Sink>(
     write_part(writer, before, form, line, is_flat, visual)
 }
 
-// Writes what is shown of a line, whose levels after L1 are in the buffers.
+// Writes the shown part of a line, whose levels after L1 are in the buffers.
 fn write_part<W: Sink>(
     writer: &mut W,
     before: u64,
@@ -169,7 +170,8 @@ fn write_part<W: Sink>(
     )
 }
 
-// L1 on a line, whose levels are put to the front of `levels`; true only if all of them are 0 then.
+// Applies L1 to a line, and writes its levels to the front of `levels`. Returns `true` only if all of them
+// are then 0.
 fn reset_front(line: &LogicalLine<'_>, levels: &mut [u8]) -> bool
     requires line { IsLookedUp line.now.text }
     requires shown { line.now.shown.len ≤ length line.now.text.characters.now }
@@ -183,8 +185,8 @@ fn reset_front(line: &LogicalLine<'_>, levels: &mut [u8]) -> bool
     reset_line(line.text.properties, line.text.base, front)
 }
 
-// L2 and L4 on what is shown of a line, by its levels after L1, which are at the front of `levels`. The results
-// are put to the front of the other lists.
+// Applies L2, L3 and L4 to the shown part of a line, by its levels after L1 at the front of `levels`. Writes
+// the results to the front of the other lists.
 fn order_front(
     line: &LogicalLine<'_>,
     is_flat: bool,
@@ -220,8 +222,8 @@ fn order_front(
     );
 }
 
-// Puts the characters of what is shown of a line, in visual order, to the front of `chars`, by its levels after
-// L1, which are at the front of `levels`.
+// Writes the characters of a line's shown part, in visual order, to the front of `chars`. Its levels after L1
+// are at the front of `levels`.
 fn chars_front(line: &LogicalLine<'_>, levels: &[u8], places: &mut [u32], chars: &mut [char])
     requires line { IsLookedUp line.now.text }
     requires limit { length line.now.text.characters.now ≤ PARAGRAPH_LIMIT }
@@ -272,7 +274,7 @@ fn write_visual<W: Sink>(
     view.write_after(writer, before, form.width, form.print)
 }
 
-// Writes a line by its characters in visual order. No positions are printed of it.
+// Writes a line of which no position maps are printed, given its characters in visual order.
 fn write_ordered<W: Sink>(
     writer: &mut W,
     before: u64,

@@ -1,4 +1,4 @@
-//! What a layout and its lines show, and exchanging its lines.
+//! The calls of a layout and its lines, and exchanging its lines.
 ghost use Rattle.std.specs.Prelude.{IfOk, IfErr};
 ghost use Rattle.lines.specs.Engine.{rules_of};
 ghost use Rattle.lines.specs.Layouts.{AreLinesOf, IsLaidOut, Rules};
@@ -10,7 +10,7 @@ use oom_calls::tables::{engine, let_go};
 use oom_calls::{Printed, Writer, Wrong};
 use std::alloc::Global;
 
-/// What the calls return, the same in each round.
+/// Returns a digest of what the calls return, which is the same in each round.
 pub fn digest(alloc: Global, rounds: u32) -> Result<u64, Wrong> {
     let mut engine = engine(alloc)?;
     let result = digest_by(alloc, &mut engine, rounds);
@@ -53,7 +53,7 @@ fn repeated(laid: &Laid, rounds: u32) -> u64 {
     sum
 }
 
-/// What a layout shows.
+/// Returns a digest of a layout.
 pub fn of_laid(laid: &Laid) -> u64 {
     let mut sum = mixed(laid.text().len() as u64, u64::from(laid.base()));
     for level in laid.levels() {
@@ -74,7 +74,7 @@ pub fn of_laid(laid: &Laid) -> u64 {
     mixed_flag(sum, laid.line(laid.line_count()).is_none())
 }
 
-/// What a line shows, and what is printed of it.
+/// Returns a digest of a line, and of what is printed of it.
 pub fn of_line(line: &VisualLine<'_>) -> u64 {
     let mut sum = mixed_flag(line.len() as u64, line.is_first());
     sum = mixed(sum, u64::from(line.base()));
@@ -116,7 +116,7 @@ fn written(line: &VisualLine<'_>) -> u64 {
     of_bytes(&page, is_written)
 }
 
-/// What was written, and whether all of it was.
+/// Returns a digest of what was written, and of whether all of it was.
 pub fn of_bytes(page: &Printed, is_written: bool) -> u64 {
     let mut sum = mixed_flag(0, is_written);
     for byte in page.bytes() {

@@ -1,8 +1,7 @@
-//! Makes every call that needs no memory, over prepared tables, engines, stores and sessions.
+//! Makes every call that never allocates, on tables, engines, stores and sessions made before.
 //!
-//! `no_allocation ROUNDS` makes all of them so many times, and prints a number for each group of calls, by
-//! what they return. `tests/fault_injection/run` checks that more rounds allocate no more, and print the
-//! same.
+//! `no_allocation ROUNDS` makes all of them ROUNDS times, and prints a digest of what they return for each
+//! group of calls. `tests/fault_injection/run` checks that more rounds allocate no more, and print the same.
 #![tactic(auto)]
 
 mod layouts;

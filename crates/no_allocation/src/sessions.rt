@@ -1,4 +1,4 @@
-//! What a session shows, and edits that it refuses.
+//! The calls of a session, and edits that it refuses.
 use crate::layouts::{ALL, of_bytes, of_laid, of_line};
 use crate::texts::{mixed, mixed_place};
 use device::ToWrite;
@@ -8,7 +8,7 @@ use session::{Damage, EditFault, Kept, Session};
 use std::alloc::Global;
 use store::ParagraphStore;
 
-/// What the calls return, the same in each round.
+/// Returns a digest of what the calls return, which is the same in each round.
 pub fn digest<S: ParagraphStore<Kept> + Drop>(alloc: Global, rounds: u32) -> Result<u64, Wrong> {
     let long = letters(alloc, 16_777_217)?;
     let mut session: Session<S> = open(alloc)?;
@@ -19,7 +19,7 @@ pub fn digest<S: ParagraphStore<Kept> + Drop>(alloc: Global, rounds: u32) -> Res
     Ok(sum)
 }
 
-// So many letters.
+// Returns a text of this many letters.
 fn letters(alloc: Global, count: usize) -> Result<String, Wrong> {
     let mut text = String::new(alloc);
     for _ in 0..count {
@@ -69,7 +69,7 @@ fn of_session<S: ParagraphStore<Kept>>(session: &Session<S>) -> u64 {
     mixed(sum, printed(session))
 }
 
-// The line and the paragraph of a number.
+// Returns a digest of the n-th line and paragraph.
 fn of_number<S: ParagraphStore<Kept>>(session: &Session<S>, n: usize) -> u64 {
     let mut sum = mixed_place(0, session.line_start(n));
     sum = match session.line(n) {

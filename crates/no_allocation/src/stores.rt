@@ -1,4 +1,4 @@
-//! What a store says of its items, and exchanging parts of them.
+//! The calls of a store that return something of its items, and exchanging parts of them.
 ghost use Rattle.std.specs.Prelude.{◌≡◌, ◌-◌, ◌^◌, ◌<◌, sum_by};
 
 use crate::texts::mixed;
@@ -6,7 +6,7 @@ use oom_calls::Wrong;
 use std::alloc::Global;
 use store::{Exchange, Measured, ParagraphStore};
 
-/// An item with three characters and some lines, which it exchanges.
+/// An item of three characters and some lines, which are its part.
 #[derive(Drop)]
 pub struct Item {
     lines: usize,
@@ -44,7 +44,7 @@ impl Exchange for Item {
     ghost keeps_chars = { λ item part fits. refl };
 }
 
-/// What the calls return, the same in each round.
+/// Returns a digest of what the calls return, which is the same in each round.
 pub fn digest<S: ParagraphStore<Item> + Drop>(alloc: Global, rounds: u32) -> Result<u64, Wrong> {
     let mut store = S::new(alloc);
     let Ok(items) = vec![in alloc; Item { lines: 1 }, Item { lines: 2 }, Item { lines: 3 }] else {
@@ -65,7 +65,7 @@ pub fn digest<S: ParagraphStore<Item> + Drop>(alloc: Global, rounds: u32) -> Res
     Ok(sum)
 }
 
-// The sum of the lines, as far as it fits.
+// Returns the sum of the lines, up to 2^64−1.
 fn sum(parts: &[usize]) -> usize
     ensures { result < 2 ^ 64 - 1 → result ≡ sum_by (λ lines. lines) parts.now }
 {
@@ -76,7 +76,7 @@ fn sum(parts: &[usize]) -> usize
     sum
 }
 
-// Each item exchanges its lines.
+// Exchanges the lines of each item.
 fn exchange<S: ParagraphStore<Item>>(store: &mut S, parts: &mut Vec<usize>) {
     if parts.len() == store.count() && sum(parts) < 1_000_000 {
         store.exchange_all(parts);

@@ -1,4 +1,4 @@
-//! Look-ups, cuts and base levels.
+//! Lookups, paragraph boundaries and base levels.
 use bidi::{Base, base_level, first_cut, is_cut};
 use lines::{Engine, Options};
 use oom_calls::Wrong;
@@ -8,7 +8,7 @@ use ucd::Tables;
 
 const TEXT: [char; 8] = ['a', 'א', '(', '\u{300}', ' ', '\n', '1', '\u{4e00}'];
 
-/// What the calls return, the same in each round.
+/// Returns a digest of what the calls return, which is the same in each round.
 pub fn digest(alloc: Global, rounds: u32) -> Result<u64, Wrong> {
     let Ok(tables) = Tables::read(alloc, &FILES) else {
         return Err("no tables");
@@ -26,17 +26,17 @@ pub fn digest(alloc: Global, rounds: u32) -> Result<u64, Wrong> {
     Ok(mixed(sum, of_engine_sum))
 }
 
-/// A number made of two.
+/// Adds a number to a digest.
 pub fn mixed(sum: u64, number: u64) -> u64 {
     sum.wrapping_mul(31).wrapping_add(number)
 }
 
-/// A number made of a number and a truth value.
+/// Adds a truth value to a digest.
 pub fn mixed_flag(sum: u64, flag: bool) -> u64 {
     mixed(sum, u64::from(flag))
 }
 
-/// And of a position that may be missing.
+/// Adds a position that may be missing to a digest.
 pub fn mixed_place(sum: u64, place: Option<usize>) -> u64 {
     match place {
         Some(place) => mixed(sum, (place as u64).wrapping_add(1)),

@@ -10,5 +10,5 @@ pub mod tables;
 
 pub use page::{Printed, Writer};
 
-/// What is wrong with an answer.
+/// What is wrong with a result.
 pub type Wrong = &'static str;

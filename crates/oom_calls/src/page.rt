@@ -1,11 +1,11 @@
-//! Bytes that are written without memory.
+//! A buffer that is written to without allocating.
 use std::io;
 use std::io::Write;
 
-// More bytes than any page here has.
+// More bytes than any output here has.
 const ROOM: usize = 512;
 
-/// What was written.
+/// The bytes that were written.
 #[derive(Clone, Copy)]
 pub struct Printed {
     room: [u8; ROOM],
@@ -13,7 +13,7 @@ pub struct Printed {
 }
 
 impl Printed {
-    /// Nothing as yet.
+    /// Makes an empty buffer.
     pub fn new() -> Printed {
         Printed {
             room: [0; ROOM],
@@ -21,12 +21,11 @@ impl Printed {
         }
     }
 
-    /// The bytes, in the order in which they were written.
     pub fn bytes(&self) -> &[u8] {
         self.room.get(..self.len).unwrap_or(&[])
     }
 
-    /// Whether the bytes are those of one of some pages.
+    /// Whether the bytes are one of these outputs.
     pub fn is_one_of(&self, pages: &[&[u8]]) -> bool {
         let mut found = false;
         for bytes in pages {
@@ -36,7 +35,7 @@ impl Printed {
     }
 }
 
-/// Writes on a page, and fails after its end.
+/// Writes to a buffer, and fails if it is full.
 #[derive(Drop)]
 pub struct Writer<'a> {
     pub page: &'a mut Printed,

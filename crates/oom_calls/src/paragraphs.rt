@@ -11,7 +11,7 @@ use std::alloc::Global;
 // One paragraph, with a letter for each of its lines at width 1.
 const TEXT: &str = "a\u{5d0}(1)";
 
-/// Lays a paragraph out, and fills it again.
+/// Lays out a paragraph, and fills it again.
 pub fn try_calls(alloc: Global) -> Result<(), Wrong> {
     let mut engine = engine(alloc)?;
     let answer = try_calls_by(alloc, &mut engine);
@@ -27,7 +27,7 @@ fn try_calls_by(alloc: Global, engine: &mut Engine) -> Result<(), Wrong> {
     refill(alloc, engine, &laid)
 }
 
-// The characters of the text, asked for twice.
+// Returns the characters of the text, and tries again after an allocation failure.
 fn characters(alloc: Global) -> Result<Vec<char>, Wrong> {
     if let Ok(text) = TEXT.chars().collect(alloc) {
         return Ok(text);
@@ -38,7 +38,7 @@ fn characters(alloc: Global) -> Result<Vec<char>, Wrong> {
     }
 }
 
-// The text has to come back from a refused call, and is laid out then.
+// Lays out the text. A failed call must return it; then tries again.
 fn lay_out(alloc: Global, engine: &mut Engine) -> Result<Laid, Wrong>
     ensures { IfOk result (IsLaidOut (rules_of engine.new)) }
 {
@@ -58,7 +58,7 @@ fn lay_out_again(alloc: Global, engine: &mut Engine, text: Vec<char>) -> Result<
     }
 }
 
-// The text comes back where memory was wanting.
+// Lays out a text, or returns it after an allocation failure.
 fn lay_out_text(
     alloc: Global,
     engine: &mut Engine,

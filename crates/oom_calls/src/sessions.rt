@@ -1,4 +1,4 @@
-//! The calls of a session: each is made in a session of its own, beside one in which nothing was asked for.
+//! The calls of a session. Each is made in its own session, which is compared with an unchanged one.
 use crate::Wrong;
 use crate::page::{Printed, Writer};
 use crate::tables::{engine, let_go};
@@ -11,8 +11,8 @@ use store::ParagraphStore;
 /// The text on which the sessions are opened.
 pub const TEXT: &str = "ab\ncd\nef";
 
-// An edit; where its lines begin, how many there were and how many there are; and by how much it may raise
-// both counts.
+// An edit; the first line, the old and the new lines of its damage; and by how much it may raise the
+// counters.
 struct Row {
     edit: Edit<'static>,
     lines: [usize; 3],
@@ -37,7 +37,7 @@ const ROWS: [Row; 3] = [
     },
 ];
 
-/// Opens a session, and once more, by the engine that comes back, where it was refused.
+/// Opens a session. After an allocation failure, tries again with the engine that was returned.
 pub fn open<S: ParagraphStore<Kept> + Drop>(alloc: Global) -> Result<Session<S>, Wrong> {
     open_by(alloc, engine(alloc)?)
 }
@@ -80,8 +80,8 @@ fn check_refusal(engine: &Engine, fault: EditFault) -> Result<(), Wrong> {
     Ok(())
 }
 
-/// Makes each edit, and compares what a refused one leaves with what was there. The calls that show it take
-/// no memory, so they are made where nothing was refused as well.
+/// Executes each edit, and checks that a failed one changes nothing. The calls that check this do not
+/// allocate, so they are also made if nothing fails.
 pub fn try_calls<S: ParagraphStore<Kept> + Drop>(alloc: Global) -> Result<(), Wrong> {
     let untouched: Session<S> = open(alloc)?;
     let answer = try_edits(alloc, &untouched);
@@ -89,11 +89,11 @@ pub fn try_calls<S: ParagraphStore<Kept> + Drop>(alloc: Global) -> Result<(), Wr
     answer
 }
 
-// Lets go of a session, as `let_go` does of an engine.
+// Drops a session. Only this function does, as `let_go` for an engine.
 fn close<S: ParagraphStore<Kept> + Drop>(_session: Session<S>) {}
 
-// Each function here holds one session at most, since all that is held where a call may fail makes the proof
-// longer.
+// Each function here owns at most one session, since all that is dropped where a call may fail makes the
+// proof longer.
 fn try_edits<S: ParagraphStore<Kept> + Drop>(
     alloc: Global,
     untouched: &Session<S>,
@@ -130,7 +130,7 @@ fn try_edit_in<S: ParagraphStore<Kept>>(
     Ok(())
 }
 
-// What an edit that has to be made answers.
+// Returns the damage of an edit that must succeed.
 fn made(answer: Result<Damage, EditFault>) -> Result<Damage, Wrong> {
     match answer {
         Ok(damage) => Ok(damage),
@@ -138,7 +138,7 @@ fn made(answer: Result<Damage, EditFault>) -> Result<Damage, Wrong> {
     }
 }
 
-// Makes an edit, and once more where it was refused.
+// Executes an edit, and tries again after an allocation failure.
 fn make_twice<S: ParagraphStore<Kept>>(
     session: &mut Session<S>,
     untouched: &Session<S>,
@@ -181,7 +181,7 @@ fn make<S: ParagraphStore<Kept>>(
     }
 }
 
-// Whether both show the same, in all but their counts.
+// Whether both sessions are equal, apart from their counters.
 fn is_same<S: ParagraphStore<Kept>>(left: &Session<S>, right: &Session<S>) -> bool {
     let mut same = left.char_count() == right.char_count()
         && left.paragraph_count() == right.paragraph_count()
@@ -204,7 +204,7 @@ fn is_same_paragraph(left: Option<&Laid>, right: Option<&Laid>) -> bool {
     }
 }
 
-// All parts are compared, by `&`, which has fewer paths than `&&`.
+// Compares everything, by `&`, which has fewer paths than `&&`.
 fn is_same_laid(left: &Laid, right: &Laid) -> bool {
     (left.text() == right.text())
         & (left.base() == right.base())
@@ -231,7 +231,7 @@ fn is_same_visual(left: &VisualLine<'_>, right: &VisualLine<'_>) -> bool {
         & (left.columns() == right.columns())
 }
 
-/// All that can be printed of a line.
+/// Everything that can be printed of a line.
 pub const ALL: Print = Print {
     novisual: false,
     basedir: true,
@@ -249,7 +249,7 @@ fn is_same_page<S: ParagraphStore<Kept>>(left: &Session<S>, right: &Session<S>) 
     left_result && right_result && left_page.bytes() == right_page.bytes()
 }
 
-// Whether the whole page was printed.
+// Whether everything was printed.
 fn print<S: ParagraphStore<Kept>>(session: &Session<S>, page: &mut Printed) -> bool {
     session
         .print(&mut ToWrite::new(Writer { page }), &ALL)

@@ -1,4 +1,4 @@
-//! The replacement of items in a store.
+//! Replacing items of a store.
 ghost use Rattle.std.specs.Prelude.{◌^◌, ◌<◌};
 
 use crate::Wrong;
@@ -6,7 +6,7 @@ use std::alloc::{AllocError, Global};
 use std::ops::Range;
 use store::{Measured, ParagraphStore};
 
-// An item of one character and one line, told by its name.
+// An item of one character and one line, identified by its name.
 #[derive(Clone, Copy, Debug, PartialEq, Eq)]
 pub struct Item {
     name: u8,
@@ -26,11 +26,11 @@ impl Measured for Item {
     }
 }
 
-// No store here has more items.
+// The limit of a store's items.
 const LIMIT: usize = 100;
 
-// A replacement: from which item on and up to which, the names of those that are put in, of those that the
-// store holds before, and of those that are taken out.
+// A replacement: its range, and the names of the new items, of the items before it, and of the items that it
+// returns.
 struct Replacement {
     start: usize,
     end: usize,
@@ -81,7 +81,7 @@ fn try_one<S: ParagraphStore<Item>>(
     Ok(())
 }
 
-// Puts the items in, and once more where that was refused.
+// Replaces items, and tries again after an allocation failure.
 fn replace_twice<S: ParagraphStore<Item>>(
     store: &mut S,
     alloc: Global,
@@ -94,7 +94,7 @@ fn replace_twice<S: ParagraphStore<Item>>(
     }
 }
 
-// The items have to have come back in their order, and the store has to hold what it held.
+// Tries again. First checks that the new items were returned in order, and the store is unchanged.
 fn replace_again<S: ParagraphStore<Item>>(
     store: &mut S,
     replacement: &Replacement,
@@ -121,7 +121,7 @@ fn check_refusal<S: ParagraphStore<Item>>(
     Ok(())
 }
 
-// The items of these names, asked for twice.
+// Makes items with these names, and tries again after an allocation failure.
 fn items(alloc: Global, names: &[u8]) -> Result<Vec<Item>, Wrong> {
     if let Ok(items) = named(alloc, names) {
         return Ok(items);
@@ -153,7 +153,7 @@ fn holds<S: ParagraphStore<Item>>(store: &S, names: &[u8]) -> bool {
     same
 }
 
-// The items of the range, or the new ones where memory was wanting.
+// Returns the replaced items, or the new ones after an allocation failure.
 fn replace<S: ParagraphStore<Item>>(
     store: &mut S,
     range: Range<usize>,

@@ -1,4 +1,4 @@
-//! The table files, which no refusal blames.
+//! Reading the table files. An allocation failure must not be reported as a faulty line.
 use crate::Wrong;
 use lines::{Engine, Options};
 use std::alloc::Global;
@@ -21,7 +21,7 @@ const MEMORY: TableFault = TableFault {
     cause: Cause::Memory,
 };
 
-// Reads the files, and once more where memory was wanting.
+// Reads the files, and tries again after an allocation failure.
 fn read(alloc: Global) -> Result<Tables, Wrong> {
     match read_once(alloc) {
         Ok(tables) => Ok(tables),
@@ -49,11 +49,10 @@ pub fn try_read(alloc: Global) -> Result<(), Wrong> {
     Ok(())
 }
 
-/// An engine of its own for each call.
+/// Makes a new engine for each call.
 pub fn engine(alloc: Global) -> Result<Engine, Wrong> {
     Ok(Engine::new(read(alloc)?, Options::default()))
 }
 
-/// Lets go of an engine. Only this function does, since the proof of each that does walks through all the
-/// lists that an engine has.
+/// Drops an engine. Only this function does, since a proof takes long if it drops all lists of an engine.
 pub fn let_go(_engine: Engine) {}

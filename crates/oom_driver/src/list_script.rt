@@ -1,5 +1,5 @@
-//! Runs an edit script over a text whose paragraphs are kept in a list, where the command keeps them in a
-//! tree, by the test tables and at 80 columns.
+//! Runs an edit script over a text whose paragraphs are in a list, not in a tree as in the command, with the
+//! test tables and at 80 columns.
 use device::{FromRead, ToWrite};
 use lines::{Engine, Options, Print};
 use oom_calls::tables::FILES;
@@ -14,7 +14,7 @@ use ucd::Tables;
 
 const UNREAD: ProgramFault = ProgramFault::Run(RunFault::Read);
 
-/// The text's file and the script's, where the program was given two words.
+/// Returns the names of the text's file and the script's, if there are two arguments.
 pub fn files(rt: &HostRuntime) -> Option<(String, String)> {
     let Ok(mut words) = env::args(rt) else {
         return None;
@@ -29,7 +29,7 @@ pub fn files(rt: &HostRuntime) -> Option<(String, String)> {
     Some((text, script))
 }
 
-/// Runs the script of one file over the text of another.
+/// Runs the script in one file over the text in another.
 pub fn run(rt: &HostRuntime, text: &str, script: &str) -> Result<(), ProgramFault> {
     let Ok(text) = fs::read(rt, text) else {
         return Err(UNREAD);

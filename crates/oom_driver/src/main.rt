@@ -18,8 +18,8 @@ use std::io;
 use std::process::ExitCode;
 use store::{ParagraphStore, TreeStore, VecStore};
 
-// Where something is wrong the status is the same and what is printed is not. A refusal of what isn't
-// tried here, as of a line's printing, may end the program with another status.
+// If something is wrong, the output differs, but not the status. A failure in anything else, such as printing
+// a line, may end the program with another status.
 fn main(rt: HostRuntime) -> ExitCode {
     if let Some((text, script)) = list_script::files(&rt) {
         return execute(&rt, &text, &script);

@@ -1,5 +1,5 @@
-//! The runs of the command: what is written before memory was wanting is the output of whole paragraphs, or
-//! of whole lines of a script.
+//! The runs of the command. Before an allocation failure, they write the output of whole paragraphs, or of
+//! whole lines of a script.
 use device::{FromRead, ToWrite};
 use lines::{Engine, Print};
 use oom_calls::sessions::{ALL, open};
@@ -56,13 +56,13 @@ fn write_text(alloc: Global, engine: &mut Engine, page: &mut Printed) -> Result<
 
 const SCRIPT: &[u8] = b"insert 4 x\\ny\ndelete 2 4\nwidth 1\nshow\n";
 
-// What is written for it.
+// The output of the script.
 const ANSWERS: &[u8] = b"@ 1 1 2\n@ 0 3 1\n@ 0 2 6\na\nb\ny\nd\ne\nf\n";
 
-// What is written before each of its lines that may want memory.
+// The output before each line of the script that may allocate.
 const UNFINISHED: [&[u8]; 3] = [b"", b"@ 1 1 2\n", b"@ 1 1 2\n@ 0 3 1\n"];
 
-/// Executes a script.
+/// Executes the script.
 pub fn try_script<S: ParagraphStore<Kept> + Drop>(alloc: Global) -> Result<(), Wrong> {
     let mut page = Printed::new();
     if is_refused(execute::<S>(alloc, &mut page)?) {

@@ -1,4 +1,4 @@
--- The groups of a base and its marks, each reversed where it stands before L2, which then puts them into reading order.
+-- A base and its marks are reversed in place before L2, which then puts the base first.
 use Rattle.std.proofs.Common.{◌≡◌, ℕ, zero, suc, ◌+◌, ◌-◌, ◌<◌, ◌≤◌, ◌==◌, Bool, true, false, ◌&&◌, ◌||◌, not, List, [], ◌∷◌}
 use Rattle.std.proofs.Common.{length, get_or, map, take, drop, reverse, Option, None, refl, sym, ap, subst, ◌∙◌, inl, inr, arith}
 use Rattle.std.specs.Prelude.{nat_lt}
@@ -20,7 +20,7 @@ use Rattle.reorder.specs.Order.{has_base, is_mark_at, is_odd, lowest_odd, ltov_o
 -- ---- what a group is
 
 module _ (classes : List BidiClass) (levels : List ℕ) where
-  -- what the walk over the marks after a base knows
+  -- what the scan of the marks after a base knows
   pub record MarksSoFar (start len : ℕ) : Type 0 where
     pub some : 0 < len
     pub within : start + len ≤ length levels
@@ -59,7 +59,7 @@ module _ (classes : List BidiClass) (levels : List ℕ) where
         ];
       }
 
-  -- where the walk stops, no mark of the base stands
+  -- after the end of the scan, there is no mark of the base
   stops : (start place : ℕ) → is_mark_of place (get_or levels start 0) ≡ false → is_odd (get_or levels start 0) ≡ true
       → is_mark_at classes place ≡ true → get_or levels place 0 ≡ get_or levels start 0 → ⊥
   stops start place ended odd marked same =
@@ -126,7 +126,7 @@ pub plain_order : (classes : List BidiClass) (levels : List ℕ) → vtol_of fal
 unfolding vtol_of
 plain_order classes levels = refl
 
--- ---- the walk
+-- ---- the scan
 
 module _ (classes : List BidiClass) (levels : List ℕ) where
   -- a character whose group is reversed already
@@ -138,7 +138,7 @@ module _ (classes : List BidiClass) (levels : List ℕ) where
     pub to : place < start + len
     pub there : get_or current place 0 ≡ get_or old (start + (len - 1 - (place - start))) 0
 
-  -- what the walk knows at a place
+  -- what the scan knows at an index
   pub record Chunked (old current : List ℕ) (at : ℕ) : Type 0 where
     pub sizes : length current ≡ length old
     pub no_base : has_base classes levels at ≡ false
@@ -186,18 +186,18 @@ module _ (classes : List BidiClass) (levels : List ℕ) where
         left = λ k above. after k above ∙ w.left k (omega (arith, above, past));
       }
 
-  -- what the laws of L2 and L3 say of the groups
+  -- what the theorems on L2 and L3 say of the groups
   module _ (together : (base n : ℕ) → IsGroup classes levels base n → StandsTogether classes levels base n)
       (others : (k : ℕ) → k < length levels → IsAlone classes levels (get_or (vtol_of false classes levels) k 0)
       → get_or (vtol_of true classes levels) k 0 ≡ get_or (vtol_of false classes levels) k 0)
       (inverse : AreInverse (length levels) (vtol_of false classes levels) (ltov_of false classes levels)) where
-    -- two positions of one place are one
+    -- two visual positions of one character are equal
     same_position : (j k : ℕ) → j < length levels → k < length levels
         → get_or (vtol_of false classes levels) j 0 ≡ get_or (vtol_of false classes levels) k 0 → j ≡ k
     same_position j k first second same =
         sym (inverse.at_vtol j first) ∙ ap (λ p. get_or (ltov_of false classes levels) p 0) same ∙ inverse.at_vtol k second
 
-    -- so what stands at a place of L2's order, each group being reversed, stood at the place that L3 has there
+    -- so the item at a position of L2's order, with each group reversed, is that of L3's order
     read_at : (old current : List ℕ) (k : ℕ) → k < length levels → IsTurned old current (get_or (vtol_of false classes levels) k 0)
         → get_or current (get_or (vtol_of false classes levels) k 0) 0 ≡ get_or old (get_or (vtol_of true classes levels) k 0) 0
     read_at old current k within t =

@@ -1,4 +1,4 @@
--- Marks and their bases in the visual order of a line, and the walk that reverses them.
+-- Marks and their bases in the visual order of a line, and the scan that reverses them.
 use Rattle.std.proofs.Common.{◌≡◌, ℕ, zero, suc, ◌+◌, ◌-◌, ◌<◌, ◌≤◌, ◌==◌, Bool, true, false, ◌&&◌, ◌||◌, not, List, [], ◌∷◌}
 use Rattle.std.proofs.Common.{◌++◌, length, get_or, take, drop, reverse, refl, sym, ap, ap₂, ◌∙◌, inl, inr, arith, add-one, append_assoc, length-append}
 use Rattle.std.proofs.lemmas.Bool.{and_from, and_left, and_parts, both_ways, cases_Bool, cases_eq, cases_lt, cond-true, cond-false, eq-eqb, eqb-true, or_right}
@@ -14,7 +14,7 @@ use Rattle.reorder.proofs.NeighbourLemmas.{neighbours, Adjacent}
 use Rattle.reorder.proofs.OrderLemmas.{length-order, order_of_permutes}
 use Rattle.reorder.proofs.PlainLemmas.{front_written}
 
--- ---- where two items stand that are next to one another
+-- ---- the indices of two adjacent items
 
 adjacent_at : (n : ℕ) (xs : List ℕ) (x y k : ℕ) → ArePlaces n xs → Adjacent x y xs → k < n → get_or xs k 0 ≡ x → (suc k < n) × (get_or xs (suc k) 0 ≡ y)
 adjacent_at n xs x y k p a within here =
@@ -34,7 +34,7 @@ adjacent_at n xs x y k p a within here =
       ]
     ]
 
--- what is left of the order are places
+-- the rest of the order consists of positions
 pub rest_within : (levels xs : List ℕ) (start : ℕ) → xs ≡ drop start (order_of levels) → AreWithin (length levels) xs
 rest_within levels xs start is k below =
     let order : List ℕ = order_of levels in
@@ -42,7 +42,7 @@ rest_within levels xs start is k below =
     let at : get_or xs k 0 ≡ get_or order (start + k) 0 = ap (λ (zs : List ℕ). get_or zs k 0) is ∙ get_or-drop start order k 0 in
     omega (arith, at, p.within (start + k) (omega (arith, below, ap length is, length-drop start order, p.sizes)))
 
--- a mark at the same, odd level as the character before it stands directly left of this one
+-- a mark at the same odd level as the character before it is directly left of this one
 pub mark_stands : (classes : List BidiClass) (levels : List ℕ) (k i : ℕ) → k < length levels → get_or (order_of levels) k 0 ≡ suc i
     → precedes_mark classes levels i ≡ true → (suc k < length levels) × (get_or (order_of levels) (suc k) 0 ≡ i)
 mark_stands classes levels k i within here some =
@@ -105,7 +105,7 @@ module _ (classes : List BidiClass) (levels : List ℕ) where
       base_of (get_or xs k 0) next (are.bound k (omega (arith, e)))
       ∙ ap₂ (λ (m b : Bool). not m || b) marked (unbased xs n d (k + 1) are mark free (omega (arith, e)))
 
-  -- the last place that is reached has none
+  -- the last position that is reached has none
   free_of : (start : ℕ) (xs : List ℕ) (n z : ℕ) → xs ≡ drop start (order_of levels) → AreBound classes levels xs n → get_or xs n 0 ≡ z
       → has_base classes levels z ≡ false
   free_of start xs n zero is are here = refl
@@ -157,7 +157,7 @@ stayed test (x ∷ xs) (suc n) within fails =
     ∙ ap (λ zs. x ∷ zs) (stayed test xs n (omega (arith, within)) (λ k h. fails (suc k) (omega (arith, h))))
 
 module _ (classes : List BidiClass) (levels : List ℕ) (start : ℕ) (xs : List ℕ) (n : ℕ) (is : xs ≡ drop start (order_of levels)) (are : AreBound classes levels xs n) where
-  -- places that are bound to a base
+  -- positions that are bound to a base
   pub group_reversed : is_mark_at classes (get_or xs n 0) ≡ false
       → reverse_with_next (has_base classes levels) [] xs ≡ reverse (take (suc n) xs) ++ reverse_with_next (has_base classes levels) [] (drop (suc n) xs)
   group_reversed plain =
@@ -194,9 +194,9 @@ module _ (classes : List BidiClass) (levels : List ℕ) (start : ℕ) (xs : List
       marks_stay mark ∙ ap (λ k. take k xs ++ done (drop k xs)) (sym (add-one n))
       ∙ ap (λ zs. take (n + 1) zs ++ done (drop (n + 1) xs)) (sym same)
 
--- ---- the walk
+-- ---- the scan
 
--- what is known at a place: what stands before it is done, and what is left is as it was
+-- what is known at an index: what is before it is done, and the rest is unchanged
 pub record Grouped (test : ℕ → Bool) (old current : List ℕ) (start : ℕ) : Type 0 where
   pub sizes : length current ≡ length old
   pub rest : drop start current ≡ drop start old
@@ -224,7 +224,7 @@ Grouped-next test old current ys new start n w within is sizes rest done =
           ∙ w.done;
     }
 
--- the same where a part of the list is written
+-- the same if a part of the list is written
 pub Grouped-part : (test : ℕ → Bool) (old current part ys : List ℕ) (start n : ℕ) → Grouped test old current start → start ≤ length current
     → part ≡ drop start current → length ys ≡ length part → drop n ys ≡ drop n part
     → reverse_with_next test [] part ≡ take n ys ++ reverse_with_next test [] (drop n part)

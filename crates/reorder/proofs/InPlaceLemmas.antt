@@ -1,4 +1,4 @@
--- Intervals of an array reversed where they stand, and the order of L2 that comes of it.
+-- Intervals of an array reversed in place give the order of L2.
 use Rattle.std.proofs.Common.{◌≡◌, ℕ, zero, suc, ◌+◌, ◌-◌, ◌<◌, ◌≤◌, Bool, true, false, if◌then◌else◌, List, [], ◌∷◌, ◌++◌, length}
 use Rattle.std.proofs.Common.{get_or, map, take, drop, replicate, reverse, Some, refl, sym, ap, subst, ◌∙◌, inl, inr, arith, add-one, append_assoc}
 use Rattle.std.specs.Prelude.{nat_le}
@@ -13,16 +13,16 @@ use borrow.Rule.Slice.PartMut.{put_mid, same_len_mid}
 use Rattle.reorder.specs.Order.{highest, is_at_least, lowest_odd, order_by, order_of, places, reverse_runs, reversed_from}
 use Rattle.reorder.specs.InPlace.{flags_at, reverse_flagged}
 
--- ---- an array, and a list of places
+-- ---- an array, and a list of positions
 
--- the flags are what a test says of the items
+-- the flags are the results of a test
 runs_flagged : (test : ℕ → Bool) (run xs : List ℕ) → reverse_runs test run xs ≡ reverse_flagged (map test xs) run xs
 runs_flagged test run [] = refl
 runs_flagged test run (x ∷ xs) =
     ap (λ (front : List ℕ). if test x then front else run ++ x ∷ reverse_runs test [] xs) (runs_flagged test (x ∷ run) xs)
     ∙ ap (λ (back : List ℕ). if test x then reverse_flagged (map test xs) (x ∷ run) xs else run ++ x ∷ back) (runs_flagged test [] xs)
 
--- what stands at the places of an array is reversed as the places are
+-- the items of an array are reversed as their positions are
 map_flagged : (f : ℕ → ℕ) (flags : List Bool) (run xs : List ℕ) → map f (reverse_flagged flags run xs) ≡ reverse_flagged flags (map f run) (map f xs)
 map_flagged f [] run xs = refl
 map_flagged f (flag ∷ flags) run [] = refl
@@ -79,9 +79,9 @@ module _ (levels : List ℕ) where
 get_or_first : (xs : List ℕ) (start : ℕ) → get_or xs start 0 ≡ get_or (drop start xs) 0 0
 get_or_first xs start = sym (get_or-drop start xs 0 0 ∙ ap (λ n. get_or xs n 0) (omega arith))
 
--- ---- the walk over one level
+-- ---- the scan for one level
 
--- the first n flags are set, and the one after them is not: they are an interval, after what is reversed already of it
+-- the first n flags are set, and the next one is not: they are an interval, after what is already reversed
 interval : (test : ℕ → Bool) (levels run xs : List ℕ) (n : ℕ) → length levels ≡ length xs → n ≤ length levels
     → ((k : ℕ) → k < n → test (get_or levels k 0) ≡ true) → (n < length levels → test (get_or levels n 0) ≡ false)
     → reverse_flagged (map test levels) run xs ≡ reverse (take n xs) ++ run ++ reverse_flagged (map test (drop n levels)) [] (drop n xs)
@@ -100,7 +100,7 @@ interval test (l ∷ levels) run (x ∷ xs) (suc n) sizes within passes stops =
     ∙ ap (λ (front : List ℕ). front ++ rest) (sym (append_assoc (reverse (take n xs)) (x ∷ []) run))
     ∙ ap (λ (front : List ℕ). front ++ run ++ rest) (sym (reverse-append (x ∷ []) (take n xs)))
 
--- what the walk over an array knows at a place: the intervals before it are reversed, and what is left is as it was
+-- what the scan of an array knows at an index: the intervals before it are reversed, and the rest is unchanged
 pub record Flagged (test : ℕ → Bool) (levels old current : List ℕ) (start : ℕ) : Type 0 where
   pub sizes : length current ≡ length old
   pub rest : drop start current ≡ drop start old
@@ -138,7 +138,7 @@ Flagged-next test levels old current ys start n k next w same inside found e is 
           ∙ w.done;
     }
 
--- past one place that is in none
+-- past one index that is in none
 pub Flagged-skip : (test : ℕ → Bool) (levels old current : List ℕ) (start next : ℕ) → Flagged test levels old current start → length levels ≡ length old
     → start < length levels → test (get_or levels start 0) ≡ false → next ≡ start + 1 → Flagged test levels old current next
 Flagged-skip test levels old current start next w same inside failed past =

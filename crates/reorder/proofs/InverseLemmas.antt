@@ -1,4 +1,4 @@
--- Places in another order, and where each of them stands there.
+-- A permutation of positions, and its inverse.
 use Rattle.std.proofs.Common.{◌≡◌, ℕ, zero, suc, ◌+◌, ◌<◌, ◌≤◌, ◌==◌, Bool, cond, List, length, get_or, set, take, drop, map, refl, sym, ap, ◌∙◌, inl, inr, arith}
 use Rattle.std.specs.List.{count_by, position_or_len, range_with_len, Contains}
 use Rattle.std.specs.List.Sorted.{IsPermutation}
@@ -11,7 +11,7 @@ use Rattle.ucd.specs.declared.bidi_class.BidiClass.{BidiClass}
 use Rattle.reorder.specs.Order.{ltov_of, vtol_of, AreInverse}
 use Rattle.reorder.proofs.OrderLemmas.{permuted_within, vtol_permutes}
 
--- one, for a place that is k
+-- one, for a position that is k
 abbrev one : ℕ → ℕ → ℕ
 one k x = cond (x == k) 1 0
 
@@ -34,7 +34,7 @@ once a (suc n) k =
           omega (arith, sum_by-cons (one k) a (range_with_len (a + 1) n), first, once (a + 1) n k)
     ]
 
--- a number that stands at two indexes is there twice
+-- a number at two indices occurs twice
 twice : (xs : List ℕ) (i j k : ℕ) → i < j → j < length xs → get_or xs i 0 ≡ k → get_or xs j 0 ≡ k → 2 ≤ count_by (λ x. x == k) xs
 twice xs i j k before within here there =
     let front : length (take j xs) ≡ j = length-take-le j xs (omega arith) in
@@ -51,7 +51,7 @@ twice xs i j k before within here there =
       get_or-le-sum_by (one k) (drop j xs) 0 0 (omega (arith, length-drop j xs)),
     )
 
--- the places below n in another order: each stands at one index
+-- a permutation of the positions below n: each is at one index
 pub record ArePlaces (n : ℕ) (vtol : List ℕ) : Type 0 where
   pub sizes : length vtol ≡ n
   pub within : (k : ℕ) → k < n → get_or vtol k 0 < n
@@ -77,7 +77,7 @@ permuted_places n vtol p =
           (found.0, omega (arith, found.1), sym (get_or_default vtol found.0 k 0 found.1) ∙ found.2);
     }
 
--- where the first k of them stand
+-- the indices of the first k of them
 pub record Placed (vtol ltov : List ℕ) (k : ℕ) : Type 0 where
   pub sizes : length ltov ≡ length vtol
   pub done : (m : ℕ) → m < k → get_or ltov (get_or vtol m 0) 0 ≡ m
@@ -100,7 +100,7 @@ Placed-next n vtol ltov k p w within =
       ];
     }
 
--- at the end each place stands where the list says
+-- at the end, each position is where the list says
 at_place : (n : ℕ) (vtol ltov : List ℕ) (k i j : ℕ) → Placed vtol ltov k → n ≤ k → i < n → get_or vtol i 0 ≡ j → get_or ltov j 0 ≡ i
 at_place n vtol ltov k i j w past within here = ap (λ m. get_or ltov m 0) (sym here) ∙ w.done i (omega arith)
 
@@ -116,7 +116,7 @@ Placed-inverse n vtol ltov k p w past = record {
   at_vtol = λ j h. w.done j (omega arith);
 }
 
--- the first index of a place is the one at which it stands
+-- the first index of a position is its only one
 first_at : (n : ℕ) (vtol : List ℕ) (i j : ℕ) → ArePlaces n vtol → i < n → get_or vtol i 0 ≡ j → position_or_len (λ x. x == j) vtol ≡ i
 first_at n vtol i j p within here =
     position_or_len_is (λ x. x == j) vtol i 0 (omega (arith, p.sizes))
@@ -136,7 +136,7 @@ Placed-positions n vtol ltov k p w past =
     ∙ sym (first_at n vtol there.0 j p there.1 there.2)
     ∙ sym (get_or-map-range_with_len position 0 n j j d within (omega arith)))
 
--- the first indexes of the places are where they stand
+-- the first indices of the positions are their indices
 pub first_positions : (n : ℕ) (vtol : List ℕ) → ArePlaces n vtol → Placed vtol (map (λ j. position_or_len (λ x. x == j) vtol) (range_with_len 0 n)) n
 first_positions n vtol p =
     let position = λ (j : ℕ). position_or_len (λ x. x == j) vtol in

@@ -1,4 +1,4 @@
--- What a walk over levels finds: the highest one, and the lowest odd one.
+-- What a scan of levels finds: the highest one, and the lowest odd one.
 use Rattle.std.proofs.Common.{◌≡◌, ℕ, zero, suc, ◌+◌, ◌%◌, ◌<◌, ◌≤◌, ◌==◌, min, max, Bool, true, false, ◌&&◌, ◌||◌, if◌then◌else◌}
 use Rattle.std.proofs.Common.{List, length, get_or, take, Option, Some, None, unwrap_or, IfSome, refl, sym, ap, subst, ◌∙◌, inl, inr, arith}
 use Rattle.std.specs.List.{list_any}
@@ -24,7 +24,7 @@ least_none p low zero fails = refl
 least_none p low (suc count) fails =
     cond-false (p low) (Some low) (least p (suc low) count) (fails low) ∙ least_none p (suc low) count fails
 
--- the lowest odd level of a list, where no level is above `top`
+-- the lowest odd level of a list whose levels are at most `top`
 pub record IsLow (levels : List ℕ) (top low : ℕ) : Type 0 where
   pub found : has_odd levels low ≡ true
   pub first : (m : ℕ) → m < low → has_odd levels m ≡ false
@@ -36,7 +36,7 @@ abbrev pub IsLowest : List ℕ → ℕ → Option ℕ → Type 0
 IsLowest levels top None = (m : ℕ) → has_odd levels m ≡ false
 IsLowest levels top (Some low) = IsLow levels top low
 
--- what the walk knows at a place
+-- what the scan knows at an index
 pub record Extremes (levels : List ℕ) (k top : ℕ) (lowest : Option ℕ) : Type 0 where
   pub top_is : top ≡ highest (take k levels)
   pub lowest_is : IsLowest (take k levels) top lowest
@@ -145,7 +145,7 @@ Extremes-next levels k top next lowest after w within most is =
       ];
     }
 
--- at the end of the walk
+-- at the end of the scan
 pub record Found (levels : List ℕ) (top : ℕ) (lowest : Option ℕ) : Type 0 where
   pub top_is : top ≡ highest levels
   pub lowest_is : lowest ≡ lowest_odd levels
@@ -165,7 +165,7 @@ Extremes-end levels k top lowest w past =
     let whole : take k levels ≡ levels = take_all k levels past in
     is_least levels top lowest (w.top_is ∙ ap highest whole) (subst (λ (xs : List ℕ). IsLowest xs top lowest) whole w.lowest_is)
 
--- ---- the same by a number and whether it counts: the greatest number stands for a level that does not
+-- ---- the same by a number and whether it counts: 255 represents a level that does not
 
 abbrev pub lowest_by : Bool → ℕ → Option ℕ
 lowest_by any low = if any then Some low else None
@@ -198,7 +198,7 @@ Reduced-next levels k top next any more low after w within fits most adds is =
       small = omega (arith, is, w.small);
     }
 
--- where no level is odd
+-- if no level is odd
 pub all_even : (levels : List ℕ) (k top : ℕ) (lowest : Option ℕ) → Extremes levels k top lowest → length levels ≤ k → lowest ≡ None
     → (i : ℕ) → i < length levels → is_odd (get_or levels i 0) ≡ false
 all_even levels k top lowest w past none i within =

@@ -1,4 +1,4 @@
--- In L2's order two neighbours of a line that are at the same, odd level stand next to one another, the second one first.
+-- In L2's order, two adjacent characters of a line at the same odd level are adjacent, the second one first.
 use Rattle.std.proofs.Common.{◌≡◌, ℕ, zero, suc, ◌+◌, ◌-◌, ◌%◌, ◌/◌, ◌<◌, ◌≤◌, ◌==◌, max, Bool, true, false, not, List, []}
 use Rattle.std.proofs.Common.{◌∷◌, ◌++◌, length, get_or, Option, Some, None, refl, sym, ap, subst, ◌∙◌, inl, inr, arith, append_assoc, zero-add}
 use Rattle.std.specs.List.{fold, list_any, range_with_len}
@@ -7,7 +7,7 @@ use Rattle.std.proofs.lemmas.List.{get_or_past}
 use Rattle.ucd.specs.Least.{least}
 use Rattle.reorder.specs.Order.{has_odd, highest, is_at_least, is_odd, lowest_odd, order_by, order_of, places, reverse_runs, reversed_from}
 
--- two items stand next to one another
+-- two items are adjacent
 pub record Adjacent (x y : ℕ) (xs : List ℕ) : Type 0 where
   pub front : List ℕ
   pub back : List ℕ
@@ -22,7 +22,7 @@ after ys xs x y a = record {
 
 -- ---- one level
 
--- what stands next to one another in an interval under way stays so
+-- adjacent items of the current interval stay adjacent
 inside : (test : ℕ → Bool) (ys run back : List ℕ) (x y : ℕ) → Adjacent y x (reverse_runs test (ys ++ y ∷ x ∷ run) back)
 inside test ys run [] x y = record { front = ys; back = run; is = refl }
 inside test ys run (b ∷ back) x y =
@@ -87,7 +87,7 @@ pass_lies : (b : Bool) (test : ℕ → Bool) (xs : List ℕ) (x y : ℕ) → Lie
 pass_lies true test xs x y a px py = pass_turns test xs y x a py px
 pass_lies false test xs x y a px py = pass_turns test xs x y a px py
 
--- whether turned, after so many times
+-- whether reversed, after n times
 abbrev is_turned : ℕ → Bool
 is_turned zero = false
 is_turned (suc n) = not (is_turned n)

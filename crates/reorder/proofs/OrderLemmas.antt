@@ -45,13 +45,13 @@ first test xs n found =
     (λ h. rw found (prefix_len_stops test xs 0 (rw (← found) h)))
     ∙ ap (λ zs. zs ++ take 1 (drop n xs) ++ reverse_runs test [] (drop (suc n) xs)) (append-nil (reverse (take n xs)))
 
--- what a walk over a list knows at a place: the intervals before it are reversed, and what is left is as it was
+-- what a scan of a list knows at an index: the intervals before it are reversed, and the rest is unchanged
 pub record Reversed (test : ℕ → Bool) (old current : List ℕ) (start : ℕ) : Type 0 where
   pub sizes : length current ≡ length old
   pub rest : drop start current ≡ drop start old
   pub done : take start current ++ reverse_runs test [] (drop start old) ≡ reverse_runs test [] old
 
--- past the interval that begins there, which may be empty, and the item after it
+-- past the interval that starts there, which may be empty, and the item after it
 pub Reversed-next : (test : ℕ → Bool) (old current ys : List ℕ) (start n k : ℕ) → Reversed test old current start → start < length current
     → n ≡ prefix_len test (drop start current) → k ≡ n → ys ≡ reverse (take k (drop start current))
     → Reversed test old (put_mid start k current ys) (start + (n + 1))
@@ -162,7 +162,7 @@ pub order_of_permutes : (levels : List ℕ) → IsPermutation (places levels) (o
 unfolding order_of
 order_of_permutes levels = by_permutes levels (lowest_odd levels)
 
--- reversing intervals together with what stands after them moves items alone
+-- reversing intervals together with the item after them only moves items
 pub with_next_permutes : (test : ℕ → Bool) (run xs : List ℕ) → IsPermutation (run ++ xs) (reverse_with_next test run xs)
 with_next_permutes test run [] = subst (λ (ys : List ℕ). IsPermutation ys run) (sym (append-nil run)) (IsPermutation-refl run)
 with_next_permutes test run (x ∷ xs) =
@@ -187,7 +187,7 @@ vtol_permutes true classes levels =
     IsPermutation-trans (places levels) (order_of levels) (reverse_with_next (has_base classes levels) [] (order_of levels)) (order_of_permutes levels)
     (with_next_permutes (has_base classes levels) [] (order_of levels))
 
--- places in another order are places
+-- a permutation of positions consists of positions
 pub permuted_within : (n : ℕ) (xs : List ℕ) → IsPermutation (range_with_len 0 n) xs → (k : ℕ) → k < length xs → get_or xs k 0 < n
 permuted_within n xs p k within =
     All-permutation (λ x. x < n) (range_with_len 0 n) xs p
@@ -196,7 +196,7 @@ permuted_within n xs p k within =
     omega (arith, get_or-range_with_len 0 n j d short))
     k 0 within
 
--- places in another order are as low
+-- a permutation has the same bound
 pub permuted_below : (n : ℕ) (xs ys : List ℕ) → IsPermutation xs ys → AreWithin n xs → AreWithin n ys
 permuted_below n xs ys p within k short =
     All-permutation (λ x. x < n) xs ys p (λ j d inside. omega (arith, within j inside, get_or_default xs j d 0 inside)) k 0 short

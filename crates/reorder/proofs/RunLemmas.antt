@@ -1,4 +1,4 @@
--- L2 on level runs, each named by the place that it begins at, is L2 on characters.
+-- L2 on level runs, each named by its start, is L2 on characters.
 use Rattle.std.proofs.Common.{◌≡◌, ℕ, zero, suc, ◌+◌, ◌-◌, ◌%◌, ◌<◌, ◌≤◌, ◌==◌, max, Bool, true, false, List, [], ◌∷◌, ◌++◌, length}
 use Rattle.std.proofs.Common.{◌≡◌, ℕ, zero, suc, ◌+◌, ◌-◌, ◌%◌, ◌<◌, ◌≤◌, ◌==◌, nat_le, max, min, Bool, true, false, List, [], ◌∷◌, ◌++◌, length}
 use Rattle.std.proofs.Common.{get_or, set, map, take, drop, reverse, Option, Some, None, unwrap_or, if◌then◌else◌}
@@ -24,7 +24,7 @@ use Rattle.reorder.specs.Order.{has_odd, highest, is_at_least, is_odd, lowest_od
 use Rattle.reorder.proofs.LevelLemmas.{Extremes, Extremes-next}
 use Rattle.reorder.proofs.OrderLemmas.{reversed_permute}
 
--- ---- a test with one answer at all of some places
+-- ---- a test with the same result at several positions
 
 abbrev Each : (ℕ → Bool) → Bool → List ℕ → Type 0
 Each test b [] = Unit {0}
@@ -227,7 +227,7 @@ least_is p low (suc count) k is =
           )
     ]
 
--- where a number passes there is one
+-- if a number passes, one is found
 least_some : (p : ℕ → Bool) (low count k : ℕ) → low ≤ k → k < low + count → p k ≡ true → least p low count ≡ None → ⊥
 least_some p low zero k from to here none = absurd (omega arith)
 least_some p low (suc count) k from to here none =
@@ -309,7 +309,7 @@ module _ (levels : List ℕ) where
   by_places None = refl
   by_places (Some low) = refl
 
-  -- characters are put in order as runs are
+  -- characters are ordered as runs are
   pub places_in_order : turned levels (places levels) ≡ order_of levels
   unfolding turned order_of
   places_in_order = by_places (lowest_odd levels)
@@ -325,7 +325,7 @@ module _ (levels : List ℕ) where
   pub length-turned : (items : List ℕ) → length (turned levels items) ≡ length items
   length-turned items = length_permutation items (turned levels items) (turned_permutes items)
 
--- ---- the walk that finds the runs
+-- ---- the scan that finds the runs
 
 range_append : (a n m : ℕ) → range_with_len a n ++ range_with_len (a + n) m ≡ range_with_len a (n + m)
 range_append a zero m = ap₂ range_with_len (omega arith) (omega arith)
@@ -341,7 +341,7 @@ within_more n s (x ∷ xs) within below zero short = within zero (omega arith)
 within_more n s (x ∷ xs) within below (suc k) short =
     within_more n s xs (λ j inside. within (suc j) (omega arith)) below k (omega arith)
 
--- of the characters before a place the runs are found, and begin there
+-- the runs of the characters before an index are found, and start there
 pub record RunsFound (levels items : List ℕ) (count start : ℕ) : Type 0 where
   pub few : count ≤ start
   pub within : start ≤ length levels
@@ -383,7 +383,7 @@ RunsFound-end levels items count start w past =
     let e : start ≡ length levels = omega (arith, w.within) in
     w.runs ∙ ap (range_with_len 0) e
 
--- ---- the walk that writes their places, from the last one on
+-- ---- the loop that writes their positions, from the last one on
 
 length-run_shown : (levels : List ℕ) (s : ℕ) → length (run_shown levels s) ≡ level_run_len levels s
 length-run_shown levels s =
@@ -394,19 +394,19 @@ length-run_shown levels s =
           ∙ length-range_with_len s (level_run_len levels s)
     ]
 
--- a list of its length, counted from where it begins
+-- a list of its length, counted from where it starts
 pub is_run_shown : (levels xs : List ℕ) (s n len : ℕ) → n ≡ len → len ≡ level_run_len levels s
     → xs ≡ (if is_odd (get_or levels s 0) then reverse (range_with_len s n) else range_with_len s n) → xs ≡ run_shown levels s
 is_run_shown levels xs s n len e len_is is =
     is ∙ ap (λ (m : ℕ). if is_odd (get_or levels s 0) then reverse (range_with_len s m) else range_with_len s m) (e ∙ len_is)
 
--- as many places as runs, and more
+-- at least as many positions as runs
 runs_few : (levels starts : List ℕ) → length starts ≤ length (flat_map (run_shown levels) starts)
 runs_few levels [] = omega arith
 runs_few levels (s ∷ starts) =
     omega (arith, length-append (run_shown levels s) (flat_map (run_shown levels) starts), length-run_shown levels s, runs_few levels starts)
 
--- the places of the runs from the `left`-th on stand from a place on to the list's end, and before them what was there
+-- the positions of the runs from the `left`-th on are at the end of the list, and what precedes them is unchanged
 pub record RunsLaid (levels starts old current : List ℕ) (left end : ℕ) : Type 0 where
   pub sizes : length current ≡ length old
   pub below : left ≤ length starts
@@ -517,7 +517,7 @@ module _ (levels : List ℕ) (level s : ℕ) where
             ap (same_len levels level s) none
       ]
 
--- what a walk along a run knows at a place
+-- what a scan of a run knows at an index
 pub record AlongRun (levels : List ℕ) (start level «end» : ℕ) : Type 0 where
   pub above : start < «end»
   pub within : «end» ≤ length levels
@@ -550,7 +550,7 @@ AlongRun-end levels start level «end» w other =
 
 -- ---- the characters of a run
 
--- two functions of a place that agree where a run's level stands
+-- two functions of a position that agree at a run's level
 module _ (levels : List ℕ) (f g : ℕ → ℕ) where
   map_same : (level s count : ℕ) → ((i : ℕ) → get_or levels i 0 ≡ level → f i ≡ g i)
       → map f (range_with_len s (same_len levels level s count)) ≡ map g (range_with_len s (same_len levels level s count))
@@ -568,7 +568,7 @@ module _ (levels : List ℕ) (f g : ℕ → ℕ) where
   map_run : (s : ℕ) → ((i : ℕ) → get_or levels i 0 ≡ get_or levels s 0 → f i ≡ g i) → map f (run_at levels s) ≡ map g (run_at levels s)
   map_run s same = ap₂ (λ (x : ℕ) (xs : List ℕ). x ∷ xs) (same s refl) (map_same (get_or levels s 0) (s + 1) (length levels - (s + 1)) same)
 
--- the characters at places that follow one another
+-- the characters at consecutive positions
 map_places : (f : ℕ → ℕ) (xs : List ℕ) (s n : ℕ) → s + n ≤ length xs → map (λ i. f (get_or xs i 0)) (range_with_len s n) ≡ map f (take n (drop s xs))
 map_places f xs s zero within = refl
 map_places f xs s (suc n) within =
@@ -692,7 +692,7 @@ RunsWritten-end t levels line runs chars k at w past =
 
 -- ---- the highest level and the lowest odd one, run by run
 
--- the level of a run's places
+-- the level of a run's positions
 same_at : (levels : List ℕ) (level s count j : ℕ) → j < same_len levels level s count → get_or levels (s + j) 0 ≡ level
 same_at levels level s zero j inside = absurd (omega arith)
 same_at levels level s (suc count) j inside =

@@ -1,4 +1,4 @@
--- A base and its marks stand next to one another in the visual order of a line.
+-- A base and its marks are adjacent in the visual order of a line.
 use Rattle.std.proofs.Common.{◌≡◌, ℕ, zero, suc, ◌+◌, ◌-◌, ◌<◌, ◌≤◌, ◌==◌, Bool, true, false, ◌&&◌, ◌||◌, not, List, []}
 use Rattle.std.proofs.Common.{◌∷◌, ◌++◌, length, get_or, take, drop, reverse, refl, sym, ap, subst, ◌∙◌, inl, inr, arith, append_assoc}
 use Rattle.std.proofs.lemmas.Bool.{and_from, and_left, and_parts, both_ways, cases_Bool, cases_lt, cond-true, cond-false, eq-eqb, eqb-true, or_left, or_right}
@@ -13,7 +13,7 @@ use Rattle.reorder.proofs.GroupLemmas.{mark_stands, reversed}
 use Rattle.reorder.proofs.InverseLemmas.{permuted_places, ArePlaces}
 use Rattle.reorder.proofs.OrderLemmas.{length-order, order_of_permutes, with_next_permutes}
 
--- ---- a list is done in two parts where the first one ends with an item that fails
+-- ---- a list can be done in two parts if the first one ends with an item that fails
 
 abbrev EndsFailing : (ℕ → Bool) → List ℕ → Type 0
 EndsFailing test [] = ⊤
@@ -107,7 +107,7 @@ module _ (classes : List BidiClass) (levels : List ℕ) (base n : ℕ) (is : IsG
         absurd (both_ways (is_odd (get_or levels (base + n) 0)) (ap is_odd none) (level_at n (omega arith)))
   ]
 
-  -- where the last mark stands
+  -- where the last mark is
   start : ℕ
   start = (are.covers (base + n) in_line).0
 
@@ -127,7 +127,7 @@ module _ (classes : List BidiClass) (levels : List ℕ) (base n : ℕ) (is : IsG
       let place : start + suc k ≡ suc (start + k) = omega arith in
       (omega (arith, beside.0), ap (λ m. get_or (order_of levels) m 0) place ∙ beside.1)
 
-  -- what stands left of it is no mark that has a base
+  -- left of it there is no mark with a base
   front_free : (at z : ℕ) → suc at ≡ start → get_or (order_of levels) at 0 ≡ z → has_base classes levels z ≡ false
   front_free at zero e here = refl
   front_free at (suc i) e here =
@@ -219,7 +219,7 @@ first_stays test [] fails = refl
 first_stays test (x ∷ xs) fails =
     ap (λ (zs : List ℕ). get_or zs 0 0) (cond-false (test x) (reverse_with_next test (x ∷ []) xs) (x ∷ reverse_with_next test [] xs) fails)
 
--- what stands left of such a character is no mark that has a base
+-- left of such a character there is no mark with a base
 before_alone : (classes : List BidiClass) (levels : List ℕ) (k z : ℕ) → suc k < length levels → IsAlone classes levels (get_or (order_of levels) (suc k) 0)
     → get_or (order_of levels) k 0 ≡ z → has_base classes levels z ≡ false
 before_alone classes levels k zero within alone here = refl

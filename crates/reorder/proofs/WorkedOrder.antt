@@ -1,4 +1,4 @@
--- Rows of L1, L2 and L4, worked.
+-- Worked examples of L1, L2 and L4.
 use Rattle.std.proofs.Common.{◌≡◌, true, false, [], ◌∷◌, Some, None, unwrap_or, refl}
 use Rattle.ucd.specs.Tables.{mirror_of}
 use Rattle.ucd.specs.declared.bidi_class.BidiClass.TheVariants.{L, R, EN, NSM, S, B, WS, PDI, RLI, RLE, PDF}
@@ -7,7 +7,7 @@ use Rattle.reorder.specs.Mirroring.{visual_chars}
 use Rattle.reorder.specs.Order.{lowest_odd, ltov_of, order_of, vtol_of}
 use Rattle.reorder.specs.Spaces.{line_levels}
 
--- a space in the line keeps its level; one before a tab, and one at the end, with what stands between, does not
+-- a space inside the line keeps its level; one before a tab or at the end, and what is between, does not
 tab : line_levels 0 (R ∷ WS ∷ R ∷ WS ∷ PDI ∷ S ∷ R ∷ WS ∷ RLI ∷ PDF ∷ []) (1 ∷ 1 ∷ 1 ∷ 1 ∷ 1 ∷ 1 ∷ 1 ∷ 1 ∷ 1 ∷ 1 ∷ [])
     ≡ 1 ∷ 1 ∷ 1 ∷ 0 ∷ 0 ∷ 0 ∷ 1 ∷ 0 ∷ 0 ∷ 0 ∷ []
 tab = refl
@@ -64,7 +64,7 @@ lowest = refl
 no_odd : lowest_odd (2 ∷ 4 ∷ []) ≡ None
 no_odd = refl
 
--- a mark stands left of its base, and with the option right of it
+-- a mark is left of its base, and with the option right of it
 point : vtol_of false (R ∷ NSM ∷ R ∷ []) (1 ∷ 1 ∷ 1 ∷ []) ≡ 2 ∷ 1 ∷ 0 ∷ []
 unfolding vtol_of order_of
 point = refl
@@ -81,7 +81,7 @@ points_read : vtol_of true (R ∷ NSM ∷ NSM ∷ []) (1 ∷ 1 ∷ 1 ∷ []) ≡
 unfolding vtol_of order_of
 points_read = refl
 
--- at an even level it stands right of it anyway
+-- at an even level it is right of it in both cases
 digit_read : vtol_of true (R ∷ EN ∷ NSM ∷ []) (1 ∷ 2 ∷ 2 ∷ []) ≡ 1 ∷ 2 ∷ 0 ∷ []
 unfolding vtol_of order_of
 digit_read = refl

@@ -1,10 +1,10 @@
--- A base with its marks, where they stand in the visual order of a line, and what the walk over it finds of them.
+-- A base with its marks, their positions in visual order, and what the scan of a line finds of them.
 use Rattle.std.specs.Prelude.{◌≡◌, ◌≢◌, ℕ, suc, ◌+◌, ◌-◌, ◌<◌, ◌≤◌, ◌==◌, Bool, true, false, ◌&&◌, List, length, slice_index}
 use Rattle.ucd.specs.declared.bidi_class.BidiClass.{BidiClass}
 use Rattle.reorder.specs.Order.{has_base, is_mark_at, is_odd, vtol_of}
 
 module _ (classes : List BidiClass) (levels : List ℕ) where
-  -- a character at an odd level that is no mark, and all n marks after it that are at this level
+  -- a character at an odd level that is no mark, and all n marks after it at this level
   pub record IsGroup (base n : ℕ) : Type 0 where
     pub plain : is_mark_at classes base ≡ false
     pub odd : is_odd (slice_index levels base) ≡ true
@@ -12,24 +12,24 @@ module _ (classes : List BidiClass) (levels : List ℕ) where
     pub same : (k : ℕ) → k ≤ n → slice_index levels (base + k) ≡ slice_index levels base
     pub whole : is_mark_at classes (base + n + 1) ≡ true → slice_index levels (base + n + 1) ≢ slice_index levels base
 
-  -- They stand next to one another, by L2 from the last mark to the base, and with the option from the base to the last mark.
+  -- they are adjacent: by L2 from the last mark to the base, with the option from the base to the last mark
   pub record StandsTogether (base n : ℕ) : Type 0 where
     pub at : ℕ
     pub within : at + n < length levels
     pub reversed : (k : ℕ) → k ≤ n → slice_index (vtol_of false classes levels) (at + k) ≡ base + (n - k)
     pub read : (k : ℕ) → k ≤ n → slice_index (vtol_of true classes levels) (at + k) ≡ base + k
 
-  -- a character in no group: it has no base, and no mark has it as one
+  -- a character in no group: it is no mark with a base, and no base with a mark
   pub record IsAlone (place : ℕ) : Type 0 where
     pub no_base : has_base classes levels place ≡ false
     pub no_marks : has_base classes levels (suc place) ≡ false
 
-  -- a mark, and the character that it follows, both at the same, odd level
+  -- a mark, and the character before it, both at the same odd level
   abbrev pub is_bound : ℕ → ℕ → Bool
   is_bound place next =
       (next + 1 == place) && (is_mark_at classes place && (is_odd (slice_index levels next) && (slice_index levels place == slice_index levels next)))
 
-  -- each of the first n places of a list is bound to the next one, and the place after them is not
+  -- each of the first n positions of a list is bound to the next one, and the position after them is not
   pub record AreBound (items : List ℕ) (n : ℕ) : Type 0 where
     pub within : n < length items
     pub bound : (k : ℕ) → k < n → is_bound (slice_index items k) (slice_index items (k + 1)) ≡ true

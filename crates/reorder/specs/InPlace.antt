@@ -1,18 +1,18 @@
--- Items that are moved within their array by L2. Only the code cites these.
+-- Items that L2 moves within their array. Only the code uses these definitions.
 use Rattle.std.specs.Prelude.{◌≡◌, ℕ, ◌-◌, Bool, List, [], ◌∷◌, ◌++◌, ◌⊎◌, map, nat_le, if◌then◌else◌}
 use Rattle.ucd.specs.declared.bidi_class.BidiClass.{BidiClass}
 use Rattle.reorder.specs.Groups.{IsAlone, IsGroup}
 
--- an array with each maximal interval of places whose flag is set reversed; `run` is the interval under way, reversed
+-- an array with each maximal interval of items whose flag is set reversed; `run` is the current interval, reversed
 abbrev pub reverse_flagged : List Bool → List ℕ → List ℕ → List ℕ
 reverse_flagged [] run items = run
 reverse_flagged (flag ∷ flags) run [] = run
 reverse_flagged (flag ∷ flags) run (x ∷ items) = if flag then reverse_flagged flags (x ∷ run) items else run ++ x ∷ reverse_flagged flags [] items
 
--- the flags of the places at a level or a higher one
+-- the flags of the characters at a level or higher
 abbrev pub flags_at : ℕ → List ℕ → List Bool
 flags_at level levels = map (nat_le level) levels
 
--- a base and all its marks, or a character that is in no such group
+-- a base and all its marks, or a character in no such group
 abbrev pub IsChunk : List BidiClass → List ℕ → ℕ → ℕ → Type 0
 IsChunk classes levels start len = IsGroup classes levels start (len - 1) ⊎ ((len ≡ 1) × IsAlone classes levels start)

@@ -1,26 +1,26 @@
--- The level runs of a line, each named by the place that it begins at. Only the code speaks of these.
+-- The level runs of a line, each named by its start. Only the code uses these definitions.
 use Rattle.std.specs.Prelude.{ℕ, zero, suc, ◌+◌, ◌-◌, ◌==◌, List, length, reverse, slice_index, Option, Some, None, if◌then◌else◌}
 use Rattle.std.specs.List.{range_with_len}
 use Rattle.reorder.specs.Order.{highest, is_odd, lowest_odd, reversed_from}
 
 module _ (levels : List ℕ) where
-  -- how many of `count` characters from a place on are at a level, up to the first that isn't
+  -- how many of `count` characters from s on are at a level, up to the first that is not
   abbrev pub same_len : ℕ → ℕ → ℕ → ℕ
   same_len level s zero = zero
   same_len level s (suc count) = if slice_index levels s == level then suc (same_len level (s + 1) count) else zero
 
-  -- how many characters the run has that begins at a place
+  -- the length of the run that starts at s
   abbrev pub level_run_len : ℕ → ℕ
   level_run_len s = suc (same_len (slice_index levels s) (s + 1) (length levels - (s + 1)))
 
-  -- its places, in logical order and in visual order
+  -- its logical positions, in logical order and in visual order
   abbrev pub run_at : ℕ → List ℕ
   run_at s = range_with_len s (level_run_len s)
 
   abbrev pub run_shown : ℕ → List ℕ
   run_shown s = if is_odd (slice_index levels s) then reverse (run_at s) else run_at s
 
-  -- a list of places, with its intervals reversed for each level as L2 has it
+  -- a list with its intervals reversed for each level, as in L2
   abbrev pub turned_by : List ℕ → Option ℕ → List ℕ
   turned_by items None = items
   turned_by items (Some low) = reversed_from levels low (suc (highest levels) - low) items

@@ -1,9 +1,9 @@
--- Characters of a line that L1 passes over, where none after them takes the paragraph level. Only the code speaks of these.
+-- Characters of a line that L1 skips, since no character after them is reset. Only the code uses this definition.
 use Rattle.std.specs.Prelude.{◌≡◌, ℕ, ◌<◌, ◌≤◌, false, List}
 use Rattle.ucd.specs.declared.bidi_class.BidiClass.{BidiClass}
 use Rattle.ucd.specs.Classes.{class_at}
 use Rattle.reorder.specs.Spaces.{ends_segment}
 
--- none between two places is a separator
+-- there is no separator in a range
 abbrev pub AreNoEnds : List BidiClass → ℕ → ℕ → Type 0
 AreNoEnds classes start end_at = (k : ℕ) → start ≤ k → k < end_at → ends_segment (class_at classes k) ≡ false

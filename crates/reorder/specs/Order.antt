@@ -1,4 +1,4 @@
--- The visual order of a line's characters (UAX #9, L2), by their levels after L1, and with an option marks in reading order (L3).
+-- The visual order of a line's characters (UAX #9, L2 and, as an option, L3), by their levels after L1.
 use Rattle.std.specs.Prelude.{◌≡◌, ℕ, zero, suc, ◌-◌, ◌%◌, ◌<◌, nat_le, ◌==◌, max, Bool, false, ◌&&◌, ◌||◌, not, List, [], ◌∷◌, ◌++◌, length, map, fold, slice_index, Option, Some, None, if◌then◌else◌}
 use Rattle.std.specs.List.{list_any, position_or_len, range_with_len}
 use Rattle.ucd.specs.declared.bidi_class.BidiClass.{BidiClass}
@@ -6,7 +6,7 @@ use Rattle.ucd.specs.Classes.{class_at}
 use Rattle.ucd.specs.Least.{least}
 use Rattle.ucd.specs.Classes.{is_mark}
 
--- a list with each maximal interval of items that pass a test reversed; `run` is the interval under way, reversed
+-- a list with each maximal interval of items that pass a test reversed; `run` is the current interval, reversed
 abbrev pub reverse_runs : (ℕ → Bool) → List ℕ → List ℕ → List ℕ
 reverse_runs test run [] = run
 reverse_runs test run (i ∷ items) = if test i then reverse_runs test (i ∷ run) items else run ++ i ∷ reverse_runs test [] items
@@ -15,27 +15,27 @@ abbrev pub is_odd : ℕ → Bool
 is_odd level = level % 2 == 1
 
 module _ (levels : List ℕ) where
-  -- a character, by its place in the line, is at a level or a higher one
+  -- whether the i-th character is at a level or higher
   abbrev pub is_at_least : ℕ → ℕ → Bool
   is_at_least level i = nat_le level (slice_index levels i)
 
   abbrev pub highest : ℕ
   highest = fold max 0 levels
 
-  -- the lowest odd level that a character has
+  -- the lowest odd level of a character
   abbrev pub has_odd : ℕ → Bool
   has_odd level = is_odd level && list_any (λ other. other == level) levels
 
   abbrev pub lowest_odd : Option ℕ
   lowest_odd = least has_odd 0 (suc highest)
 
-  -- a list of places, for each of `count` levels with the maximal intervals at that level or a higher one reversed, from the
-  -- highest of these levels down to the lowest
+  -- a list with the maximal intervals at each of `count` levels or higher reversed, from the highest of these levels
+  -- down to `low`
   abbrev pub reversed_from : ℕ → ℕ → List ℕ → List ℕ
   reversed_from low zero items = items
   reversed_from low (suc count) items = reverse_runs (is_at_least low) [] (reversed_from (suc low) count items)
 
-  -- the places 0, 1, .. in the line
+  -- the logical positions 0, 1, ..
   abbrev pub places : List ℕ
   places = range_with_len 0 (length levels)
 
@@ -44,41 +44,41 @@ module _ (levels : List ℕ) where
   order_by None = places
   order_by (Some low) = reversed_from low (suc highest - low) places
 
--- L2: of each visual position, the place in the line
+-- L2: the logical position of each visual position
 unfoldable pub order_of : List ℕ → List ℕ
 order_of levels = order_by levels (lowest_odd levels)
 
--- a list with each maximal interval of items that pass a test reversed together with the item after it; `run` is the interval under
--- way, reversed
+-- a list with each maximal interval of items that pass a test reversed together with the item after it; `run` is the
+-- current interval, reversed
 abbrev pub reverse_with_next : (ℕ → Bool) → List ℕ → List ℕ → List ℕ
 reverse_with_next test run [] = run
 reverse_with_next test run (i ∷ items) = if test i then reverse_with_next test (i ∷ run) items else i ∷ (run ++ reverse_with_next test [] items)
 
--- by the classes that the characters of a line have in the tables
+-- by the classes of the tables
 abbrev pub is_mark_at : List BidiClass → ℕ → Bool
 is_mark_at classes i = is_mark (class_at classes i)
 
--- and by the levels of its shown part
+-- and by the levels of the shown part
 module _ (classes : List BidiClass) (levels : List ℕ) where
-  -- the character after this one is a mark, and both are at the same, odd level
+  -- the next character is a mark, and both are at the same odd level
   abbrev pub precedes_mark : ℕ → Bool
   precedes_mark i = is_mark_at classes (suc i) && (is_odd (slice_index levels i) && (slice_index levels (suc i) == slice_index levels i))
 
-  -- A mark has a base if the character before it is at the same, odd level, and is no mark, or has a base too.
+  -- A mark has a base if the character before it is at the same odd level, and is no mark or has a base too.
   abbrev pub has_base : ℕ → Bool
   has_base zero = false
   has_base (suc i) = precedes_mark i && (not (is_mark_at classes i) || has_base i)
 
--- Of each visual position, the place in the line. In L2's order marks that have a base stand left of it, the last one first; with the
--- option this is reversed.
+-- The logical position of each visual position. In L2's order, marks with a base are to its left, the last one first.
+-- With the option this is reversed.
 unfoldable pub vtol_of : Bool → List BidiClass → List ℕ → List ℕ
 vtol_of reordernsm classes levels = if reordernsm then reverse_with_next (has_base classes levels) [] (order_of levels) else order_of levels
 
--- of each place in the line, the visual position
+-- the visual position of each logical position
 unfoldable pub ltov_of : Bool → List BidiClass → List ℕ → List ℕ
 ltov_of reordernsm classes levels = map (λ k. position_or_len (λ i. i == k) (vtol_of reordernsm classes levels)) (places levels)
 
--- each of two lists of numbers below n says where a number stands in the other
+-- each of two lists of numbers below n has the index of each number in the other
 pub record AreInverse (n : ℕ) (vtol ltov : List ℕ) : Type 0 where
   pub ltov_within : (k : ℕ) → k < n → slice_index ltov k < n
   pub vtol_within : (k : ℕ) → k < n → slice_index vtol k < n

@@ -1,4 +1,4 @@
--- The levels of a line after L1 (UAX #9, section 3.4), by the classes that its characters have in the tables.
+-- The levels of a line after L1 (UAX #9, section 3.4), by the classes of the tables.
 use Rattle.std.specs.Prelude.{ℕ, Bool, true, false, ◌&&◌, ◌||◌, List, [], ◌∷◌, if◌then◌else◌}
 use Rattle.ucd.specs.declared.bidi_class.BidiClass.{BidiClass}
 use Rattle.ucd.specs.declared.bidi_class.BidiClass.TheVariants.{B, S, WS}
@@ -11,18 +11,18 @@ ends_segment S = true
 ends_segment B = true
 ends_segment class = false
 
--- whitespace, isolate initiators, PDI, and the classes that X9 takes out
+-- whitespace, isolate initiators, PDI, and the classes that X9 removes
 abbrev pub is_blank : BidiClass → Bool
 is_blank WS = true
 is_blank class = is_initiator class || is_pdi class || is_removed class
 
--- A line's first character has the paragraph level if it is a separator, or if it is blank, and only blanks stand after it up to
--- the next separator or the line's end.
+-- The first character gets the paragraph level if it is a separator. A blank gets it if only blanks are between it and
+-- the next separator or the end of the line.
 abbrev pub is_reset : List BidiClass → Bool
 is_reset [] = true
 is_reset (class ∷ classes) = ends_segment class || (is_blank class && is_reset classes)
 
--- the levels of a line, which had others before L1
+-- the levels of a line after L1
 abbrev pub line_levels : ℕ → List BidiClass → List ℕ → List ℕ
 line_levels base (class ∷ classes) (level ∷ levels) =
     (if is_reset (class ∷ classes) then base else level) ∷ line_levels base classes levels

@@ -1,7 +1,7 @@
 //! The order of a line's characters on a screen (UAX #9, section 3.4, L1 to L4).
 //!
 //! A caller that breaks lines itself takes the levels of a line from its paragraph (`bidi::resolve`). These
-//! calls reset some of them (L1), find the order of the line by them (L2, L3), and mirror characters (L4):
+//! calls reset some of them (L1), find the visual order (L2, L3), and mirror characters (L4):
 //!
 //! ```rust
 //! let line = TextClasses { tables, text };

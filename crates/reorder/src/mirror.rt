@@ -1,4 +1,4 @@
-//! The characters of a line in visual order, those at odd levels mirrored (UAX #9, L4).
+//! The characters of a line in visual order, mirrored at odd levels (UAX #9, L4).
 ghost use Rattle.std.specs.Prelude.{◌≡◌, length, map, reverse, if◌then◌else◌};
 ghost use Rattle.std.specs.List.{flat_map};
 ghost use Rattle.ucd.specs.Properties.{properties_of};
@@ -9,8 +9,8 @@ ghost use Rattle.reorder.specs.Mirroring.{mirrored, visual_chars};
 use crate::order::level_run_len;
 use ucd::{Properties, Tables};
 
-/// Writes the characters at the places of a line that `vtol` names, in that order. A character at an odd
-/// level is its mirror, if the tables have one.
+/// Writes the characters of a line at the logical positions `vtol`, in that order. A character at an odd
+/// level is replaced by its mirror, if it has one.
 pub fn visual_chars(
     tables: &Tables,
     line: &[char],
@@ -31,8 +31,8 @@ pub fn visual_chars(
     }
 }
 
-/// The same, by the places at which the level runs of the line begin, in visual order: a run from left to
-/// right is copied.
+/// Writes the characters of a line, whose level runs start at the logical positions `runs`, in visual order.
+/// Left-to-right runs are copied.
 pub fn visual_runs(
     tables: &Tables,
     line: &[char],
@@ -65,7 +65,7 @@ pub fn visual_runs(
     }
 }
 
-// Writes the characters of a run: one from right to left mirrored, the last one first.
+// Writes the characters of a run: those of a right-to-left run mirrored and in reverse order.
 fn visual_run(
     tables: &Tables,
     run: &[char],
@@ -88,7 +88,7 @@ fn visual_run(
     chars.reverse();
 }
 
-// A character at a level as it is shown.
+// Returns a character as it is shown at a level.
 fn mirrored(tables: &Tables, level: u8, c: char, properties: Properties) -> char
     requires { properties ≡ properties_of tables.now c }
     ensures { result ≡ mirrored tables.now level c }

@@ -1,4 +1,4 @@
-//! The visual order of one line (UAX #9, L2), and marks in reading order where they are asked for (L3).
+//! The visual order of one line (UAX #9, L2 and, as an option, L3).
 ghost use Rattle.std.specs.Prelude.{◌≡◌, ◌<◌, ◌≤◌, ◌==◌, ◌++◌, min, if◌then◌else◌};
 ghost use Rattle.std.specs.Prelude.{ℕ, Bool, true, false, List, [], length, map, take, drop, slice_index};
 ghost use Rattle.std.specs.Prelude.{unwrap_or, IfSome, None};
@@ -15,9 +15,9 @@ ghost use Rattle.reorder.specs.Order.{vtol_of, AreInverse};
 
 use ucd::{BidiClass, Classes};
 
-/// Orders a line, or a part of it, by the levels of its characters after L1: writes the place of each
-/// visual position to `vtol`, and the visual position of each place to `ltov`. With `reordernsm`, marks stand
-/// in reading order.
+/// Orders a line, or a first part of it, by the levels of its characters after L1. Writes the logical
+/// position of each visual position to `vtol`, and the visual position of each logical position to `ltov`.
+/// With `reordernsm`, applies L3 too.
 pub fn visual_order<C: Classes>(
     line: &C,
     levels: &[u8],
@@ -38,27 +38,29 @@ pub fn visual_order<C: Classes>(
     invert(vtol, ltov);
 }
 
-/// The two maps of a line are inverse, whatever its classes and levels are: a law, which takes no time.
+/// States, as a theorem, that the two maps of a line are inverse, for any classes and levels. Costs nothing
+/// at run time.
 pub fn maps_are_inverse()
     ensures { (reordernsm : Bool) (classes : List BidiClass) (levels : List ℕ) → AreInverse (length levels)
         (vtol_of reordernsm classes levels) (ltov_of reordernsm classes levels) }
 {}
 
-/// A base at an odd level and its marks stand next to one another, with the option in reading order and else
-/// the other way round: a law, which takes no time.
+/// States, as a theorem, that a base at an odd level and its marks are adjacent: in logical order with the
+/// option, in reverse order without it. Costs nothing at run time.
 pub fn groups_stand_together()
     ensures { (classes : List BidiClass) (levels : List ℕ) (base n : ℕ)
         → IsGroup classes levels base n → StandsTogether classes levels base n }
 {}
 
-/// What is in no such group stands where it does without the option: a law, which takes no time.
+/// States, as a theorem, that all other characters are where they are without the option. Costs nothing at
+/// run time.
 pub fn others_stay()
     ensures { (classes : List BidiClass) (levels : List ℕ) (k : ℕ) → k < length levels
         → IsAlone classes levels (slice_index (vtol_of false classes levels) k)
         → slice_index (vtol_of true classes levels) k ≡ slice_index (vtol_of false classes levels) k }
 {}
 
-/// Writes 0, 1, and so on.
+/// Writes 0, 1, 2 and so on.
 pub fn identity(items: &mut [u32])
     requires { length items.old ≤ u32.MAX }
     ensures { items.new ≡ range_with_len 0 (length items.old) }
@@ -66,7 +68,7 @@ pub fn identity(items: &mut [u32])
     count_from(0, items);
 }
 
-// Writes a place, the one after it, and so on.
+// Writes `start`, `start + 1` and so on.
 fn count_from(start: u32, items: &mut [u32])
     requires { start + length items.old ≤ u32.MAX }
     ensures { items.new ≡ range_with_len start (length items.old) }
@@ -76,7 +78,7 @@ fn count_from(start: u32, items: &mut [u32])
     }
 }
 
-/// Writes the places of a line in visual order.
+/// Writes the logical position of each visual position of a line.
 pub fn visual_places<C: Classes>(line: &C, levels: &[u8], reordernsm: bool, vtol: &mut [u32])
     requires line { length levels.now ≤ length (C.all line.now) }
     requires vtol { length vtol.old ≡ length levels.now }
@@ -90,7 +92,7 @@ pub fn visual_places<C: Classes>(line: &C, levels: &[u8], reordernsm: bool, vtol
     }
 }
 
-// Writes the places of a line in the order of L2.
+// Writes the logical position of each visual position by L2.
 fn order_places(levels: &[u8], vtol: &mut [u32])
     requires vtol { length vtol.old ≡ length levels.now }
     requires limit { length levels.now ≤ u32.MAX }
@@ -101,9 +103,9 @@ fn order_places(levels: &[u8], vtol: &mut [u32])
     }
 }
 
-/// Writes where each level run of a line begins, in visual order, to the front of a list, and says how many
-/// runs there are: so the rule moves runs, and not characters. Where most runs are of one character it writes
-/// all places in that order, and says nothing.
+/// Writes where each level run of a line starts, in visual order, to the front of a list, and returns the
+/// number of runs. So L2 moves runs, not characters. If most runs have one character, writes the logical
+/// positions of all characters in visual order instead, and returns `None`.
 pub fn order_runs(levels: &[u8], items: &mut [u32]) -> Option<usize>
     requires len { length items.old ≡ length levels.now }
     requires limit { length levels.now ≤ u32.MAX }
@@ -123,8 +125,8 @@ pub fn order_runs(levels: &[u8], items: &mut [u32]) -> Option<usize>
     Some(count)
 }
 
-// Writes where each level run of a line begins to the front of a list. Says how many there are, the highest
-// level, 0 where there is none, and the lowest odd one, if there is one.
+// Writes where each level run of a line starts to the front of a list. Returns the number of runs, the
+// highest level, or 0 if there is none, and the lowest odd level, if there is one.
 fn find_runs(levels: &[u8], items: &mut [u32]) -> (usize, u8, Option<u8>)
     requires len { length items.old ≡ length levels.now }
     requires limit { length levels.now ≤ u32.MAX }
@@ -150,7 +152,7 @@ fn find_runs(levels: &[u8], items: &mut [u32]) -> (usize, u8, Option<u8>)
     (count, highest, lowest)
 }
 
-/// How many characters the level run has that begins at a place.
+/// Returns the length of the level run that starts at an index.
 pub fn level_run_len(levels: &[u8], start: usize) -> usize
     requires { start < length levels.now }
     ensures len { result ≡ level_run_len levels.now start }
@@ -164,8 +166,9 @@ pub fn level_run_len(levels: &[u8], start: usize) -> usize
     end - start
 }
 
-// Writes the places of all runs of a line, whose beginnings stand at the front of the same list. From the
-// last run on, since it ends with the list, and no run has fewer places than it has beginnings.
+// Replaces the starts of runs at the front of a list by the logical positions of all their characters.
+// Proceeds from the last run to the first: a run has at least one character, so no start is overwritten
+// before it is read.
 fn lay_runs(levels: &[u8], count: usize, items: &mut [u32])
     requires count { count ≤ length items.old }
     requires within { AreWithin (length levels.now) (take count items.old) }
@@ -188,7 +191,7 @@ fn lay_runs(levels: &[u8], count: usize, items: &mut [u32])
     }
 }
 
-// Writes the places of a run.
+// Writes the logical positions of a run in visual order.
 fn lay_run(start: u32, is_odd: bool, items: &mut [u32])
     requires { start + length items.old ≤ u32.MAX }
     ensures { items.new ≡ (if is_odd then reverse (range_with_len start (length items.old))
@@ -200,7 +203,7 @@ fn lay_run(start: u32, is_odd: bool, items: &mut [u32])
     }
 }
 
-// Reverses each base at an odd level with the marks that L2 put left of it.
+// Reverses each base at an odd level with the marks that L2 put to its left.
 fn reverse_groups<C: Classes>(line: &C, levels: &[u8], vtol: &mut [u32])
     requires line { length levels.now ≤ length (C.all line.now) }
     requires vtol { vtol.old ≡ order_of levels.now }
@@ -212,8 +215,8 @@ fn reverse_groups<C: Classes>(line: &C, levels: &[u8], vtol: &mut [u32])
     }
 }
 
-// Reverses the group that begins there, if one does, and says how many places are done: up to a base, or up
-// to a mark that has none.
+// Reverses the group at the front of a list, if there is one. Returns how many positions are done: up to a
+// base, or up to a mark without a base.
 fn reverse_group<C: Classes>(line: &C, levels: &[u8], items: &mut [u32]) -> usize
     requires line { length levels.now ≤ length (C.all line.now) }
     requires items { (start : ℕ) × (items.old ≡ drop start (order_of levels.now)) }
@@ -231,7 +234,8 @@ fn reverse_group<C: Classes>(line: &C, levels: &[u8], items: &mut [u32]) -> usiz
     len + 1
 }
 
-// How many places of marks stand there left of the character that they follow.
+// Returns how many marks at the front of a list are each directly to the left of the character that they
+// follow.
 fn bound_len<C: Classes>(line: &C, levels: &[u8], items: &[u32]) -> usize
     requires line { length levels.now ≤ length (C.all line.now) }
     requires items { AreWithin (length levels.now) items.now }
@@ -245,7 +249,7 @@ fn bound_len<C: Classes>(line: &C, levels: &[u8], items: &[u32]) -> usize
     len
 }
 
-// Whether a mark follows a character, and both are at the same, odd level.
+// Whether a mark follows a character, both at the same odd level.
 fn is_bound<C: Classes>(line: &C, levels: &[u8], place: u32, next: u32) -> bool
     requires line { length levels.now ≤ length (C.all line.now) }
     requires places { (place < length levels.now) × (next < length levels.now) }
@@ -258,7 +262,7 @@ fn is_bound<C: Classes>(line: &C, levels: &[u8], place: u32, next: u32) -> bool
         && levels[at] == levels[before]
 }
 
-// Whether the character at a place is a mark by the tables.
+// Whether a character is a mark by the tables.
 fn is_mark_at<C: Classes>(line: &C, place: u32) -> bool
     requires { place < length (C.all line.now) }
     ensures { result ≡ is_mark_at (C.all line.now) place }
@@ -269,7 +273,7 @@ fn is_mark_at<C: Classes>(line: &C, place: u32) -> bool
     }
 }
 
-// Reverses the intervals of each level from the highest down to the lowest odd one, if there is one.
+// Reverses the intervals of each level, from the highest down to the lowest odd one, if there is one.
 fn reverse_levels(levels: &[u8], top: u8, low: Option<u8>, items: &mut [u32])
     requires within { AreWithin (length levels.now) items.old }
     requires highest { top ≡ highest levels.now }
@@ -278,7 +282,7 @@ fn reverse_levels(levels: &[u8], top: u8, low: Option<u8>, items: &mut [u32])
     ensures { items.new ≡ turned levels.now items.old }
 {
     if let Some(lowest) = low {
-        // Ends, since an odd level is not 0.
+        // Terminates, since an odd level is not 0.
         let mut level = top;
         while level >= lowest {
             reverse_runs(levels, level, items);
@@ -287,7 +291,7 @@ fn reverse_levels(levels: &[u8], top: u8, low: Option<u8>, items: &mut [u32])
     }
 }
 
-// The lowest odd level, with one more level.
+// Returns the lowest odd level of one more character.
 fn lower_odd(lowest: Option<u8>, level: u8) -> Option<u8>
     ensures { result ≡ (if is_odd level then Some (min (unwrap_or lowest level) level) else lowest) }
 {
@@ -298,7 +302,7 @@ fn lower_odd(lowest: Option<u8>, level: u8) -> Option<u8>
     }
 }
 
-// Reverses each maximal interval of places at a level or a higher one.
+// Reverses each maximal interval of positions at `level` or higher.
 fn reverse_runs(levels: &[u8], level: u8, items: &mut [u32])
     requires { AreWithin (length levels.now) items.old }
     ensures { items.new ≡ reverse_runs (is_at_least levels.now level) [] items.old }
@@ -311,7 +315,7 @@ fn reverse_runs(levels: &[u8], level: u8, items: &mut [u32])
     }
 }
 
-// How many places are at a level or a higher one before the first that is not.
+// Returns how many positions at `level` or higher the list begins with.
 fn run_len(levels: &[u8], level: u8, items: &[u32]) -> usize
     requires { AreWithin (length levels.now) items.now }
     ensures len { result ≡ prefix_len (is_at_least levels.now level) items.now }
@@ -325,7 +329,7 @@ fn run_len(levels: &[u8], level: u8, items: &[u32]) -> usize
     items.len()
 }
 
-// Writes where each of the places stands in the list.
+// Writes the index of each position in `vtol`.
 fn invert(vtol: &[u32], ltov: &mut [u32])
     requires places { IsPermutation (range_with_len 0 (length vtol.now)) vtol.now }
     requires len { length ltov.old ≡ length vtol.now }

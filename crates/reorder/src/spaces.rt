@@ -1,19 +1,18 @@
-//! The levels of one line after separators and the blanks before them, or at the line's end, take the
-//! paragraph level (UAX #9, L1).
+//! L1 (UAX #9): separators, the blanks before them, and the blanks at the end of a line get the paragraph
+//! level.
 ghost use Rattle.std.specs.Prelude.{◌≡◌, ◌≤◌, ◌&&◌, ◌||◌, false, true, length};
 ghost use Rattle.reorder.specs.Spaces.{ends_segment, is_blank, line_levels};
 ghost use Rattle.reorder.specs.NoEnds.{AreNoEnds};
 
 use ucd::{BidiClass, Classes};
 
-/// Resets the levels of a line to the paragraph level, `base`, where L1 says so. The classes are those of the
-/// tables, not what earlier rules made of them.
+/// Resets levels of a line to the paragraph level, `base`, by L1. The classes are those of the tables,
+/// unchanged by earlier rules.
 pub fn reset_levels<C: Classes>(line: &C, base: u8, levels: &mut [u8])
     requires { length (C.all line.now) ≡ length levels.old }
     ensures { levels.new ≡ line_levels base (C.all line.now) levels.old }
 {
-    // Whether a blank before this place takes the paragraph level. If none does, no character does up to
-    // a separator.
+    // Whether a blank before this index would be reset. If not, no character is, back to the last separator.
     let mut resets = true;
     let mut at = line.len();
     while at > 0 {
@@ -29,7 +28,7 @@ pub fn reset_levels<C: Classes>(line: &C, base: u8, levels: &mut [u8])
     }
 }
 
-// The place after the last character before a place that may take the paragraph level, or 0.
+// Returns the end of the characters before `at` that may have to be reset, or 0 if there are none.
 fn changed_end<C: Classes>(line: &C, resets: bool, at: usize) -> usize
     requires { at ≤ length (C.all line.now) }
     ensures within { result ≤ at }
@@ -39,10 +38,10 @@ fn changed_end<C: Classes>(line: &C, resets: bool, at: usize) -> usize
     if resets { at } else { separator_end(line, at) }
 }
 
-// How many characters are looked at together.
+// The number of characters that are tested together.
 const AT_ONCE: usize = 16;
 
-// The place after the last separator before a place, or 0.
+// Returns the index after the last separator before `end`, or 0.
 fn separator_end<C: Classes>(line: &C, end: usize) -> usize
     requires { end ≤ length (C.all line.now) }
     ensures within { result ≤ end }
@@ -58,7 +57,7 @@ fn separator_end<C: Classes>(line: &C, end: usize) -> usize
     at
 }
 
-// Whether one of some characters is a separator: all are looked at, which is faster than to stop.
+// Whether there is a separator in a range. It has no early exit, which is faster.
 fn has_separator<C: Classes>(line: &C, start: usize, end: usize) -> bool
     requires { end ≤ length (C.all line.now) }
     ensures { result ≡ false → AreNoEnds (C.all line.now) start end }
@@ -76,8 +75,7 @@ fn ends_segment(class: BidiClass) -> bool
     matches!(class, BidiClass::S | BidiClass::B)
 }
 
-// Whether a character takes the paragraph level: a separator does, and a blank does if what stands after it
-// does, or if nothing stands there.
+// Whether a character is reset: a separator is, and a blank is if the next character is or there is none.
 fn is_reset(class: BidiClass, after: bool) -> bool
     ensures { result ≡ (ends_segment class || (is_blank class && after)) }
 {

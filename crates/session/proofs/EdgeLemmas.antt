@@ -1,4 +1,4 @@
--- Sums of a store's paragraphs as the text and the lines that they make, and what searches by them find.
+-- Sums of a store's paragraphs, as lengths of the text and of its lines, and what searches by these sums find.
 use Rattle.std.proofs.Common.{◌≡◌, ℕ, ◌+◌, ◌-◌, ◌<◌, ◌≤◌, List, [], ◌∷◌, ◌++◌, length, take, get_or, sum_by, Option, Some, None, unwrap_or, refl, sym, ap, ◌∙◌, inl, inr, arith}
 use Rattle.std.specs.List.{concat, enumerate_from, slice_get}
 use Rattle.std.specs.Option.{option_map}

@@ -1,4 +1,4 @@
--- What a session keeps before and after an edit, and why one is refused.
+-- A session's layouts before and after an edit, and why an edit is refused.
 use Rattle.std.proofs.Common.{◌≡◌, ℕ, ◌+◌, ◌-◌, ◌^◌, ◌<◌, ◌≤◌, Bool, true, false, List, [], ◌∷◌, ◌++◌, length, map, take, drop, sum_by, Some, None, Result, Ok, Err, nat_lt, if◌then◌else◌, refl, sym, ap, subst, ◌∙◌, arith}
 use Rattle.std.specs.List.{concat, slice_range, splice}
 use Rattle.std.specs.Result.{is_err, IfOk, IfErr, OnOk, OnErr}
@@ -30,7 +30,7 @@ use Rattle.session.proofs.RegionParts.{touched_by, front_of, back_of, AreTouched
 use Rattle.session.proofs.RefusalLemmas.{allowed-within_limit, text_refusal-short, refusal-inside}
 use Rattle.session.specs.declared.edits.TheConstants.{TEXT_LIMIT}
 
--- a list of which the middle gives way to another one
+-- a list whose middle is replaced
 drop_two : {A : Type 0} (left mid right : List A) (n m : ℕ) → n ≡ length left → m ≡ length mid → drop (n + m) (left ++ (mid ++ right)) ≡ right
 drop_two left mid right n m n-is m-is =
     ap (drop (n + m)) (sym (append_assoc left mid right)) ∙ drop_at (left ++ mid) right (n + m) (length-append left mid ∙ omega (arith, n-is, m-is))
@@ -74,7 +74,7 @@ module _ (law : ParagraphsArePieces) (few : LinesAreFew) (rules : Rules) (width 
       let most : sum_by line_number kept ≤ sum_by chars_of kept = subst (λ ks. sum_by line_number ks ≤ sum_by chars_of ks) (sym laid) (few_of few rules width (paragraphs (cut_by rules) text)) in
       omega (arith, chars-laid)
 
--- an engine that goes by the same rules
+-- an engine with the same rules
 pub IsWholeLayout-same : (old new : Engine) (width : ℕ) (kept : List Layout) → SameRules old new
     → IsWholeLayout (record { engine = old; width = width; kept = kept })
     → IsWholeLayout (record { engine = new; width = width; kept = kept })
@@ -113,7 +113,7 @@ pub at_ok : {X E Q : Type 0} (r : Result X E) → is_err r ≡ false → OnOk r 
 at_ok (Ok x) e h = h
 at_ok (Err e') e h = absurd (cc e)
 
--- the sums of lines, where new paragraphs stand between two edges
+-- the sums of lines, if new paragraphs replace those between two edges
 pub record AreSums (front back : Edge) (new : List Layout) (total total_2 : ℕ) : Type 0 where
   pub order : front.lines ≤ back.lines
   pub within : back.lines - front.lines ≤ total
@@ -183,7 +183,7 @@ module _ (law : ParagraphsArePieces) (few : LinesAreFew) (engine : Engine) (widt
       ∙ ap (λ t. map one (take front.index pars ++ (paragraphs (cut_by rules) t ++ drop back.index pars))) (sym region_is)
       ∙ ap (map one) (sym spliced.pieces)
 
-  -- why it is refused, where the text isn't too long
+  -- why it is refused, if the text is not too long
   pub refusal-by_region : length (text_of kept) - count + length piece ≤ TEXT_LIMIT → refusal (cut_by rules) (text_of kept) edit ≡ paragraphs_refusal (cut_by rules) region
   refusal-by_region short =
       let text = replaced (text_of kept) edit in
@@ -204,7 +204,7 @@ module _ (law : ParagraphsArePieces) (few : LinesAreFew) (engine : Engine) (widt
     counts = subst (λ n. IsCountedFor fault (LaysOutAtMost n) engine new_engine) length-region counts;
   }
 
-  -- the new paragraphs stand in place of the touched ones
+  -- the new paragraphs replace the touched ones
   module _ (new : List Layout) (laid : new ≡ layouts_of rules width region) (short : length (text_of kept) - count + length piece ≤ TEXT_LIMIT) where
     abbrev pub after : List Layout
     after = splice kept front.index back.index new

@@ -1,4 +1,4 @@
--- A text that stands in three parts, and its paragraphs one by one.
+-- A text that is given as three parts, and its paragraphs one by one.
 use Rattle.std.proofs.Common.{◌≡◌, ℕ, ◌<◌, ◌≤◌, Bool, true, false, not, ◌==◌, List, [], ◌∷◌, ◌++◌, length, map, take, drop, Some, None, nat_le, sym, ap, subst, ◌∙◌, arith}
 use Rattle.std.specs.Str.{chars, IsUtf8}
 use Rattle.std.proofs.Math.Utf8.{encodes, scalars}
@@ -19,7 +19,7 @@ module _ (is_cut : ℕ → ℕ → Bool) where
       → scan.is_long ≡ not (is_within_limit is_cut (front ++ (piece ++ back)))
   long_of_parts front piece back scan known = known.is_long ∙ ap (λ text. not (is_within_limit is_cut text)) (append_assoc front piece back)
 
-  -- a piece between cuts is one paragraph
+  -- the text between two boundaries is one paragraph
   pub first_piece : (piece : List ℕ) (pieces : List (List ℕ)) → ArePieces is_cut (piece ∷ pieces) → ArePieces is_cut (piece ∷ [])
   first_piece piece [] h = h
   first_piece piece (next ∷ pieces) h = h.0
@@ -72,7 +72,7 @@ pub layouts_none : (rules : Rules) (width : ℕ) (text rest : List ℕ) (kept : 
     ++ layouts_of rules width rest ≡ layouts_of rules width text → kept ≡ layouts_of rules width text
 layouts_none rules width text rest kept none so_far = sym (append-nil kept) ∙ ap (λ r. kept ++ layouts_of rules width r) (sym none) ∙ so_far
 
--- what the test for an empty list tells
+-- what the test for an empty list implies
 pub some_left : (xs : List ℕ) (b : Bool) → b ≡ (length xs == 0) → b ≡ false → 0 < length xs
 some_left [] b e t = absurd (both_ways b t e)
 some_left (x ∷ xs) b e t = omega arith

@@ -1,4 +1,4 @@
--- A session that is opened on a text, or isn't.
+-- Opening a session, and why it fails.
 use Rattle.std.proofs.Common.{◌≡◌, ℕ, ◌≤◌, ◌<◌, ◌^◌, ◌==◌, true, List, [], length, sum_by, Some, None, refl, sym, ap, subst, ◌∙◌, arith}
 use Rattle.std.specs.List.{splice}
 use Rattle.std.proofs.lemmas.Bool.{cond-true, cond-false, ne_eqb}

@@ -1,4 +1,4 @@
--- Where lines begin, and on which of them a character stands.
+-- Where lines start, and on which line a character is.
 use Rattle.std.proofs.Common.{◌≡◌, ℕ, zero, suc, ◌+◌, ◌-◌, ◌<◌, ◌≤◌, Bool, true, false, cond, not, ◌==◌, ◌&&◌, ◌||◌, if◌then◌else◌, nat_le, nat_lt, List, [], ◌∷◌, ◌++◌, length, map, get_or, sum_by, Some, None, is_none, refl, sym, ap, ap₂, subst, ◌∙◌, inl, inr, arith}
 use Rattle.std.specs.List.{All, slice_get}
 use Rattle.std.proofs.Math.ListN.{get_or-eq_default}
@@ -30,7 +30,7 @@ use Rattle.session.specs.declared.places.Place.{Place}
 use Rattle.session.proofs.EdgeLemmas.{chars_of, lines_of, item_read, length-lines, length-text, length-visuals, sum_whole}
 use Rattle.session.proofs.LineLemmas.{slice_get_after, slice_get_left}
 
--- ---- where lines begin
+-- ---- where lines start
 
 abbrev starts_at : ℕ → Layout → List ℕ
 starts_at place l = map (λ line. place + line.start) l.lines
@@ -82,7 +82,7 @@ pub rest_within : (kept : List Layout) (n : ℕ) (found : Found) → Finds lines
     → found.rest < length (map begins l.lines)
 rest_within kept n found f l read = omega (arith, f.within, length-map l.lines begins, ap (λ (x : Layout). length x.lines) (item_read lines_of kept n found f l read))
 
--- ---- how many begin up to a position
+-- ---- how many start at or before a position
 
 count_cons : (pos s : ℕ) (starts : List ℕ) → count_to pos (s ∷ starts) ≡ cond (nat_le s pos) 1 0 + count_to pos starts
 count_cons pos s starts = sum_by-cons (λ k. cond (nat_le k pos) 1 0) s starts

@@ -1,4 +1,4 @@
--- The bytes of all paragraphs, one after the other.
+-- The bytes of all paragraphs in order.
 use Rattle.std.proofs.Common.{◌≡◌, ℕ, zero, suc, ◌+◌, ◌-◌, ◌<◌, ◌≤◌, min, List, [], ◌∷◌, ◌++◌, length, map, take, drop, get_or, Some, unwrap_or, inl, inr, arith, refl, sym, ap, ap₂, subst, ◌∙◌}
 use Rattle.std.specs.List.{concat, flat_map, slice_get}
 use Rattle.std.proofs.lemmas.List.{append-nil, append_assoc, drop_at, get_or-map, length-drop, length-map, length-take, take-append-le, take_all}
@@ -65,7 +65,7 @@ page_by_lines law state print whole = sym (page_of_kept state print whole) ∙ b
 
 -- ---- some lines of all
 
--- a line among so many from one on
+-- a line of a range of lines
 part_get : {A : Type 0} (xs : List A) (from count n : ℕ) → n < count → slice_get (take count (drop from xs)) n ≡ slice_get xs (from + n)
 part_get [] zero zero n below = absurd (omega (arith, below))
 part_get [] zero (suc count) n below = refl

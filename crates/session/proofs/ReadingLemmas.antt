@@ -1,4 +1,4 @@
--- A paragraph's part of a text.
+-- The part of a range that is in one paragraph.
 use Rattle.std.proofs.Common.{◌≡◌, ℕ, zero, suc, ◌+◌, ◌-◌, ◌<◌, ◌≤◌, List, [], ◌∷◌, ◌++◌, length, drop, take, sum_by, unwrap_or, nat_lt, Bool, true, false, Option, Some, None, is_none, if◌then◌else◌, refl, sym, ap, ap₂, ◌∙◌, arith}
 use Rattle.std.specs.List.{All, slice_get, slice_range}
 use Rattle.std.specs.Option.{option_map}
@@ -78,11 +78,11 @@ module _ (kept : List Layout) (pos at stop : ℕ) (begun : pos ≤ at) (more : a
       ∙ ap (λ cs. take (at - pos) (drop pos (text_of kept)) ++ cs)
       (ap (take (length part)) (drop-drop (at - pos) pos (text_of kept) ∙ ap (λ n. drop n (text_of kept)) place) ∙ sym part_front)
 
--- no part is missing where the text has all
+-- no part is missing if the text has the whole range
 pub part_there : (kept : List Layout) (at count : ℕ) → at + count ≤ length (text_of kept) → None ≡ text_part kept at count → ⊥
 part_there kept at count within none = let wrong = none ∙ part_within kept at count within in cc wrong
 
--- what was read up to a place is a front of all
+-- what was read up to a position is a prefix of the whole
 pub all_parts : (kept : List Layout) (pos at stop : ℕ) → pos ≤ at → at ≤ stop
     → slice_range (text_of kept) pos stop ≡ slice_range (text_of kept) pos at ++ take (stop - at) (drop at (text_of kept))
 all_parts kept pos at stop begun more =

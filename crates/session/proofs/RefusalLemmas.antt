@@ -1,4 +1,4 @@
--- Why a text or an edit of it is refused.
+-- Why a text or an edit is refused.
 use Rattle.std.proofs.Common.{◌≡◌, ℕ, ◌+◌, ◌-◌, ◌<◌, ◌≤◌, Bool, true, false, List, length, Some, None, nat_lt, if◌then◌else◌, refl, ◌∙◌}
 use Rattle.std.proofs.lemmas.Bool.{cond-true, cond-false, lt-ltb, le-ltb, ltb-false}
 use Rattle.session.specs.Edits.{Replacement, replaced, replacing, refusal, text_refusal, is_within_limit}

@@ -1,4 +1,4 @@
--- The touched paragraphs of a text after an edit: what the first has before it, the piece, and what the last has after it.
+-- The touched paragraphs of a text after an edit: the first one's front, the inserted text, and the last one's rest.
 use Rattle.std.proofs.Common.{◌≡◌, ℕ, zero, suc, zero-add, suc-add, ◌+◌, ◌-◌, ◌<◌, ◌≤◌, List, [], ◌∷◌, ◌++◌, length, take, drop, get_or, refl, sym, ap, ap₂, ◌∙◌, ◌⊎◌, inl, inr, arith}
 use Rattle.std.specs.List.{concat, slice_range}
 use Rattle.std.proofs.lemmas.Bool.{cases_eq, cases_lt}
@@ -66,7 +66,7 @@ module _ (pars : List (List ℕ)) (first last pos to : ℕ) (some : first < last
       let left : to - start_of pars (last - 1) ≡ length q - (start_of pars last - to) = omega arith in
       ap₂ drop from whole ∙ drop_after (concat others) q (to - start_of pars (last - 1)) ∙ ap (λ n. drop n q) left
 
--- where there are no paragraphs
+-- if there are no paragraphs
 no_slice : (pars : List (List ℕ)) (first last : ℕ) → length pars ≡ 0 → concat (slice_range pars first last) ≡ []
 no_slice pars first last none =
     let nothing : drop first pars ≡ [] = drop_all first pars (omega arith) in
@@ -83,7 +83,7 @@ no_back pars first last n m k none =
 abbrev pub touched_by : Edge → Edge → Span
 touched_by front back = record { first = front.index; end = back.index; start = front.chars; stop = back.chars }
 
--- what the first touched paragraph has before a place, and what the last one has after another
+-- what the first touched paragraph has before a position, and what the last one has after another
 abbrev pub front_of : List (List ℕ) → Edge → ℕ → List ℕ
 front_of pars front pos = take (pos - front.chars) (get_or pars front.index [])
 
@@ -94,7 +94,7 @@ module _ (kept : List Layout) (pos to : ℕ) (front back : Edge) (order : pos �
   pars_number : length (pars_of kept) ≡ length kept
   pars_number = length-map kept (λ l. l.text)
 
-  -- an edge before no paragraph stands at 0
+  -- an edge before all paragraphs is at 0
   front_low : front.chars ≤ pos
   front_low = elim (cases_eq front.index 0) [
     | inl e ↦ let start : front.chars ≡ 0 = f.edge_is.chars ∙ ap (start_of (pars_of kept)) e in omega arith

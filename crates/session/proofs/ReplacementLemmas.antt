@@ -1,4 +1,5 @@
--- What an edit makes of the paragraphs of a text: those that it touches give way to the paragraphs of their new text, and all the others stay.
+-- The paragraphs of a text after an edit: the paragraphs of their new text replace the touched ones, and all others
+-- stay.
 use Rattle.std.proofs.Common.{◌≡◌, ℕ, ◌+◌, ◌-◌, ◌≤◌, Bool, true, List, ◌++◌, length, take, drop, sym, ap, subst, ◌∙◌, arith}
 use Rattle.std.specs.List.{concat, slice_range}
 use Rattle.std.proofs.lemmas.List.{length-append, take-append-drop}

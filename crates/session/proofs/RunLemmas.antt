@@ -1,4 +1,4 @@
--- Edits one after another: what text and width are after each.
+-- Edits in order: the text and the width after each.
 use Rattle.std.proofs.Common.{◌≡◌, ℕ, zero, suc, ◌+◌, ◌<◌, ◌≤◌, Bool, true, false, List, [], ◌∷◌, ◌++◌, length, take, drop, get_or, Option, None, Result, Ok, Err, is_none, if◌then◌else◌, refl, sym, ap, ap₂, subst, ◌∙◌, append_assoc, take-append-drop, arith}
 use Rattle.std.specs.Result.{IfOk, IfErr, result_eq}
 use Rattle.std.proofs.lemmas.Bool.{cond-true, cond-false, both_ways}
@@ -18,7 +18,7 @@ use Rattle.session.specs.declared.edits.Edit.{Edit}
 use Rattle.session.specs.declared.edits.EditFault.{EditFault}
 use Rattle.session.specs.declared.edits.EditFault.TheVariants.{OutOfRange, WidthOutOfRange, TextTooLong, ParagraphTooLong, NoMemory}
 
--- what is held is as if it were chosen: the new one where there is no reason to refuse
+-- the state is a choice: the new one if there is no reason to refuse
 choice-accepted : {A : Type 0} (reason : Option EditFault) (new old : A) → reason ≡ None → (if is_none reason then new else old) ≡ new
 choice-accepted reason new old e = cond-true (is_none reason) new old (ap is_none e)
 
@@ -90,7 +90,7 @@ stays reason bound old new (Err TextTooLong) r e = absurd (cc e)
 stays reason bound old new (Err ParagraphTooLong) r e = absurd (cc e)
 stays reason bound old new (Err NoMemory) r e = record { moved = has_stayed reason bound old new NoMemory r; accepted = r.answer }
 
--- how much one edit worked: nothing where it was refused
+-- how much one edit worked: nothing if it was refused
 pub record Works (reason : Option EditFault) (n m : ℕ) (old new : Engine) : Type 0 where
   pub analysed : RisesBy (if is_none reason then n else 0) (analysed_of old) (analysed_of new)
   pub filled : RisesBy (if is_none reason then m else 0) (filled_of old) (filled_of new)
@@ -174,7 +174,7 @@ pub width_works : (width : ℕ) (old new : SessionState) (result : Result Damage
 width_works width old new result whole m r =
     subst (λ kept. Works (width_refusal width) 0 (changed width kept) old.engine new.engine) whole.kept (width_counted width old new result m r)
 
--- where the edits have come from the start, after n of them
+-- the state after n edits from the start
 pub record HasRun (start : SessionState) (edits : List Edit) (n : ℕ) (now : SessionState) : Type 0 where
   pub held : held_at now ≡ after_all (cuts_at start) (held_at start) (take n edits)
   pub laid_out : IsWholeLayout now
@@ -185,7 +185,7 @@ after_all-push : (is_cut : ℕ → ℕ → Bool) (held : Held) (edits : List Edi
 after_all-push is_cut held [] edit = refl
 after_all-push is_cut held (first ∷ edits) edit = after_all-push is_cut (after_one is_cut held first) edits edit
 
--- what an edit does is the same where cuts and text are told by the start
+-- an edit does the same if boundaries and text are those of the start
 work_of-push : (rules : Rules) (work : Held → Edit → ℕ) (held : Held) (edits : List Edit) (edit : Edit)
     → work_of_all rules work held (edits ++ edit ∷ []) ≡ work_of_all rules work held edits + work_of rules work (after_all (cut_by rules) held edits) edit
 work_of-push rules work held [] edit = omega arith
@@ -270,7 +270,7 @@ HasRun-next start old new edits n d edit within read run step works =
 pub HasRun-rules : (start old new : SessionState) (edits : List Edit) (n : ℕ) (reason : Option EditFault) → HasRun start edits n old → HasStayed reason old new → SameRules start.engine new.engine
 HasRun-rules start old new edits n reason run stayed = stayed.moved.rules ∙ run.rules
 
--- what the test for want of memory tells
+-- what the test for an allocation failure implies
 module _ (same_damage : Damage → Damage → Bool) (same_fault : EditFault → EditFault → Bool) where
   pub lacks_memory : same_fault OutOfRange NoMemory ≡ false → same_fault WidthOutOfRange NoMemory ≡ false → same_fault TextTooLong NoMemory ≡ false → same_fault ParagraphTooLong NoMemory ≡ false
       → (result : Result Damage EditFault) → result_eq same_damage same_fault result (Err NoMemory) ≡ true → result ≡ Err NoMemory

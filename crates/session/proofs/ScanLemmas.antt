@@ -1,4 +1,4 @@
--- What one more character makes of the paragraphs of a text, and of what a scan knows of them.
+-- The paragraphs of a text with one more character, and what a scan knows of them.
 use Rattle.std.proofs.Common.{◌≡◌, ℕ, ◌+◌, ◌-◌, ◌<◌, ◌≤◌, min, nat_le, Bool, true, false, not, ◌&&◌, List, [], ◌∷◌, ◌++◌, length, get_or, Option, Some, None, MatchOption, refl, sym, ap, subst, ◌∙◌, arith, sub-one, if◌then◌else◌}
 use Rattle.std.specs.List.{onto_first, slice_get}
 use Rattle.std.proofs.lemmas.Bool.{le-leb, lt-leb, leb-true, and_right}
@@ -10,7 +10,7 @@ use Rattle.session.specs.Scans.{HasScanned}
 use Rattle.session.specs.declared.scan.Scan.{Scan}
 use Rattle.lines.specs.declared.engine.TheConstants.{PARAGRAPH_LIMIT}
 
--- the last of pieces, and pieces with a character put after them, which begins a piece or is put onto the last
+-- the last of several parts; and parts with one more character, which starts a part or is appended to the last
 last_of : List (List ℕ) → List ℕ
 last_of [] = []
 last_of (p ∷ []) = p
@@ -21,7 +21,7 @@ push starts c [] = (c ∷ []) ∷ []
 push starts c (p ∷ []) = if starts then p ∷ (c ∷ []) ∷ [] else (p ++ c ∷ []) ∷ []
 push starts c (p ∷ q ∷ ps) = p ∷ push starts c (q ∷ ps)
 
--- whether a character begins a piece after the last one, if there is one
+-- whether a character starts a part after the last one, if there is one
 pub starts_piece : (ℕ → ℕ → Bool) → Option ℕ → ℕ → Bool
 starts_piece is_cut None c = false
 starts_piece is_cut (Some a) c = is_cut a c
@@ -84,7 +84,7 @@ module _ (is_cut : ℕ → ℕ → Bool) where
       ∙ ap (λ (ps : List (List ℕ)). push starts c (if is_cut a b then (a ∷ []) ∷ ps else onto_first a ps)) (sym some.2)
       ∙ ap (λ (o : Option ℕ). push (starts_piece is_cut o c) c (paragraphs is_cut (a ∷ b ∷ text))) (sym (slice_get_last-cons a b text))
 
--- what is put after pieces shows at the last of them
+-- what is appended changes the last part
 last_of-cons-push : (starts : Bool) (c : ℕ) (p q : List ℕ) (ps : List (List ℕ)) → last_of (p ∷ push starts c (q ∷ ps)) ≡ last_of (push starts c (q ∷ ps))
 unfolding last_of push
 last_of-cons-push true c p q [] = refl
@@ -117,7 +117,7 @@ and_assoc false b c = refl
 shorter_within : (p : List ℕ) (c : ℕ) → nat_le (length (p ++ c ∷ [])) PARAGRAPH_LIMIT ≡ true → nat_le (length p) PARAGRAPH_LIMIT ≡ true
 shorter_within p c h = le-leb (length p) PARAGRAPH_LIMIT (omega (arith, length_push p c, leb-true (length (p ++ c ∷ [])) PARAGRAPH_LIMIT h))
 
--- none is too long where none was and the last isn't
+-- none is too long if none was and the last one is not
 are_within-push : (starts : Bool) (c : ℕ) (ps : List (List ℕ)) → are_within (push starts c ps) ≡ (are_within ps && nat_le (length (last_of (push starts c ps))) PARAGRAPH_LIMIT)
 unfolding last_of push
 are_within-push starts c [] = refl
@@ -187,7 +187,7 @@ module _ (is_cut : ℕ → ℕ → Bool) (text : List ℕ) (c : ℕ) where
           is_long-is ∙ ap not (sym (within_more ∙ ap (λ b. are_within (paragraphs is_cut text) && b) e ∙ and_right (are_within (paragraphs is_cut text)) false refl)));
     }
 
--- what was scanned, put together in another way
+-- what was scanned, combined in another way
 pub scanned_push : (is_cut : ℕ → ℕ → Bool) (text part more : List ℕ) (c : ℕ) (scan : Scan) → more ≡ part ++ c ∷ []
     → HasScanned is_cut (text ++ part ++ c ∷ []) scan → HasScanned is_cut (text ++ more) scan
 scanned_push is_cut text part more c scan more-is known =

@@ -1,4 +1,4 @@
--- A text whose middle is changed: the paragraphs before and after stay, where the middle keeps its first and its last character.
+-- A text whose middle is changed: if the middle keeps its first and last character, the paragraphs around it stay.
 use Rattle.std.proofs.Common.{◌≡◌, ℕ, ◌+◌, ◌-◌, ◌<◌, ◌≤◌, Bool, true, ◌&&◌, List, [], ◌∷◌, ◌++◌, length, take, drop, slice_index, nat_le, zero-add, suc-add, add_assoc, refl, sym, ap, ◌∙◌, arith}
 use Rattle.std.specs.List.{concat}
 use Rattle.std.proofs.lemmas.List.{append-nil, append_assoc, get_or-append-add, get_or_append_left, length-append, length-drop, length-take-le, get_or-take, get_or-drop, take-append-le, drop-append-le}
@@ -11,7 +11,7 @@ use Rattle.session.specs.Edits.{replaced, replacing, are_within}
 use Rattle.lines.specs.declared.engine.TheConstants.{PARAGRAPH_LIMIT}
 use Rattle.session.specs.Kept.{IsCutAt}
 
--- the first and the last character of two texts that stand together
+-- the first and the last character of two adjacent texts
 first-append : (before after : List ℕ) → 0 < length before → slice_index (before ++ after) 0 ≡ slice_index before 0
 first-append before after some = get_or_append_left before after 0 0 some
 
@@ -28,7 +28,7 @@ module _ (is_cut : ℕ → ℕ → Bool) where
   some-concat : (piece : List ℕ) (pieces : List (List ℕ)) → ArePieces is_cut (piece ∷ pieces) → 0 < length (concat (piece ∷ pieces))
   some-concat piece pieces h = let some = first_is_filled piece pieces h in rw (length-append piece (concat pieces)) (omega arith)
 
-  -- pieces before and after a cut
+  -- parts before and after a boundary
   pub ArePieces-append : (before after : List (List ℕ)) → ArePieces is_cut before → ArePieces is_cut after → IsCutAt is_cut (concat before) (concat after) → ArePieces is_cut (before ++ after)
   ArePieces-append [] after h g between = g
   ArePieces-append (piece ∷ []) [] h g between = h
@@ -62,7 +62,7 @@ module _ (is_cut : ℕ → ℕ → Bool) where
       let last = some-concat next before (ArePieces-before (next ∷ before) after h.2) in
       rw (last-append piece (concat (next ∷ before)) last) (ArePieces-between (next ∷ before) after h.2 last filled)
 
-  -- the pieces in the midst of others are replaced by those of another text
+  -- the parts between others are replaced by those of another text
   pub paragraphs-splice : ParagraphsArePieces → (left mid right : List (List ℕ)) (new : List ℕ) → ArePieces is_cut (left ++ (mid ++ right))
       → (0 < length (concat left) → (0 < length (concat mid)) × (0 < length new) × (slice_index new 0 ≡ slice_index (concat mid) 0))
       → (0 < length (concat right) → (0 < length (concat mid)) × (0 < length new) × (slice_index new (length new - 1) ≡ slice_index (concat mid) (length (concat mid) - 1)))
@@ -103,7 +103,7 @@ replaced-middle left mid right piece from count within =
     ap (λ n. drop n (left ++ (mid ++ right))) (add_assoc (length left) from count) ∙ drop-add left (mid ++ right) (from + count) ∙ drop-append-le (from + count) mid right within in
     rw (front, back) (simp append_assoc)
 
--- the first and the last character of what an edit makes of a text, where it lies after the one and before the other
+-- the first and the last character of a text after an edit between them
 pub first-replaced : (mid piece : List ℕ) (from count : ℕ) → 0 < from → from + count ≤ length mid
     → (0 < length mid) × (0 < length (replaced mid (replacing from count piece))) × (slice_index (replaced mid (replacing from count piece)) 0 ≡ slice_index mid 0)
 first-replaced mid piece from count some within =

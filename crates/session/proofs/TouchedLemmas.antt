@@ -1,4 +1,4 @@
--- Where paragraphs start, and which of them an edit touches: an interval, which two walks find.
+-- Where paragraphs start, and which of them an edit touches: an interval, which two scans find.
 use Rattle.std.proofs.Common.{◌≡◌, ℕ, zero, suc, ◌+◌, ◌-◌, ◌<◌, ◌≤◌, max, Bool, true, false, cond, List, [], ◌∷◌, ◌++◌, length, take, get_or, Some, unwrap_or, count_by, nat_le, sym, ap, ◌∙◌, inl, inr, arith}
 use Rattle.std.specs.List.{concat, range_with_len}
 use Rattle.std.proofs.lemmas.List.{append-nil, length-append, take_more, take_all}

@@ -1,4 +1,4 @@
--- Memory is wanted only where there is a text to keep.
+-- An allocation can fail only if there is a text.
 use Rattle.std.proofs.Common.{◌≡◌, ℕ, ◌+◌, ◌-◌, ◌<◌, ◌≤◌, List, [], ◌++◌, length, take, drop, get_or, ap, ◌∙◌, inl, inr, Result, Ok, Err, arith}
 use Rattle.std.specs.Result.{OnErr}
 use Rattle.std.proofs.Math.Seq.{take-nil}
@@ -10,7 +10,7 @@ use Rattle.lines.specs.declared.engine.Engine.{Engine}
 use Rattle.session.specs.Kept.{pars_of, text_of, layouts_of}
 use Rattle.session.specs.Sessions.{IsWholeLayout}
 
--- what holds anyway holds of an error, and what holds of an error holds where there is one
+-- what always holds, holds after an error; what holds after an error, holds if there is one
 pub on_err : {A E P : Type 0} (r : Result A E) → P → OnErr r P
 on_err (Ok x) p = tt
 on_err (Err e) p = p
@@ -26,7 +26,7 @@ none_kept engine width kept whole none = whole.kept ∙ ap (layouts_of (rules_of
 pub none_laid : (rules : Rules) (width : ℕ) (text : List ℕ) (kept : List Layout) → kept ≡ layouts_of rules width text → length text ≡ 0 → length kept ≡ 0
 none_laid rules width text kept laid none = ap length (laid ∙ ap (layouts_of rules width) (nil_from_length text none))
 
--- parts of a paragraph's text, of none where no paragraph is
+-- parts of a paragraph's text, empty if there is no paragraph
 no_part : (kept : List Layout) (i p : ℕ) → kept ≡ [] → length (take p (get_or (pars_of kept) i [])) ≡ 0
 no_part kept i p none = ap (λ (ks : List Layout). length (take p (get_or (pars_of ks) i []))) none ∙ ap length (take-nil p)
 
@@ -48,14 +48,14 @@ module _ (engine : Engine) (width : ℕ) (kept : List Layout) (whole : IsWholeLa
         length-append piece back,
       )
 
-  -- where parts of it and a piece are laid out, some of them has characters
+  -- if parts of it and an inserted text are laid out, one of them is not empty
   pub some_joined : 0 < length (front ++ (piece ++ back)) → 0 < length (text_of kept) + length piece
   some_joined some = elim (cases_lt 0 (length (text_of kept) + length piece)) [
     | inl more ↦ more
     | inr nothing ↦ absurd (omega (arith, some, none_joined nothing))
   ]
 
-  -- and where paragraphs give way to others
+  -- and if paragraphs are replaced
   pub some_put : (rules : Rules) (first last : ℕ) (new : List Layout) → last ≤ length kept → new ≡ layouts_of rules width (front ++ (piece ++ back))
       → 0 < last - first + length new → 0 < length (text_of kept) + length piece
   some_put rules first last new within laid some = elim (cases_lt 0 (length (text_of kept) + length piece)) [

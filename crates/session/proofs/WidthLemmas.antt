@@ -138,7 +138,7 @@ counted_twice count n m k once twice first second sum = omega (arith, first, sec
 rises_twice : (n m k a b c : ℕ) → RisesBy n a b → RisesBy m b c → n + m ≤ k → RisesBy k a c
 rises_twice n m k a b c r s e = record { least = omega (arith, r.least, s.least); most = omega (arith, r.most, s.most, e) }
 
--- for each of the first so many paragraphs there are the extents of its lines, or none
+-- for each of the first n paragraphs there are the extents of its lines, or none
 pub record AreFilled (start : Engine) (width : ℕ) (kept : List Layout) (n : ℕ) (fills : List (Option LineExtents)) (now : Engine) : Type 0 where
   pub made : AllZip (BringsTo (rules_of start) width) (take n kept) fills
   pub rules : SameRules start now
@@ -195,7 +195,7 @@ module _ (start now : Engine) (width : ℕ) (kept : List Layout) (n : ℕ) (fill
       counts = upto (changed width (take (n + 1) kept)) (omega arith);
     }
 
--- what an exchange asks, and what it makes
+-- what an exchange requires, and its result
 abbrev pub fits_any : Writer → List Layout → List (Option LineExtents) → Type 0
 fits_any writer kept parts = AllZip (λ l part. IfSome part (CanBePut writer l)) kept parts
 

@@ -1,4 +1,4 @@
--- The definitions of touched paragraphs, of what a width changes, and of lists of edits, worked on rows.
+-- Worked examples of touched paragraphs, of what a width change fills again, and of lists of edits.
 use Rattle.std.proofs.Common.{◌≡◌, ℕ, ◌==◌, Bool, List, [], ◌∷◌, refl}
 use Rattle.lines.specs.Layouts.{Layout}
 use Rattle.lines.specs.Visual.{Line}
@@ -53,6 +53,6 @@ four_edits = SetWidth 0 ∷ SetWidth 5 ∷ Delete 2 2 ∷ Delete 0 1 ∷ []
 after-four : after_all after_newline (record { text = 97 ∷ 10 ∷ 98 ∷ []; width = 80 }) four_edits ≡ record { text = 10 ∷ 98 ∷ []; width = 5 }
 after-four = refl
 
--- a text has at most so many characters
+-- the limit of a text
 text_limit : TEXT_LIMIT ≡ 16777216
 text_limit = refl

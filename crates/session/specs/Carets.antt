@@ -1,4 +1,4 @@
--- Where a caret stands before a character, as the character is shown.
+-- Where to draw a caret before a character.
 use Rattle.std.specs.Prelude.{ℕ, ◌+◌, nat_lt, List, [], length, slice_get, slice_index, Option, Some, None, option_map, if◌then◌else◌}
 use Rattle.lines.specs.Columns.{columns_left}
 use Rattle.lines.specs.Layouts.{Layout, Rules, base_of}
@@ -9,27 +9,27 @@ use Rattle.session.specs.Places.{place_at}
 use Rattle.session.specs.declared.carets.Caret.{Caret}
 use Rattle.session.specs.declared.places.Place.{Place}
 
--- the end of a line's shown part in the direction of its paragraph
+-- the end of a line's shown part in the base direction
 abbrev pub line_end : ℕ → Visual → Caret
 line_end n line = record { line = n; column = if is_odd line.base then 0 else line.columns; level = line.base }
 
--- a character's leading edge: the left one where its level is even, the right one where it is odd
+-- a character's leading edge: the left one if its level is even, the right one if it is odd
 abbrev pub leading_edge : Visual → ℕ → ℕ
 leading_edge line k =
     columns_left line (if is_odd (slice_index line.levels k) then slice_index line.ltov k + 1 else slice_index line.ltov k)
 
--- before a character that is shown; and where none is shown, at the line's end
+-- before the character at a place of a line; at the line's end if the character is not shown
 abbrev pub caret_in : Visual → Place → Caret
 caret_in line place =
     if nat_lt place.offset (length line.levels)
     then record { line = place.line; column = leading_edge line place.offset; level = slice_index line.levels place.offset }
     else line_end place.line line
 
--- on a line that would come, of a paragraph without characters
+-- on a line, or at column 0 of the line after the last, where an empty paragraph would begin
 abbrev pub caret_on : Rules → Option Visual → Place → Caret
 caret_on rules (Some line) place = caret_in line place
 caret_on rules None place = record { line = place.line; column = 0; level = base_of rules [] }
 
--- at a position of the text, where it isn't past the end
+-- before the character at a position, or at the end of the text; none past the end
 abbrev pub caret_at : Rules → List Layout → ℕ → Option Caret
 caret_at rules kept pos = option_map (λ place. caret_on rules (slice_get (lines_in kept) place.line) place) (place_at rules kept pos)

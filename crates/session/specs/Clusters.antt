@@ -12,26 +12,26 @@ use Rattle.session.specs.declared.clusters.Cluster.{Cluster}
 abbrev pub ends_at : List Bool → ℕ → Bool
 ends_at ends k = slice_index_or ends k false
 
--- after one that is there, or else
+-- the index after the given one, or another index if there is none
 abbrev pub after : Option ℕ → ℕ → ℕ
 after (Some k) other = k + 1
 after None other = other
 
--- The cluster of a character begins after the last one before it at which one ends, and ends with the first from it on.
+-- the cluster of character k starts after the last cluster end before k, and ends at the first one from k on
 abbrev pub cluster_begin : List Bool → ℕ → ℕ
 cluster_begin ends k = after (greatest (ends_at ends) k) 0
 
 abbrev pub cluster_end : List Bool → ℕ → ℕ
 cluster_end ends k = after (least (ends_at ends) k (length ends - k)) (length ends)
 
--- in a paragraph that begins at a position
+-- in a paragraph that starts at a position
 abbrev pub cluster_in : ℕ → List ℕ → ℕ → Cluster
 cluster_in start text pos = record {
   start = start + cluster_begin (cluster_ends text) (pos - start);
   end = start + cluster_end (cluster_ends text) (pos - start);
 }
 
--- in the last paragraph that begins at the position or before, where there is a character
+-- in the last paragraph that starts at or before the position; none past the last character
 abbrev pub cluster_at : List Layout → ℕ → Option Cluster
 cluster_at kept pos =
     let i = count_to pos (paragraph_starts kept) - 1 in

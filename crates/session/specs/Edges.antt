@@ -1,4 +1,4 @@
--- Where paragraphs meet, and what stands before that place.
+-- The starts and ends of paragraphs as edges: how many paragraphs, characters and lines come before.
 use Rattle.std.specs.Prelude.{◌≡◌, ℕ, ◌+◌, ◌-◌, ◌<◌, ◌≤◌, List, length, take}
 use Rattle.lines.specs.Layouts.{Layout}
 use Rattle.session.specs.Kept.{pars_of, lines_in}
@@ -6,25 +6,25 @@ use Rattle.session.specs.Touched.{start_of}
 use Rattle.session.specs.declared.edge.Edge.{Edge}
 use Rattle.session.specs.declared.edits.Damage.{Damage}
 
--- so many paragraphs stand before an edge, with so many characters and lines
+-- `index` paragraphs come before an edge, with `chars` characters and `lines` lines
 pub record IsEdge (kept : List Layout) (edge : Edge) : Type 0 where
   pub within : edge.index ≤ length kept
   pub chars : edge.chars ≡ start_of (pars_of kept) edge.index
   pub lines : edge.lines ≡ length (lines_in (take edge.index kept))
 
--- before the first paragraph whose closed span meets a range that begins at pos
+-- the start of the first paragraph whose closed span meets a range that starts at `pos`
 pub record IsFrontEdge (kept : List Layout) (pos : ℕ) (edge : Edge) : Type 0 where
   pub edge_is : IsEdge kept edge
   pub before : 0 < edge.index → edge.chars < pos
   pub after : edge.index < length kept → pos ≤ start_of (pars_of kept) (edge.index + 1)
 
--- after the last one whose closed span meets a range that stops at a place
+-- the end of the last paragraph whose closed span meets a range that ends at `to`
 pub record IsBackEdge (kept : List Layout) (to : ℕ) (edge : Edge) : Type 0 where
   pub edge_is : IsEdge kept edge
   pub before : (i : ℕ) → i < edge.index → start_of (pars_of kept) i ≤ to
   pub after : edge.index < length kept → to < edge.chars
 
--- the damage where new paragraphs stand between two edges
+-- the damage if new paragraphs replace those between two edges
 abbrev pub damage_between : Edge → Edge → List Layout → Damage
 damage_between front back fresh = record {
   first_line = front.lines;

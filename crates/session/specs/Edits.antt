@@ -1,4 +1,4 @@
--- What an edit makes of a text, and which edits are refused.
+-- The result of an edit of a text, and which edits are refused.
 use Rattle.std.specs.Prelude.{ℕ, ◌+◌, nat_lt, nat_le, ◌==◌, Bool, List, [], ◌∷◌, ◌++◌, length, take, drop, Option, Some, None, is_none, if◌then◌else◌}
 use Rattle.std.specs.List.{list_all}
 use Rattle.std.specs.Str.{chars}
@@ -10,7 +10,7 @@ use Rattle.session.specs.declared.edits.EditFault.TheVariants.{OutOfRange, Width
 use Rattle.lines.specs.declared.engine.TheConstants.{PARAGRAPH_LIMIT}
 use Rattle.session.specs.declared.edits.TheConstants.{TEXT_LIMIT}
 
--- `count` characters from `pos` on are taken out, and a piece is put in their place
+-- `piece` replaces `count` characters from `pos` on
 pub record Replacement : Type 0 where
   pub pos : ℕ
   pub count : ℕ
@@ -22,14 +22,14 @@ replaced text edit = take edit.pos text ++ (edit.piece ++ drop (edit.pos + edit.
 abbrev pub replacing : ℕ → ℕ → List ℕ → Replacement
 replacing pos count piece = record { pos = pos; count = count; piece = piece }
 
--- an insert takes nothing out, and a delete puts nothing in
+-- an insert deletes nothing, and a delete inserts nothing
 abbrev pub insertion : ℕ → List ℕ → Replacement
 insertion pos piece = record { pos = pos; count = 0; piece = piece }
 
 abbrev pub deletion : ℕ → ℕ → Replacement
 deletion pos count = record { pos = pos; count = count; piece = [] }
 
--- no paragraph is longer than its limit
+-- no paragraph is longer than the limit
 abbrev pub are_within : List (List ℕ) → Bool
 are_within pars = list_all (λ p. nat_le (length p) PARAGRAPH_LIMIT) pars
 
@@ -37,23 +37,23 @@ are_within pars = list_all (λ p. nat_le (length p) PARAGRAPH_LIMIT) pars
 abbrev pub is_within_limit : (ℕ → ℕ → Bool) → List ℕ → Bool
 is_within_limit is_cut text = are_within (paragraphs is_cut text)
 
--- why paragraphs can't be kept, where their text isn't too long
+-- why the paragraphs of a text are refused
 abbrev pub paragraphs_refusal : (ℕ → ℕ → Bool) → List ℕ → Option EditFault
 paragraphs_refusal is_cut text = if is_within_limit is_cut text then None else Some ParagraphTooLong
 
--- why a text can't be kept
+-- why a text is refused
 abbrev pub text_refusal : (ℕ → ℕ → Bool) → List ℕ → Option EditFault
 text_refusal is_cut text =
     if nat_lt TEXT_LIMIT (length text) then Some TextTooLong
     else (if is_within_limit is_cut text then None else Some ParagraphTooLong)
 
--- why an edit is refused: it reaches past the end of the text, or makes a text that can't be kept
+-- why an edit is refused: it reaches past the end of the text, or its result is refused
 abbrev pub refusal : (ℕ → ℕ → Bool) → List ℕ → Replacement → Option EditFault
 refusal is_cut text edit =
     if nat_lt (length text) (edit.pos + edit.count) then Some OutOfRange
     else text_refusal is_cut (replaced text edit)
 
--- a text, and the width at which it is laid out
+-- a text and its width
 pub record Held : Type 0 where
   pub text : List ℕ
   pub width : ℕ
@@ -62,7 +62,7 @@ pub record Held : Type 0 where
 abbrev pub width_refusal : ℕ → Option EditFault
 width_refusal width = if width == 0 then Some WidthOutOfRange else None
 
--- the text after an edit, and the width, of which one that is refused changes nothing
+-- the text, and the width, after an edit; a refused edit changes nothing
 abbrev pub after_edit : (ℕ → ℕ → Bool) → List ℕ → Replacement → List ℕ
 after_edit is_cut text edit = if is_none (refusal is_cut text edit) then replaced text edit else text
 
@@ -74,7 +74,7 @@ after_one is_cut held (Insert pos text) = record { text = after_edit is_cut held
 after_one is_cut held (Delete pos count) = record { text = after_edit is_cut held.text (deletion pos count); width = held.width }
 after_one is_cut held (SetWidth width) = record { text = held.text; width = after_width held.width width }
 
--- and after a list of them
+-- after a list of edits
 abbrev pub after_all : (ℕ → ℕ → Bool) → Held → List Edit → Held
 after_all is_cut held [] = held
 after_all is_cut held (edit ∷ edits) = after_all is_cut (after_one is_cut held edit) edits

@@ -1,4 +1,4 @@
--- Which character stands at a column of a line.
+-- The character at a column of a line.
 use Rattle.std.specs.Prelude.{ℕ, ◌+◌, ◌-◌, false, not, List, length, slice_get, slice_index, Option, Some, None}
 use Rattle.lines.specs.Columns.{columns_left, covering}
 use Rattle.lines.specs.Layouts.{Layout}
@@ -8,12 +8,12 @@ use Rattle.session.specs.Kept.{lines_in}
 use Rattle.session.specs.Places.{line_starts}
 use Rattle.session.specs.declared.hits.Hit.{Hit}
 
--- the visual place that covers the last column of a line, which is the rightmost that takes columns
+-- the visual position whose character includes the last column of a line: the rightmost character of nonzero width
 abbrev pub rightmost : Visual → Option ℕ
 rightmost line = covering line (columns_left line (length line.vtol) - 1)
 
--- of a line that begins at a position: the character that covers the column; right of the line its rightmost one, which the column is
--- past in the direction of an even level, and not in that of an odd one; in a line without columns its start
+-- In a line that starts at a position: the character that includes the column. Right of the line, its rightmost
+-- character of nonzero width; the hit is trailing if its level is even. In a line of width 0, the start of the line.
 abbrev pub hit_by : ℕ → Visual → Option ℕ → Option ℕ → Hit
 hit_by start line (Some place) last = record { pos = start + slice_index line.vtol place; trailing = false }
 hit_by start line None (Some place) = record {
@@ -25,7 +25,7 @@ hit_by start line None None = record { pos = start; trailing = false }
 abbrev pub hit_in : ℕ → Visual → ℕ → Hit
 hit_in start line column = hit_by start line (covering line column) (rightmost line)
 
--- where there is such a line
+-- if there is such a line
 abbrev pub hit_of : Option ℕ → Option Visual → ℕ → Option Hit
 hit_of (Some start) (Some line) column = Some (hit_in start line column)
 hit_of start line column = None

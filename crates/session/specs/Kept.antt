@@ -1,4 +1,4 @@
--- What is kept of a text: the layouts of its paragraphs, made anew from the text alone.
+-- What a session keeps of a text: the layouts of its paragraphs, as functions of the text alone.
 use Rattle.std.specs.Prelude.{◌≡◌, ℕ, ◌-◌, ◌<◌, ◌≤◌, Bool, true, false, List, length, map, sum_by, slice_index, Option, Some, None, if◌then◌else◌, refl}
 use Rattle.std.specs.List.{concat, flat_map}
 use Rattle.bidi.specs.Cuts.{paragraphs}
@@ -6,11 +6,11 @@ use Rattle.lines.specs.Extents.{extents_in, extents_of, reflowed, LineExtents}
 use Rattle.lines.specs.Layouts.{Layout, Rules, IsLaidOut, cut_by, is_line_within, layout_of, lines_of, visuals}
 use Rattle.lines.specs.Visual.{Visual}
 
--- there is a cut between two texts, unless one of them is empty
+-- there is a boundary between two texts, unless one of them is empty
 abbrev pub IsCutAt : (ℕ → ℕ → Bool) → List ℕ → List ℕ → Type 0
 IsCutAt is_cut before after = 0 < length before → 0 < length after → is_cut (slice_index before (length before - 1)) (slice_index after 0) ≡ true
 
--- the paragraphs of layouts, the text that they make, and their lines as they are shown.
+-- the paragraphs of layouts, the text that they make up, and their visual lines
 abbrev pub pars_of : List Layout → List (List ℕ)
 pars_of kept = map (λ l. l.text) kept
 
@@ -20,29 +20,30 @@ text_of kept = concat (pars_of kept)
 abbrev pub lines_in : List Layout → List Visual
 lines_in kept = flat_map visuals kept
 
--- the layout of a text at a width from scratch
+-- the fresh layouts of a text at a width
 abbrev pub layouts_of : Rules → ℕ → List ℕ → List Layout
 layouts_of rules width text = map (layout_of rules width) (paragraphs (cut_by rules) text)
 
--- how many characters a change to a width fills anew: all of a paragraph, but none where it has one line, which fits
+-- how many characters of a paragraph a width change fills again: all, or none if it has one line that fits
 abbrev pub changed_in : ℕ → Layout → ℕ
 changed_in width kept = if is_line_within width kept.lines then 0 else length kept.text
 
--- and of all paragraphs
+-- of all paragraphs
 abbrev pub changed : ℕ → List Layout → ℕ
 changed width kept = sum_by (changed_in width) kept
 
--- what the lines of paragraphs are written by: the rules, and scratch space for so many characters
+-- what writing the lines of paragraphs depends on: the rules, and the capacity of the scratch space
 pub record Writer : Type 0 where
   pub rules : Rules
   pub capacity : ℕ
 
--- and of how many characters they were written
+-- with the count of characters whose lines were written
 pub record ReflowState : Type 0 where
   pub by : Writer
   pub written : ℕ
 
--- A layout with its lines written anew by their extents, where there are some, and the extents that come out then. Its characters stay.
+-- A layout with its lines written again by their extents, if there are any; and the extents that are returned for them.
+-- The characters are unchanged.
 abbrev pub put_into : Writer → Layout → Option LineExtents → Layout
 put_into writer kept None = kept
 put_into writer kept (Some extents) = reflowed writer.rules kept extents
@@ -51,7 +52,7 @@ abbrev pub taken_from : Layout → Option LineExtents → Option LineExtents
 taken_from kept None = None
 taken_from kept (Some extents) = Some (extents_in kept.lines)
 
--- of how many characters the lines are written then
+-- of how many characters the lines are then written
 abbrev pub written_for : Layout → Option LineExtents → ℕ
 written_for kept None = 0
 written_for kept (Some extents) = length kept.text
@@ -60,13 +61,13 @@ pub chars_stay : (writer : Writer) (kept : Layout) (part : Option LineExtents) �
 chars_stay writer kept None = refl
 chars_stay writer kept (Some extents) = refl
 
--- extents are those of a layout at some width, and there is scratch space for it
+-- the extents are those of a layout at some width, and the scratch space is large enough for it
 pub record CanBePut (writer : Writer) (kept : Layout) (extents : LineExtents) : Type 0 where
   pub laid_out : IsLaidOut writer.rules kept
   pub at_width : (width : ℕ) × (extents ≡ extents_of writer.rules width kept.text)
   pub capacity : length kept.text ≤ writer.capacity
 
--- with them a layout has the lines of its text at a width, and there are none where its line fits that width
+-- the lines that a layout has with these extents are those of its text at a width; there are none if its line fits
 abbrev pub BringsTo : Rules → ℕ → Layout → Option LineExtents → Type 0
 BringsTo rules width kept None = (is_line_within width kept.lines ≡ true) × (kept.lines ≡ lines_of rules width kept.text)
 BringsTo rules width kept (Some extents) = (is_line_within width kept.lines ≡ false) × (extents ≡ extents_of rules width kept.text)

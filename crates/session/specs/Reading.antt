@@ -1,4 +1,4 @@
--- The characters of a text: a paragraph's part at a time, and as bytes.
+-- The characters of a text: those of one paragraph at a time, or as UTF-8.
 use Rattle.std.specs.Prelude.{ℕ, ◌+◌, nat_lt, List, length, take, encode_utf8_all, Option, Some, None, if◌then◌else◌}
 use Rattle.std.specs.List.{slice_range}
 use Rattle.lines.specs.Layouts.{Layout}
@@ -6,20 +6,20 @@ use Rattle.session.specs.Kept.{pars_of, text_of}
 use Rattle.session.specs.Places.{count_to, paragraph_starts}
 use Rattle.session.specs.Touched.{start_of}
 
--- where the paragraph ends that has the character at a position: the paragraphs up to it begin there or before
+-- the end of the paragraph of the character at a position
 abbrev pub paragraph_end : List Layout → ℕ → ℕ
 paragraph_end kept pos = start_of (pars_of kept) (count_to pos (paragraph_starts kept))
 
--- so many characters from there on, as far as the paragraph has them, where the text has them all
+-- the characters of a range that are in the paragraph of its first one; none if the range is past the end
 abbrev pub text_part : List Layout → ℕ → ℕ → Option (List ℕ)
 text_part kept pos count =
     if nat_lt (length (text_of kept)) (pos + count) then None
     else Some (take count (slice_range (text_of kept) pos (paragraph_end kept pos)))
 
--- so many characters from there on as UTF-8
+-- a range as UTF-8
 abbrev pub utf8_part : List Layout → ℕ → ℕ → List ℕ
 utf8_part kept pos count = encode_utf8_all (slice_range (text_of kept) pos (pos + count))
 
--- how many bytes these are, where the text has them all
+-- its length in UTF-8; none if the range is past the end
 abbrev pub utf8_len : List Layout → ℕ → ℕ → Option ℕ
 utf8_len kept pos count = if nat_lt (length (text_of kept)) (pos + count) then None else Some (length (utf8_part kept pos count))

@@ -1,4 +1,4 @@
--- What a scan knows of the characters that it took.
+-- What a scan knows of the characters that it has read.
 use Rattle.std.specs.Prelude.{◌≡◌, ℕ, ◌-◌, min, Bool, not, List, [], length, slice_get, slice_index_or}
 use Rattle.bidi.specs.Cuts.{paragraphs}
 use Rattle.session.specs.Edits.{are_within}

@@ -14,13 +14,13 @@ use Rattle.session.specs.declared.edits.Damage.{Damage}
 use Rattle.session.specs.declared.edits.EditFault.{EditFault}
 use Rattle.session.specs.declared.edits.EditFault.TheVariants.{WidthOutOfRange, NoMemory}
 
--- what a session holds: its engine, its width, and the layout of each paragraph
+-- what a session has: its engine, its width, and the layout of each paragraph
 pub record SessionState : Type 0 where
   pub engine : Engine
   pub width : ℕ
   pub kept : List Layout
 
--- the text that a session holds, and where its engine cuts
+-- the text of a session, and the paragraph boundaries of its engine
 abbrev pub text_at : SessionState → List ℕ
 text_at state = text_of state.kept
 
@@ -30,31 +30,31 @@ cuts_at state = cut_by (rules_of state.engine)
 abbrev pub held_at : SessionState → Held
 held_at state = record { text = text_at state; width = state.width }
 
--- what is printed of the whole text, laid out from scratch
+-- what is printed of a fresh layout of the whole text
 abbrev pub page_at : SessionState → Print → List ℕ
 page_at state print = page (rules_of state.engine) state.width print (paragraphs (cuts_at state) (text_at state))
 
--- what is kept is the layout of the text from scratch, and text and width are allowed
+-- the layouts are the fresh layouts of the text, and the text and the width are allowed
 pub record IsWholeLayout (state : SessionState) : Type 0 where
   pub kept : state.kept ≡ layouts_of (rules_of state.engine) state.width (text_at state)
   pub allowed : text_refusal (cuts_at state) (text_at state) ≡ None
   pub filled : 0 < state.width
 
--- why a text and a width are refused together
+-- why a text and a width are refused
 abbrev pub opening_refusal : (ℕ → ℕ → Bool) → List ℕ → ℕ → Option EditFault
 opening_refusal is_cut text width = if width == 0 then Some WidthOutOfRange else text_refusal is_cut text
 
--- the fault that is answered: the reason of a refusal, or want of memory where there is none
+-- the error that is returned: the reason for a refusal, or `NoMemory` if there is none
 abbrev pub IsAnswerFor : Option EditFault → EditFault → Type 0
 IsAnswerFor reason NoMemory = reason ≡ None
 IsAnswerFor reason fault = reason ≡ Some fault
 
--- where there was a reason to refuse the engine is as it was, and else it has worked within a bound
+-- after a refusal the engine is unchanged; after `NoMemory` it has worked within a bound
 abbrev pub IsCountedFor : EditFault → (Engine → Engine → Type 0) → Engine → Engine → Type 0
 IsCountedFor NoMemory bound old new = bound old new
 IsCountedFor fault bound old new = new ≡ old
 
--- a session was opened on a text at a width
+-- a session is opened on a text at a width
 pub record Opens (engine : Engine) (whole : List ℕ) (width : ℕ) (state : SessionState) : Type 0 where
   pub allowed : opening_refusal (cut_by (rules_of engine)) whole width ≡ None
   pub text : text_at state ≡ whole
@@ -63,13 +63,13 @@ pub record Opens (engine : Engine) (whole : List ℕ) (width : ℕ) (state : Ses
   pub rules : SameRules engine state.engine
   pub counts : LaysOutAtMost (length whole) engine state.engine
 
--- it was not, and the engine came back
+-- opening fails, and the engine is returned
 pub record OpensNot (engine : Engine) (whole : List ℕ) (width : ℕ) (back : Engine × EditFault) : Type 0 where
   pub reason : IsAnswerFor (opening_refusal (cut_by (rules_of engine)) whole width) back.1
   pub rules : SameRules engine back.0
   pub counts : IsCountedFor back.1 (LaysOutAtMost (length whole)) engine back.0
 
--- an edit was made
+-- an edit is executed
 pub record Edits (edit : Replacement) (old new : SessionState) (answer : Damage) : Type 0 where
   pub accepted : refusal (cuts_at old) (text_at old) edit ≡ None
   pub text : text_at new ≡ replaced (text_at old) edit
@@ -79,7 +79,7 @@ pub record Edits (edit : Replacement) (old new : SessionState) (answer : Damage)
   pub damage : IsDamage edit old.kept new.kept answer
   pub counts : LaysOutAtMost (fresh (pars_of old.kept) edit) old.engine new.engine
 
--- the lines were filled anew that don't fit as they are
+-- the width is set, and the lines of paragraphs that are not one fitting line are filled again
 pub record SetsWidth (width : ℕ) (old new : SessionState) (answer : Damage) : Type 0 where
   pub accepted : width_refusal width ≡ None
   pub text : text_at new ≡ text_at old
@@ -90,7 +90,7 @@ pub record SetsWidth (width : ℕ) (old new : SessionState) (answer : Damage) : 
   pub counts : FillsAtMost (length (text_at old)) old.engine new.engine
   pub exact : Fills (changed width old.kept) old.engine new.engine
 
--- an edit was refused, and all is as before
+-- an edit fails, and all but the counters is unchanged; so are they, unless the error is `NoMemory`
 pub record Stays (reason : Option EditFault) (bound : Engine → Engine → Type 0) (old new : SessionState) (fault : EditFault) : Type 0 where
   pub answer : IsAnswerFor reason fault
   pub kept : new.kept ≡ old.kept

@@ -1,10 +1,10 @@
--- Which paragraphs an edit touches, how much there is to analyse, and where these stand.
+-- Which paragraphs an edit touches, where they are, and how much there is to analyse.
 use Rattle.std.specs.Prelude.{◌≡◌, ℕ, ◌+◌, ◌-◌, ◌<◌, ◌≤◌, nat_le, Bool, ◌&&◌, List, [], length, take, count_by, unwrap_or}
 use Rattle.std.specs.List.{concat, range_with_len, slice_range}
 use Rattle.ucd.specs.Least.{least}
 use Rattle.session.specs.Edits.{Replacement}
 
--- where the paragraph at an index starts, which is where the one before it ends
+-- the start of the paragraph at an index, which is the end of the one before it
 abbrev pub start_of : List (List ℕ) → ℕ → ℕ
 start_of pars i = length (concat (take i pars))
 
@@ -13,29 +13,30 @@ module _ (pars : List (List ℕ)) (edit : Replacement) where
   abbrev pub is_touched : ℕ → Bool
   is_touched i = nat_le (start_of pars i) (edit.pos + edit.count) && nat_le edit.pos (start_of pars (i + 1))
 
-  -- the first that is touched, and how many are
+  -- the first touched paragraph, and how many are touched
   abbrev pub first_touched : ℕ
   first_touched = unwrap_or (least is_touched 0 (length pars)) 0
 
   abbrev pub touched_count : ℕ
   touched_count = count_by is_touched (range_with_len 0 (length pars))
 
-  -- how long the text is that stands in place of the touched paragraphs
+  -- the length of the text that replaces the touched paragraphs
   abbrev pub fresh : ℕ
   fresh = length (concat (slice_range pars first_touched (first_touched + touched_count))) - edit.count + length edit.piece
 
--- the characters from one place up to another, in place of which a piece is put
+-- `piece` replaces the characters from one position to another
 abbrev pub region_edit : ℕ → ℕ → List ℕ → Replacement
 region_edit from to piece = record { pos = from; count = to - from; piece = piece }
 
--- paragraphs that stand one after another: from the first up to the end, with the characters from start up to stop
+-- adjacent paragraphs: from `first` to `end`, with the characters from `start` to `stop`
 pub record Span : Type 0 where
   pub first : ℕ
   pub end : ℕ
   pub start : ℕ
   pub stop : ℕ
 
--- the paragraphs that an edit of the characters from pos up to end touches: where others stand before or after them, a character stays at that side
+-- the paragraphs that an edit of the characters from `pos` to `end` touches; beside an untouched paragraph, one of
+-- their characters is outside the edited range
 pub record AreTouched (pars : List (List ℕ)) (pos end : ℕ) (touched : Span) : Type 0 where
   pub first : touched.first ≡ first_touched pars (region_edit pos end [])
   pub count : touched.end ≡ touched.first + touched_count pars (region_edit pos end [])

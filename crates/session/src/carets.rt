@@ -1,4 +1,4 @@
-//! Where a caret stands before a character, as the character is shown.
+//! Where to draw a caret before a character.
 ghost use Rattle.std.specs.Prelude.{◌≡◌, ◌^◌, ◌<◌, slice_index};
 ghost use Rattle.reorder.specs.Order.{is_odd};
 ghost use Rattle.session.specs.Carets.{caret_in, line_end};
@@ -6,18 +6,18 @@ ghost use Rattle.session.specs.Carets.{caret_in, line_end};
 use crate::places::Place;
 use lines::VisualLine;
 
-/// Where a caret stands.
+/// Where to draw a caret.
 #[derive(Clone, Copy, Debug, PartialEq, Eq)]
 pub struct Caret {
     /// The line, counted from 0 through the whole text.
     pub line: usize,
-    /// How many columns are left of it, from the left edge of the line's shown part on.
+    /// The columns left of the caret, counted from the left edge of the line's shown part.
     pub column: usize,
-    /// The level of the character after L1; the base level where none is shown there.
+    /// The level of the character after L1, or the base level if the character is not shown.
     pub level: u8,
 }
 
-// At the end of a line, in the direction of its paragraph.
+// The caret at the end of a line, in the direction of its paragraph.
 fn line_end(line: &VisualLine<'_>, n: usize) -> Caret
     ensures caret { result ≡ line_end n line.now }
     ensures fits { result.column < 2 ^ 63 }
@@ -40,7 +40,7 @@ fn is_odd(level: u8) -> bool
     level % 2 == 1
 }
 
-// The visual position of a character of a line, counted from the line's start.
+// Returns the visual position of a character of a line, counted from the line's start.
 fn visual(line: &VisualLine<'_>, k: usize) -> usize
     ensures value { result ≡ slice_index line.now.ltov k }
     ensures fits { result < 2 ^ 32 }
@@ -51,8 +51,8 @@ fn visual(line: &VisualLine<'_>, k: usize) -> usize
     }
 }
 
-/// Before the character at a place of a line: at its left edge where its level is even, and else at its
-/// right edge. Where the character is not shown, at the end of the line.
+/// Returns the caret before the character at a place of a line: at its left edge if its level is even, else
+/// at its right edge. If the character is not shown, the caret is at the end of the line.
 pub fn caret_in(line: &VisualLine<'_>, place: Place) -> Caret
     ensures caret { result ≡ caret_in line.now place }
     ensures fits { result.column < 2 ^ 63 }

@@ -1,4 +1,4 @@
-//! The grapheme cluster of a character, so that a caret does not land inside one.
+//! The grapheme cluster of a character, so that a caret never falls inside one.
 ghost use Rattle.std.specs.Prelude.{◌≡◌, ◌<◌, ◌≤◌, All, length, IfOk, OnErr};
 ghost use Rattle.session.specs.Clusters.{cluster_at, cluster_begin, cluster_end};
 ghost use Rattle.session.specs.Kept.{text_of};
@@ -17,7 +17,7 @@ pub struct Cluster {
     pub end: usize,
 }
 
-// Where the cluster of a character begins, where it is known after which characters clusters end.
+// Returns where the cluster of a character starts. `ends` says after which characters a cluster ends.
 fn begin(ends: &[bool], k: usize) -> usize
     requires { k < length ends.now }
     ensures value { result ≡ cluster_begin ends.now k }
@@ -33,7 +33,7 @@ fn begin(ends: &[bool], k: usize) -> usize
     0
 }
 
-// And where it ends.
+// Returns where it ends.
 fn end_of(ends: &[bool], k: usize) -> usize
     requires { k < length ends.now }
     ensures value { result ≡ cluster_end ends.now k }
@@ -49,7 +49,7 @@ fn end_of(ends: &[bool], k: usize) -> usize
     ends.len()
 }
 
-/// The cluster of the character at a position, where there is one.
+/// Returns the cluster of the character at a position, or `None` past the last character.
 pub fn cluster_of<S: ParagraphStore<Kept>>(
     store: &S,
     alloc: Global,
@@ -59,7 +59,7 @@ pub fn cluster_of<S: ParagraphStore<Kept>>(
     ensures ok { IfOk result (λ cluster. cluster ≡ cluster_at (S.items store.now) pos) }
     ensures memory { OnErr result (pos < length (text_of (S.items store.now))) }
 {
-    // Shows that the characters fit.
+    // Its contract bounds the number of characters.
     let len = store.total_chars();
     if pos >= len {
         return Ok(None);

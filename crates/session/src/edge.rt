@@ -1,4 +1,4 @@
-//! Where an edit lies among the paragraphs of a store: found by the store's sums.
+//! Where an edit lies among the paragraphs of a store, found by the store's sums.
 ghost use Rattle.std.specs.Prelude.{◌≡◌, ◌≤◌, ◌-◌, List, [], ℕ, length, take, drop, slice_index_or};
 ghost use Rattle.session.specs.Edges.{IsBackEdge, IsFrontEdge};
 ghost use Rattle.session.specs.Kept.{pars_of, text_of};
@@ -6,8 +6,7 @@ ghost use Rattle.session.specs.Kept.{pars_of, text_of};
 use crate::kept::Kept;
 use store::{Measured, ParagraphStore};
 
-/// Where a paragraph starts, or the text ends: how many paragraphs, characters and lines are before
-/// of it.
+/// The start of a paragraph or the end of the text: how many paragraphs, characters and lines come before it.
 #[derive(Clone, Copy, Debug)]
 pub struct Edge {
     pub index: usize,
@@ -15,7 +14,7 @@ pub struct Edge {
     pub lines: usize,
 }
 
-/// Before the first paragraph that an edit from `pos` on touches.
+/// Returns the start of the first paragraph that an edit from `pos` on touches.
 pub fn front_edge<S: ParagraphStore<Kept>>(store: &S, pos: usize) -> Edge
     requires { pos ≤ length (text_of (S.items store.now)) }
     ensures { IsFrontEdge (S.items store.now) pos result }
@@ -35,12 +34,12 @@ pub fn front_edge<S: ParagraphStore<Kept>>(store: &S, pos: usize) -> Edge
     }
 }
 
-/// After the last paragraph that an edit up to `to` touches.
+/// Returns the end of the last paragraph that an edit up to `to` touches.
 pub fn back_edge<S: ParagraphStore<Kept>>(store: &S, to: usize) -> Edge
     requires { to ≤ length (text_of (S.items store.now)) }
     ensures { IsBackEdge (S.items store.now) to result }
 {
-    // They show that the sums fit.
+    // Their contracts bound the sums.
     let (count, chars, lines) = (store.count(), store.total_chars(), store.total_lines());
     if to == chars {
         return Edge {
@@ -60,21 +59,21 @@ pub fn back_edge<S: ParagraphStore<Kept>>(store: &S, to: usize) -> Edge
     }
 }
 
-/// The characters before a place, as far as there are any.
+/// Returns the first `to` characters, or all if there are fewer.
 pub fn front(text: &[char], to: usize) -> &[char]
     ensures { result.now ≡ take to text.now }
 {
     &text[..to.min(text.len())]
 }
 
-/// Those from a place on.
+/// Returns the characters from an index on.
 pub fn back(text: &[char], from: usize) -> &[char]
     ensures { result.now ≡ drop from text.now }
 {
     &text[from.min(text.len())..]
 }
 
-/// The characters of the paragraph after an edge up to `pos`.
+/// Returns the characters before `pos` of the paragraph that starts at an edge.
 pub fn front_text<S: ParagraphStore<Kept>>(store: &S, edge: Edge, pos: usize) -> &[char]
     ensures { result.now
         ≡ take (pos - edge.chars) (slice_index_or (pars_of (S.items store.now)) edge.index []) }
@@ -85,7 +84,7 @@ pub fn front_text<S: ParagraphStore<Kept>>(store: &S, edge: Edge, pos: usize) ->
     }
 }
 
-/// The characters of the paragraph before an edge from `from` on.
+/// Returns the characters from `from` on of the paragraph that ends at an edge.
 pub fn back_text<S: ParagraphStore<Kept>>(store: &S, edge: Edge, from: usize) -> &[char]
     ensures { (text : List ℕ) → text ≡ slice_index_or (pars_of (S.items store.now)) (edge.index - 1) []
         → result.now ≡ drop (length text - (edge.chars - from)) text }

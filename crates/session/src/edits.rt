@@ -1,23 +1,22 @@
-//! Edits of a text, their damage and why they are refused.
+//! Edits of a text, their damage, and the errors.
 use thiserror::Error;
 
-/// How many characters a text may have.
+/// The maximum number of characters of a text.
 pub const TEXT_LIMIT: usize = 16_777_216;
 
-/// An edit of a text, or of the width at which it is laid out. Positions count characters (Unicode
-/// scalar values).
+/// An edit of a text, or a change of its width. Positions count characters (Unicode scalar values).
 #[derive(Clone, Copy, Debug)]
 pub enum Edit<'a> {
-    /// Puts a text before the character at a position, or at the end.
+    /// Inserts a text before the character at a position, or at the end.
     Insert(usize, &'a str),
-    /// Takes so many characters out, from a position on.
+    /// Deletes characters: the position of the first, and how many.
     Delete(usize, usize),
-    /// Brings all lines to another width, in columns.
+    /// Sets the width, in columns, and rewraps every paragraph.
     SetWidth(u16),
 }
 
-/// What an edit has replaced: `old_lines` lines, from `first_line` on, by `new_lines` others, and so
-/// with paragraphs. Lines and paragraphs count from 0.
+/// What an edit replaced: `old_lines` lines from `first_line` on by `new_lines` lines, and likewise for
+/// paragraphs. Lines and paragraphs are numbered from 0.
 #[derive(Clone, Copy, Debug, PartialEq, Eq)]
 pub struct Damage {
     pub first_line: usize,
@@ -28,7 +27,7 @@ pub struct Damage {
     pub new_pars: usize,
 }
 
-/// Why an edit is refused, in the order in which the reasons are tested.
+/// Why an edit fails, in the order in which the causes are tested.
 #[derive(Clone, Copy, Debug, PartialEq, Eq, Error)]
 pub enum EditFault {
     /// The edit reaches past the end of the text.
@@ -43,7 +42,7 @@ pub enum EditFault {
     /// A paragraph of the new text would have more than 1,048,576 characters.
     #[error("paragraph too long")]
     ParagraphTooLong,
-    /// Memory ran out, and none of the others holds.
+    /// An allocation failed, and no other cause applies.
     #[error("out of memory")]
     NoMemory,
 }

@@ -1,4 +1,4 @@
-//! Which character stands at a column of a line.
+//! The character at a column of a line.
 ghost use Rattle.std.specs.Prelude.{◌≡◌, ◌^◌, ◌<◌, not, slice_index};
 ghost use Rattle.lines.specs.Columns.{columns_left, covering};
 ghost use Rattle.reorder.specs.Order.{is_odd};
@@ -11,12 +11,12 @@ use lines::VisualLine;
 pub struct Hit {
     /// Its position in the text.
     pub pos: usize,
-    /// Whether the column lies past the character in the character's own direction, so that a caret belongs
-    /// after it: right of one at an even level, left of one at an odd level.
+    /// Whether the column is past the character in the character's direction, so that a caret belongs after
+    /// it. That is right of a character at an even level, left of one at an odd level.
     pub trailing: bool,
 }
 
-// The character at a visual position of a line, counted from the line's start.
+// Returns the character at a visual position of a line, counted from the line's start.
 fn logical(line: &VisualLine<'_>, place: usize) -> usize
     ensures value { result ≡ slice_index line.now.vtol place }
     ensures fits { result < 2 ^ 32 }
@@ -37,7 +37,7 @@ fn is_even(line: &VisualLine<'_>, k: usize) -> bool
     }
 }
 
-// The visual position that covers the last column.
+// Returns the visual position whose character includes the last column.
 fn rightmost(line: &VisualLine<'_>) -> Option<usize>
     ensures { result ≡ rightmost line.now }
 {
@@ -45,7 +45,7 @@ fn rightmost(line: &VisualLine<'_>) -> Option<usize>
     line.covering(columns.saturating_sub(1))
 }
 
-/// The character at a column of a line that begins at a position.
+/// Returns the character at a column of a line that starts at the position `start`.
 pub fn hit_in(line: &VisualLine<'_>, start: usize, column: usize) -> Hit
     requires { start < 2 ^ 33 }
     ensures { result ≡ hit_in start line.now column }

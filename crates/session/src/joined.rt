@@ -1,5 +1,5 @@
-//! The paragraphs of a text that stands in three parts, laid out: what is before an edit, the new
-//! piece, and what is after it.
+//! Lays out the paragraphs of a text that is given as three parts: what comes before an edit, the inserted
+//! text, and what comes after.
 ghost use Rattle.std.specs.Prelude.{◌≡◌, ◌<◌, ◌++◌, true, false, not, List, [], ℕ, length};
 ghost use Rattle.std.specs.Prelude.{IfOk, IfErr, IsErrOf};
 ghost use Rattle.std.specs.Str.{chars};
@@ -18,7 +18,7 @@ use bidi::paragraphs_are_pieces;
 use lines::Engine;
 use std::alloc::{AllocError, Global};
 
-// Whether a paragraph is too long. It takes no memory.
+// Whether a paragraph is too long. Allocates nothing.
 fn has_long(engine: &Engine, front: &[char], piece: &str, back: &[char]) -> bool
     ensures { result ≡ not (is_within_limit (cut_by (rules_of engine.now))
         (front.now ++ (chars piece.now ++ back.now))) }
@@ -30,7 +30,7 @@ fn has_long(engine: &Engine, front: &[char], piece: &str, back: &[char]) -> bool
     scan.is_long()
 }
 
-// Whether there is nothing to lay out.
+// Whether the text is empty.
 fn are_empty(front: &[char], piece: &str, back: &[char]) -> bool
     ensures none { result ≡ true → length (front.now ++ (chars piece.now ++ back.now)) ≡ 0 }
     ensures some { result ≡ false → 0 < length (front.now ++ (chars piece.now ++ back.now)) }
@@ -44,7 +44,7 @@ fn are_empty(front: &[char], piece: &str, back: &[char]) -> bool
     piece.is_empty()
 }
 
-// The three parts as one.
+// Joins the three parts.
 fn joined(
     alloc: Global,
     front: &[char],
@@ -62,7 +62,7 @@ fn joined(
     Ok(text)
 }
 
-// One paragraph, laid out.
+// Copies one paragraph and lays it out.
 fn lay_out_one(
     alloc: Global,
     engine: &mut Engine,
@@ -81,7 +81,7 @@ fn lay_out_one(
     }
 }
 
-// The paragraphs of a text, each laid out once.
+// Lays out the paragraphs of a text, each once.
 fn lay_out(
     alloc: Global,
     engine: &mut Engine,
@@ -94,7 +94,7 @@ fn lay_out(
     ensures rules { SameRules engine.old engine.new }
     ensures counts { LaysOutAtMost (length text.now) engine.old engine.new }
 {
-    // The law by which what stands between two cuts is one paragraph.
+    // By this theorem, the text between two boundaries is one paragraph.
     paragraphs_are_pieces();
     let mut kept = Vec::new(alloc);
     let mut rest = text;
@@ -109,7 +109,8 @@ fn lay_out(
     Ok(kept)
 }
 
-/// The paragraphs of the three parts, laid out, unless one is too long or memory is wanting.
+/// Lays out the paragraphs of the three parts. Fails with `ParagraphTooLong` if one is too long, without
+/// allocating, and with `NoMemory` if an allocation fails.
 pub fn lay_out_joined(
     alloc: Global,
     engine: &mut Engine,

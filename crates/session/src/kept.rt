@@ -1,4 +1,4 @@
-//! A paragraph as a session keeps it in a store.
+//! A paragraph as an item of a session's store.
 ghost use Rattle.std.specs.Prelude.{◌≡◌, ◌≤◌, ℕ, length, IfOk};
 ghost use Rattle.lines.specs.Engine.{counted, rules_of};
 ghost use Rattle.lines.specs.Extents.{extents_in, extents_of, reflowed};
@@ -9,8 +9,8 @@ use std::alloc::{AllocError, Global};
 use std::marker::Model;
 use store::{Exchange, Exchanger, Measured};
 
-/// A paragraph that is laid out, as an item of a store. It is two numbers and a place of the paragraph's
-/// own, so that a store that looks for another one doesn't read it.
+/// The layout of a paragraph, as an item of a store. The layout is in a box beside its counts of characters
+/// and lines, so a search reads the counts only.
 #[derive(Debug)]
 pub struct Kept {
     chars: usize,
@@ -41,7 +41,7 @@ impl Model for Kept {
 }
 
 impl Kept {
-    /// Of a paragraph that is laid out.
+    /// Moves a layout into a box.
     pub fn new(alloc: Global, laid: Laid) -> Result<Kept, AllocError>
         ensures { IfOk result (λ kept. kept ≡ laid) }
     {
@@ -52,14 +52,14 @@ impl Kept {
         })
     }
 
-    /// The paragraph.
+    /// Returns the layout.
     pub fn laid(&self) -> &Laid
         ensures { result.now ≡ self.now }
     {
         &self.laid
     }
 
-    // Writes its lines at another width over those that it has.
+    // Replaces the lines with those at another width.
     fn reflow(&mut self, engine: &Engine, extents: &mut Extents, scratch: &mut ReflowScratch)
         requires laid { IsLaidOut (rules_of engine.now) self.old }
         requires extents { (width : ℕ)
@@ -98,7 +98,7 @@ impl Exchange for Kept {
     ghost use Rattle.std.specs.Prelude.{length, refl};
     ghost use Rattle.lines.specs.Layouts.{AreLinesOf, IsLaidOut, Rules};
 
-    // Lines of this paragraph, by the rules by which it is laid out.
+    // The lines are this paragraph's, by the rules of its layout.
     ghost fits = { λ kept fill.
         (rules : Rules) × IsLaidOut rules kept × AreLinesOf rules kept.text fill };
 
@@ -114,11 +114,11 @@ impl Exchange for Kept {
     ghost keeps_chars = { λ kept fill fits. refl };
 }
 
-/// Writes the lines of paragraphs at another width over those that they have, by an engine's tables and
-/// options. The part of a paragraph is the extents of its lines, or none where it keeps its own.
+/// Writes the lines of paragraphs at another width over the old ones, by an engine's tables and options. The
+/// part of a paragraph is the extents of its lines, or `None` if its lines stay.
 pub struct Reflow<'a> {
     pub engine: &'a Engine,
-    /// For the longest of the paragraphs. It counts the characters whose lines are written.
+    /// Its capacity is the length of the longest paragraph. It counts the characters whose lines are written.
     pub scratch: ReflowScratch,
 }
 
@@ -144,7 +144,7 @@ impl<'a> Exchanger<Kept> for Reflow<'a> {
 
     ghost kind = { λ reflow. reflow.by };
 
-    // Extents of this paragraph, for which there is scratch space.
+    // The extents are this paragraph's, and the scratch space is large enough for it.
     ghost fits = { λ by kept part. IfSome part (CanBePut by kept) };
 
     ghost exchanged = { put_into };

@@ -1,4 +1,4 @@
-//! What holds of all texts.
+//! A theorem about all texts.
 ghost use Rattle.std.specs.Prelude.{◌≡◌, ◌++◌, ℕ, List};
 ghost use Rattle.bidi.specs.Cuts.{paragraphs};
 ghost use Rattle.lines.specs.Layouts.{Rules, cut_by};
@@ -8,9 +8,9 @@ ghost use Rattle.session.specs.Kept.{layouts_of, IsCutAt};
 
 use bidi::paragraphs_are_pieces;
 
-/// Of a text that is parted where a cut stands, the layouts of the paragraphs are those of its parts, one
-/// list after the other, by whatever rules and at whatever width, and so is what is printed of it: a law,
-/// which takes no time. So parts of a long text may be laid out anywhere and in any order.
+/// States, as a theorem, that a text split at a paragraph boundary is laid out as its parts are, by any rules
+/// and at any width. Its layouts are those of the first part, then those of the second. The same holds of
+/// what is printed. So parts of a long text may be laid out in any order. Costs nothing at run time.
 pub fn texts_are_laid_out_in_parts()
     ensures layouts { (rules : Rules) (width : ℕ) (front rest : List ℕ)
         → IsCutAt (cut_by rules) front rest

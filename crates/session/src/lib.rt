@@ -1,8 +1,8 @@
-//! Sessions: a text under inserts, deletes and width changes, of which all that is kept is the layout of
-//! the whole current text.
+//! Sessions: a text that is edited, with the layout of each of its paragraphs. After any edits, the layouts
+//! equal fresh layouts of the current text.
 //!
-//! A `Session` is opened on an engine, a text and a width. Each edit answers its `Damage`: which lines gave
-//! way to how many others. Positions count characters; lines and columns count from 0.
+//! A `Session` is opened on an engine, a text and a width. Each edit returns its `Damage`: how many lines
+//! were replaced, and by how many. Positions count characters. Lines and columns are numbered from 0.
 //!
 //! ```rust
 //! let damage = session.insert(4, "שלום")?; // after "abc\n"
@@ -17,8 +17,8 @@
 //! assert!(rt; session.caret(5) == Some(caret));
 //! ```
 //!
-//! Lines are lent (`line`), printed (`print`, `print_lines`), and found (`place`, `line_start`); the text is
-//! read back by `text` and `write_text`. An edit that is refused changes nothing.
+//! `line` borrows a line, `print` and `print_lines` write lines, `place` and `line_start` find them. `text`
+//! and `write_text` return the text. A refused edit changes nothing.
 #![tactic(auto)]
 
 mod carets;

@@ -1,5 +1,5 @@
-//! Where the lines of a text begin, and on which of them a character stands: found by the store's sums,
-//! and within a paragraph by where its lines begin.
+//! Where the lines of a text start, and on which line a character is. Paragraphs are found by the store's
+//! sums, lines by where they start in their paragraph.
 ghost use Rattle.std.specs.Prelude.{◌≡◌, ◌^◌, ◌<◌, ◌≤◌, ℕ, All, nat_le, count_by, length};
 ghost use Rattle.std.specs.Prelude.{slice_get, slice_index, IfSome};
 ghost use Rattle.std.specs.List.Sorted.{IsNonDecreasing};
@@ -12,18 +12,18 @@ use crate::kept::Kept;
 use lines::Engine;
 use store::ParagraphStore;
 
-/// Where a character of a text stands, or the end of the text. All count from 0.
+/// Where a character of a text is, or the end of the text. All numbers count from 0.
 #[derive(Clone, Copy, Debug, PartialEq, Eq)]
 pub struct Place {
-    /// The paragraph that has it.
+    /// Its paragraph.
     pub paragraph: usize,
-    /// The line that has it, counted through the whole text.
+    /// Its line, counted through the whole text.
     pub line: usize,
-    /// How many characters of this line are before it.
+    /// How many characters of this line come before it.
     pub offset: usize,
 }
 
-// One of the starts of lines.
+// Returns the n-th line start.
 fn start_of_nth(starts: &[u32], n: usize) -> usize
     requires { n < length starts.now }
     ensures start { result ≡ slice_index starts.now n }
@@ -32,7 +32,7 @@ fn start_of_nth(starts: &[u32], n: usize) -> usize
     starts[n] as usize
 }
 
-/// Where a line begins, counted from 0.
+/// Returns the position at which a line starts, or `None` past the last line.
 pub fn line_start<S: ParagraphStore<Kept>>(store: &S, n: usize) -> Option<usize>
     requires { length (text_of (S.items store.now)) ≤ TEXT_LIMIT }
     ensures start { result ≡ slice_get (line_starts (S.items store.now)) n }
@@ -51,7 +51,7 @@ pub fn line_start<S: ParagraphStore<Kept>>(store: &S, n: usize) -> Option<usize>
     }
 }
 
-// How many of the starts of lines are at a position or before it.
+// Returns how many line starts are at most `pos`.
 fn lines_to(starts: &[u32], pos: usize) -> usize
     requires { IsNonDecreasing starts.now }
     ensures count { result ≡ count_by (λ start. nat_le start pos) starts.now }
@@ -60,13 +60,13 @@ fn lines_to(starts: &[u32], pos: usize) -> usize
     starts.partition_point(|start| *start as usize <= pos)
 }
 
-// The place of a character.
+// Returns the place of a character.
 fn place_in<S: ParagraphStore<Kept>>(store: &S, pos: usize) -> Place
     requires within { pos < length (text_of (S.items store.now)) }
     requires lined { All IsLined (S.items store.now) }
     ensures { result ≡ place_in (S.items store.now) pos }
 {
-    // Shows that the lines fit.
+    // Its contract bounds the number of lines.
     let _lines = store.total_lines();
     let found = store.find_char(pos);
     match store.get(found.index) {
@@ -83,7 +83,7 @@ fn place_in<S: ParagraphStore<Kept>>(store: &S, pos: usize) -> Place
     }
 }
 
-// A character of the text.
+// Returns a character of the text.
 fn char_at<S: ParagraphStore<Kept>>(store: &S, pos: usize) -> char
     requires { pos < length (text_of (S.items store.now)) }
     ensures { result ≡ slice_index (text_of (S.items store.now)) pos }
@@ -98,7 +98,8 @@ fn char_at<S: ParagraphStore<Kept>>(store: &S, pos: usize) -> char
     }
 }
 
-// Whether another paragraph would begin after the text. A separator is cut from one of its kind.
+// Whether a new paragraph would start at the end of the text. There is a boundary between two equal
+// characters exactly if they are separators.
 fn is_closed<S: ParagraphStore<Kept>>(store: &S, engine: &Engine) -> bool
     ensures { result ≡ is_closed (rules_of engine.now) (text_of (S.items store.now)) }
 {
@@ -110,7 +111,7 @@ fn is_closed<S: ParagraphStore<Kept>>(store: &S, engine: &Engine) -> bool
     engine.is_cut(last, last)
 }
 
-/// The place of a position, where it is not past the end.
+/// Returns the place of a position, or `None` past the end.
 pub fn place_of<S: ParagraphStore<Kept>>(store: &S, engine: &Engine, pos: usize) -> Option<Place>
     requires { All IsLined (S.items store.now) }
     ensures { result ≡ place_at (rules_of engine.now) (S.items store.now) pos }

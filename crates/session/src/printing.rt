@@ -1,4 +1,4 @@
-//! Lines that a store keeps, written to a sink.
+//! Writes lines of a store to a sink.
 ghost use Rattle.std.specs.Prelude.{◌≡◌, ◌+◌, ◌≤◌, drop, length, take, IfOk, IfErr};
 ghost use Rattle.std.specs.List.{flat_map};
 ghost use Rattle.lines.specs.Bytes.{line_bytes};
@@ -12,10 +12,10 @@ use lines::{Laid, Print, WriteFault};
 use store::{Measured, ParagraphStore};
 use thiserror::Error;
 
-/// Why lines or characters are not written, or not all of them.
+/// Why lines or characters were not, or not completely, written.
 #[derive(Clone, Copy, Debug, PartialEq, Eq, Error)]
 pub enum RangeFault {
-    /// They reach past the last one, and nothing was written.
+    /// The range is past the end, and nothing was written.
     #[error("out of range")]
     OutOfRange,
     /// The sink failed.
@@ -23,8 +23,8 @@ pub enum RangeFault {
     Write(WriteFault),
 }
 
-// Writes so many lines of a paragraph, from one on, after so many bytes. Says how many bytes are written
-// then.
+// Writes `count` lines of a paragraph, from the line `from` on, after `before` bytes. Returns the number of
+// bytes written then.
 fn write_part<W: Sink>(
     laid: &Laid,
     from: usize,
@@ -44,7 +44,7 @@ fn write_part<W: Sink>(
         (W.state writer.old) (W.state writer.new) fault.written) }
     ensures counted { IfOk result (λ n. n ≤ (W.state writer.new).passed) }
 {
-    // Shows that the number of lines fits.
+    // Its contract bounds the number of lines.
     let _lines = laid.line_count();
     let mut written = before;
     for n in 0..count {
@@ -56,8 +56,8 @@ fn write_part<W: Sink>(
     Ok(written)
 }
 
-/// Writes so many lines, from one on, after so many bytes, and no more after a failure of the sink. Says
-/// how many bytes are written then. The first line alone is looked up.
+/// Writes `count` lines, from the line `first` on, after `before` bytes. Returns the number of bytes written
+/// then, and writes nothing after a failed write. Only the first line is searched for.
 pub fn write_lines<S: ParagraphStore<Kept>, W: Sink>(
     store: &S,
     first: usize,

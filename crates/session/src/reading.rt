@@ -1,4 +1,4 @@
-//! The characters of a text: a paragraph's part at a time, and as bytes.
+//! Reads the characters of a text: those of one paragraph at a time, or as UTF-8.
 ghost use Rattle.std.specs.Prelude.{◌≡◌, ◌+◌, ◌*◌, ◌<◌, ◌≤◌, All, length, option_map};
 ghost use Rattle.std.specs.Prelude.{encode_utf8_all, IfOk, IfErr, IfSome};
 ghost use Rattle.lines.specs.Writing.{PassedOn, StoppedIn};
@@ -13,8 +13,8 @@ use device::Sink;
 use lines::{WriteFault, write_chars};
 use store::ParagraphStore;
 
-/// Of `count` characters from `pos` on those that stand in the paragraph of the first, where the text has
-/// them all.
+/// Returns those of the `count` characters from `pos` on that are in the first one's paragraph, or `None` if
+/// the range is past the end.
 pub fn text_part<S: ParagraphStore<Kept>>(store: &S, pos: usize, count: usize) -> Option<&[char]>
     requires { All IsLined (S.items store.now) }
     ensures part { option_map (λ part. part.now) result ≡ text_part (S.items store.now) pos count }
@@ -34,7 +34,7 @@ pub fn text_part<S: ParagraphStore<Kept>>(store: &S, pos: usize, count: usize) -
     }
 }
 
-// How many bytes of UTF-8 some characters are.
+// Returns the length of characters in UTF-8.
 fn bytes_of(chars: &[char]) -> usize
     requires { length chars.now ≤ TEXT_LIMIT }
     ensures count { result ≡ length (encode_utf8_all chars.now) }
@@ -47,7 +47,7 @@ fn bytes_of(chars: &[char]) -> usize
     bytes
 }
 
-/// How many bytes of UTF-8 `count` characters from `pos` on are, where the text has them all.
+/// Returns the length of `count` characters from `pos` on in UTF-8, or `None` if the range is past the end.
 pub fn utf8_len<S: ParagraphStore<Kept>>(store: &S, pos: usize, count: usize) -> Option<usize>
     requires lined { All IsLined (S.items store.now) }
     requires few { length (text_of (S.items store.now)) ≤ TEXT_LIMIT }
@@ -69,8 +69,8 @@ pub fn utf8_len<S: ParagraphStore<Kept>>(store: &S, pos: usize, count: usize) ->
     Some(bytes)
 }
 
-/// Writes them after so many bytes, and no more after a failure of the sink. Says how many bytes are written
-/// then.
+/// Writes `count` characters from `pos` on as UTF-8, after `before` bytes. Returns the number of bytes
+/// written then, and writes nothing after a failed write.
 pub fn write_text<S: ParagraphStore<Kept>, W: Sink>(
     store: &S,
     pos: usize,
@@ -87,7 +87,7 @@ pub fn write_text<S: ParagraphStore<Kept>, W: Sink>(
         (W.state writer.old) (W.state writer.new) fault.written) }
     ensures counted { IfOk result (λ n. n ≤ (W.state writer.new).passed) }
 {
-    // Shows that the number of characters fits.
+    // Its contract bounds the number of characters.
     let _chars = store.total_chars();
     let end = pos + count;
     let (mut at, mut written) = (pos, before);

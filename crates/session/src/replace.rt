@@ -1,4 +1,4 @@
-//! An edit of the text that a store keeps. What can fail is done before anything is changed.
+//! An edit of the text in a store. Everything that can fail precedes the change.
 ghost use Rattle.std.specs.Prelude.{◌≡◌, ◌+◌, ◌-◌, ◌^◌, ◌<◌, ◌≤◌, List, ℕ, length, sum_by};
 ghost use Rattle.std.specs.Prelude.{IfOk, IfErr, IsErrOf, OnOk, OnErr};
 ghost use Rattle.std.specs.List.{splice};
@@ -18,7 +18,7 @@ use lines::{Engine, lines_are_few};
 use std::alloc::Global;
 use store::ParagraphStore;
 
-// Puts new paragraphs in place of those between two edges, unless memory is wanting.
+// Replaces the paragraphs between two edges. Changes nothing if an allocation fails.
 fn put<S: ParagraphStore<Kept>>(
     store: &mut S,
     front: Edge,
@@ -54,7 +54,7 @@ fn put<S: ParagraphStore<Kept>>(
     })
 }
 
-/// Puts a piece in place of `count` characters.
+/// Replaces `count` characters from `pos` on by `piece`.
 pub fn replace<S: ParagraphStore<Kept>>(
     alloc: Global,
     engine: &mut Engine,
@@ -82,7 +82,7 @@ pub fn replace<S: ParagraphStore<Kept>>(
     if len - count + piece.chars().count() > TEXT_LIMIT {
         return Err(EditFault::TextTooLong);
     }
-    // The laws by which the paragraphs that are not touched stay, and the sum of lines fits.
+    // By these theorems, the paragraphs that are not touched stay, and the sum of lines has no overflow.
     paragraphs_are_pieces();
     lines_are_few();
     let (front, back) = (front_edge(store, pos), back_edge(store, end));

@@ -1,4 +1,4 @@
-//! Whether a text has a paragraph that is too long, found without memory, one character after another.
+//! Finds out whether a text has a paragraph that is too long, in one pass and without allocating.
 ghost use Rattle.std.specs.Prelude.{◌≡◌, ℕ, Bool, List, [], ◌∷◌, ◌++◌};
 ghost use Rattle.std.specs.Str.{chars};
 ghost use Rattle.lines.specs.Engine.{rules_of};
@@ -6,11 +6,11 @@ ghost use Rattle.lines.specs.Layouts.{cut_by};
 
 use lines::{Engine, PARAGRAPH_LIMIT};
 
-/// What is known of the characters so far.
+/// What is known of the characters read so far.
 #[derive(Clone, Copy, Debug)]
 pub struct Scan {
     last: Option<char>,
-    // The length of the paragraph at hand, up to the limit.
+    // The length of the last paragraph, up to the limit.
     len: usize,
     is_long: bool,
 }
@@ -18,7 +18,7 @@ pub struct Scan {
 impl Scan {
     ghost use Rattle.session.specs.Scans.{HasScanned, is_long_scan};
 
-    /// Of no character yet.
+    /// The state before any character.
     pub fn new() -> Scan
         ensures { (is_cut : ℕ → ℕ → Bool) → HasScanned is_cut [] result }
     {
@@ -29,7 +29,7 @@ impl Scan {
         }
     }
 
-    /// One more character.
+    /// Reads one more character.
     pub fn take(&mut self, engine: &Engine, c: char)
         ensures { (text : List ℕ) → HasScanned (cut_by (rules_of engine.now)) text self.old
             → HasScanned (cut_by (rules_of engine.now)) (text ++ c ∷ []) self.new }
@@ -46,7 +46,7 @@ impl Scan {
         self.last = Some(c);
     }
 
-    /// Characters one after another.
+    /// Reads characters.
     pub fn take_all(&mut self, engine: &Engine, part: &[char])
         ensures { (text : List ℕ) → HasScanned (cut_by (rules_of engine.now)) text self.old
             → HasScanned (cut_by (rules_of engine.now)) (text ++ part.now) self.new }
@@ -56,7 +56,7 @@ impl Scan {
         }
     }
 
-    /// The characters of a text.
+    /// Reads the characters of a string.
     pub fn take_text(&mut self, engine: &Engine, part: &str)
         ensures { (text : List ℕ) → HasScanned (cut_by (rules_of engine.now)) text self.old
             → HasScanned (cut_by (rules_of engine.now)) (text ++ chars part.now) self.new }

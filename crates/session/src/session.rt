@@ -1,5 +1,4 @@
-//! A session that keeps the layout of a text under inserts, deletes and width changes, over any store of
-//! paragraphs.
+//! Sessions, over any `ParagraphStore`.
 ghost use Rattle.std.specs.Prelude.{◌≡◌, ◌+◌, ◌^◌, ◌<◌, ◌≤◌, nat_le, nat_lt, length};
 ghost use Rattle.std.specs.Prelude.{is_none, option_map, slice_get};
 ghost use Rattle.std.specs.Prelude.{IfOk, IfErr, IfSome, IsErrOf, OnOk, OnErr};
@@ -73,7 +72,7 @@ impl<S: ParagraphStore<Kept>> Model for Session<S> {
         IsWholeLayout (record { engine = s.engine; width = s.width; kept = S.items s.store }) };
 }
 
-// A store of the paragraphs of a text, laid out.
+// Lays out the paragraphs of a text, in a new store.
 fn fill_store<S: ParagraphStore<Kept> + Drop>(
     alloc: Global,
     engine: &mut Engine,
@@ -91,7 +90,7 @@ fn fill_store<S: ParagraphStore<Kept> + Drop>(
     if text.chars().count() > TEXT_LIMIT {
         return Err(EditFault::TextTooLong);
     }
-    // The laws by which the paragraphs make up the text again, and the sum of lines fits.
+    // By these theorems, the paragraphs make up the text, and the sum of lines has no overflow.
     paragraphs_are_pieces();
     lines_are_few();
     let paragraphs = match lay_out_joined(alloc, engine, &[], text, &[], width) {
@@ -106,7 +105,7 @@ fn fill_store<S: ParagraphStore<Kept> + Drop>(
 }
 
 impl<S: ParagraphStore<Kept> + Drop> Session<S> {
-    /// A session on a text at a width in columns. On a fault the engine comes back.
+    /// Opens a session on a text, at a width in columns. After an error the engine is returned.
     pub fn open(
         alloc: Global,
         engine: Engine,
@@ -131,14 +130,14 @@ impl<S: ParagraphStore<Kept> + Drop> Session<S> {
 }
 
 impl<S: ParagraphStore<Kept>> Session<S> {
-    /// How many lines the text has.
+    /// Returns the number of lines of the text.
     pub fn line_count(&self) -> usize
         ensures { result ≡ length (lines_in self.now.kept) }
     {
         self.store.total_lines()
     }
 
-    /// A line, counted from 0.
+    /// Returns a line, or `None` past the last one.
     pub fn line(&self, n: usize) -> Option<VisualLine<'_>>
         ensures { result ≡ slice_get (lines_in self.now.kept) n }
     {
@@ -152,7 +151,7 @@ impl<S: ParagraphStore<Kept>> Session<S> {
         }
     }
 
-    /// The position at which a line begins, counted from 0.
+    /// Returns the position at which a line starts, or `None` past the last line.
     pub fn line_start(&self, n: usize) -> Option<usize>
         ensures start { result ≡ slice_get (line_starts self.now.kept) n }
         ensures none { is_none result ≡ nat_le (length (lines_in self.now.kept)) n }
@@ -160,27 +159,30 @@ impl<S: ParagraphStore<Kept>> Session<S> {
         line_start(&self.store, n)
     }
 
-    /// Where the character at a position stands. The end of the text is after its last character, or where
-    /// the next paragraph would begin: in a text that is empty or ends with a separator, so that `line` is
-    /// `line_count` there. Past the end there is nothing.
+    /// Returns the paragraph and the line of the character at a position, or `None` past the end of the text.
+    ///
+    /// The end of the text is after its last character. If the text is empty or ends with a separator, it is
+    /// where the next paragraph would start, so its `line` is `line_count`.
     pub fn place(&self, pos: usize) -> Option<Place>
         ensures place { result ≡ place_at (rules_of self.now.engine) self.now.kept pos }
         ensures none { is_none result ≡ nat_lt (length (text_at self.now)) pos }
     {
-        // The laws by which each paragraph has lines, which begin one after another.
+        // By these theorems, each paragraph has lines, which start in order.
         paragraphs_are_pieces();
         Laid::lines_begin_in_order();
         place_of(&self.store, &self.engine, pos)
     }
 
-    /// Where a caret stands before the character at a position: at the character's leading edge as it is
-    /// shown, which is its left one where its level is even, and its right one where it is odd. Before a
-    /// character that is not shown, and at the end of the text, it stands at the line's end in the direction
-    /// of the paragraph; on the line that would come, at column 0. Past the end there is nothing.
+    /// Returns where to draw a caret before the character at a position, or `None` past the end of the text.
     ///
-    /// Where the direction changes, one position has two edges: this one, and the trailing edge of the
-    /// character before it, which is the other side of the caret at `pos - 1`. A caret between a Latin `c`
-    /// and the first letter of a Hebrew word, shown right of it:
+    /// The caret is at the leading edge of the character: the left one if its level is even, the right one if
+    /// it is odd. Before a character that is not shown, and at the end of the text, it is at the end of the
+    /// line in the base direction. At the end of a text that is empty or ends with a separator, it is at
+    /// column 0 of the line after the last.
+    ///
+    /// Where the direction changes, a position has a second edge: the trailing edge of the character before
+    /// it, which is the other side of the caret at `pos - 1`. For a caret between a Latin `c` and the first
+    /// letter of a Hebrew word, shown right of it:
     ///
     /// ```text
     /// positions   0 1 2 3 4 5 6       a b c, a space, and the letters 4, 5 and 6
@@ -203,9 +205,9 @@ impl<S: ParagraphStore<Kept>> Session<S> {
         }
     }
 
-    /// The character whose columns cover a column of a line, counted from 0 at the left edge of the line's
-    /// shown part; right of that part the rightmost character that takes columns, and in a line without
-    /// columns its start.
+    /// Returns the character whose columns include a column of a line, counted from the left edge of the
+    /// line's shown part, or `None` past the last line. Right of that part it is the rightmost character of
+    /// nonzero width, and in a line of width 0 the start of the line.
     pub fn hit(&self, n: usize, column: usize) -> Option<Hit>
         ensures hit { result ≡ hit_at self.now.kept n column }
         ensures none { is_none result ≡ nat_le (length (lines_in self.now.kept)) n }
@@ -215,45 +217,45 @@ impl<S: ParagraphStore<Kept>> Session<S> {
         Some(hit_in(&line, start, column))
     }
 
-    /// The grapheme cluster of the character at a position, within its paragraph, where there is one. It
-    /// takes memory for the paragraph's characters, and time that grows with them.
+    /// Returns the grapheme cluster of the character at a position, within its paragraph, or `None` past the
+    /// last character. Allocates a copy of the paragraph, and needs time linear in its length.
     pub fn cluster(&self, pos: usize) -> Result<Option<Cluster>, AllocError>
         ensures ok { IfOk result (λ cluster. cluster ≡ cluster_at self.now.kept pos) }
         ensures memory { OnErr result (pos < length (text_at self.now)) }
     {
-        // The laws by which no paragraph is empty.
+        // By this theorem, no paragraph is empty.
         paragraphs_are_pieces();
         Laid::lines_begin_in_order();
         cluster_of(&self.store, self.alloc, pos)
     }
 
-    /// Of `count` characters from `pos` on those that stand in the paragraph of the first one, where the text
-    /// has them all: so a part comes at a time, none is empty while characters are wanted, and the others
-    /// are had by asking again, from `pos + part.len()` on, for `count - part.len()`.
+    /// Returns a first part of the `count` characters from `pos` on: those in the paragraph of the first.
+    /// Returns `None` if the range is past the end. The part is not empty unless `count` is 0. To read the
+    /// rest, call again with `pos + part.len()` and `count - part.len()`.
     pub fn text(&self, pos: usize, count: usize) -> Option<&[char]>
         ensures part { option_map (λ part. part.now) result ≡ text_part self.now.kept pos count }
         ensures some { 0 < count → IfSome result (λ part. 0 < length part.now) }
         ensures none { is_none result ≡ nat_lt (length (text_at self.now)) (pos + count) }
     {
-        // The laws by which no paragraph is empty.
+        // By this theorem, no paragraph is empty.
         paragraphs_are_pieces();
         Laid::lines_begin_in_order();
         text_part(&self.store, pos, count)
     }
 
-    /// How many bytes of UTF-8 `count` characters from `pos` on are, where the text has them all. It takes
-    /// time that grows with them, and no memory.
+    /// Returns the length of `count` characters from `pos` on in UTF-8, or `None` if the range is past the
+    /// end. Needs time linear in `count`, and allocates nothing.
     pub fn utf8_len(&self, pos: usize, count: usize) -> Option<usize>
         ensures { result ≡ utf8_len self.now.kept pos count }
     {
-        // The laws by which no paragraph is empty.
+        // By this theorem, no paragraph is empty.
         paragraphs_are_pieces();
         Laid::lines_begin_in_order();
         utf8_len(&self.store, pos, count)
     }
 
-    /// Writes `count` characters from `pos` on as UTF-8. Where the text doesn't have them all, nothing is
-    /// written. It takes no memory.
+    /// Writes `count` characters from `pos` on as UTF-8. Fails with `OutOfRange` if the range is past the
+    /// end, and then writes nothing. Allocates nothing.
     pub fn write_text<W: Sink>(
         &self,
         writer: &mut W,
@@ -272,8 +274,8 @@ impl<S: ParagraphStore<Kept>> Session<S> {
         Ok(())
     }
 
-    /// Writes them after `before` bytes, and returns the number of bytes written then; a
-    /// fault counts these too.
+    /// Writes them after `before` bytes, and returns the number of bytes written then; a fault counts these
+    /// too.
     pub fn write_text_after<W: Sink>(
         &self,
         writer: &mut W,
@@ -295,7 +297,7 @@ impl<S: ParagraphStore<Kept>> Session<S> {
         if pos > chars || count > chars - pos {
             return Err(RangeFault::OutOfRange);
         }
-        // The laws by which no paragraph is empty.
+        // By this theorem, no paragraph is empty.
         paragraphs_are_pieces();
         Laid::lines_begin_in_order();
         match write_text(&self.store, pos, count, writer, before) {
@@ -304,28 +306,28 @@ impl<S: ParagraphStore<Kept>> Session<S> {
         }
     }
 
-    /// How many characters the text has.
+    /// Returns the number of characters of the text.
     pub fn char_count(&self) -> usize
         ensures { result ≡ length (text_at self.now) }
     {
         self.store.total_chars()
     }
 
-    /// How many paragraphs the text has.
+    /// Returns the number of paragraphs of the text.
     pub fn paragraph_count(&self) -> usize
         ensures { result ≡ length self.now.kept }
     {
         self.store.count()
     }
 
-    /// A paragraph, counted from 0.
+    /// Returns the layout of a paragraph, or `None` past the last one.
     pub fn paragraph(&self, index: usize) -> Option<&Laid>
         ensures { option_map (λ laid. laid.now) result ≡ slice_get self.now.kept index }
     {
         Some(self.store.get(index)?.laid())
     }
 
-    /// The width, in columns.
+    /// Returns the width, in columns.
     pub fn width(&self) -> u16
         ensures width { result ≡ self.now.width }
         ensures laid_out { IsWholeLayout self.now }
@@ -333,28 +335,28 @@ impl<S: ParagraphStore<Kept>> Session<S> {
         self.width
     }
 
-    /// How many characters were analysed, up to the greatest `u64`, at which the count stays.
+    /// Returns the number of characters that were analysed. The count stops at 2^64−1.
     pub fn analysed(&self) -> u64
         ensures { result ≡ analysed_of self.now.engine }
     {
         self.engine.analysed()
     }
 
-    /// How many characters were filled into lines, up to the greatest `u64`, at which the count stays.
+    /// Returns the number of characters that were filled into lines. The count stops at 2^64−1.
     pub fn filled(&self) -> u64
         ensures { result ≡ filled_of self.now.engine }
     {
         self.engine.filled()
     }
 
-    /// Of how many characters the lines were written, up to the greatest `u64`, at which the count stays.
+    /// Returns the number of characters whose lines were written. The count stops at 2^64−1.
     pub fn written(&self) -> u64
         ensures { result ≡ written_of self.now.engine }
     {
         self.engine.written()
     }
 
-    /// Puts a text before the character at `pos`, or at the end.
+    /// Inserts a text before the character at `pos`, or at the end.
     pub fn insert(&mut self, pos: usize, text: &str) -> Result<Damage, EditFault>
         ensures ok { IfOk result (Edits (insertion pos (chars text.now)) self.old self.new) }
         ensures err { IfErr result (EditsNot (insertion pos (chars text.now)) self.old self.new) }
@@ -364,7 +366,7 @@ impl<S: ParagraphStore<Kept>> Session<S> {
         self.replace(pos, 0, text)
     }
 
-    /// Takes `count` characters out, from `pos` on.
+    /// Deletes `count` characters from `pos` on.
     pub fn delete(&mut self, pos: usize, count: usize) -> Result<Damage, EditFault>
         ensures ok { IfOk result (Edits (deletion pos count) self.old self.new) }
         ensures err { IfErr result (EditsNot (deletion pos count) self.old self.new) }
@@ -373,7 +375,7 @@ impl<S: ParagraphStore<Kept>> Session<S> {
         self.replace(pos, count, "")
     }
 
-    /// Puts a piece in place of `count` characters from `pos` on: both at once, with one damage.
+    /// Replaces `count` characters from `pos` on by a text, as one edit with one damage.
     pub fn replace(&mut self, pos: usize, count: usize, piece: &str) -> Result<Damage, EditFault>
         ensures ok { IfOk result (Edits (replacing pos count (chars piece.now)) self.old self.new) }
         ensures err { IfErr result (EditsNot (replacing pos count (chars piece.now)) self.old self.new) }
@@ -391,8 +393,8 @@ impl<S: ParagraphStore<Kept>> Session<S> {
         )
     }
 
-    /// Brings all lines to another width, in columns. A paragraph of one line, which fits, stays as it is,
-    /// and each other one is filled and written once.
+    /// Sets the width, in columns, and rewraps every paragraph. A paragraph of one line that fits is left as
+    /// it is; each other one is filled and written once.
     pub fn set_width(&mut self, width: u16) -> Result<Damage, EditFault>
         ensures ok { IfOk result (SetsWidth width self.old self.new) }
         ensures err { IfErr result (SetsWidthNot width self.old self.new) }
@@ -407,7 +409,7 @@ impl<S: ParagraphStore<Kept>> Session<S> {
         )
     }
 
-    /// Writes all lines, and no more after a failure of the sink. It takes no memory.
+    /// Writes all lines, and nothing after a failed write. Allocates nothing.
     pub fn print<W: Sink>(&self, writer: &mut W, print: &Print) -> Result<(), WriteFault>
         ensures ok { OnOk result (Wrote (page_at self.now print.now)
             (W.state writer.old) (W.state writer.new)) }
@@ -422,8 +424,8 @@ impl<S: ParagraphStore<Kept>> Session<S> {
         }
     }
 
-    /// Writes them after `before` bytes, and returns the number of bytes written then; a
-    /// fault counts these too.
+    /// Writes them after `before` bytes, and returns the number of bytes written then; a fault counts these
+    /// too.
     pub fn print_after<W: Sink>(
         &self,
         writer: &mut W,
@@ -445,8 +447,8 @@ impl<S: ParagraphStore<Kept>> Session<S> {
         }
     }
 
-    /// Writes `count` lines, from the one of number `first` on, as `print` writes them. Where there are not
-    /// so many, nothing is written. It takes no memory.
+    /// Writes `count` lines, from the line `first` on, as `print` writes them. Fails with `OutOfRange` if the
+    /// range is past the end, and then writes nothing. Allocates nothing.
     pub fn print_lines<W: Sink>(
         &self,
         writer: &mut W,
@@ -466,8 +468,8 @@ impl<S: ParagraphStore<Kept>> Session<S> {
         Ok(())
     }
 
-    /// Writes them after `before` bytes, and returns the number of bytes written then; a
-    /// fault counts these too.
+    /// Writes them after `before` bytes, and returns the number of bytes written then; a fault counts these
+    /// too.
     pub fn print_lines_after<W: Sink>(
         &self,
         writer: &mut W,
@@ -496,20 +498,20 @@ impl<S: ParagraphStore<Kept>> Session<S> {
         }
     }
 
-    /// What is printed is what is written of each line, one after another, which `line` and
-    /// `VisualLine::write` tell: a law, which takes no time.
+    /// States, as a theorem, that `print` writes the lines one after another, as `line` returns them and
+    /// `VisualLine::write` writes them. Costs nothing at run time.
     pub fn prints_its_lines(&self)
         ensures { (print : Print) → page_at self.now print
             ≡ flat_map (line_bytes self.now.width print) (lines_in self.now.kept) }
     {
-        // The same law of each paragraph, and what is kept is laid out.
+        // The same theorem for each paragraph, and the fact that each is laid out.
         paragraphs_print_their_lines();
         let _ = &self.engine;
     }
 
-    /// Makes edits one after another. Those that are refused change nothing. It ends at the first that is
-    /// not refused and for which there is no memory. The counts rise by at most what each may raise them, up
-    /// to that one.
+    /// Executes edits in order. Refused edits change nothing. Stops at the first edit that is not refused and
+    /// for which an allocation fails. The counters rise by at most the sum of the edits' bounds, including
+    /// that edit's.
     pub fn run(&mut self, edits: &[Edit<'_>]) -> Result<(), AllocError>
         ensures ok { OnOk result (held_at self.new
             ≡ after_all (cuts_at self.old) (held_at self.old) edits.now) }
@@ -520,7 +522,7 @@ impl<S: ParagraphStore<Kept>> Session<S> {
         ensures laid_out { IsWholeLayout self.new }
         ensures rules { SameRules self.old.engine self.new.engine }
     {
-        // Shows that what is kept is laid out before the first edit.
+        // Gives the fact that each paragraph is laid out before the first edit.
         let _ = &self.engine;
         for edit in edits {
             let result = match *edit {

@@ -1,5 +1,5 @@
-//! A width change: of all lines that change it is known where they start and how much of each is
-//! shown, before the first of them is written over those at the old width.
+//! A width change. The starts and shown lengths of all lines that change are found before the first line is
+//! written over.
 ghost use Rattle.std.specs.Prelude.{◌≡◌, ◌^◌, ◌<◌, ◌≤◌, ℕ, false, true, is_none, length, map, sum_by};
 ghost use Rattle.std.specs.Prelude.{IfOk, IfErr, IfSome, IsErrOf, OnErr, OnOk};
 ghost use Rattle.std.specs.List.{All, AllZip};
@@ -18,7 +18,7 @@ use lines::{Engine, Extents, Laid, ReflowScratch, lines_are_few};
 use std::alloc::{AllocError, Global};
 use store::{Measured, ParagraphStore};
 
-// The extents of the lines of a paragraph at another width, or none where it keeps its own.
+// Returns the extents of a paragraph's lines at another width, or `None` if its lines stay.
 fn find_one(
     alloc: Global,
     engine: &mut Engine,
@@ -35,7 +35,7 @@ fn find_one(
     ensures exact { OnOk result (FindsExtents (changed_in width laid.now) engine.old engine.new) }
     ensures counts { FindsExtentsAtMost (changed_in width laid.now) engine.old engine.new }
 {
-    // Shows that the count fits.
+    // Its contract bounds the count.
     let _filled = engine.filled();
     if laid.keeps_lines(width) {
         return Ok(None);
@@ -43,7 +43,7 @@ fn find_one(
     Ok(Some(engine.extents(alloc, laid, width)?))
 }
 
-// The same of each of some paragraphs.
+// The same for each of several paragraphs.
 fn find_each(
     alloc: Global,
     engine: &mut Engine,
@@ -61,7 +61,7 @@ fn find_each(
     ensures counts { FindsExtentsAtMost (changed width (map (λ kept. kept.now) list.now))
         engine.old engine.new }
 {
-    // Shows that the count fits.
+    // Its contract bounds the count.
     let _filled = engine.filled();
     let mut parts = Vec::with_capacity(alloc, list.len())?;
     for kept in list {
@@ -70,7 +70,7 @@ fn find_each(
     Ok(parts)
 }
 
-// The most characters that one of some paragraphs has.
+// Returns the length of the longest paragraph.
 fn longest(list: &[&Kept]) -> usize
     ensures all { All (λ kept. length kept.text ≤ result) (map (λ kept. kept.now) list.now) }
     ensures least { (n : ℕ) → All (λ kept. length kept.text ≤ n) (map (λ kept. kept.now) list.now)
@@ -87,7 +87,8 @@ fn longest(list: &[&Kept]) -> usize
     most
 }
 
-// The extents of all lines of a store at another width that change, and scratch space to write them.
+// Finds the extents of all lines of a store that change at another width, and allocates scratch space to
+// write them.
 fn find_all<S: ParagraphStore<Kept>>(
     alloc: Global,
     engine: &mut Engine,
@@ -110,7 +111,7 @@ fn find_all<S: ParagraphStore<Kept>>(
         engine.old engine.new) }
     ensures counts { FindsExtentsAtMost (changed width (S.items store.now)) engine.old engine.new }
 {
-    // The law by which each paragraph is one.
+    // By this theorem, each paragraph is one.
     paragraphs_are_pieces();
     let list = store.list(alloc)?;
     let parts = find_each(alloc, engine, &list, width)?;
@@ -118,7 +119,7 @@ fn find_all<S: ParagraphStore<Kept>>(
     Ok((parts, scratch))
 }
 
-// Writes the lines of all paragraphs of a store that change over those that they have, by their extents.
+// Writes all lines of a store that change over the old ones, by their extents.
 fn reflow_all<S: ParagraphStore<Kept>>(
     engine: &mut Engine,
     store: &mut S,
@@ -147,7 +148,7 @@ fn reflow_all<S: ParagraphStore<Kept>>(
     engine.take_back(scratch);
 }
 
-/// Brings all lines to another width. What can fail is done before anything is changed.
+/// Sets the width and rewraps every paragraph. Everything that can fail precedes the change.
 pub fn set_width<S: ParagraphStore<Kept>>(
     alloc: Global,
     engine: &mut Engine,
@@ -167,7 +168,7 @@ pub fn set_width<S: ParagraphStore<Kept>>(
     if new_width == 0 {
         return Err(EditFault::WidthOutOfRange);
     }
-    // The laws by which the new lines belong to the paragraphs, and their sum fits.
+    // By these theorems, the new lines belong to the paragraphs, and their sum has no overflow.
     paragraphs_are_pieces();
     lines_are_few();
     let Ok((mut parts, scratch)) = find_all(alloc, engine, store, new_width) else {

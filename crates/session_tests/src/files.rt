@@ -1,4 +1,4 @@
-//! Engines by the test tables.
+//! Engines over the test tables.
 use lines::{Engine, Options};
 use std::alloc::Global;
 use ucd::{Cause, TableFault, Tables, UcdFiles};
@@ -14,7 +14,7 @@ pub const FILES: UcdFiles<'_> = UcdFiles {
     emoji_data: test_tables::EMOJI_DATA,
 };
 
-// What files say, which are read once more where memory was wanting.
+// Reads the tables, and again after an allocation failure.
 fn read(alloc: Global, files: &UcdFiles<'_>) -> Result<Tables, TableFault> {
     let tables = Tables::read(alloc, files);
     if is_refused(&tables) {
@@ -31,7 +31,7 @@ fn is_refused(tables: &Result<Tables, TableFault>) -> bool {
     }
 }
 
-/// An engine by some files and options.
+/// Makes an engine with the given files and options.
 pub fn engine(alloc: Global, files: &UcdFiles<'_>, options: Options) -> Result<Engine, TableFault> {
     Ok(Engine::new(read(alloc, files)?, options))
 }

@@ -1,4 +1,4 @@
-//! Worked rows. The tests pass too where one allocation is refused, whichever it is, but for `refill`.
+//! Worked examples of layouts. The tests also pass if any one allocation fails, except one in `refill`.
 ghost use Rattle.std.specs.Prelude.{◌≡◌, ◌<◌, IfOk, OnOk};
 ghost use Rattle.lines.specs.Engine.{rules_of, SameRules};
 ghost use Rattle.lines.specs.Extents.{extents_of};
@@ -27,7 +27,7 @@ fn engine(alloc: Global, nobreak: bool) -> Result<Engine, TableFault> {
     files::engine(alloc, &FILES, options)
 }
 
-// The layout of a text that is one paragraph, at a width that is not 0.
+// Lays out a text that is one paragraph, at a width that is not 0.
 fn lay_out(alloc: Global, engine: &mut Engine, text: &str, width: u16) -> Result<Laid, Fail>
     ensures laid { IfOk result (IsLaidOut (rules_of engine.new)) }
     ensures rules { SameRules engine.old engine.new }
@@ -51,7 +51,7 @@ fn lay_out_characters(
     }
     match engine.lay_out(alloc, text, width) {
         Ok(laid) => Ok(laid),
-        // The text came back where memory ran out.
+        // After an allocation failure, the text is returned.
         Err((text, _)) => match engine.lay_out(alloc, text, width) {
             Ok(laid) => Ok(laid),
             Err((_, error)) => Err(Fail::from(error)),
@@ -76,7 +76,7 @@ static STARTS: [(&str, u16, &[u32]); 13] = [
     ("ab cd\u{2028}e", 1, &[0, 1, 3, 4, 6]),
 ];
 
-// The same where lines end at mandatory breaks only.
+// The same if lines end at mandatory breaks only.
 static STARTS_AT_MANDATORY_BREAKS: [(&str, u16, &[u32]); 5] = [
     ("abcdefgh", 3, &[0]),
     ("ab cd ef", 1, &[0]),
@@ -85,7 +85,7 @@ static STARTS_AT_MANDATORY_BREAKS: [(&str, u16, &[u32]); 5] = [
     ("ab cd\u{2028}e", 1, &[0, 6]),
 ];
 
-// Whether a paragraph's lines start there.
+// Whether a paragraph's lines start at these positions.
 fn starts_at(laid: &Laid, starts: &[u32]) -> bool {
     laid.line_count() == starts.len() && laid.line_starts() == starts
 }
@@ -101,7 +101,7 @@ fn starts(
     Ok(starts_at(&laid, wanted))
 }
 
-// Whether the lines of each paragraph start where it is said.
+// Whether the lines of each paragraph start at the listed positions.
 fn all_start(
     alloc: Global,
     engine: &mut Engine,
@@ -114,7 +114,7 @@ fn all_start(
     Ok(all_right)
 }
 
-// Whether they do so by an engine that breaks lines where they are full, or doesn't.
+// The same, with an engine that has the option `nobreak` or not.
 fn all_start_by(alloc: Global, nobreak: bool, rows: &[(&str, u16, &[u32])]) -> Result<bool, Fail> {
     let mut engine = engine(alloc, nobreak)?;
     let result = all_start(alloc, &mut engine, rows);
@@ -134,13 +134,13 @@ fn line_starts_at_mandatory_breaks(rt: HostRuntime) -> Result<(), Fail> {
     Ok(())
 }
 
-// The layout of so many letters at a width of 1.
+// Lays out a number of letters at a width of 1.
 fn lay_out_letters(alloc: Global, engine: &mut Engine, len: usize) -> Result<Laid, Fail> {
     let text = vec![in alloc; 'a'; len]?;
     lay_out_characters(alloc, engine, text, 1)
 }
 
-// Whether each character of the longest paragraph has a line of its own.
+// Whether each character of the longest paragraph has its own line.
 fn has_a_line_for_each(starts: &[u32]) -> bool {
     starts.len() == PARAGRAPH_LIMIT && starts.last().copied() == Some(1_048_575)
 }
@@ -159,8 +159,8 @@ fn longest_paragraph_at_the_least_width(rt: HostRuntime) -> Result<(), Fail> {
     Ok(())
 }
 
-// The lines of a paragraph at another width. They are asked for once, so that a body that refuses for no
-// reason fails.
+// Finds the lines of a paragraph at another width. Not tried again after an allocation failure, so a mutant
+// that fails for no reason is found.
 fn refill(alloc: Global, engine: &mut Engine, laid: &Laid, width: u16) -> Result<Fill, Fail>
     requires laid { IsLaidOut (rules_of engine.old) laid.now }
     requires width { 0 < width }
@@ -169,12 +169,13 @@ fn refill(alloc: Global, engine: &mut Engine, laid: &Laid, width: u16) -> Result
     Ok(engine.refill(alloc, laid, width)?)
 }
 
-// Whether the engine counts so many characters, with the lines of as many written as were filled.
+// Whether the engine has counted these characters, with as many written as filled.
 fn counts(engine: &Engine, analysed: u64, filled: u64) -> bool {
     engine.analysed() == analysed && engine.filled() == filled && engine.written() == filled
 }
 
-// Whether a paragraph's lines are those of the other width once they are exchanged, and back.
+// Whether exchanging a paragraph's lines for those at another width, and exchanging them again, leaves the
+// right lines.
 fn exchanges(
     alloc: Global,
     engine: &mut Engine,
@@ -211,7 +212,7 @@ fn paragraph_at_two_widths(rt: HostRuntime) -> Result<(), Fail> {
     Ok(())
 }
 
-// The extents of its lines.
+// Finds the extents of its lines.
 fn extents(alloc: Global, engine: &mut Engine, laid: &Laid, width: u16) -> Result<Extents, Fail>
     requires laid { IsLaidOut (rules_of engine.old) laid.now }
     requires width { 0 < width }
@@ -225,7 +226,7 @@ fn extents(alloc: Global, engine: &mut Engine, laid: &Laid, width: u16) -> Resul
     }
 }
 
-// Scratch space for so many characters.
+// Allocates scratch space for a number of characters.
 fn scratch(alloc: Global, engine: &Engine, len: usize) -> Result<ReflowScratch, Fail>
     ensures { IfOk result (λ scratch. scratch.len ≡ len) }
 {
@@ -235,7 +236,7 @@ fn scratch(alloc: Global, engine: &Engine, len: usize) -> Result<ReflowScratch, 
     }
 }
 
-// Writes its lines at another width over those that it has.
+// Writes its lines at another width over the old ones.
 fn reflow(alloc: Global, engine: &mut Engine, laid: &mut Laid, width: u16) -> Result<(), Fail>
     requires laid { IsLaidOut (rules_of engine.old) laid.old }
     requires width { 0 < width }
@@ -249,7 +250,7 @@ fn reflow(alloc: Global, engine: &mut Engine, laid: &mut Laid, width: u16) -> Re
     Ok(())
 }
 
-// Whether the paragraph of these lines has the lines of three widths, one after another.
+// Whether the paragraph gets the right lines at three widths, one after another.
 fn reflows(alloc: Global, engine: &mut Engine, laid: &mut Laid) -> Result<bool, Fail>
     requires laid { IsLaidOut (rules_of engine.old) laid.old }
 {
@@ -313,8 +314,7 @@ fn parts_of_a_paragraph(rt: HostRuntime) -> Result<(), Fail> {
     Ok(())
 }
 
-// A line: how many characters it has, of its shown part the characters and levels, and of each logical
-// position the visual one and back.
+// A line: its length and, for its shown part, the characters, the levels and both position maps.
 struct Row {
     len: usize,
     chars: &'static [char],
@@ -323,8 +323,8 @@ struct Row {
     vtol: &'static [u32],
 }
 
-// Of U+05D0, `1`, a space, `(` and U+05D1 at a width of 2. The first line's space counts for nothing
-// at its end; the bracket is mirrored on the second.
+// U+05D0, `1`, a space, `(` and U+05D1 at a width of 2. The first line ends with a space, which is not shown;
+// the bracket on the second one is mirrored.
 static SHOWN: [Row; 2] = [
     Row {
         len: 3,
@@ -351,7 +351,7 @@ fn is_shown(line: &VisualLine<'_>, row: &Row) -> bool {
         & (line.columns() as usize == row.chars.len())
 }
 
-// Whether the lines are these and no others.
+// Whether these are the lines, and the only ones.
 fn shows_lines(laid: &Laid, rows: &[Row]) -> bool {
     let mut all_right = laid.line(rows.len()).is_none();
     for (n, row) in rows.iter().enumerate() {

@@ -1,4 +1,4 @@
-//! The tests of layouts and of sessions, by public calls.
+//! Tests of layouts and of sessions, through public calls.
 #![tactic(auto)]
 
 #[cfg(test)]

@@ -1,6 +1,6 @@
-//! Worked rows, and long lists of edits against sessions made anew, over both stores. The tests pass
-//! too where one allocation is refused, whichever it is: an edit that is refused for memory leaves all
-//! as it was, and is made when it is asked for again. A `run` alone is asked for once.
+//! Worked examples of sessions, and long lists of edits compared with new sessions, over both stores. The
+//! tests also pass if any one allocation fails: the edit changes nothing then, and is tried again. Only `run`
+//! is not tried again.
 mod hits;
 mod parts;
 mod places;
@@ -19,7 +19,7 @@ use std::process::Abort;
 use std::test::Fail;
 use store::{ParagraphStore, TreeStore, VecStore};
 
-// A session on a text. Where memory ran out once, the engine that came back opens it.
+// Opens a session on a text. After an allocation failure, tries again with the engine that was returned.
 fn session<S: ParagraphStore<Kept> + Drop>(
     alloc: Global,
     text: &str,
@@ -33,7 +33,7 @@ fn session<S: ParagraphStore<Kept> + Drop>(
     Ok(without_engine(opened)?)
 }
 
-// The session, or why there is none.
+// Returns the session, or why there is none.
 fn without_engine<S: ParagraphStore<Kept> + Drop>(
     opened: Result<Session<S>, (Engine, EditFault)>,
 ) -> Result<Session<S>, EditFault> {
@@ -57,7 +57,7 @@ fn make<S: ParagraphStore<Kept>>(
     }
 }
 
-// Makes the edit, and once more where it was refused for memory.
+// Executes an edit, and tries again after an allocation failure.
 fn make_surely<S: ParagraphStore<Kept>>(
     edited: &mut Session<S>,
     edit: Edit<'_>,
@@ -68,7 +68,7 @@ fn make_surely<S: ParagraphStore<Kept>>(
     }
 }
 
-// Makes the edits one after another.
+// Executes edits in order.
 fn make_each<S: ParagraphStore<Kept>>(
     edited: &mut Session<S>,
     edits: &[Edit<'_>],
@@ -79,8 +79,8 @@ fn make_each<S: ParagraphStore<Kept>>(
     Ok(())
 }
 
-// Makes the edit, by which the counts may rise by so much, and once more where it was refused for
-// memory.
+// Executes an edit, which may raise the counters by at most these numbers, and tries again after an
+// allocation failure.
 fn make_within<S: ParagraphStore<Kept>>(
     rt: &impl Abort,
     edited: &mut Session<S>,
@@ -126,7 +126,7 @@ fn same_line(left: Option<VisualLine<'_>>, right: Option<VisualLine<'_>>) -> boo
     }
 }
 
-// Whether so many paragraphs, from these on, are the same.
+// Whether `count` paragraphs from these indices on are equal.
 fn same_paragraphs<S: ParagraphStore<Kept>, T: ParagraphStore<Kept>>(
     left: &Session<S>,
     right: &Session<T>,
@@ -143,7 +143,7 @@ fn same_paragraphs<S: ParagraphStore<Kept>, T: ParagraphStore<Kept>>(
     all
 }
 
-// Whether so many lines, from these on, are the same.
+// Whether `count` lines from these indices on are equal.
 fn same_lines<S: ParagraphStore<Kept>, T: ParagraphStore<Kept>>(
     left: &Session<S>,
     right: &Session<T>,
@@ -160,7 +160,7 @@ fn same_lines<S: ParagraphStore<Kept>, T: ParagraphStore<Kept>>(
     all
 }
 
-// All lines of a line's output.
+// Everything that can be printed of a line.
 const ALL: Print = Print {
     novisual: false,
     basedir: true,
@@ -171,7 +171,7 @@ const ALL: Print = Print {
     nomirror: false,
 };
 
-// A writer into a slice, which tells how much it took.
+// A writer into a slice, which counts the bytes written.
 #[derive(Drop)]
 struct Taker<'a> {
     room: &'a mut [u8],
@@ -190,10 +190,10 @@ impl Write for Taker<'_> {
     }
 }
 
-// How many bytes there are room for in a page, twice.
+// The size of the buffer for one printed text.
 const PAGE: usize = 131_072;
 
-// Room for two pages.
+// Allocates a buffer for two printed texts.
 fn pages(alloc: Global, count: usize) -> Result<Vec<u8>, AllocError> {
     match vec![in alloc; 0; count] {
         Ok(bytes) => Ok(bytes),
@@ -201,7 +201,7 @@ fn pages(alloc: Global, count: usize) -> Result<Vec<u8>, AllocError> {
     }
 }
 
-// What is printed, for which there is room.
+// Returns what is printed, if the buffer is large enough.
 fn print<'a, S: ParagraphStore<Kept>>(
     session: &Session<S>,
     room: &'a mut [u8],
@@ -220,7 +220,7 @@ fn print<'a, S: ParagraphStore<Kept>>(
     }
 }
 
-// Whether the sessions print the same, each into its half of the room.
+// Whether the sessions print the same, each into one half of the buffer.
 fn same_page<S: ParagraphStore<Kept>, T: ParagraphStore<Kept>>(
     left: &Session<S>,
     right: &Session<T>,
@@ -233,7 +233,7 @@ fn same_page<S: ParagraphStore<Kept>, T: ParagraphStore<Kept>>(
     }
 }
 
-// Whether the sessions keep and show the same.
+// Whether the sessions have the same contents and print the same.
 fn same<S: ParagraphStore<Kept>, T: ParagraphStore<Kept>>(
     left: &Session<S>,
     right: &Session<T>,
@@ -250,7 +250,7 @@ fn same<S: ParagraphStore<Kept>, T: ParagraphStore<Kept>>(
         & same_page(left, right, room)
 }
 
-// Puts a text in place of all that a session has, at another width.
+// Replaces the whole text of a session, and sets its width.
 fn renew<S: ParagraphStore<Kept>>(
     session: &mut Session<S>,
     text: &str,
@@ -267,8 +267,8 @@ fn renew<S: ParagraphStore<Kept>>(
     )
 }
 
-// A session over some store; one beside it, of which the whole text gives way at once; and room for what
-// they print.
+// A session over some store; another one, whose whole text is replaced at once; and a buffer for what they
+// print.
 #[derive(Drop)]
 struct Pair<S: ParagraphStore<Kept>, T: ParagraphStore<Kept>> {
     edited: Session<S>,
@@ -306,13 +306,13 @@ impl<S: ParagraphStore<Kept> + Drop, T: ParagraphStore<Kept> + Drop> Pair<S, T> 
         }
     }
 
-    // Whether the session keeps what one does into which the text is put at once.
+    // Whether the session equals one whose whole text is replaced by `text`.
     fn is_same(&mut self, text: &str) -> Result<bool, EditFault> {
         renew(&mut self.anew, text, self.edited.width())?;
         Ok(same(&self.edited, &self.anew, &mut self.room))
     }
 
-    // Whether the session keeps what one does that is opened on the text.
+    // Whether the session equals one that is opened on `text`.
     fn is_opened(&mut self, alloc: Global, text: &str) -> Result<bool, Fail> {
         let opened: Session<T> = session(alloc, text, self.edited.width())?;
         let is_same = same(&self.edited, &opened, &mut self.room);
@@ -320,14 +320,14 @@ impl<S: ParagraphStore<Kept> + Drop, T: ParagraphStore<Kept> + Drop> Pair<S, T> 
         Ok(is_same)
     }
 
-    // The session keeps what one does into which the text is put at once.
+    // Asserts that the session equals one whose whole text is replaced by `text`.
     fn check_same(&mut self, rt: &impl Abort, text: &str) -> Result<(), EditFault> {
         let is_same = self.is_same(text)?;
         assert!(rt; is_same, "{text:?}");
         Ok(())
     }
 
-    // Checks what is asked for.
+    // Runs one kind of check.
     fn check(&mut self, rt: &impl Abort, alloc: Global, what: Check) -> Result<(), Fail> {
         match what {
             Check::Rows => Ok(rows::check_rows(rt, self, &rows::ROWS)?),
@@ -344,7 +344,7 @@ impl<S: ParagraphStore<Kept> + Drop, T: ParagraphStore<Kept> + Drop> Pair<S, T> 
     }
 }
 
-// What a pair is checked by.
+// The kinds of checks of a pair.
 #[derive(Clone, Copy)]
 enum Check {
     Rows,
@@ -359,7 +359,7 @@ enum Check {
     Random(u64),
 }
 
-// A pair is made and let go of here alone.
+// Only this function makes and drops a pair.
 fn check_over<S: ParagraphStore<Kept> + Drop, T: ParagraphStore<Kept> + Drop>(
     rt: &impl Abort,
     alloc: Global,

@@ -1,5 +1,5 @@
-//! What the first lines of `device`, `lines` and `session` show: `tests/docs/run` looks whether their lines
-//! stand here.
+//! The examples in the first lines of `device`, `lines` and `session`. `tests/docs/run` checks that they are
+//! here.
 use crate::files::{FILES, engine};
 use device::{ToWrite, write_all};
 use lines::{Engine, Laid, Options, PARAGRAPH_LIMIT};

@@ -1,5 +1,5 @@
-//! The public calls of `lines` and `session`: one test for each, which calls it by its path, with its types,
-//! and checks one example.
+//! The public calls of `lines` and `session`: one test each, which calls it by its path, names its types, and
+//! checks one example.
 ghost use Rattle.std.specs.Prelude.{◌<◌, IfSome};
 ghost use Rattle.lines.specs.Engine.{rules_of, SameRules};
 ghost use Rattle.lines.specs.Layouts.{AreLinesOf, IsLaidOut};
@@ -9,7 +9,7 @@ use std::alloc::{AllocError, Global};
 
 // lines
 
-// Whether a check holds of an engine that has not worked yet. False if its tables cannot be read.
+// Whether a check holds for a new engine. False if its tables cannot be read.
 fn of_engine<F: FnOnce(&mut lines::Engine) -> bool>(alloc: Global, check: F) -> bool
     requires { F.IsAlwaysCallable check }
 {
@@ -21,7 +21,7 @@ fn of_engine<F: FnOnce(&mut lines::Engine) -> bool>(alloc: Global, check: F) -> 
     is_right
 }
 
-// The layout of a paragraph of an allowed length, unless memory runs out.
+// Lays out a paragraph of an allowed length, or returns `None` after an allocation failure.
 fn lay_out(alloc: Global, engine: &mut lines::Engine, text: &str, width: u16) -> Option<lines::Laid>
     requires { 0 < width }
     ensures laid { IfSome result (IsLaidOut (rules_of engine.new)) }
@@ -40,8 +40,8 @@ fn lay_out(alloc: Global, engine: &mut lines::Engine, text: &str, width: u16) ->
     }
 }
 
-// Whether a check holds of the layout of `a`, a space, alef and bet, which is one line: `a`, a space, bet and
-// alef.
+// Whether a check holds for the layout of `a`, a space, alef and bet, which is one line: `a`, a space, bet
+// and alef.
 fn of_laid<F: FnOnce(&lines::Laid) -> bool>(alloc: Global, check: F) -> bool
     requires { F.IsAlwaysCallable check }
 {
@@ -56,7 +56,7 @@ fn of_laid<F: FnOnce(&lines::Laid) -> bool>(alloc: Global, check: F) -> bool
     }
 }
 
-// Whether a check holds of its line.
+// Whether a check holds for its line.
 fn of_line<F: FnOnce(&lines::VisualLine<'_>) -> bool>(alloc: Global, check: F) -> bool
     requires { F.IsAlwaysCallable check }
 {
@@ -147,7 +147,7 @@ fn filled_is_the_length_after_a_layout(rt: HostRuntime) {
     );
 }
 
-// The lines of a paragraph at a width, unless memory runs out.
+// Finds the lines of a paragraph at a width, or returns `None` after an allocation failure.
 fn refill(
     alloc: Global,
     engine: &mut lines::Engine,
@@ -388,7 +388,7 @@ fn write_writes_the_line_in_visual_order_and_a_newline(rt: HostRuntime) {
     );
 }
 
-// How many bytes of a line a sink of two bytes takes.
+// Returns the fault of a line that is written to a sink of two bytes.
 fn fault_after_two_bytes(line: &lines::VisualLine<'_>) -> Option<lines::WriteFault> {
     let mut room: [u8; 2] = [0; 2];
     let mut sink = device::ToWrite::new(room.as_mut_slice());
@@ -408,7 +408,7 @@ fn write_fault_is_the_number_of_bytes_written(rt: HostRuntime) {
 
 // session
 
-// What a test calls of a session.
+// The tested calls of a session.
 #[derive(Clone, Copy)]
 enum Call {
     Insert,
@@ -427,8 +427,9 @@ enum Call {
     WidthOutOfRange,
 }
 
-// Whether the example of a call holds in a session on "ab\ncd\nef", of 80 columns. False if memory runs out.
-// Only the functions below that open a session name its store, since each that does is long to prove.
+// Whether the example of a call holds in a session on "ab\ncd\nef", of 80 columns. False after an allocation
+// failure. Only the functions below that open a session name its store, since each of them takes long to
+// prove.
 fn holds(alloc: Global, call: Call) -> bool {
     match open(alloc, "ab\ncd\nef", 80) {
         Ok(session) => holds_in(session, call),
@@ -439,7 +440,7 @@ fn holds(alloc: Global, call: Call) -> bool {
     }
 }
 
-// A session, or its engine and why it is refused.
+// Opens a session, or returns its engine and why it is refused.
 fn open(
     alloc: Global,
     text: &str,
@@ -511,7 +512,7 @@ fn opens(alloc: Global, text: &str) -> bool {
     }
 }
 
-// Why no session is opened.
+// Returns why no session is opened.
 fn fault_of(alloc: Global, text: &str, width: u16) -> Option<session::EditFault> {
     match open(alloc, text, width) {
         Ok(_) => None,
@@ -710,7 +711,7 @@ fn width_of_zero_is_out_of_range(rt: HostRuntime) {
     assert!(rt; holds(rt.alloc(), Call::WidthOutOfRange));
 }
 
-// Why no session is opened on so many letters. None if memory runs out.
+// Returns why no session is opened on this number of letters, or `None` after an allocation failure.
 fn fault_of_letters(alloc: Global, count: usize) -> Option<session::EditFault> {
     let Ok(letters) = vec![in alloc; b'a'; count] else {
         return None;

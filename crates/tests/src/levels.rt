@@ -1,4 +1,4 @@
-//! Levels of short lists equal those of the reference implementation; worked rows.
+//! Levels of short lists equal those of the reference implementation; worked examples.
 ghost use Rattle.std.specs.Prelude.{◌≡◌, map, IfOk};
 ghost use Rattle.ucd.specs.Properties.{properties_of};
 
@@ -11,14 +11,14 @@ use std::alloc::{AllocError, Global};
 use std::test::Fail;
 use ucd::{BidiClass, Properties, Tables};
 
-// One of each class that the weak and neutral rules tell apart, and two brackets.
+// One of each class that the weak and neutral rules distinguish, and two brackets.
 const CHARACTERS: [char; 12] = [
     'a', '\u{5D0}', '\u{627}', '1', '\u{660}', '+', ',', '$', '\u{300}', '(', ')', ' ',
 ];
 
 const BASES: [Base; 4] = [Base::Rtl, Base::Ltr, Base::WeakRtl, Base::WeakLtr];
 
-// The list of so many characters with a number, of all in order.
+// Replaces `text` by the list of `len` characters with this number.
 fn put_list(text: &mut Vec<char>, len: usize, number: usize) -> Result<(), AllocError> {
     text.clear();
     let mut left = number;
@@ -29,7 +29,7 @@ fn put_list(text: &mut Vec<char>, len: usize, number: usize) -> Result<(), Alloc
     Ok(())
 }
 
-/// What the tables say of the characters of a text.
+/// Returns the properties of a text's characters.
 pub fn properties_of(
     alloc: Global,
     tables: &Tables,
@@ -40,8 +40,7 @@ pub fn properties_of(
     text.iter().map(|c| tables.properties(*c)).collect(alloc)
 }
 
-// Puts the levels of a list in place of what `levels` has, and answers whether its base level is the one
-// that is found by itself.
+// Replaces `levels` by the levels of a list, and returns whether the base level is that of `base_level`.
 fn put_levels(
     alloc: Global,
     resolver: &mut Resolver,
@@ -59,7 +58,7 @@ fn classes_of(alloc: Global, tables: &Tables, text: &[char]) -> Result<Vec<BidiC
     text.iter().map(|c| tables.bidi_class(*c)).collect(alloc)
 }
 
-// What a character is as a bracket.
+// Returns the bracket type of a character.
 fn bracket_type(tables: &Tables, character: char) -> BracketType {
     match tables.bracket(character) {
         Some(bracket) => {
@@ -81,8 +80,8 @@ fn brackets_of(
     text.iter().map(|c| bracket_type(tables, *c)).collect(alloc)
 }
 
-// Puts the levels of lists of classes and of brackets in place of what `levels` has, and answers whether
-// the base level is the one that is found by itself.
+// Replaces `levels` by the levels for classes and bracket types, and returns whether the base level is that
+// of `base_level_of`.
 fn put_levels_of(
     resolver: &mut Resolver,
     classes: &[BidiClass],
@@ -97,7 +96,7 @@ fn put_levels_of(
     Ok(level == base_level_of(classes, base))
 }
 
-// The same of the classes and brackets of a text.
+// The same for the classes and bracket types of a text.
 fn put_levels_by(
     alloc: Global,
     resolver: &mut Resolver,
@@ -111,7 +110,7 @@ fn put_levels_by(
     put_levels_of(resolver, &classes, &brackets, base, levels)
 }
 
-// Whether these are the levels from a place on.
+// Whether these are the levels from an index on.
 fn are_from(levels: &[u8], place: usize, wanted: &[u8]) -> bool {
     match levels.get(place..) {
         Some(after) => after == wanted,
@@ -119,7 +118,7 @@ fn are_from(levels: &[u8], place: usize, wanted: &[u8]) -> bool {
     }
 }
 
-// Whether a resolver finds these levels of a list, from a place on, by its characters.
+// Whether a resolver finds these levels of a list, from an index on, by its characters.
 fn is_found_of_text(
     alloc: Global,
     resolver: &mut Resolver,
@@ -134,7 +133,7 @@ fn is_found_of_text(
     Ok(is_base && are_from(&levels, place, wanted))
 }
 
-// Whether it finds them by their classes and by what they are as brackets.
+// The same by its classes and bracket types.
 fn is_found_by(
     alloc: Global,
     resolver: &mut Resolver,
@@ -149,7 +148,7 @@ fn is_found_by(
     Ok(is_base && are_from(&levels, place, wanted))
 }
 
-// Whether it finds them either way.
+// The same in both ways.
 fn is_found(
     alloc: Global,
     resolver: &mut Resolver,
@@ -164,8 +163,8 @@ fn is_found(
     Ok(by_text & by_lists)
 }
 
-// The list after a PDF that matches nothing. That is taken out by X9 and opens nothing, so the levels after
-// it are those of the list alone, but they are found by all rules, as of a paragraph that is no sequence.
+// The list after a PDF that matches nothing. X9 removes the PDF, so the levels after it are those of the list
+// alone. But they are found by all rules, not by the fast path for a paragraph that is a single sequence.
 fn after_pdf(alloc: Global, text: &[char]) -> Result<Vec<char>, AllocError> {
     let mut longer = Vec::new(alloc);
     longer.push('\u{202C}')?;
@@ -185,7 +184,8 @@ fn is_found_after_pdf(
     is_found(alloc, resolver, tables, &longer, base, 1, wanted)
 }
 
-// Whether a resolver returns the reference levels of a list, also when it resolved a PDF before.
+// Whether a resolver finds the levels of the reference implementation, with and without a PDF before the
+// list.
 fn is_same(
     alloc: Global,
     resolver: &mut Resolver,
@@ -200,7 +200,7 @@ fn is_same(
     is_found_after_pdf(alloc, resolver, tables, text, base, &wanted)
 }
 
-// Whether that is so of all lists of so many characters, of which there are `lists`.
+// The same for the first `lists` lists of `len` characters.
 fn are_same(
     alloc: Global,
     resolver: &mut Resolver,
@@ -220,10 +220,10 @@ fn are_same(
     Ok(true)
 }
 
-// How many lists there are of so many characters.
+// A length, and the number of lists of that length.
 static LISTS: [(usize, usize); 4] = [(1, 12), (2, 144), (3, 1_728), (4, 20_736)];
 
-// Whether it is so of all lists of 1 to 4 characters.
+// The same for all lists of 1 to 4 characters.
 fn all_are_same(alloc: Global, tables: &Tables) -> Result<bool, AllocError> {
     let mut resolver = Resolver::new(alloc);
     let result = all_are_same_by(alloc, &mut resolver, tables);
@@ -259,7 +259,7 @@ struct Row {
     levels: &'static str,
 }
 
-// Paragraphs that are no sequence as they stand, and some that are, long and short in turn.
+// Paragraphs that are not a single sequence, and some that are, alternately long and short.
 static ROWS: [Row; 6] = [
     Row {
         text: "a\u{202B}b\u{202C}c",
@@ -308,7 +308,7 @@ fn finds(
     Ok(is_base && are_digits(&levels, digits.as_bytes()))
 }
 
-// Whether it finds them by the classes and brackets of the text.
+// The same by the classes and bracket types of the text.
 fn finds_by(
     alloc: Global,
     resolver: &mut Resolver,
@@ -321,7 +321,7 @@ fn finds_by(
     Ok(is_base && are_digits(&levels, digits.as_bytes()))
 }
 
-// Whether they are found of a text by no resolver that serves again.
+// The same without a reused resolver.
 fn resolves_to(
     alloc: Global,
     tables: &Tables,
@@ -361,7 +361,7 @@ fn have_levels(
     Ok(true)
 }
 
-// Whether one resolver finds the levels of each row.
+// Whether one resolver finds the levels of each example.
 fn are_found(alloc: Global, tables: &Tables, rows: &[Row]) -> Result<bool, AllocError> {
     let mut resolver = Resolver::new(alloc);
     let result = have_levels(alloc, &mut resolver, tables, rows);
@@ -407,7 +407,7 @@ fn levels_of_separators(rt: HostRuntime) -> Result<(), Fail> {
     Ok(())
 }
 
-// A paragraph by its classes and brackets, and the levels of its characters, each as a digit.
+// A paragraph by its classes and bracket types, and the levels of its characters, each as a digit.
 struct ListRow {
     classes: &'static [BidiClass],
     brackets: &'static [BracketType],
@@ -423,9 +423,9 @@ const INNER: &[BidiClass] = &[
     BidiClass::ON,
 ];
 
-// The third character opens a pair that the last one closes, by numbers of their own or by code points; then
-// one of another number, which closes none; then a closing bracket that overtakes an isolate, a bracket that
-// is no neutral, and lists without brackets.
+// The third character opens a pair that the last one closes, by the caller's numbers or by code points. Then
+// two brackets with different numbers, and a closing bracket before an opening one. Then a pair around an
+// isolate that has a closing bracket, brackets that are not ON, and lists without brackets.
 static LIST_ROWS: [ListRow; 8] = [
     ListRow {
         classes: INNER,
@@ -521,7 +521,7 @@ static LIST_ROWS: [ListRow; 8] = [
     },
 ];
 
-// Whether they are found of the lists of a row by no resolver that serves again.
+// Whether the levels of an example are found without a reused resolver.
 fn are_of_row(alloc: Global, row: &ListRow) -> Result<bool, AllocError> {
     if row.classes.len() != row.brackets.len() {
         return Ok(false);

@@ -1,4 +1,4 @@
-//! The tests of tables, levels, marks and stores, by public calls: a module for each library.
+//! Tests of tables, levels, marks and stores, through public calls: a module for each library.
 #![tactic(auto)]
 
 #[cfg(test)]

@@ -1,4 +1,4 @@
-//! Worked rows, and lists of characters whose break marks equal those of the reference implementation. The
+//! Break marks of worked examples, and of lists of characters compared with the reference implementation. The
 //! tests also pass if any one allocation fails.
 ghost use Rattle.std.specs.Prelude.{◌≡◌, map, OnOk};
 ghost use Rattle.ucd.specs.Properties.{properties_of};
@@ -11,7 +11,7 @@ use std::process::Abort;
 use std::test::Fail;
 use ucd::{LineClass, Properties, Tables, UcdFiles};
 
-// The marks of a text, asked for twice.
+// Returns the marks of a text, and tries again after an allocation failure.
 fn marks_of(
     alloc: Global,
     tables: &Tables,
@@ -24,7 +24,7 @@ fn marks_of(
     }
 }
 
-// Whether the marks are these, in the signs of the annex.
+// Whether these are the marks, in the signs of the annex.
 fn are_signs(marks: &[Mark], signs: &str) -> bool {
     let mut all_right = marks.len() == signs.chars().count();
     for (mark, sign) in marks.iter().zip(signs.chars()) {
@@ -49,7 +49,7 @@ fn has_marks(
     Ok(are_signs(&marks, signs))
 }
 
-// Texts and their marks, whether numbers stay whole or not.
+// Texts and their marks, with and without whole numbers.
 static ROWS: [(&str, &str); 15] = [
     ("", ""),
     ("a b", "×÷!"),
@@ -98,18 +98,18 @@ static NUMBERS: [(&str, &str, &str); 23] = [
     ("%(1.)$1", "××××××!", "××××××!"),
 ];
 
-// The same of a degree sign and a euro sign. A line may end after a space, inside what would else be a
-// number, but not after one that is no break.
+// The same with a degree sign and a euro sign. A line may end after a space inside what would otherwise be a
+// number, but not after a no-break space.
 static SIGNS: [(&str, &str, &str); 3] = [
     ("-5\u{B0}", "××!", "××!"),
     ("\u{20AC}\u{A0}30", "×××!", "×××!"),
     ("\u{20AC} 30", "×÷×!", "×÷×!"),
 ];
 
-// Those of U+00A9 and a modifier, where the first is unassigned and where it isn't.
+// The marks of U+00A9 and a modifier, if the first is unassigned and if it is not.
 static PICTOGRAPHS: [(&[u8], &str); 2] = [(b"", "×!"), (b"00A9;So", "÷!")];
 
-// The marks of a text without whole numbers, and with them.
+// Checks the marks of a text without whole numbers, and with them.
 fn check(
     rt: &impl Abort,
     alloc: Global,
@@ -201,7 +201,7 @@ fn check_pictograph(
     Ok(result?)
 }
 
-// A modifier stands after a pictograph that is unassigned, and after no other.
+// There is no break between an unassigned pictograph and a modifier.
 #[test]
 fn marks_after_pictographs(rt: HostRuntime) -> Result<(), Fail> {
     for (categories, want) in &PICTOGRAPHS {
@@ -210,7 +210,7 @@ fn marks_after_pictographs(rt: HostRuntime) -> Result<(), Fail> {
     Ok(())
 }
 
-// Lists that are kept from text to text.
+// Lists that are reused from text to text.
 #[derive(Drop)]
 struct Kept {
     text: Vec<char>,
@@ -246,7 +246,7 @@ fn read_all(
     Ok(())
 }
 
-// Whether the marks of the text equal those of the reference implementation, without whole numbers and with
+// Whether the marks of the text are those of the reference implementation, without whole numbers and with
 // them.
 fn agrees(tables: &Tables, kept: &mut Kept) -> Result<bool, AllocError> {
     read_all(tables, &kept.text, &mut kept.properties)?;
@@ -274,8 +274,8 @@ fn agrees_where(tables: &Tables, whole_numbers: bool, kept: &mut Kept) -> Result
     Ok(kept.marks.as_slice() == kept.expected.as_slice())
 }
 
-// Two characters of each line breaking class, U+0100 the first of BK: of some classes the second is
-// wide, a mark or a pictograph to come.
+// Two characters of each line breaking class, with U+0100 the first of BK. For some classes the second one is
+// wide, a mark or an unassigned pictograph.
 const CLASS_FILES: UcdFiles<'_> = UcdFiles {
     line_break: b"0100..0101;BK\n0102..0103;CM\n0104..0105;CR\n0106..0107;GL\n0108..0109;LF\n\
         010A..010B;NL\n010C..010D;SP\n010E..010F;WJ\n0110..0111;ZW\n0112..0113;ZWJ\n\
@@ -300,7 +300,7 @@ static LETTERS: [char; 12] = [
     'a', '\u{5D0}', '\u{627}', '1', '\u{660}', '+', ',', '$', '\u{300}', '(', ')', ' ',
 ];
 
-// Whether the walk agrees on the list of so many of these characters that a number spells.
+// Whether the marks agree for the list of `length` of these characters with this number.
 fn agrees_on(
     tables: &Tables,
     letters: &[char],
@@ -335,7 +335,7 @@ fn check_list(
     Ok(())
 }
 
-// The lists of so many characters that some numbers spell.
+// Checks the first `numbers` lists of `length` characters.
 fn check_lists(
     rt: &impl Abort,
     alloc: Global,
@@ -351,7 +351,7 @@ fn check_lists(
     Ok(())
 }
 
-// How many lists there are of so many letters.
+// A length, and the number of lists of that length.
 static LISTS: [(usize, u64); 4] = [(1, 12), (2, 144), (3, 1_728), (4, 20_736)];
 
 fn check_letters(rt: &impl Abort, alloc: Global, tables: &Tables) -> Result<(), AllocError> {
@@ -361,7 +361,7 @@ fn check_letters(rt: &impl Abort, alloc: Global, tables: &Tables) -> Result<(), 
     Ok(())
 }
 
-// Every list of 1 to 4 of the letters.
+// Checks every list of 1 to 4 letters.
 #[test]
 fn walk_finds_the_marks_of_letters(rt: HostRuntime) -> Result<(), Fail> {
     let tables = read(rt.alloc(), &FILES)?;
@@ -374,7 +374,7 @@ fn class_letters(alloc: Global) -> Result<Vec<char>, AllocError> {
     (0x100..0x156).filter_map(char::from_u32).collect(alloc)
 }
 
-// Lists of 10 that look random.
+// Checks 10,000 pseudorandom lists of 10 characters.
 fn check_random(
     rt: &impl Abort,
     alloc: Global,
@@ -413,7 +413,7 @@ fn check_lists_of(
     check_random(rt, alloc, tables, letters)
 }
 
-// Every list of 1 or 2 characters of each class, and lists of 10 that look random.
+// Checks every list of 1 or 2 characters of all classes, and pseudorandom lists of 10.
 #[test]
 fn walk_finds_the_marks_of_classes(rt: HostRuntime) -> Result<(), Fail> {
     let tables = read(rt.alloc(), &CLASS_FILES)?;

@@ -1,5 +1,5 @@
-//! What the first lines of `ucd`, `bidi`, `reorder`, `breaks` and `store` show. `tests/docs/run` checks that
-//! their lines are here.
+//! The examples in the first lines of `ucd`, `bidi`, `reorder`, `breaks` and `store`. `tests/docs/run` checks
+//! that they are here.
 use crate::files::{FILES, read};
 use crate::levels::properties_of;
 use bidi::{Base, resolve};
@@ -78,7 +78,7 @@ fn break_marks(rt: HostRuntime) -> Result<(), Fail> {
     Ok(result?)
 }
 
-// How many characters and lines it has.
+// An item with a number of characters and lines.
 #[derive(Drop)]
 struct Paragraph(usize, usize);
 

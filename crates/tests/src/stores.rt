@@ -1,5 +1,5 @@
-//! Both stores beside one another. The tests pass too where one allocation is refused, whichever it is: a
-//! `replace` that is refused leaves all as it was, and is made when it is asked for again.
+//! Both stores compared with each other. The tests also pass if any one allocation fails: a failed `replace`
+//! changes nothing, and is tried again.
 ghost use Rattle.std.specs.Prelude.{◌≡◌, ◌+◌, ◌-◌, ◌^◌, ◌<◌, sum_by};
 
 use std::alloc::{AllocError, Global};
@@ -8,7 +8,7 @@ use std::process::Abort;
 use std::test::Fail;
 use store::{Exchange, Exchanger, Found, Measured, ParagraphStore, TreeStore, VecStore};
 
-// An item that is told by its name.
+// An item, identified by its name.
 #[derive(Clone, Copy, Debug, PartialEq, Eq)]
 struct Item {
     name: u32,
@@ -30,7 +30,7 @@ impl Measured for Item {
     }
 }
 
-// Its number of lines is exchanged.
+// The part of an item is its number of lines.
 impl Exchange for Item {
     type Part = usize;
 
@@ -49,7 +49,7 @@ impl Exchange for Item {
     ghost keeps_chars = { λ item lines fits. refl };
 }
 
-// What gives an item a number of lines and some more.
+// Adds a number to the lines that are exchanged.
 #[derive(Drop)]
 struct Adder {
     more: usize,
@@ -60,7 +60,7 @@ impl Exchanger<Item> for Adder {
 
     ghost use Rattle.std.specs.Prelude.{refl, ℕ};
 
-    // How many more. It counts nothing.
+    // The number that is added. No work is counted.
     ghost Kind = { ℕ };
 
     ghost kind = { λ by. by.more };
@@ -83,10 +83,10 @@ impl Exchanger<Item> for Adder {
     }
 }
 
-// What no sum of a test passes.
+// The limit of all sums in the tests.
 const LIMIT: usize = 1 << 40;
 
-// The sums of characters and of lines, as far as they fit.
+// The sums of characters and of lines, up to 2^64−1.
 fn sums(items: &[Item]) -> (usize, usize)
     ensures chars { result.0 < 2 ^ 64 - 1 → result.0 ≡ sum_by (λ item. item.chars) items.now }
     ensures lines { result.1 < 2 ^ 64 - 1 → result.1 ≡ sum_by (λ item. item.lines) items.now }
@@ -101,7 +101,7 @@ fn sums(items: &[Item]) -> (usize, usize)
 }
 
 #[tactic(auto, using(store::proofs::ListLemmas::sum_of_splice))]
-// The replacement, where the range is within the store and the sums are small.
+// Replaces items, if the range is within the store and the sums are small.
 fn replace<S: ParagraphStore<Item>>(
     rt: &impl Abort,
     store: &mut S,
@@ -115,7 +115,7 @@ fn replace<S: ParagraphStore<Item>>(
     store.replace(range, new_items)
 }
 
-// The sum of the lines that parts give with some more for each, as far as it fits.
+// Returns the sum of the lines of the parts, with `more` added to each, up to 2^64−1.
 fn sum(parts: &[usize], more: usize) -> usize
     ensures { result < 2 ^ 64 - 1 → result ≡ sum_by (λ lines. lines + more) parts.now }
 {
@@ -126,7 +126,7 @@ fn sum(parts: &[usize], more: usize) -> usize
     sum
 }
 
-// The exchange, where there are as many parts as items and the new sum is small.
+// Exchanges parts, if there are as many parts as items and the new sum is small.
 fn exchange_all<S: ParagraphStore<Item>>(
     rt: &impl Abort,
     store: &mut S,
@@ -137,13 +137,13 @@ fn exchange_all<S: ParagraphStore<Item>>(
     store.exchange_all_by(by, parts);
 }
 
-// The exchange of each item by itself, on the same conditions.
+// Exchanges the part of each item by `Exchange`, on the same conditions.
 fn exchange_lines<S: ParagraphStore<Item>>(rt: &impl Abort, store: &mut S, parts: &mut Vec<usize>) {
     assert!(rt; sum(parts, 0) < LIMIT && parts.len() == store.count());
     store.exchange_all(parts);
 }
 
-// A list with room, asked for twice.
+// Allocates a list, and tries again after an allocation failure.
 fn with_room<T>(alloc: Global, count: usize) -> Result<Vec<T>, AllocError> {
     match Vec::with_capacity(alloc, count) {
         Ok(items) => Ok(items),
@@ -151,7 +151,7 @@ fn with_room<T>(alloc: Global, count: usize) -> Result<Vec<T>, AllocError> {
     }
 }
 
-// So many items, named from one name on, of different sizes, some of them empty.
+// Makes items with consecutive names and different sizes, some of them empty.
 fn items(alloc: Global, first: u32, count: usize) -> Result<Vec<Item>, AllocError> {
     let mut items = with_room(alloc, count)?;
     let mut name = first;
@@ -166,7 +166,7 @@ fn items(alloc: Global, first: u32, count: usize) -> Result<Vec<Item>, AllocErro
     Ok(items)
 }
 
-// So many items of one character and one line each.
+// Makes items of one character and one line each.
 fn small_items(alloc: Global, count: usize) -> Result<Vec<Item>, AllocError> {
     let mut items = with_room(alloc, count)?;
     let mut name: u32 = 0;
@@ -181,12 +181,12 @@ fn small_items(alloc: Global, count: usize) -> Result<Vec<Item>, AllocError> {
     Ok(items)
 }
 
-// Whether both find the same, but for the visits.
+// Whether both find the same, apart from the visits.
 fn is_same(found: Found, other: Found) -> bool {
     Found { visits: 0, ..found } == Found { visits: 0, ..other }
 }
 
-// Whether each character and each line stands at the same place.
+// Whether both stores find the same for each character and each line.
 fn finds_same<S: ParagraphStore<Item>, T: ParagraphStore<Item>>(left: &S, right: &T) -> bool {
     let (chars, lines) = (left.total_chars(), left.total_lines());
     if right.total_chars() != chars || right.total_lines() != lines {
@@ -202,7 +202,7 @@ fn finds_same<S: ParagraphStore<Item>, T: ParagraphStore<Item>>(left: &S, right:
     all_right
 }
 
-// Whether both have the same items, and none after them.
+// Whether both stores have the same items.
 fn has_same<S: ParagraphStore<Item>, T: ParagraphStore<Item>>(left: &S, right: &T) -> bool {
     let mut all_right = left.count() == right.count() && left.get(left.count()).is_none();
     for index in 0..left.count() {
@@ -211,7 +211,7 @@ fn has_same<S: ParagraphStore<Item>, T: ParagraphStore<Item>>(left: &S, right: &
     all_right
 }
 
-// All items of a store, asked for twice.
+// Lists all items of a store, and tries again after an allocation failure.
 fn list_of<S: ParagraphStore<Item>>(alloc: Global, store: &S) -> Result<Vec<&Item>, AllocError> {
     match store.list(alloc) {
         Ok(list) => Ok(list),
@@ -219,7 +219,7 @@ fn list_of<S: ParagraphStore<Item>>(alloc: Global, store: &S) -> Result<Vec<&Ite
     }
 }
 
-// Whether the list is that of the items that are got one by one.
+// Whether a list has the items that `get` returns.
 fn is_list_of<S: ParagraphStore<Item>>(store: &S, list: &[&Item]) -> bool {
     let mut all_right = list.len() == store.count();
     for (index, item) in list.iter().enumerate() {
@@ -228,13 +228,13 @@ fn is_list_of<S: ParagraphStore<Item>>(store: &S, list: &[&Item]) -> bool {
     all_right
 }
 
-// Whether the items that are found in one walk are those.
+// Whether a store lists the items that `get` returns.
 fn lists_its_own<S: ParagraphStore<Item>>(alloc: Global, store: &S) -> Result<bool, AllocError> {
     let list = list_of(alloc, store)?;
     Ok(is_list_of(store, &list))
 }
 
-// Whether items are so many, named from one name on.
+// Whether there are `count` items, with consecutive names.
 fn are_named(items: &[Item], first: u32, count: usize) -> bool {
     let mut all_right = items.len() == count;
     let mut name = first;
@@ -249,8 +249,8 @@ fn size_of<S: ParagraphStore<Item>>(store: &S) -> [usize; 3] {
     [store.count(), store.total_chars(), store.total_lines()]
 }
 
-// The replacement once more, where memory was refused. The new items, which are named from one name on, came
-// back in order, and the store has as many items and lines as before.
+// Replaces items, and tries again after an allocation failure. The new items were then returned in order, and
+// the store has as many items, characters and lines as before.
 fn replace_again<S: ParagraphStore<Item>>(
     rt: &impl Abort,
     store: &mut S,
@@ -271,7 +271,7 @@ fn replace_again<S: ParagraphStore<Item>>(
     }
 }
 
-// The items of a range, which so many others take the place of.
+// Replaces the items of a range by `count` others, and returns them.
 fn replaced<S: ParagraphStore<Item>>(
     rt: &impl Abort,
     alloc: Global,
@@ -282,19 +282,19 @@ fn replaced<S: ParagraphStore<Item>>(
     replace_again(rt, store, range, first, items(alloc, first, count)?)
 }
 
-// Whether what a range had is the same, and as much as it had room for.
+// Whether the items returned by both stores are equal, and as many as the range has.
 fn are_replaced(old: &[Item], other: &[Item], (start, end): (usize, usize)) -> bool {
     old == other && Some(old.len()) == end.checked_sub(start)
 }
 
-// Both stores, which are changed alike.
+// Both stores, with the same items.
 #[derive(Drop)]
 struct Both<S: ParagraphStore<Item>, T: ParagraphStore<Item>> {
     tree: S,
     list: T,
 }
 
-// Replaces the items of a range by so many others, in both stores.
+// Replaces the items of a range in both stores.
 fn replace_both<S: ParagraphStore<Item>, T: ParagraphStore<Item>>(
     rt: &impl Abort,
     alloc: Global,
@@ -311,7 +311,7 @@ fn replace_both<S: ParagraphStore<Item>, T: ParagraphStore<Item>>(
     check_both(rt, alloc, both)
 }
 
-// Both stores have and find the same.
+// Asserts that both stores have and find the same.
 fn check_both<S: ParagraphStore<Item>, T: ParagraphStore<Item>>(
     rt: &impl Abort,
     alloc: Global,
@@ -323,7 +323,7 @@ fn check_both<S: ParagraphStore<Item>, T: ParagraphStore<Item>>(
     Ok(())
 }
 
-// A number below a limit, which looks random.
+// Returns a pseudorandom number below a limit.
 fn below(seed: u64, limit: usize) -> usize {
     if limit == 0 {
         return 0;
@@ -331,7 +331,7 @@ fn below(seed: u64, limit: usize) -> usize {
     ((seed.wrapping_mul(0x9E37_79B9_7F4A_7C15) >> 20) % limit as u64) as usize
 }
 
-// A range, and the first name and the count of what takes its place.
+// A range, and the first name and the count of the items that replace it.
 type Row = ((usize, usize), (u32, usize));
 
 static ROWS: [Row; 10] = [
@@ -426,7 +426,7 @@ fn three_items_by_two(rt: HostRuntime) -> Result<(), Fail> {
     Ok(check_stores(&rt, rt.alloc(), Check::ThreeByTwo)?)
 }
 
-// Whether each item got the lines of its place and seven more, for the ones that it had.
+// Whether each item has the lines of its part and seven more, and its part has the old lines.
 fn are_exchanged<S: ParagraphStore<Item>>(store: &S, parts: &[usize]) -> bool {
     let mut all_right = parts.len() == store.count();
     for (index, lines) in parts.iter().enumerate() {
@@ -439,7 +439,7 @@ fn are_exchanged<S: ParagraphStore<Item>>(store: &S, parts: &[usize]) -> bool {
     all_right
 }
 
-// The numbers up to 50.
+// Returns the numbers below 50.
 fn numbers(alloc: Global) -> Result<Vec<usize>, AllocError> {
     let mut numbers = with_room(alloc, 50)?;
     for number in 0..50 {
@@ -448,7 +448,7 @@ fn numbers(alloc: Global) -> Result<Vec<usize>, AllocError> {
     Ok(numbers)
 }
 
-// Whether the numbers that come out are those that went in first.
+// Whether the returned parts are those of the first exchange, with seven more.
 fn are_back(parts: &[usize]) -> bool {
     let mut all_right = true;
     for (index, lines) in parts.iter().enumerate() {
@@ -485,7 +485,7 @@ fn exchanges_in_order(rt: HostRuntime) -> Result<(), Fail> {
     Ok(check_stores(&rt, rt.alloc(), Check::Exchanges)?)
 }
 
-// The most items that a search looks at, of every so many characters and lines, and at the last one.
+// Returns the greatest number of visits of a search, for every `step`-th character and the last one.
 fn most_visits<S: ParagraphStore<Item>>(store: &S, step: usize) -> usize {
     let mut most = 0;
     let total = store.total_chars();
@@ -497,7 +497,7 @@ fn most_visits<S: ParagraphStore<Item>>(store: &S, step: usize) -> usize {
     most
 }
 
-// Puts so many small items into a store.
+// Fills a store with small items.
 fn fill<S: ParagraphStore<Item>>(
     rt: &impl Abort,
     alloc: Global,
@@ -509,7 +509,7 @@ fn fill<S: ParagraphStore<Item>>(
     Ok(())
 }
 
-// Whether a search in the tree looks at few of a thousand items, and one in the list at all.
+// Asserts that the tree visits few of a thousand items, and the list up to all of them.
 fn check_thousand<S: ParagraphStore<Item>, T: ParagraphStore<Item>>(
     rt: &impl Abort,
     alloc: Global,
@@ -538,13 +538,13 @@ fn check_million<S: ParagraphStore<Item>>(
     Ok(())
 }
 
-// Dropping the store goes down no deeper than its height.
+// Dropping a tree recurses no deeper than its height.
 #[test]
 fn a_million_items(rt: HostRuntime) -> Result<(), Fail> {
     Ok(check_stores(&rt, rt.alloc(), Check::Million)?)
 }
 
-// What both stores are checked by.
+// The kinds of checks.
 #[derive(Clone, Copy)]
 enum Check {
     Rows,
@@ -571,7 +571,7 @@ fn check_by<S: ParagraphStore<Item>, T: ParagraphStore<Item>>(
     }
 }
 
-// Both stores are made and let go of here alone.
+// Only this function makes and drops stores.
 fn check_stores(rt: &impl Abort, alloc: Global, what: Check) -> Result<(), AllocError> {
     let mut both = Both {
         tree: TreeStore::new(alloc),

@@ -1,5 +1,5 @@
-//! The public calls of `device`, `ucd`, `bidi`, `breaks` and `store`: one test for each, which calls it by
-//! its path, with its types, and checks one example.
+//! The public calls of `device`, `ucd`, `bidi`, `breaks` and `store`: one test each, which calls it by its
+//! path, names its types, and checks one example.
 ghost use Rattle.std.specs.Prelude.{◌<◌, ◌^◌};
 
 use crate::files::{FILES, read};
@@ -42,7 +42,7 @@ fn to_write_is_a_sink_that_ends_with_its_writer(rt: HostRuntime) {
 
 // ucd
 
-// Whether a check holds of the test tables. False if they cannot be read.
+// Whether a check holds for the test tables. False if they cannot be read.
 fn of_tables<F: FnOnce(&ucd::Tables) -> bool>(alloc: Global, check: F) -> bool
     requires { F.IsAlwaysCallable check }
 {
@@ -54,7 +54,7 @@ fn of_tables<F: FnOnce(&ucd::Tables) -> bool>(alloc: Global, check: F) -> bool
     is_right
 }
 
-// Seven files of no lines.
+// Seven files without lines.
 const EMPTY: ucd::UcdFiles<'_> = ucd::UcdFiles {
     bidi_class: b"",
     bidi_brackets: b"",
@@ -65,7 +65,7 @@ const EMPTY: ucd::UcdFiles<'_> = ucd::UcdFiles {
     emoji_data: b"",
 };
 
-// Why files are refused.
+// Returns why files are refused.
 fn fault_of(alloc: Global, files: &ucd::UcdFiles<'_>) -> Option<ucd::TableFault> {
     let tables: Result<ucd::Tables, ucd::TableFault> = ucd::Tables::read(alloc, files);
     match tables {
@@ -382,7 +382,7 @@ fn marks_into_writes_over_a_list(rt: HostRuntime) {
 
 // store
 
-// An item of so many characters and lines.
+// An item with a number of characters and lines.
 #[derive(Clone, Copy, Debug, PartialEq, Eq)]
 struct Item {
     chars: usize,
@@ -444,7 +444,7 @@ fn exchange_swaps_the_part(rt: HostRuntime) {
     assert!(rt; item.lines == 7 && part == 2);
 }
 
-// What a test calls of a store.
+// The tested calls of a store.
 #[derive(Clone, Copy)]
 enum Call {
     New,
@@ -459,8 +459,8 @@ enum Call {
     ExchangeAll,
 }
 
-// Whether the example of a call holds in both stores. False if memory runs out. No other function of these
-// names both stores, since each that does is long to prove.
+// Whether the example of a call holds in both stores. False after an allocation failure. Only this function
+// names both stores, since each that does takes long to prove.
 fn holds(alloc: Global, call: Call) -> bool {
     holds_in::<store::VecStore<Item>>(alloc, call) & holds_in::<store::TreeStore<Item>>(alloc, call)
 }
@@ -474,7 +474,7 @@ fn holds_in<S: store::ParagraphStore<Item> + Drop>(alloc: Global, call: Call) ->
     }
 }
 
-// A store of the two items.
+// Makes a store of the two items.
 fn of_two<S: store::ParagraphStore<Item> + Drop>(alloc: Global) -> Option<S> {
     let mut store: S = S::new(alloc);
     let Ok(items) = vec![in alloc; FIRST, SECOND] else {
@@ -632,7 +632,7 @@ fn exchange_all_swaps_the_lines_of_each_item(rt: HostRuntime) {
     assert!(rt; holds(rt.alloc(), Call::ExchangeAll));
 }
 
-// In how many items the last line is looked for.
+// Returns how many items a search for the last line visits.
 fn visits_in<S: store::ParagraphStore<Item> + Drop>(alloc: Global) -> usize {
     let Some(store) = of_two::<S>(alloc) else {
         return 0;

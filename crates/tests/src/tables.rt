@@ -1,5 +1,4 @@
-//! Look-ups and faults of the seven files. The tests pass too where one allocation is refused,
-//! whichever it is.
+//! Lookups and faults of the seven files. The tests also pass if any one allocation fails.
 use crate::files::{FILES, read};
 use std::alloc::{AllocError, Global};
 use std::process::Abort;
@@ -16,8 +15,8 @@ const EMPTY: UcdFiles<'_> = UcdFiles {
     emoji_data: b"",
 };
 
-// A character, its classes, what pairs with it if it is a bracket and whether it opens the pair, its
-// mirror, whether it is wide, a mark and a future pictograph, and its number for line breaking.
+// A character and its classes. Its pair, and whether it opens it, if it is a bracket. Its mirror. Whether it
+// is wide, a mark and a future pictograph. Its number for line breaking.
 type Row = (
     char,
     Bidi,
@@ -51,7 +50,7 @@ static ROWS: [Row; 16] = [
         NONE,
         128,
     ),
-    // A mirror that is of no bracket, and a bracket that has no mirror.
+    // A mirror that is no bracket's, and a bracket without a mirror.
     ('<', Bidi::ON, Line::XX, None, Some('>'), NONE, 336),
     (
         '\u{2329}',
@@ -91,9 +90,9 @@ static ROWS: [Row; 16] = [
         [false, false, true],
         337,
     ),
-    // A line of emoji-data.txt names it, but of another property.
+    // A line of emoji-data.txt names it, but for another property.
     ('\u{1F1E6}', Bidi::L, Line::RI, None, None, NONE, 312),
-    // Over many pages, and the characters beside them.
+    // A range over many pages, and the characters beside it.
     ('\u{4DFF}', Bidi::L, Line::XX, None, None, NONE, 336),
     ('\u{4E00}', Bidi::L, Line::ID, None, None, WIDE, 284),
     ('\u{9FFF}', Bidi::L, Line::ID, None, None, WIDE, 284),
@@ -103,7 +102,7 @@ static ROWS: [Row; 16] = [
     ('\u{10FFFF}', Bidi::L, Line::XX, None, None, NONE, 336),
 ];
 
-// What the tables say of a character by a look-up each, and the number of its properties.
+// Looks up everything about a character, one call each, and the number of its properties.
 fn looked_up(tables: &Tables, c: char) -> Row {
     let pair = match tables.bracket(c) {
         Some(bracket) => Some((bracket.pair, bracket.opens)),
@@ -161,7 +160,7 @@ fn classes_by_name(rt: HostRuntime) {
     assert!(rt; Line::from_name(b"NSM") == None);
 }
 
-// Files of which one has lines.
+// Files of which only one has lines.
 fn only(file: usize, lines: &[u8]) -> UcdFiles<'_> {
     let mut files = EMPTY;
     match file {
@@ -176,8 +175,7 @@ fn only(file: usize, lines: &[u8]) -> UcdFiles<'_> {
     files
 }
 
-// The characters of which 200 lines name one each, the first half of them in one page and the others in
-// the next, and their classes.
+// The first of 200 characters that are named by a line each: 100 in one page and 100 in the next.
 const FIRST: u32 = 0x3F9C;
 
 const NAMES: [(&str, Bidi); 3] = [("R", Bidi::R), ("AL", Bidi::AL), ("EN", Bidi::EN)];
@@ -220,14 +218,14 @@ fn check_order(rt: &impl Abort, alloc: Global, is_reversed: bool) -> Result<(), 
     Ok(())
 }
 
-// Lines in any order say the same.
+// The order of the lines makes no difference.
 #[test]
 fn lines_in_order_and_reversed(rt: HostRuntime) -> Result<(), Fail> {
     check_order(&rt, rt.alloc(), false)?;
     check_order(&rt, rt.alloc(), true)
 }
 
-// Whether a file says these classes.
+// Whether the tables have these classes.
 fn has_classes(
     alloc: Global,
     files: &UcdFiles<'_>,
@@ -256,7 +254,7 @@ static ENDS: [(char, Bidi); 8] = [
     ('\u{10FFFF}', Bidi::AL),
 ];
 
-// The first and the last character, and a range over the surrogates, none of which is a character.
+// The first and the last character, and a range over the surrogates, which are no characters.
 #[test]
 fn ends_of_all_characters(rt: HostRuntime) -> Result<(), Fail> {
     let lines = b"10FFFF;AL\nD7FF..E000;R\nD800..DFFF;EN\n0000;ON";
@@ -264,7 +262,7 @@ fn ends_of_all_characters(rt: HostRuntime) -> Result<(), Fail> {
     Ok(())
 }
 
-// A range that ends after the surrogates, a surrogate, and a last line with a return and no line feed.
+// A range that ends after the surrogates, a surrogate, and a last line with U+000D and without U+000A.
 const FILES_OF_CLASSES: UcdFiles<'_> = UcdFiles {
     bidi_class: b"D800..E000;R\nD800;L\n0041;AL\r",
     ..FILES
@@ -283,7 +281,7 @@ fn classes_of_a_file(rt: HostRuntime) -> Result<(), Fail> {
     Ok(())
 }
 
-// A file, its lines, the line at fault and why.
+// A file, its lines, the faulty line and the cause.
 static FAULTS: [(usize, &[u8], usize, Cause); 14] = [
     (1, b"0041;\xC3\x89", 1, Cause::NotAscii),
     (2, b"0028..0029; 0029; o", 1, Cause::CodePoint),
@@ -295,14 +293,14 @@ static FAULTS: [(usize, &[u8], usize, Cause); 14] = [
     (6, b"0041;N;x", 1, Cause::FieldCount),
     (7, b"0042..0041;Emoji", 1, Cause::Reversed),
     (7, b"41;Emoji", 1, Cause::CodePoint),
-    // Ranges over the end of a page that meet at the last character of one and the first of the other.
+    // Ranges across a page boundary that overlap in the last character of one and the first of the other.
     (1, b"00F0..0110;R\n\n0110..0120;L", 3, Cause::NamedBefore),
     (1, b"0101..0120;R\n00F0..0101;L", 2, Cause::NamedBefore),
     (4, b"10FFFF;AL\n0000..10FFFF;AL", 2, Cause::NamedBefore),
     (3, b"0028; 0029\n0028; 0029", 2, Cause::NamedBefore),
 ];
 
-// Why files are refused, if they are.
+// Returns why files are refused, if they are.
 fn fault_of(alloc: Global, files: &UcdFiles<'_>) -> Option<TableFault> {
     read(alloc, files).err()
 }
@@ -324,7 +322,7 @@ fn faults_of_lines(rt: HostRuntime) {
     check_faults(&rt, rt.alloc(), &FAULTS);
 }
 
-// The first bad line in the order of the files, and then of their lines.
+// The first faulty line of the first faulty file is reported.
 #[test]
 fn first_fault_of_all(rt: HostRuntime) {
     let files = UcdFiles {
@@ -340,13 +338,13 @@ fn first_fault_of_all(rt: HostRuntime) {
     assert!(rt; fault_of(rt.alloc(), &files) == Some(fault));
 }
 
-// Whether these lines make U+00A9 a pictograph to come.
+// Whether these lines make U+00A9 a future pictograph.
 fn names_pictograph(alloc: Global, lines: &[u8]) -> Result<bool, TableFault> {
     let tables = read(alloc, &only(7, lines))?;
     Ok(tables.is_future_pictograph('\u{A9}'))
 }
 
-// Lines of another property name nothing, so they may come again. Those of Extended_Pictographic may
+// Lines of another property name no characters, so they may be repeated. Those of Extended_Pictographic may
 // not.
 #[test]
 fn emoji_named_again(rt: HostRuntime) -> Result<(), Fail> {
@@ -362,7 +360,7 @@ fn emoji_named_again(rt: HostRuntime) -> Result<(), Fail> {
     Ok(())
 }
 
-// Whether a fault shows as this text.
+// Whether a fault is displayed as this text.
 fn shows_as(alloc: Global, fault: TableFault, want: &str) -> Result<bool, AllocError> {
     let text = match fault.to_string(alloc) {
         Err(_) => fault.to_string(alloc)?,

@@ -1,4 +1,4 @@
-//! The public calls of `tool`: one test for each, which calls it by its path, with its types, and checks one
+//! The public calls of `tool`: one test each, which calls it by its path, names its types, and checks one
 //! example.
 use device::{FromRead, ToWrite};
 use oom_calls::sessions::open;
@@ -34,7 +34,7 @@ fn prints_text(alloc: Global, engine: lines::Engine, page: &mut Printed) -> bool
     result == Ok(())
 }
 
-// Over the text "ab\ncd\nef".
+// Runs a script over the text "ab\ncd\nef".
 fn run_script(
     alloc: Global,
     session: session::Session<store::TreeStore<session::Kept>>,
@@ -67,7 +67,7 @@ const ARGUMENTS: [&str; 8] = [
     "T",
 ];
 
-// Whether a check holds of the settings of these arguments. False if they are refused.
+// Whether a check holds for the settings of these arguments. False if they are refused.
 fn of_settings<F: FnOnce(&tool::Settings<'_>) -> bool>(alloc: Global, check: F) -> bool
     requires { F.IsAlwaysCallable check }
 {
@@ -156,7 +156,7 @@ fn files_are_the_other_arguments(rt: HostRuntime) {
     );
 }
 
-// Why arguments are refused.
+// Returns why arguments are refused.
 fn fault_of(alloc: Global, arguments: &[&str]) -> Option<tool::LineFault> {
     match tool::settings(alloc, arguments) {
         Ok(_) => None,
@@ -182,7 +182,7 @@ fn script_without_a_file_is_refused(rt: HostRuntime) {
     assert!(rt; matches!(fault, Some(tool::LineFault::ScriptFiles)));
 }
 
-// Whether the program ends so.
+// Whether the program ends with this status and message after a fault.
 fn ends(alloc: Global, fault: tool::ProgramFault, status: u8, message: &str) -> bool {
     let found: u8 = fault.status();
     let shown = fault.to_string(alloc);
@@ -231,7 +231,7 @@ fn program_fault_of_a_table_names_file_line_and_cause(rt: HostRuntime) {
     );
 }
 
-// Whether the program ends so where a run does.
+// Whether the program ends with status 1 and this message after a run's fault.
 fn run_ends(alloc: Global, fault: tool::RunFault, message: &str) -> bool {
     ends(alloc, tool::ProgramFault::Run(fault), 1, message)
 }

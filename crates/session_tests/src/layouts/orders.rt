@@ -1,4 +1,4 @@
-//! Marks after their bases, in reading order, and before them without the option.
+//! Marks after their bases with the option `reordernsm`, and before them without it.
 use super::lay_out;
 use super::printed::{ALL, PLAIN, UNMIRRORED, are_printed};
 use crate::files::{FILES, engine};
@@ -26,7 +26,7 @@ const POINTS: UcdFiles<'_> = UcdFiles {
     ..FILES
 };
 
-// A text of one line, its characters in visual order, and of each logical position the visual one and back.
+// A text of one line, its characters in visual order, and both position maps.
 type Row = (
     &'static str,
     &'static [char],
@@ -34,7 +34,7 @@ type Row = (
     &'static [u32],
 );
 
-// With the option. The last two: a mark of another level, and one after a space at the line's end.
+// With the option. The last two have a mark at another level, and one after a space at the end of the line.
 static READ_ROWS: [Row; 7] = [
     (
         "\u{5D0}\u{300}\u{5D1}",
@@ -80,7 +80,7 @@ static READ_ROWS: [Row; 7] = [
     ),
 ];
 
-// The same texts without it, where they differ.
+// The same texts without it, if they differ.
 static REVERSED_ROWS: [Row; 5] = [
     (
         "\u{5D0}\u{300}\u{5D1}",
@@ -114,7 +114,7 @@ static REVERSED_ROWS: [Row; 5] = [
     ),
 ];
 
-// At an even level a mark stands after its base anyway.
+// At an even level a mark is after its base with or without the option.
 static RTL_ROWS: [Row; 1] = [("a\u{300}", &['a', '\u{300}'], &[0, 1], &[0, 1])];
 
 static POINT_ROWS: [Row; 1] = [(
@@ -161,7 +161,7 @@ fn order_each(alloc: Global, engine: &mut Engine, rows: &[Row]) -> Result<bool, 
     Ok(all_right)
 }
 
-// Whether an engine by these files and options orders each text so.
+// Whether an engine with these files and options orders each text so.
 fn all_ordered(
     alloc: Global,
     files: &UcdFiles<'_>,

@@ -1,4 +1,4 @@
-//! What is written of a paragraph line by line, by its layout, and with nothing kept: the same bytes.
+//! A paragraph is printed with the same bytes line by line, by its layout, and with nothing kept.
 use super::{engine, lay_out};
 use device::ToWrite;
 use lines::{Engine, Laid, PARAGRAPH_LIMIT, Print, PrintFault, WriteFault};
@@ -45,8 +45,8 @@ const DIRECTION: Print = Print {
     ..NOTHING
 };
 
-// A paragraph, a width, what is printed, and the bytes. Shorter ones stand after longer ones, whose lists
-// are used again.
+// A paragraph, a width, what is printed, and the bytes. Shorter paragraphs follow longer ones, whose lists
+// are reused.
 static ROWS: [(&str, u16, Print, &str); 10] = [
     ("abcdefgh ij kl", 3, PLAIN, "abc\ndef\ngh\nij\nkl\n"),
     (
@@ -105,13 +105,13 @@ fn write_paragraph(
     }
     let mut writer = ToWrite::new(taken);
     match engine.write_paragraph(alloc, text, width, print, &mut writer) {
-        // Nothing was written where memory ran out.
+        // After an allocation failure, nothing was written.
         Err(PrintFault::Memory) => engine.write_paragraph(alloc, text, width, print, &mut writer),
         result => result,
     }
 }
 
-// Whether a layout's lines are these bytes, by both ways.
+// Whether a layout's lines are these bytes, line by line and all at once.
 fn is_written(laid: &Laid, width: u16, print: &Print, bytes: &[u8]) -> bool {
     let mut by_lines = [b'?'; 64];
     let mut at_once = [b'?'; 64];
@@ -121,7 +121,7 @@ fn is_written(laid: &Laid, width: u16, print: &Print, bytes: &[u8]) -> bool {
         && holds(&at_once, bytes)
 }
 
-// Whether a paragraph is written into so much room, up to its end.
+// Whether a paragraph is written into a buffer of this size, up to its end.
 fn fills(
     alloc: Global,
     engine: &mut Engine,
@@ -144,7 +144,7 @@ fn fills(
     result == wanted && holds(&taken, &bytes[..room.min(bytes.len())])
 }
 
-// The room for all of it, with some more and with none, and for its first half.
+// The same for a buffer that is larger than the output, as large, and half as large.
 fn fills_each(
     alloc: Global,
     engine: &mut Engine,

@@ -1,4 +1,4 @@
-//! What is written of a line, all of it and up to each failure of the writer.
+//! The bytes of a line, completely written and up to each failure of the writer.
 use super::printed::{ALL, LEVELS, PLAIN, UNMIRRORED};
 use super::{engine, lay_out};
 use device::ToWrite;
@@ -6,7 +6,7 @@ use lines::{Engine, Laid, Print, VisualLine, WriteFault};
 use std::alloc::Global;
 use std::test::Fail;
 
-// Whether these bytes are written, and a writer that takes fewer fails after all that it takes.
+// Whether these bytes are written, and a writer that takes fewer fails after exactly as many as it takes.
 fn writes(line: &VisualLine<'_>, width: u16, print: &Print, bytes: &[u8]) -> bool {
     let mut all_right = bytes.len() <= 64;
     for room in 0..65usize {
@@ -53,7 +53,7 @@ fn writes_rows(alloc: Global, engine: &mut Engine) -> Result<bool, Fail> {
     Ok(writes_all(&laid, &ROWS))
 }
 
-// The line of a letter from right to left, a bracket and two digits.
+// A line of a right-to-left letter, a bracket and two digits.
 #[test]
 fn bytes_of_a_line(rt: HostRuntime) -> Result<(), Fail> {
     let mut engine = engine(rt.alloc(), false)?;

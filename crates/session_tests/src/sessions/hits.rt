@@ -1,5 +1,4 @@
-//! Which character stands at a column, where carets stand, the columns of lines, and the clusters of
-//! characters.
+//! The characters at columns, carets, the columns of lines, and grapheme clusters.
 use super::{Check, Pair, check_in_tree, renew};
 use session::{Caret, Cluster, EditFault, Hit, Kept, Session};
 use std::alloc::AllocError;
@@ -7,7 +6,7 @@ use std::process::Abort;
 use std::test::Fail;
 use store::ParagraphStore;
 
-// A text, a line of it and a column, and the position there and whether the column is past it.
+// A text, a line and a column; the position of the hit, and whether it is trailing.
 type Row<'a> = (&'a str, [usize; 2], Option<(usize, bool)>);
 
 const MIXED: &str = "abc \u{5d0}\u{5d1}\u{5d2}\n";
@@ -52,7 +51,7 @@ fn is_row<S: ParagraphStore<Kept>>(
     Ok(is_hit(session.hit(line, column), wanted))
 }
 
-// A text, its width and a position, and the line, the column and the level of the caret there.
+// A text, its width and a position; the line, the column and the level of the caret there.
 type CaretRow<'a> = (&'a str, u16, usize, Option<(usize, usize, u8)>);
 
 static CARETS: [CaretRow<'_>; 17] = [
@@ -105,7 +104,7 @@ fn check_carets<S: ParagraphStore<Kept> + Drop, T: ParagraphStore<Kept> + Drop>(
     Ok(())
 }
 
-// Whether the only line has these columns left of its first positions, and such a padding.
+// Whether the only line has these columns left of its first positions, and this padding.
 fn has_columns<S: ParagraphStore<Kept>>(
     session: &mut Session<S>,
     text: &str,
@@ -126,10 +125,10 @@ fn has_columns<S: ParagraphStore<Kept>>(
     }
 }
 
-// A text, a position, and where the cluster there begins and ends.
+// A text and a position; the start and the end of the cluster there.
 type ClusterRow<'a> = (&'a str, usize, Option<(usize, usize)>);
 
-// A woman, a joiner and a man are one cluster, and so are a letter and its mark, and a line's end of two.
+// A woman, a joiner and a man are one cluster, and so are a letter with its mark, and CR with LF.
 static CLUSTERS: [ClusterRow<'_>; 8] = [
     ("a\u{1f469}\u{200d}\u{1f468}b", 0, Some((0, 1))),
     ("a\u{1f469}\u{200d}\u{1f468}b", 1, Some((1, 4))),
@@ -141,7 +140,7 @@ static CLUSTERS: [ClusterRow<'_>; 8] = [
     ("x\r\ny", 4, None),
 ];
 
-// The cluster, for which memory is asked once more where it was refused.
+// Returns a cluster, and tries again after an allocation failure.
 fn cluster<S: ParagraphStore<Kept>>(
     session: &Session<S>,
     pos: usize,
@@ -167,7 +166,7 @@ fn is_cluster<S: ParagraphStore<Kept>>(
     }
 }
 
-// Each row, over one store and over the other.
+// Checks each example over both stores.
 pub(super) fn check_hits<S: ParagraphStore<Kept> + Drop, T: ParagraphStore<Kept> + Drop>(
     rt: &impl Abort,
     pair: &mut Pair<S, T>,

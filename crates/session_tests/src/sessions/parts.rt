@@ -9,7 +9,7 @@ use store::ParagraphStore;
 
 const TEXT: &str = "abc def\n\u{5d0}\u{5d1}\nx";
 
-// Lines as they are shown, with the direction after the first of each paragraph.
+// Visual lines, with the base direction after the first of each paragraph.
 const SHOWN: Print = Print {
     novisual: false,
     basedir: true,
@@ -20,7 +20,7 @@ const SHOWN: Print = Print {
     nomirror: false,
 };
 
-// The first line and how many, and what is printed of them where there are so many.
+// The first line and the number of lines; what is printed of them, if they exist.
 type Lines<'a> = (usize, usize, Option<&'a str>);
 
 pub(super) static LINES: [Lines<'_>; 8] = [
@@ -34,7 +34,7 @@ pub(super) static LINES: [Lines<'_>; 8] = [
     (5, 0, None),
 ];
 
-// What is printed of some lines, for which there is room, or nothing where there are not so many.
+// Returns what is printed of some lines, if they exist and the buffer is large enough.
 fn print_lines<'a, S: ParagraphStore<Kept>>(
     session: &Session<S>,
     room: &'a mut [u8],
@@ -68,7 +68,7 @@ fn are_lines<S: ParagraphStore<Kept>>(
     }
 }
 
-// A position and a count, and the part of the first paragraph, where the text has so many.
+// A position and a count; the part of the first paragraph, if the range exists.
 type Part<'a> = (usize, usize, Option<&'a [char]>);
 
 pub(super) static PARTS: [Part<'_>; 7] = [
@@ -86,8 +86,8 @@ fn is_part<S: ParagraphStore<Kept>>(session: &Session<S>, row: &Part<'_>) -> boo
     session.text(pos, count) == wanted
 }
 
-// A position, a count and what is put in place of so many characters of `ab`, `cd` and `ef` on lines of
-// their own; from which line on how many give way to how many, or why none does; and the text after it.
+// In `ab`, `cd` and `ef` on their own lines: a position, a count and the new text. Then the first line, the
+// old and the new lines of the damage, or why the edit is refused. Then the text after it.
 type Replaced<'a> = (
     usize,
     usize,
@@ -104,7 +104,7 @@ pub(super) static REPLACED: [Replaced<'_>; 5] = [
     (7, 2, "x", Err(EditFault::OutOfRange), "ab\ncd\nef"),
 ];
 
-// Replaces characters, and once more where that was refused for memory.
+// Replaces characters, and tries again after an allocation failure.
 fn replace_surely<S: ParagraphStore<Kept>>(
     session: &mut Session<S>,
     pos: usize,
@@ -131,7 +131,7 @@ fn is_replaced<S: ParagraphStore<Kept> + Drop, T: ParagraphStore<Kept> + Drop>(
     Ok((answer == wanted) & pair.is_same(after)?)
 }
 
-// Each row.
+// Checks each example.
 pub(super) fn check_replaced<S: ParagraphStore<Kept> + Drop, T: ParagraphStore<Kept> + Drop>(
     rt: &impl Abort,
     pair: &mut Pair<S, T>,
@@ -143,7 +143,7 @@ pub(super) fn check_replaced<S: ParagraphStore<Kept> + Drop, T: ParagraphStore<K
     Ok(())
 }
 
-// Each row, over one store and over the other.
+// Checks each example over both stores.
 pub(super) fn check_parts<S: ParagraphStore<Kept> + Drop, T: ParagraphStore<Kept> + Drop>(
     rt: &impl Abort,
     pair: &mut Pair<S, T>,

@@ -1,14 +1,14 @@
-//! Where lines begin, and on which of them each character stands.
+//! Where lines start, and on which line each character is.
 use super::{Check, Pair, check_in_tree, renew};
 use session::{EditFault, Kept, Place, Session};
 use std::process::Abort;
 use std::test::Fail;
 use store::ParagraphStore;
 
-// A text, its width, where its lines begin, and of each position the paragraph, the line and the offset.
+// A text, its width, where its lines start, and the paragraph, the line and the offset of each position.
 type Row<'a> = (&'a str, u16, &'a [usize], &'a [[usize; 3]]);
 
-// Whether lines begin there, and no others.
+// Whether these are the line starts, and the only ones.
 fn begin_at<S: ParagraphStore<Kept>>(session: &Session<S>, starts: &[usize]) -> bool {
     let mut all = session.line_start(starts.len()).is_none();
     for n in 0..starts.len() {
@@ -26,7 +26,7 @@ fn is_place(place: Option<Place>, [paragraph, line, offset]: [usize; 3]) -> bool
         })
 }
 
-// Whether each position stands there, and there are no others.
+// Whether these are the places of the positions, and the only ones.
 fn stand_at<S: ParagraphStore<Kept>>(session: &Session<S>, places: &[[usize; 3]]) -> bool {
     let mut all = session.place(places.len()).is_none();
     for pos in 0..places.len() {
@@ -99,7 +99,7 @@ pub(super) static ROWS: [Row<'_>; 6] = [
     ),
 ];
 
-// Each row, over one store and over the other.
+// Checks each example over both stores.
 pub(super) fn check_rows<S: ParagraphStore<Kept> + Drop, T: ParagraphStore<Kept> + Drop>(
     rt: &impl Abort,
     pair: &mut Pair<S, T>,

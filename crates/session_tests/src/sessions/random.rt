@@ -1,5 +1,5 @@
-//! Edits at random places, over both stores. Each is compared with a session whose whole text gives
-//! way to the new one at once, and some with one that is opened on it.
+//! Edits at random positions, over both stores. Each result is compared with a session whose whole text is
+//! replaced at once, and some with one that is opened on the text.
 use super::{Check, Pair, check_in_tree, check_over, make_within, same_lines, same_paragraphs};
 use session::{Damage, Edit, EditFault, Kept, Session};
 use std::alloc::{AllocError, Global};
@@ -7,7 +7,7 @@ use std::process::Abort;
 use std::test::Fail;
 use store::{ParagraphStore, VecStore};
 
-// Numbers that look random, from a fixed seed.
+// Pseudorandom numbers from a fixed seed.
 #[derive(Clone, Copy)]
 struct Numbers(u64);
 
@@ -44,7 +44,7 @@ fn random_edit<'a>(numbers: &mut Numbers, len: usize, piece: &'a str) -> Edit<'a
     }
 }
 
-// What is taken out of a text, from where on, and what is put in.
+// Returns the position, the number of deleted characters and the inserted text.
 fn parts(edit: Edit<'_>) -> (usize, usize, &str) {
     match edit {
         Edit::Insert(pos, piece) => (pos, 0, piece),
@@ -53,7 +53,7 @@ fn parts(edit: Edit<'_>) -> (usize, usize, &str) {
     }
 }
 
-// Why the edit is refused.
+// Returns why the edit is refused.
 fn refusal(text: &str, edit: Edit<'_>) -> Option<EditFault> {
     let (pos, count, _) = parts(edit);
     match edit {
@@ -63,7 +63,7 @@ fn refusal(text: &str, edit: Edit<'_>) -> Option<EditFault> {
     }
 }
 
-// The text after the edit.
+// Returns the text after the edit.
 fn text_after(alloc: Global, text: &str, edit: Edit<'_>) -> Result<String, AllocError> {
     let (pos, count, piece) = parts(edit);
     let mut new = String::new(alloc);
@@ -73,7 +73,7 @@ fn text_after(alloc: Global, text: &str, edit: Edit<'_>) -> Result<String, Alloc
     Ok(new)
 }
 
-// Adds so many characters of a text, from a place on.
+// Appends `count` characters of a text, from an index on.
 fn push_part(new: &mut String, text: &str, start: usize, count: usize) -> Result<(), AllocError> {
     for c in text.chars().skip(start).take(count) {
         new.push(c)?;
@@ -81,8 +81,8 @@ fn push_part(new: &mut String, text: &str, start: usize, count: usize) -> Result
     Ok(())
 }
 
-// What an edit names that touches the paragraphs whose closed spans meet the closed range from `pos` to
-// `end`, without what stands in their place; and how many characters these have.
+// Returns the damage of an edit that touches the paragraphs whose closed spans meet the closed range from
+// `pos` to `end`. The new counts are 0. Also returns the length of these paragraphs.
 fn touched<T: ParagraphStore<Kept>>(old: &Session<T>, pos: usize, end: usize) -> (Damage, usize) {
     let (mut first_line, mut old_lines, mut first_par, mut old_pars) = (0, 0, 0, 0);
     let (mut start, mut chars) = (0usize, 0usize);
@@ -120,7 +120,7 @@ fn touched_by<T: ParagraphStore<Kept>>(old: &Session<T>, edit: Edit<'_>) -> (Dam
     }
 }
 
-// By how much the counts may rise.
+// Returns by how much the counters may rise.
 fn bounds<T: ParagraphStore<Kept>>(old: &Session<T>, edit: Edit<'_>) -> [u64; 2] {
     let (_, count, piece) = parts(edit);
     let (_, chars) = touched_by(old, edit);
@@ -133,7 +133,7 @@ fn bounds<T: ParagraphStore<Kept>>(old: &Session<T>, edit: Edit<'_>) -> [u64; 2]
     }
 }
 
-// The damage that made one session of another.
+// Returns the damage between two sessions.
 fn damage_of<S: ParagraphStore<Kept>, T: ParagraphStore<Kept>>(
     old: &Session<T>,
     new: &Session<S>,
@@ -153,7 +153,7 @@ fn damage_of<S: ParagraphStore<Kept>, T: ParagraphStore<Kept>>(
     }
 }
 
-// Whether all that the damage doesn't name stayed.
+// Whether everything outside the damage is unchanged.
 fn stays<S: ParagraphStore<Kept>, T: ParagraphStore<Kept>>(
     old: &Session<T>,
     new: &Session<S>,
@@ -175,7 +175,7 @@ fn stays<S: ParagraphStore<Kept>, T: ParagraphStore<Kept>>(
         && same_paragraphs(old, new, after_pars, rest_pars)
 }
 
-// Whether an edit was to be answered so, beside the session of the text as it was.
+// Whether the result of an edit is right, given a session of the text before it.
 fn is_right<S: ParagraphStore<Kept>, T: ParagraphStore<Kept>>(
     edited: &Session<S>,
     old: &Session<T>,
@@ -193,7 +193,7 @@ fn is_right<S: ParagraphStore<Kept>, T: ParagraphStore<Kept>>(
     }
 }
 
-// Makes an edit in a session of this text, which becomes the text after it.
+// Executes an edit in a session of this text, and updates the text.
 fn check_edit<S: ParagraphStore<Kept> + Drop, T: ParagraphStore<Kept> + Drop>(
     rt: &impl Abort,
     alloc: Global,
@@ -218,7 +218,7 @@ fn check_edit<S: ParagraphStore<Kept> + Drop, T: ParagraphStore<Kept> + Drop>(
     Ok(pair.check_same(rt, text.as_str())?)
 }
 
-// Puts the text after the edit in its place.
+// Replaces the text by the text after the edit.
 fn advance(alloc: Global, text: &mut String, edit: Edit<'_>) -> Result<(), AllocError> {
     *text = match text_after(alloc, text.as_str(), edit) {
         Ok(new) => new,
@@ -227,7 +227,7 @@ fn advance(alloc: Global, text: &mut String, edit: Edit<'_>) -> Result<(), Alloc
     Ok(())
 }
 
-// Makes the next edit in a session of this text.
+// Executes the next edit in a session of this text.
 fn check_next<S: ParagraphStore<Kept> + Drop, T: ParagraphStore<Kept> + Drop>(
     rt: &impl Abort,
     alloc: Global,

@@ -18,7 +18,7 @@ static REFUSED: [(Edit<'_>, EditFault); 7] = [
     (Edit::SetWidth(0), EditFault::WidthOutOfRange),
 ];
 
-// Whether each edit is refused so.
+// Whether each edit is refused for this reason.
 fn refuses<S: ParagraphStore<Kept>>(
     edited: &mut Session<S>,
     rows: &[(Edit<'_>, EditFault)],
@@ -30,7 +30,7 @@ fn refuses<S: ParagraphStore<Kept>>(
     all_right
 }
 
-// A session refuses the edits, and is as before.
+// Checks that a session refuses the edits and is unchanged.
 pub(super) fn check_refused<S: ParagraphStore<Kept> + Drop, T: ParagraphStore<Kept> + Drop>(
     rt: &impl Abort,
     pair: &mut Pair<S, T>,
@@ -56,7 +56,7 @@ fn str_of(bytes: &[u8]) -> &str {
     std::str::from_utf8(bytes).unwrap_or("")
 }
 
-// Why no session is opened on a text.
+// Returns why no session is opened on a text.
 fn fault_of(alloc: Global, text: &str, width: u16) -> Result<Option<EditFault>, Fail> {
     let engine = engine(alloc, &FILES, Options::default())?;
     let opened: Result<Session<VecStore<Kept>>, (Engine, EditFault)> = Session::open(
@@ -65,7 +65,7 @@ fn fault_of(alloc: Global, text: &str, width: u16) -> Result<Option<EditFault>, 
     Ok(without_engine(opened).err())
 }
 
-// A text of so many letters, on which no session is opened.
+// A text of this number of letters, on which no session is opened.
 fn check_open(
     rt: &impl Abort,
     alloc: Global,
@@ -92,7 +92,7 @@ fn sessions_that_are_refused(rt: HostRuntime) -> Result<(), Fail> {
     check_open(&rt, alloc, 1_048_577, 80, EditFault::ParagraphTooLong)
 }
 
-// Whether a paragraph of the greatest length before a separator takes no more.
+// Whether a paragraph of maximum length before a separator accepts no more characters.
 fn is_full<S: ParagraphStore<Kept>>(
     edited: &mut Session<S>,
     long: &str,
@@ -106,7 +106,7 @@ fn is_full<S: ParagraphStore<Kept>>(
     Ok(is_refused & is_untouched & is_long & refuses(edited, &more))
 }
 
-// Whether that is so of a session of two short paragraphs, where memory didn't run out.
+// The same for a session of two short paragraphs, unless an allocation fails.
 fn becomes_full<S: ParagraphStore<Kept>>(
     alloc: Global,
     edited: &mut Session<S>,
@@ -144,7 +144,7 @@ fn edit_shows_as(alloc: Global, fault: EditFault, want: &str) -> Result<bool, Al
     Ok(fault.to_string(alloc)?.as_str() == want)
 }
 
-// Whether each fault shows as its text.
+// Whether each fault is displayed as its text.
 fn edits_show_as(alloc: Global, rows: &[(EditFault, &str)]) -> Result<bool, AllocError> {
     let mut all_right = true;
     for (fault, want) in rows {

@@ -1,4 +1,4 @@
-//! Worked rows of edits, one by one and one after another.
+//! Worked examples of edits, one by one and in sequence.
 use super::{Check, Pair, check_in_tree, make_surely, make_within, print, renew};
 use lines::Print;
 use session::{Damage, Edit, EditFault, Kept, Session};
@@ -6,10 +6,10 @@ use std::process::Abort;
 use std::test::Fail;
 use store::ParagraphStore;
 
-// A text, its width, an edit, the damage, by how much the counts may rise, and the text after it.
+// A text, its width, an edit, the damage, by how much the counters may rise, and the text after it.
 type Row<'a> = (&'a str, u16, Edit<'a>, [usize; 6], [u64; 2], &'a str);
 
-// Whether the edit is answered as it should be, and the session is of the text after it.
+// Whether the edit has the right result, and the session has the text after it.
 fn is_row<S: ParagraphStore<Kept> + Drop, T: ParagraphStore<Kept> + Drop>(
     rt: &impl Abort,
     pair: &mut Pair<S, T>,
@@ -209,10 +209,10 @@ fn edits_of_rows(rt: HostRuntime) -> Result<(), Fail> {
     check_in_tree(&rt, rt.alloc(), Check::Rows)
 }
 
-// An edit, what its answer says of lines, and what is printed then.
+// An edit, the lines of its damage, and what is printed then.
 type Step<'a> = (Edit<'a>, Result<[usize; 3], EditFault>, &'a str);
 
-// Lines as they are shown, with their levels or without.
+// Visual lines, with their levels or without.
 const LEVELS: Print = Print {
     novisual: false,
     basedir: false,
@@ -228,7 +228,7 @@ const SHOWN: Print = Print {
     ..LEVELS
 };
 
-// Whether the edit is answered as it should be, and this is printed then.
+// Whether the edit has the right result, and these bytes are printed then.
 fn is_step<S: ParagraphStore<Kept>>(
     rt: &impl Abort,
     edited: &mut Session<S>,
@@ -249,7 +249,7 @@ fn is_step<S: ParagraphStore<Kept>>(
     (lines == answer) & (print(edited, room, form) == Some(page.as_bytes()))
 }
 
-// Makes the edits in a session of a text.
+// Executes the edits in a session of a text.
 fn check_steps<S: ParagraphStore<Kept> + Drop, T: ParagraphStore<Kept> + Drop>(
     rt: &impl Abort,
     pair: &mut Pair<S, T>,
@@ -334,7 +334,7 @@ pub(super) static EDITS: [Edit<'_>; 6] = [
     Edit::Insert(3, "\ne"),
 ];
 
-// Asked for once, so that a body that refuses for no reason fails.
+// Not tried again after an allocation failure, so a mutant that fails for no reason is found.
 fn run<S: ParagraphStore<Kept>>(
     edited: &mut Session<S>,
     edits: &[Edit<'_>],

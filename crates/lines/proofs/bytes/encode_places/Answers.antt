@@ -4,7 +4,7 @@ use Rattle.ucd.specs.Within.{AreWithin}
 use Rattle.lines.proofs.WriteLemmas.{encoded-more, part-more}
 use Rattle.lines.proofs.bytes.encode_places.Goals as goal
 
--- a character, read at its place
+-- a character, read at its index
 module _ (text places : List ℕ) (k : ℕ) (within : k < length places) where
   inside : k < length (map (slice_index text) places)
   inside = rw (length-map places (slice_index text)) within

@@ -18,7 +18,7 @@ returns-in-Some-clause-line c =
     ap (map bare) is ∙ alike_drop infos known start (sym (with_alike infos (cluster_ends c.args.text.now) (length-cluster_ends c.args.text.now ∙ sym c.requires.len))) in
     c.in-Some.ensures.len (drop start known) alike
 
--- as many ends as places
+-- as many cluster ends as items
 sizes : (c : After-line_end) → length (cluster_ends c.args.text.now) ≡ length c.args.infos.now
 sizes c = length-cluster_ends c.args.text.now ∙ sym c.requires.len
 

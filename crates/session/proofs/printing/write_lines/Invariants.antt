@@ -7,7 +7,7 @@ use Rattle.lines.specs.Writing.{PassedOn}
 use Rattle.session.specs.Kept.{lines_in}
 use Rattle.session.proofs.printing.write_lines.Given as goal
 
--- the lines so far are written, and what is left of those that are wanted begins in the paragraph at hand
+-- the lines so far are written, and the rest of the range starts in the current paragraph
 abbrev pub invariant-loop-index : goal.invariant-loop-index
 invariant-loop-index g l =
     let state = g.W.Sink.state in
