@@ -1,16 +1,14 @@
 -- Where lines start, and on which line a character is.
-use Rattle.std.proofs.Common.{◌≡◌, ℕ, zero, suc, ◌+◌, ◌-◌, ◌<◌, ◌≤◌, Bool, true, false, cond, not, ◌==◌, ◌&&◌, ◌||◌, if◌then◌else◌, nat_le, nat_lt, List, [], ◌∷◌, ◌++◌, length, map, get_or, sum_by, Some, None, is_none, refl, sym, ap, ap₂, subst, ◌∙◌, inl, inr, arith}
+use Rattle.std.proofs.Common.{◌≡◌, ℕ, zero, suc, ◌+◌, ◌-◌, ◌<◌, ◌≤◌, Bool, true, false, cond, ◌==◌, ◌&&◌, ◌||◌, if◌then◌else◌, nat_le, nat_lt, List, [], ◌∷◌, ◌++◌, length, map, get_or, sum_by, Some, None, is_none, refl, sym, ap, ap₂, subst, ◌∙◌, inl, inr, arith}
 use Rattle.std.specs.List.{All, slice_get}
 use Rattle.std.proofs.Math.ListN.{get_or-eq_default}
-use Rattle.std.proofs.lemmas.Bool.{cases_eq, cases_lt, cond-true, cond-false, le-leb, le-ltb, lt-leb, lt-ltb, eq-eqb, ne_eqb}
+use Rattle.std.proofs.lemmas.Bool.{cases_lt, cond-true, cond-false, le-leb, le-ltb, lt-leb, lt-ltb, eq-eqb, ne_eqb}
 use Rattle.std.proofs.lemmas.List.{append_assoc, get_or-append-add, get_or_append_left, get_or_default, length-append, length-map}
 use Rattle.std.proofs.lemmas.List.Elements.{All-append, All-head, All-tail}
 use Rattle.std.proofs.lemmas.List.Sums.{count_by-le-length, sum_by-append, sum_by-cons}
 use Rattle.std.proofs.lemmas.Option.{get_or_from_slice_get, slice_get_past, slice_get_within}
 use Rattle.std.specs.List.Sorted.{IsNonDecreasing}
 use Rattle.lines.specs.Kept.{AreStarts}
-use Rattle.ucd.specs.Tables.{class_of}
-use Rattle.ucd.specs.Classes.{is_separator}
 use Rattle.bidi.specs.Pieces.{ParagraphsArePieces}
 use Rattle.lines.specs.Beginnings.{BeginInOrder}
 use Rattle.lines.specs.Engine.{rules_of}
@@ -296,21 +294,13 @@ module _ (kept : List Layout) (pos : ℕ) (found : Found) (f : Finds chars_of ch
 
 -- ---- the end of the text, and past it
 
-cut_from_own : (is_separator : Bool) (c : ℕ) → (is_separator && not (c == 13 && (c == 10 && is_separator))) ≡ is_separator
-cut_from_own false c = refl
-cut_from_own true c = elim (cases_eq c 13) [
-  | inl e ↦ subst (λ n. (true && not (n == 13 && (n == 10 && true))) ≡ true) (sym e) refl
-  | inr ne ↦ ap (λ b. true && not (b && (c == 10 && true))) (ne_eqb c 13 ne)
-]
-
 pub closed_by_last : (rules : Rules) (text : List ℕ) (last : ℕ) → (length text ≡ 0 → ⊥) → last ≡ get_or text (length text - 1) 0 → cut_by rules last last ≡ is_closed rules text
 closed_by_last rules text last some is =
-    cut_from_own (is_separator (class_of rules.tables last)) last
-    ∙ ap (λ c. is_separator (class_of rules.tables c)) is
-    ∙ sym (ap (λ b. b || is_separator (class_of rules.tables (get_or text (length text - 1) 0))) (ne_eqb (length text) 0 some))
+    let there = get_or text (length text - 1) 0 in
+    ap (λ c. cut_by rules c c) is ∙ sym (ap (λ b. b || cut_by rules there there) (ne_eqb (length text) 0 some))
 
 pub closed_empty : (rules : Rules) (text : List ℕ) → length text ≡ 0 → true ≡ is_closed rules text
-closed_empty rules text none = sym (ap (λ n. n == 0 || is_separator (class_of rules.tables (get_or text (n - 1) 0))) none)
+closed_empty rules text none = sym (ap (λ n. n == 0 || cut_by rules (get_or text (n - 1) 0) (get_or text (n - 1) 0)) none)
 
 pub open_some : (rules : Rules) (text : List ℕ) → is_closed rules text ≡ false → 0 < length text
 open_some rules [] h = absurd (cc h)

@@ -1,9 +1,7 @@
 -- Where the lines of a text start, and on which line a character is.
 use Rattle.std.specs.Prelude.{ℕ, ◌+◌, ◌-◌, ◌<◌, nat_le, nat_lt, ◌==◌, ◌&&◌, ◌||◌, Bool, List, [], ◌∷◌, ◌++◌, length, map, count_by, slice_index, Option, Some, None, if◌then◌else◌}
-use Rattle.ucd.specs.Tables.{class_of}
-use Rattle.ucd.specs.Classes.{is_separator}
 use Rattle.lines.specs.Beginnings.{BeginInOrder}
-use Rattle.lines.specs.Layouts.{Layout, Rules}
+use Rattle.lines.specs.Layouts.{cut_by, Layout, Rules}
 use Rattle.session.specs.Kept.{lines_in, text_of}
 use Rattle.session.specs.declared.places.Place.{Place}
 
@@ -39,9 +37,11 @@ place_in kept pos = record {
 abbrev pub next_place : List Layout → Place
 next_place kept = record { paragraph = length kept; line = length (lines_in kept); offset = 0 }
 
--- whether a new paragraph would start at the end of a text: it is empty or ends with a separator
+-- whether a new paragraph would start at the end of a text: it is empty, or its last character, twice, has a paragraph boundary between
 abbrev pub is_closed : Rules → List ℕ → Bool
-is_closed rules text = length text == 0 || is_separator (class_of rules.tables (slice_index text (length text - 1)))
+is_closed rules text =
+    let last = slice_index text (length text - 1) in
+    length text == 0 || cut_by rules last last
 
 -- The place of a position of the text. The end of the text is after its last character, or where the next paragraph
 -- would start.

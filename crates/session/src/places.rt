@@ -98,8 +98,7 @@ fn char_at<S: ParagraphStore<Kept>>(store: &S, pos: usize) -> char
     }
 }
 
-// Whether a new paragraph would start at the end of the text. There is a boundary between two equal
-// characters exactly if they are separators.
+// Whether a new paragraph would start at the end of the text.
 fn is_closed<S: ParagraphStore<Kept>>(store: &S, engine: &Engine) -> bool
     ensures { result ≡ is_closed (rules_of engine.now) (text_of (S.items store.now)) }
 {
