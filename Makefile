@@ -2,6 +2,7 @@
 #
 #   make demo       Prints the texts of examples/texts with the command, compiled but not proved. Takes two minutes.
 #                   make demo TEXT=FILE OPTIONS="--width 60 --basedir" prints your own text.
+#   make quick      Compiles the command without proving it, bin/fribidi-unproved, in about a minute.
 #   make program    Proves and builds the command, bin/fribidi.
 #   make c          Proves and builds the C library, bin/libhordguli.a and bin/libhordguli.so.0 (CC, CXX, CFLAGS, LDFLAGS).
 #   make fribidi    Proves and builds FriBidi's interface, bin/libhordguli_fribidi.so, for LD_PRELOAD.
@@ -33,7 +34,7 @@ JOBS := $(shell nproc)
 TABLES = DerivedBidiClass BidiBrackets BidiMirroring LineBreak DerivedGeneralCategory EastAsianWidth emoji-data
 OPTIONS = --width 44 --basedir
 
-.PHONY: all program ucd demo check tmux parallel test attack bench-program conformance-program conformance bench c fribidi fribidi-compare \
+.PHONY: all program quick ucd demo check tmux parallel test attack bench-program conformance-program conformance bench c fribidi fribidi-compare \
 	callers install uninstall deb dist test-packages test-reproducible test-hosts release
 
 DIST = dist
@@ -52,9 +53,12 @@ all program bench-program conformance-program:
 lib-bidi lib-breaks lib-reorder: lib-ucd
 lib-lines: lib-device lib-bidi lib-breaks lib-reorder
 lib-session: lib-lines lib-store
+lib-stream: lib-device
 lib-command_line lib-text_run: lib-lines
+lib-text_run: lib-stream
 lib-tool: lib-session lib-command_line lib-text_run
 lib-oom_calls lib-hordguli_c: lib-session
+lib-hordguli_c: lib-stream
 lib-oom_calls: lib-test_tables
 lib-hordguli_fribidi: lib-bidi lib-reorder
 run-dump_properties: lib-ucd lib-tables
@@ -83,6 +87,9 @@ ucd:
 
 # Runs the command in a new folder with copies of these files, once for each text of examples/texts, with the arguments in its .args.
 try = cd crates/fribidi && rt try $(foreach table,$(TABLES),--data ucd/$(table).txt=$(CURDIR)/ucd/$(table).txt)
+
+quick: ucd
+	tools/build_unproved
 
 demo: ucd
 	@echo "Compiled, not proved: make program proves and builds bin/fribidi, make test proves and tests everything."
