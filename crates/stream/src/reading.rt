@@ -19,7 +19,11 @@ pub fn zeroed(alloc: Global, len: usize) -> Result<Vec<u8>, AllocError>
 }
 
 /// Reads bytes into a buffer from an index on, and returns their number.
-pub fn read_to<R: Source>(reader: &mut R, buffer: &mut [u8], place: usize) -> Result<usize, ErrorKind>
+pub fn read_to<R: Source>(
+    reader: &mut R,
+    buffer: &mut [u8],
+    place: usize,
+) -> Result<usize, ErrorKind>
     requires { place < length buffer.old }
     ensures ok { IfOk result (λ n.
         IsReadTo place n buffer.old buffer.new (R.state reader.old) (R.state reader.new)) }

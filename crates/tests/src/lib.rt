@@ -1,4 +1,4 @@
-//! Tests of tables, levels, marks and stores, through public calls: a module for each library.
+//! Tests of tables, levels, marks, stores and streams, through public calls: a module for each library.
 #![tactic(auto)]
 
 #[cfg(test)]
@@ -11,6 +11,8 @@ mod marks;
 mod snippets;
 #[cfg(test)]
 mod stores;
+#[cfg(test)]
+mod streams;
 #[cfg(test)]
 mod surface;
 #[cfg(test)]

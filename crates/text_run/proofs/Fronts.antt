@@ -81,4 +81,3 @@ module _ (is_cut : ℕ → ℕ → Bool) where
       filled_more : (text rest more : List ℕ) → (0 < length text → 0 < length rest) → 0 < length (text ++ more) → 0 < length (rest ++ more)
       filled_more [] rest more filled some = omega (arith, length-append rest more, some)
       filled_more (a ∷ text) rest more filled some = omega (arith, length-append rest more, filled (omega arith))
-

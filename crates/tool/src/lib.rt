@@ -12,9 +12,9 @@
 #![tactic(auto)]
 
 mod answers;
+mod commands;
 mod program;
 mod queries;
-mod commands;
 mod script;
 mod start;
 

@@ -23,8 +23,8 @@ ghost use Rattle.tool.specs.Scripts.{Ask, Delete, LacksPiece, SetWidth, Insert, 
 ghost use Rattle.tool.specs.Work.{LineWorks, CommandWorks};
 
 use crate::answers::{answer_of, write_bytes};
-use crate::queries::{Query, write_query};
 use crate::commands::{Command, read_command};
+use crate::queries::{Query, write_query};
 use device::{Sink, Source};
 use lines::Print;
 use session::{Damage, EditFault, Kept, Session};
