@@ -97,7 +97,7 @@ struct Summary {
 }
 
 // Replaces the contents of a list by the classes in some properties, and summarizes them.
-fn take_classes(
+fn fill_classes(
     properties: &[Properties],
     classes: &mut Vec<BidiClass>,
 ) -> Result<Summary, AllocError>
@@ -134,7 +134,7 @@ fn put_classes(properties: &[Properties], classes: &mut [BidiClass]) -> Summary
 }
 
 // Replaces the contents of a list by the bracket types of a text.
-fn take_brackets(
+fn fill_brackets(
     tables: &Tables,
     text: &[char],
     properties: &[Properties],
@@ -212,7 +212,7 @@ impl Known {
 }
 
 // The bracket types of a text, if it has any brackets.
-fn take_any_brackets(
+fn fill_any_brackets(
     tables: &Tables,
     text: &[char],
     properties: &[Properties],
@@ -226,7 +226,7 @@ fn take_any_brackets(
     if !has_any {
         return Ok(());
     }
-    take_brackets(tables, text, properties, brackets)
+    fill_brackets(tables, text, properties, brackets)
 }
 
 // Replaces the contents of a list by `len` zeros.
@@ -317,9 +317,9 @@ impl Resolver {
         ensures { OnOk result (levels.new.items
             ≡ paragraph_levels (bracket_of tables.now) text.now (map class_in properties.now) base) }
     {
-        let summary = take_classes(properties, &mut self.classes)?;
+        let summary = fill_classes(properties, &mut self.classes)?;
         let has_any = summary.has_brackets;
-        take_any_brackets(tables, text, properties, has_any, &mut self.brackets)?;
+        fill_any_brackets(tables, text, properties, has_any, &mut self.brackets)?;
         let paragraph = Classified {
             brackets: Brackets {
                 types: &self.brackets,

@@ -117,7 +117,7 @@ fn part<'a>(brackets: &Brackets<'a>, start: usize, end: usize) -> Brackets<'a>
 }
 
 // The types at the indices of a sequence.
-fn take_types(
+fn fill_types(
     all: &[BidiClass],
     places: &[usize],
     types: &mut Vec<BidiClass>,
@@ -134,7 +134,7 @@ fn take_types(
 }
 
 // The bracket types at the indices of a sequence.
-fn take_brackets(
+fn fill_brackets(
     all: &[BracketType],
     places: &[usize],
     brackets: &mut Vec<BracketType>,
@@ -151,7 +151,7 @@ fn take_brackets(
 }
 
 // The same for a paragraph that may have no brackets.
-fn take_any_brackets(
+fn fill_any_brackets(
     all: &Brackets<'_>,
     places: &[usize],
     brackets: &mut Vec<BracketType>,
@@ -163,7 +163,7 @@ fn take_any_brackets(
     if !all.has_any {
         return Ok(());
     }
-    take_brackets(all.types, places, brackets)
+    fill_brackets(all.types, places, brackets)
 }
 
 // Writes the level of each character of a sequence to its index.
@@ -215,8 +215,8 @@ impl Sequence {
             start,
             &mut self.places,
         )?;
-        take_any_brackets(&paragraph.brackets, &self.places, &mut self.brackets)?;
-        take_types(&stayed.types, &self.places, &mut self.explicit)?;
+        fill_any_brackets(&paragraph.brackets, &self.places, &mut self.brackets)?;
+        fill_types(&stayed.types, &self.places, &mut self.explicit)?;
         copy_types(&self.explicit, &mut self.types)
     }
 
