@@ -17,7 +17,7 @@ base_of bits =
 abbrev pub direction_of : ℕ → Option Base
 direction_of bits = if nat_lt bits 4 then Some (base_of bits) else None
 
--- whether to break no line inside a number, if no other bit is set
+-- whether breaks inside numbers are disabled, if no other bit is set
 abbrev pub tailoring_of : ℕ → Option Bool
 tailoring_of bits = if bits == 0 then Some false else if bits == 16 then Some true else None
 

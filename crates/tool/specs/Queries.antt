@@ -26,7 +26,7 @@ use Rattle.tool.specs.declared.queries.Query.TheVariants as ask
 abbrev pub told : List ℕ → List ℕ
 told numbers = codes "=" ++ flat_map (λ n. codes " " ++ decimal n) numbers ++ codes "\n"
 
--- or, that the query is out of range
+-- or the reply to a query that is out of range
 abbrev pub out_of_range : List ℕ
 out_of_range = codes "! range\n"
 
