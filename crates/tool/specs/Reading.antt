@@ -1,4 +1,4 @@
--- The state of a script's run between two lines. No contract of a public function uses these definitions.
+-- The state of a script's run between two lines. No contract of an exported function uses these definitions.
 use Rattle.std.specs.Prelude.{◌≡◌, ◌⊎◌, ℕ, ◌+◌, ◌<◌, ◌≤◌, false, true, All, Bool, List, [], ◌∷◌, ◌++◌, length, None, Some, Result, Ok, Err, string_bytes}
 use Rattle.std.specs.List.{list_all, slice_split}
 use Rattle.std.specs.Io.KnownBytes.{Consumes}

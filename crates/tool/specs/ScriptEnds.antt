@@ -34,7 +34,7 @@ WantsMore done old new stop = ⊤
 
 -- A run ended after the first k lines. No more lines than these were executed, except the one whose reply was
 -- being written. At most `line_read_ahead` bytes after them were read. The session worked no more than these
--- lines require, and the next one, at which the run ended.
+-- lines and the next one, at which the run ended, require.
 pub record EndsAfter (rules : Rules) (options : ScriptOptions) (old new : SessionState) (lines : List (List ℕ))
     (wrong : Option RunFault) (k : ℕ) (reader_old reader_new writer_old writer_new : Device)
     (stop : Option RunFault) : Type 0 where

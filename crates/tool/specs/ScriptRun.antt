@@ -64,7 +64,7 @@ executed_text rules print held (SetWidth width) = damage_text 0 (length (lines_i
 executed_text rules print held Show = page rules held.width print (paragraphs (cut_by rules) held.text)
 executed_text rules print held (Ask query) = query_text rules print held.width (layouts_at rules held) query
 
--- The reply to one that is. A command is not refused when an allocation fails.
+-- The reply to one that is. A failed allocation does not refuse a command.
 abbrev pub refusal_text : EditFault → List ℕ
 refusal_text refused.OutOfRange = codes "! range\n"
 refusal_text refused.WidthOutOfRange = codes "! width\n"

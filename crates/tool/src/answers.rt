@@ -108,7 +108,7 @@ fn push(answer: &mut Answer, bytes: &[u8])
     }
 }
 
-// An edit is not refused when an allocation fails, so that has no text.
+// A failed allocation does not refuse an edit, and has no text.
 fn reason_text(reason: EditFault) -> &'static str
     ensures value { result.now ≡ refusal_text reason }
     ensures short { length result.now ≤ 65 }

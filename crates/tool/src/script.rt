@@ -509,7 +509,7 @@ pub fn run_script<R: Source, W: Sink, S: ParagraphStore<Kept> + Drop>(
 /// ended, require.
 ///
 /// Fails with `Memory` only before anything is read, or while a line is read or executed. That line then
-/// changes nothing and has no reply.
+/// changes nothing, and no byte of its reply is written.
 pub fn run_script_in<R: Source, W: Sink, S: ParagraphStore<Kept>>(
     alloc: Global,
     reader: &mut R,
