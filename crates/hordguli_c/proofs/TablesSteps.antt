@@ -1,4 +1,4 @@
--- The machine value of a `TablesHandle`, and a handle taken apart and put together. Assumes `Logic`.
+-- The machine value of a `TablesHandle`, and how a handle is taken apart and put together. Assumes `Logic`.
 use Rattle.std.proofs.Common.{◌≡◌, ℕ, List, [], ◌∷◌, refl, ap, ◌∙◌}
 use lib.Dec.{T}
 use seplogic.Ra.Ura.{Ura}

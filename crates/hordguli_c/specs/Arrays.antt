@@ -1,11 +1,11 @@
--- Arrays of C's that lists are put into.
+-- Arrays of C callers, to which lists are copied.
 use Rattle.std.specs.Prelude.{ℕ, ◌||◌, nat_le, not, Bool, List, ◌++◌, length, drop, if◌then◌else◌}
 
 -- a list at the front of an array, whose other elements stay
 abbrev pub put : List ℕ → List ℕ → List ℕ
 put list array = list ++ drop (length list) array
 
--- the same of an array that may not be wanted, and whether it has room for so many where it is
+-- The same for an array that may not be wanted. If it is wanted, whether a number of elements fits in it.
 abbrev pub put_if : Bool → List ℕ → List ℕ → List ℕ
 put_if wanted list array = if wanted then put list array else array
 

@@ -1,6 +1,7 @@
--- What calls say of a handle, by what it held before and holds after, and of a place that they write to.
+-- How a call changes a handle and an output parameter.
 --
--- The statuses of a call are a chain: each definition checks one condition and returns its status, or passes on to the next.
+-- The statuses of a call are a chain. Each definition checks one condition, and returns its status or passes
+-- on to the next.
 use Rattle.std.specs.Prelude.{◌≡◌, ℕ, ◌⊎◌, List, Option, Some, None, IsUtf8, chars}
 use Rattle.hordguli_c.specs.declared.status.Status.{Status}
 use Rattle.hordguli_c.specs.declared.status.Status.TheVariants as is
@@ -9,31 +10,32 @@ use Rattle.hordguli_c.specs.declared.status.Status.TheVariants as is
 abbrev pub Given : Type 0 → Status → Status → Type 0 → Type 0 → Type 0
 Given holds refused status unchanged rest = ((¬ holds) × (status ≡ refused) × unchanged) ⊎ (holds × rest)
 
--- the end of the chain of a call that allocates on a condition: it does its work, or there is no memory and nothing is changed
+-- the end of the chain of a call that allocates on a condition: it succeeds, or allocation fails and nothing
+-- changes
 abbrev pub OrNoMemory : Type 0 → Status → Type 0 → Type 0 → Type 0
 OrNoMemory allocates status unchanged done = done ⊎ ((status ≡ is.NoMemory) × allocates × unchanged)
 
--- what a call answers by what a handle holds, which writes to one place; by a closed one nothing is written
+-- a query on what a handle holds, with one output parameter; on a closed handle nothing is written
 abbrev pub Asks : {A O : Type 0} → (Status → A → O → O → Type 0) → Status → Option A → O → O → Type 0
 Asks says status None old new = (status ≡ is.Closed) × (new ≡ old)
 Asks says status (Some held) old new = says status held old new
 
--- and where it is by options too, which may have a bit that isn't known
+-- the same with options, which may have an unknown bit
 abbrev pub AsksBy : {P A O : Type 0} → (P → Status → A → O → O → Type 0) → Option P → Status → Option A → O → O → Type 0
 AsksBy says None status held old new = (status ≡ is.UnknownOption) × (new ≡ old)
 AsksBy says (Some options) status held old new = Asks (says options) status held old new
 
--- a call that may change what a handle holds: it stays open, or closed
+-- a call that may change what a handle holds: an open handle stays open, and a closed one closed
 abbrev pub Changes : {A O : Type 0} → (Status → A → A → O → O → Type 0) → Status → Option A → Option A → O → O → Type 0
 Changes does status None after old new = (status ≡ is.Closed) × (after ≡ None) × (new ≡ old)
 Changes does status (Some before) None old new = ⊥
 Changes does status (Some before) (Some after) old new = does status before after old new
 
--- what is asked for goes out, where there is such a thing
+-- the result is stored, if there is one
 abbrev pub Gives : {O : Type 0} → Option O → Status → O → O → Type 0
 Gives None status old new = (status ≡ is.OutOfRange) × (new ≡ old)
 Gives (Some x) status old new = (status ≡ is.Ok) × (new ≡ x)
 
--- a text comes as bytes, and where these are no UTF-8 nothing is changed
+-- a text passed as bytes; if they are not UTF-8, nothing changes
 abbrev pub OfText : List ℕ → Status → Type 0 → (List ℕ → Type 0) → Type 0
 OfText bytes status unchanged does = Given (IsUtf8 bytes) is.NotUtf8 status unchanged (does (chars bytes))

@@ -1,4 +1,4 @@
--- What the calls that edit a session say.
+-- The results of the functions that edit a session.
 use Rattle.std.specs.Prelude.{◌≡◌, ℕ, ◌+◌, ◌<◌, ◌⊎◌, length}
 use Rattle.session.specs.Edits.{Replacement}
 use Rattle.session.specs.Sessions.{SessionState, Edits, EditsNot, SetsWidth, SetsWidthNot, text_at}
@@ -27,7 +27,8 @@ damage_out damage = record {
   new_paragraphs = damage.new_pars;
 }
 
--- An edit is made, and its damage goes out; or it is refused, and nothing does. Only some texts can want memory.
+-- An edit is made, and its damage is stored. Or it is refused, and nothing is stored. Allocation fails only
+-- for some texts.
 abbrev pub Tries : (SessionState → SessionState → Damage → Type 0) → (SessionState → SessionState → EditFault → Type 0) → Type 0
     → Status → SessionState → SessionState → DamageOut → DamageOut → Type 0
 Tries makes refuses may_want status before after old new =

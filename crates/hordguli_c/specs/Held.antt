@@ -1,4 +1,4 @@
--- The values of what a handle gave out, where it gave something.
+-- The values of what a handle returned, if it returned something.
 use Rattle.std.specs.Prelude.{Option, Some, None}
 use Rattle.std.specs.Global.{Global, Box}
 use Rattle.hordguli_c.specs.declared.raw_box.RawBox.{RawBox}

@@ -1,4 +1,4 @@
--- What opening a session says.
+-- The results of opening a session.
 use Rattle.std.specs.Prelude.{◌≡◌, ℕ, ◌⊎◌, List, Option, Some, None}
 use Rattle.ucd.specs.declared.tables.Tables.{Tables}
 use Rattle.lines.specs.Engine.{analysed_of, filled_of, rules_of, written_of}
@@ -12,20 +12,20 @@ use Rattle.hordguli_c.specs.Edits.{edit_status}
 use Rattle.hordguli_c.specs.declared.status.Status.{Status}
 use Rattle.hordguli_c.specs.declared.status.Status.TheVariants as is
 
--- an engine that has not worked yet
+-- an engine that has done no work yet
 pub record IsFresh (tables : Tables) (options : Options) (engine : Engine) : Type 0 where
   pub rules : rules_of engine ≡ record { tables = tables; options = options }
   pub analysed : analysed_of engine ≡ 0
   pub filled : filled_of engine ≡ 0
   pub written : written_of engine ≡ 0
 
--- by a fresh engine a session opens on a text at a width
+-- with a fresh engine, a session is opened on a text at a width
 pub record IsOpened (tables : Tables) (options : Options) (text : List ℕ) (width : ℕ) (state : SessionState) : Type 0 where
   pub engine : Engine
   pub fresh : IsFresh tables options engine
   pub opens : Opens engine text width state
 
--- or it is refused for the first reason that there is, and for no memory only if there is none
+-- or it is refused for the first reason that applies, and for failed allocation only if none applies
 pub record IsRefused (tables : Tables) (options : Options) (text : List ℕ) (width : ℕ) (status : Status) : Type 0 where
   pub fault : EditFault
   pub reason : IsAnswerFor (opening_refusal (cut_by (record { tables = tables; options = options })) text width) fault

@@ -8,16 +8,16 @@ use Rattle.lines.specs.declared.print.Print.{Print}
 abbrev pub has_bit : ℕ → ℕ → Bool
 has_bit bits value = bits / value % 2 == 1
 
--- the two lowest bits name a direction
+-- the two lowest bits are the base direction
 abbrev pub base_of : ℕ → Base
 base_of bits =
     if bits % 4 == 0 then WeakLtr else if bits % 4 == 1 then WeakRtl else if bits % 4 == 2 then Ltr else Rtl
 
--- bits that name a direction and nothing else
+-- the base direction, if no other bit is set
 abbrev pub direction_of : ℕ → Option Base
 direction_of bits = if nat_lt bits 4 then Some (base_of bits) else None
 
--- bits that name at most that numbers stay whole
+-- whether breaks inside numbers are disabled, if no other bit is set
 abbrev pub tailoring_of : ℕ → Option Bool
 tailoring_of bits = if bits == 0 then Some false else if bits == 16 then Some true else None
 

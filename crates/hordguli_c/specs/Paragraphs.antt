@@ -1,4 +1,4 @@
--- What the calls on one paragraph of characters answer, by tables alone.
+-- The results of the functions on one paragraph of characters, without a session.
 use Rattle.std.specs.Prelude.{◌≡◌, ℕ, ◌<◌, ◌≤◌, ◌⊎◌, Bool, List, length, map, All}
 use Rattle.std.specs.Char.{IsScalar}
 use Rattle.ucd.specs.Tables.{class_of}
@@ -19,25 +19,25 @@ mark_number Never = 0
 mark_number May = 1
 mark_number Must = 2
 
--- why numbers are not taken as characters
+-- why numbers are not accepted as characters
 abbrev pub CharactersNot : List ℕ → Status → Type 0
 CharactersNot numbers status =
     ((¬ All IsScalar numbers) × (status ≡ is.NotACharacter))
     ⊎ (All IsScalar numbers × (status ≡ is.NoMemory) × (0 < length numbers))
 
--- a call on characters does its work if all are characters, and allocates if there are some
+-- a call on characters succeeds only if all numbers are characters, and allocates if there are any
 abbrev pub OfCharacters : List ℕ → Status → Type 0 → Type 0 → Type 0
 OfCharacters characters status unchanged done =
     Given (All IsScalar characters) is.NotACharacter status unchanged
     (OrNoMemory (0 < length characters) status unchanged done)
 
--- the array gets a number for each of the characters, if it has room
+-- the array gets a number for each of the characters, if they fit
 abbrev pub PutsEach : (List ℕ → List ℕ) → List ℕ → Status → List ℕ → List ℕ → Type 0
 PutsEach numbers characters status old new =
     Given (length characters ≤ length old) is.NoRoom status (new ≡ old)
     (OfCharacters characters status (new ≡ old) ((status ≡ is.Ok) × (new ≡ put (numbers characters) old)))
 
--- the levels before L1 (UAX #9, X1 to I2), which a search for a proof leaves closed
+-- the levels before L1 (UAX #9, X1 to I2), which proof search does not unfold
 unfoldable pub levels_by : Tables → Base → List ℕ → List ℕ
 levels_by tables base text = levels_of tables text base
 

@@ -1,4 +1,4 @@
--- What goes out to a question about a place of a text.
+-- The results of queries about positions in a text.
 use Rattle.std.specs.Prelude.{◌≡◌, ℕ, ◌<◌, Bool, length, option_map, if◌then◌else◌}
 use Rattle.session.specs.Clusters.{cluster_at}
 use Rattle.session.specs.Sessions.{SessionState, text_at}
@@ -29,7 +29,7 @@ hit_out hit = record { pos = hit.pos; trailing = flag hit.trailing; zero = 0 }
 abbrev pub cluster_out : Cluster → ClusterOut
 cluster_out cluster = record { start = cluster.start; end = cluster.end }
 
--- the cluster of a character is given
+-- the cluster of a character is stored
 abbrev pub GivesCluster : ℕ → Status → SessionState → ClusterOut → ClusterOut → Type 0
 GivesCluster pos status state old new =
     OrNoMemory (pos < length (text_at state)) status (new ≡ old)

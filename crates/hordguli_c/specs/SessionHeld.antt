@@ -1,4 +1,5 @@
--- What a handle of a session owns: nothing at null, and else the block at which a session of this value lies.
+-- What a handle of a session owns: nothing if it is null, and otherwise the block that holds a session of
+-- this value.
 use Rattle.std.specs.Prelude.{◌≡◌, Option, Some, None}
 use base.Fml.{Fml, ftrue, fex}
 use denote.RattleType.{RattleType}
@@ -20,7 +21,7 @@ Value = SessionState
 abbrev pub object_row : RattleType
 object_row = session.the_row (store.the_row kept.the_row measured.ghosts) (store_impl.ghosts kept.the_row measured.ghosts store_impl.no_dict)
 
--- what lies at a handle's pointer
+-- what is at a handle's pointer
 abbrev pub object_at : Ptr → Option Value → Fml
 object_at p None = fex (p ≡ null_ptr) (λ _. ftrue)
 object_at p (Some x) = box_owns (ghosts.dealloc_token the_global) object_row p x

@@ -1,4 +1,4 @@
--- The statuses by their numbers, as include/hordguli.h has them.
+-- The numbers of the statuses, as in include/hordguli.h.
 use Rattle.std.specs.Prelude.{ℕ, ◌≤◌, List, [], ◌∷◌, slice_index_or}
 use Rattle.hordguli_c.specs.declared.status.Status.{Status}
 use Rattle.hordguli_c.specs.declared.status.Status.TheVariants as is
@@ -12,7 +12,7 @@ statuses =
 unfoldable pub status_of : ℕ → Status
 status_of number = slice_index_or statuses number is.NoRoom
 
--- a call of C's returns the number of a status
+-- a function called from C returns the number of a status
 pub record Returns (says : Status → Type 0) (number : ℕ) : Type 0 where
   pub status : says (status_of number)
   pub within : number ≤ 12

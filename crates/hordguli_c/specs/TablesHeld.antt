@@ -1,4 +1,5 @@
--- What a handle of tables owns: nothing at null, and else the block at which tables of this value lie.
+-- What a handle of tables owns: nothing if it is null, and otherwise the block that holds tables of this
+-- value.
 use Rattle.std.specs.Prelude.{◌≡◌, Option, Some, None}
 use base.Fml.{Fml, ftrue, fex}
 use denote.RattleType.{RattleType}
@@ -16,7 +17,7 @@ Value = Tables
 abbrev pub object_row : RattleType
 object_row = tables.the_row
 
--- what lies at a handle's pointer
+-- what is at a handle's pointer
 abbrev pub object_at : Ptr → Option Value → Fml
 object_at p None = fex (p ≡ null_ptr) (λ _. ftrue)
 object_at p (Some x) = box_owns (ghosts.dealloc_token the_global) object_row p x

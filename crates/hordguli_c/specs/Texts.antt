@@ -1,4 +1,4 @@
--- What goes out as bytes.
+-- What is stored as bytes.
 use Rattle.std.specs.Prelude.{◌≡◌, ℕ, ◌+◌, ◌<◌, ◌≤◌, ◌⊎◌, List, Some, length}
 use Rattle.device.specs.Device.{Device}
 use Rattle.lines.specs.declared.print.Print.{Print}
@@ -13,19 +13,21 @@ use Rattle.hordguli_c.specs.Calls.{Given, OrNoMemory}
 use Rattle.hordguli_c.specs.declared.status.Status.{Status}
 use Rattle.hordguli_c.specs.declared.status.Status.TheVariants as is
 
--- bytes into an array that has room for them, or else none; how many they are goes out in both cases
+-- bytes are copied to an array if they fit, and otherwise none is; their number is stored in both cases
 abbrev pub PutsBytes : List ℕ → Status → List ℕ × ℕ → List ℕ × ℕ → Type 0
 PutsBytes bytes status old new =
     ((status ≡ is.Ok) × (length bytes ≤ length old.0) × (new ≡ (put bytes old.0, length bytes)))
     ⊎ ((status ≡ is.NoRoom) × (length old.0 < length bytes) × (new ≡ (old.0, length bytes)))
 
--- the bytes of a range of so many things; they are gathered before they are put, and so memory may run out before their number is known
+-- The bytes of a range of a number of items. They are gathered before they are copied, so an allocation may
+-- fail before their number is known.
 abbrev pub PutsRange : ℕ → ℕ → ℕ → List ℕ → Status → List ℕ × ℕ → List ℕ × ℕ → Type 0
 PutsRange size first count bytes status old new =
     Given (first + count ≤ size) is.OutOfRange status (new ≡ old)
     (OrNoMemory (0 < length bytes) status (new ≡ old) (PutsBytes bytes status old new))
 
--- why a range is not gathered: it reaches past the end, or memory ran out before all of its bytes
+-- why a range is not gathered: it reaches past the end, or an allocation failed before all bytes were
+-- gathered
 abbrev pub RangeNot : ℕ → ℕ → ℕ → List ℕ → RangeFault → Type 0
 RangeNot size first count bytes OutOfRange = size < first + count
 RangeNot size first count bytes (Write fault) = (first + count ≤ size) × (0 < length bytes)

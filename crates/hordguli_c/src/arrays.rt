@@ -1,4 +1,4 @@
-//! Arrays of C's.
+//! Reads and writes arrays of C callers.
 ghost use Rattle.std.specs.Prelude.{◌≡◌, ◌<◌, ◌≤◌, All, length, map, true};
 ghost use Rattle.std.specs.Prelude.{IfErr, IfOk, IsFalse, IsTrue, OnErr};
 ghost use Rattle.std.specs.Char.{IsScalar};
@@ -24,7 +24,7 @@ fn are_characters(numbers: &[u32]) -> bool
     true
 }
 
-// Numbers as characters.
+// Converts numbers to characters.
 fn collect_characters(alloc: Global, numbers: &[u32]) -> Result<Vec<char>, AllocError>
     requires { All IsScalar numbers.now }
     ensures text { IfOk result (λ text. text.items ≡ numbers.now) }
@@ -40,8 +40,8 @@ fn collect_characters(alloc: Global, numbers: &[u32]) -> Result<Vec<char>, Alloc
     Ok(text)
 }
 
-/// Numbers as characters. Fails with NOT_A_CHARACTER if one is not a Unicode scalar value, and only then
-/// with NO_MEMORY.
+/// Converts numbers to characters. Fails with `NotACharacter` if one is not a Unicode scalar value, and
+/// otherwise with `NoMemory` if an allocation fails.
 pub fn characters_of(alloc: Global, numbers: &[u32]) -> Result<Vec<char>, Status>
     ensures ok { IfOk result (λ text. All IsScalar numbers.now × (text.items ≡ numbers.now)) }
     ensures err { IfErr result (CharactersNot numbers.now) }
@@ -55,7 +55,7 @@ pub fn characters_of(alloc: Global, numbers: &[u32]) -> Result<Vec<char>, Status
     }
 }
 
-/// Puts a list at the front of an array.
+/// Copies a list to the front of an array.
 pub fn put_levels(list: &[u8], array: &mut [u8])
     requires { length list.now ≤ length array.old }
     ensures { array.new ≡ put list.now array.old }
@@ -83,7 +83,7 @@ fn put_each_mark(marks: &[Mark], array: &mut [u8])
     }
 }
 
-/// Puts the numbers of marks at the front of an array.
+/// Copies the numbers of marks to the front of an array.
 pub fn put_marks(marks: &[Mark], array: &mut [u8])
     requires { length marks.now ≤ length array.old }
     ensures { array.new ≡ put (map mark_number marks.now) array.old }
@@ -91,14 +91,14 @@ pub fn put_marks(marks: &[Mark], array: &mut [u8])
     put_each_mark(marks, &mut array[..marks.len()]);
 }
 
-/// Whether an array has room for so many elements, where it is wanted.
+/// Whether `len` elements fit in a capacity of `room`. Always true if the array is not `wanted`.
 pub fn has_room(wanted: bool, len: usize, room: usize) -> bool
     ensures { result ≡ has_room wanted len room }
 {
     !wanted || len <= room
 }
 
-/// Puts levels at the front of an array, where it is wanted.
+/// Copies levels to the front of an array, if it is `wanted`.
 pub fn put_levels_if(wanted: bool, list: &[u8], array: &mut [u8])
     requires { has_room wanted (length list.now) (length array.old) ≡ true }
     ensures { array.new ≡ put_if wanted list.now array.old }
@@ -108,7 +108,7 @@ pub fn put_levels_if(wanted: bool, list: &[u8], array: &mut [u8])
     }
 }
 
-/// Puts the numbers of marks at the front of an array, where it is wanted.
+/// Copies the numbers of marks to the front of an array, if it is `wanted`.
 pub fn put_marks_if(wanted: bool, marks: &[Mark], array: &mut [u8])
     requires { has_room wanted (length marks.now) (length array.old) ≡ true }
     ensures { array.new ≡ put_if wanted (map mark_number marks.now) array.old }
@@ -125,7 +125,7 @@ fn put_places(list: &[u32], array: &mut [u32])
     array[..list.len()].copy_from_slice(list);
 }
 
-/// Puts places of a line at the front of an array, where it is wanted.
+/// Copies positions in a line to the front of an array, if it is `wanted`.
 pub fn put_places_if(wanted: bool, list: &[u32], array: &mut [u32])
     requires { has_room wanted (length list.now) (length array.old) ≡ true }
     ensures { array.new ≡ put_if wanted list.now array.old }
@@ -151,7 +151,7 @@ fn put_characters(list: &[char], array: &mut [u32])
     put_each_character(list, &mut array[..list.len()]);
 }
 
-/// Puts characters at the front of an array, where it is wanted.
+/// Copies characters to the front of an array, if it is `wanted`.
 pub fn put_characters_if(wanted: bool, list: &[char], array: &mut [u32])
     requires { has_room wanted (length list.now) (length array.old) ≡ true }
     ensures { array.new ≡ put_if wanted list.now array.old }
@@ -177,7 +177,8 @@ fn put_columns(line: &VisualLine<'_>, array: &mut [usize])
     put_each_columns(line, &mut array[..line.vtol().len()]);
 }
 
-/// Puts the columns that each visual place of a line takes at the front of an array, where it is wanted.
+/// Stores the number of columns at each visual position of a line at the front of an array, if it is
+/// `wanted`.
 pub fn put_columns_if(wanted: bool, line: &VisualLine<'_>, array: &mut [usize])
     requires { has_room wanted (length line.now.vtol) (length array.old) ≡ true }
     ensures { array.new ≡ put_if wanted (columns_in line.now) array.old }

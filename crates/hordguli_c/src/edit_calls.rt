@@ -1,4 +1,4 @@
-//! The calls that edit a session.
+//! Functions that edit a session.
 ghost use Rattle.std.specs.Prelude.{◌≡◌, chars};
 ghost use Rattle.session.specs.Edits.{deletion, insertion, replacing};
 ghost use Rattle.hordguli_c.specs.Calls.{Changes, OfText};
@@ -12,7 +12,7 @@ use session::{Damage, EditFault};
 use std::alloc::Global;
 use std::str::from_utf8;
 
-/// What an edit has replaced, as `hordguli_damage`.
+/// What an edit replaced, as `hordguli_damage`.
 #[repr(C)]
 #[derive(Clone, Copy)]
 pub struct DamageOut {
@@ -24,7 +24,7 @@ pub struct DamageOut {
     pub new_paragraphs: usize,
 }
 
-/// The status of a fault.
+/// Returns the status of a fault.
 pub fn edit_status(fault: EditFault) -> Status
     ensures { result ≡ edit_status fault }
 {
@@ -37,7 +37,7 @@ pub fn edit_status(fault: EditFault) -> Status
     }
 }
 
-// Tells the damage of an edit, and answers its status.
+// Stores the damage of an edit, and returns `Ok`.
 fn tell(damage: Damage, out: &mut DamageOut) -> Status
     ensures status { result ≡ Ok }
     ensures damage { out.new ≡ damage_out damage }
@@ -63,7 +63,7 @@ fn insert(session: &mut SessionObject, pos: usize, text: &str, damage: &mut Dama
     }
 }
 
-/// Puts a text before the character at a position, or at the end.
+/// Inserts text before the character at a position, or at the end of the text.
 #[unsafe(no_mangle)]
 pub extern "C" fn hordguli_core_insert(
     alloc: Global,
@@ -99,7 +99,7 @@ fn delete(session: &mut SessionObject, pos: usize, count: usize, damage: &mut Da
     }
 }
 
-/// Takes characters out, from a position on.
+/// Deletes characters, from a position on.
 #[unsafe(no_mangle)]
 pub extern "C" fn hordguli_core_delete(
     alloc: Global,
@@ -137,7 +137,7 @@ fn replace(
     }
 }
 
-/// Puts a text in place of characters, from a position on.
+/// Replaces characters, from a position on, with text.
 #[unsafe(no_mangle)]
 pub extern "C" fn hordguli_core_replace(
     alloc: Global,
@@ -174,7 +174,7 @@ fn set_width(session: &mut SessionObject, width: u16, damage: &mut DamageOut) ->
     }
 }
 
-/// Brings all lines to another width, in columns.
+/// Sets the width, in columns, and rewraps the paragraphs.
 #[unsafe(no_mangle)]
 pub extern "C" fn hordguli_core_set_width(
     alloc: Global,

@@ -1,4 +1,4 @@
-//! The call that gives a paragraph of a session.
+//! The function that stores a paragraph of a session.
 ghost use Rattle.std.specs.Prelude.{◌≡◌, length, map, slice_get, true};
 ghost use Rattle.hordguli_c.specs.Arrays.{has_room, put_if};
 ghost use Rattle.hordguli_c.specs.Calls.{Asks};
@@ -13,7 +13,7 @@ use crate::status::{Status, number_of};
 use lines::Laid;
 use std::alloc::Global;
 
-/// A paragraph, as `hordguli_paragraph_info`.
+/// Information about a paragraph, as `hordguli_paragraph_info`.
 #[repr(C)]
 #[derive(Clone, Copy)]
 pub struct ParagraphOut {
@@ -72,7 +72,7 @@ fn show_paragraph(
     }
 }
 
-/// A paragraph, and what is wanted of it.
+/// Stores information about a paragraph, and the arrays that `wanted` selects.
 #[unsafe(no_mangle)]
 pub extern "C" fn hordguli_core_paragraph(
     alloc: Global,

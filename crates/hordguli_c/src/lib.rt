@@ -1,4 +1,4 @@
-//! The calls of the library for C.
+//! The functions of the C library.
 #![tactic(auto)]
 
 mod arrays;

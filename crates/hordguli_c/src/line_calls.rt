@@ -1,4 +1,4 @@
-//! The call that gives a line of a session.
+//! The function that stores a line of a session.
 ghost use Rattle.std.specs.Prelude.{◌≡◌, slice_get};
 ghost use Rattle.session.specs.Kept.{lines_in};
 ghost use Rattle.session.specs.Places.{line_starts};
@@ -14,7 +14,7 @@ use crate::status::{Status, number_of};
 use lines::VisualLine;
 use std::alloc::Global;
 
-/// A line as it is shown, as `hordguli_line_info`.
+/// Information about a line, as `hordguli_line_info`.
 #[repr(C)]
 #[derive(Clone, Copy)]
 pub struct LineOut {
@@ -41,7 +41,7 @@ fn line_out(line: &VisualLine<'_>, width: u16, start: usize) -> LineOut
     }
 }
 
-// Whether all arrays that are wanted have room.
+// Whether the elements fit in all arrays that are wanted.
 fn line_fits(
     line: &VisualLine<'_>,
     wanted: u32,
@@ -142,7 +142,7 @@ fn show_line(
     put_line(&line, wanted, characters, levels, ltov, vtol, columns)
 }
 
-/// A line as it is shown, and what is wanted of it.
+/// Stores information about a line, and the arrays that `wanted` selects.
 #[unsafe(no_mangle)]
 pub extern "C" fn hordguli_core_line(
     alloc: Global,

@@ -1,4 +1,4 @@
-//! The bits of options and of print flags.
+//! The bits of options and print flags.
 ghost use Rattle.std.specs.Prelude.{◌≡◌, ◌<◌};
 ghost use Rattle.hordguli_c.specs.Options.{
   base_of,
@@ -12,7 +12,8 @@ ghost use Rattle.hordguli_c.specs.Options.{
 use bidi::Base;
 use lines::{Options, Print};
 
-// The options and print flags of include/hordguli.h. The two lowest bits of options name a direction.
+// The options and print flags of include/hordguli.h. The two lowest bits of the options are the base
+// direction.
 const NOBREAK: u32 = 4;
 
 const REORDER_NSM: u32 = 8;
@@ -37,7 +38,7 @@ const PRINT_MIRRORED: u32 = 64;
 
 const ALL_PRINT_FLAGS: u32 = 127;
 
-/// Whether a bit is set, by its value.
+/// Whether the bit of a value is set.
 pub fn has_bit(bits: u32, value: u32) -> bool
     requires { 0 < value }
     ensures { result ≡ has_bit bits value }
@@ -59,14 +60,14 @@ fn base_of(bits: u32) -> Base
     }
 }
 
-/// The direction that bits name, if they name nothing else.
+/// Returns the base direction, or `None` if any other bit is set.
 pub fn direction_of(bits: u32) -> Option<Base>
     ensures { result ≡ direction_of bits }
 {
     if bits < 4 { Some(base_of(bits)) } else { None }
 }
 
-/// Whether numbers stay whole, if the bits name nothing else.
+/// Whether breaks inside numbers are disabled, or `None` if any other bit is set.
 pub fn tailoring_of(bits: u32) -> Option<bool>
     ensures { result ≡ tailoring_of bits }
 {
@@ -79,7 +80,7 @@ pub fn tailoring_of(bits: u32) -> Option<bool>
     }
 }
 
-/// The options of a session that bits name, if all of these are known.
+/// Returns the options of a session, or `None` if a bit is unknown.
 pub fn options_of(bits: u32) -> Option<Options>
     ensures { result ≡ options_of bits }
 {
@@ -95,7 +96,7 @@ pub fn options_of(bits: u32) -> Option<Options>
     }
 }
 
-/// What is printed of a line, if all of the bits are known.
+/// Returns what is printed of a line, or `None` if a bit is unknown.
 pub fn print_of(bits: u32) -> Option<Print>
     ensures { result ≡ print_of bits }
 {

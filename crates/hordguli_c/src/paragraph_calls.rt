@@ -1,4 +1,4 @@
-//! The calls on one paragraph of characters, by tables alone.
+//! Functions on one paragraph of characters, without a session.
 ghost use Rattle.std.specs.Prelude.{◌≡◌, ◌<◌, length, IfOk, OnErr};
 ghost use Rattle.hordguli_c.specs.Calls.{AsksBy};
 ghost use Rattle.hordguli_c.specs.Statuses.{Returns};
@@ -32,7 +32,7 @@ fn find_base(
     }
 }
 
-/// The base level of a paragraph.
+/// Stores the base level of a paragraph.
 #[unsafe(no_mangle)]
 pub extern "C" fn hordguli_core_base(
     alloc: Global,
@@ -98,7 +98,7 @@ fn find_levels(
     }
 }
 
-/// The level of each character of a paragraph before L1.
+/// Stores the level of each character of a paragraph before L1.
 #[unsafe(no_mangle)]
 pub extern "C" fn hordguli_core_levels(
     alloc: Global,
@@ -150,7 +150,7 @@ fn find_marks(
     }
 }
 
-/// The break mark after each character of a paragraph.
+/// Stores the break mark after each character of a paragraph.
 #[unsafe(no_mangle)]
 pub extern "C" fn hordguli_core_marks(
     alloc: Global,

@@ -1,4 +1,4 @@
-//! The calls that ask about a place of a session's text.
+//! Queries about positions in a session's text.
 ghost use Rattle.std.specs.Prelude.{◌≡◌, option_map, slice_get};
 ghost use Rattle.lines.specs.Engine.{rules_of};
 ghost use Rattle.session.specs.Carets.{caret_at};
@@ -24,7 +24,7 @@ fn find_start(session: &SessionObject, line: usize, start: &mut usize) -> Status
     }
 }
 
-/// The position at which a line begins.
+/// Stores the position of the first character of a line.
 #[unsafe(no_mangle)]
 pub extern "C" fn hordguli_core_line_start(
     alloc: Global,
@@ -47,7 +47,7 @@ pub extern "C" fn hordguli_core_line_start(
     }
 }
 
-/// Where a character stands, as `hordguli_place`.
+/// The place of a character, as `hordguli_place`.
 #[repr(C)]
 #[derive(Clone, Copy)]
 pub struct PlaceOut {
@@ -73,7 +73,7 @@ fn find_place(session: &SessionObject, pos: usize, place: &mut PlaceOut) -> Stat
     }
 }
 
-/// Where the character at a position stands.
+/// Stores the place of the character at a position.
 #[unsafe(no_mangle)]
 pub extern "C" fn hordguli_core_place_of(
     alloc: Global,
@@ -96,7 +96,7 @@ pub extern "C" fn hordguli_core_place_of(
     }
 }
 
-/// Where a caret stands, as `hordguli_caret`.
+/// Where to draw a caret, as `hordguli_caret`.
 #[repr(C)]
 #[derive(Clone, Copy)]
 pub struct CaretOut {
@@ -124,7 +124,7 @@ fn find_caret(session: &SessionObject, pos: usize, caret: &mut CaretOut) -> Stat
     }
 }
 
-/// Where a caret stands before the character at a position.
+/// Stores where to draw the caret before the character at a position.
 #[unsafe(no_mangle)]
 pub extern "C" fn hordguli_core_caret_at(
     alloc: Global,
@@ -156,7 +156,7 @@ pub struct HitOut {
     pub zero: u32,
 }
 
-/// A truth value as a number.
+/// Returns 1 if true, and 0 if false.
 pub fn flag(is: bool) -> u32
     ensures { result ≡ flag is }
 {
@@ -179,7 +179,7 @@ fn find_hit(session: &SessionObject, line: usize, column: usize, hit: &mut HitOu
     }
 }
 
-/// The character whose columns cover a column of a line.
+/// Stores the character that covers a column of a line.
 #[unsafe(no_mangle)]
 pub extern "C" fn hordguli_core_hit_at(
     alloc: Global,
@@ -227,7 +227,7 @@ fn find_cluster(session: &SessionObject, pos: usize, cluster: &mut ClusterOut) -
     }
 }
 
-/// The grapheme cluster of the character at a position.
+/// Stores the grapheme cluster of the character at a position.
 #[unsafe(no_mangle)]
 pub extern "C" fn hordguli_core_cluster_at(
     alloc: Global,

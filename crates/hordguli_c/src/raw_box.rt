@@ -1,4 +1,4 @@
-//! A box as its pointer.
+//! The raw pointer of a box.
 ghost use Rattle.std.specs.Prelude.{◌≡◌};
 ghost use Rattle.std.specs.Box.Ownership.{box_owns};
 

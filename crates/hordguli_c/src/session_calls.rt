@@ -1,4 +1,4 @@
-//! The calls that open and close a session, and how much it holds and has done.
+//! Functions that open and close a session, and store its size and its work counters.
 ghost use Rattle.std.specs.Prelude.{◌≡◌, chars, length, None, Some, MatchResult};
 ghost use Rattle.lines.specs.Engine.{analysed_of, filled_of, written_of};
 ghost use Rattle.session.specs.Kept.{lines_in};
@@ -19,7 +19,7 @@ use std::alloc::Global;
 use std::str::from_utf8;
 use ucd::Tables;
 
-// A session by a fresh engine, or the status of what it is refused for.
+// Opens a session with a fresh engine, or returns the status of the fault.
 fn open_by(
     alloc: Global,
     tables: Tables,
@@ -37,7 +37,7 @@ fn open_by(
     }
 }
 
-// Puts a session into a handle that is closed.
+// Stores a session in a closed handle.
 fn open_at(
     alloc: Global,
     session: &mut SessionHandle,
@@ -65,7 +65,7 @@ fn open_at(
     }
 }
 
-/// Opens a session on a text, by a copy of tables.
+/// Opens a session on a text. The session shares the tables.
 #[unsafe(no_mangle)]
 pub extern "C" fn hordguli_core_session_open(
     alloc: Global,
@@ -99,7 +99,7 @@ pub extern "C" fn hordguli_core_session_open(
     }
 }
 
-/// Gives back what a handle of a session holds.
+/// Frees the session of a handle, and closes the handle.
 #[unsafe(no_mangle)]
 pub extern "C" fn hordguli_core_session_close(alloc: Global, session: &mut SessionHandle)
     ensures { session.new.held ≡ None }
@@ -107,7 +107,7 @@ pub extern "C" fn hordguli_core_session_close(alloc: Global, session: &mut Sessi
     session.swap(alloc, None);
 }
 
-/// How much a session holds, as `hordguli_counts`.
+/// The size of a session, as `hordguli_counts`.
 #[repr(C)]
 #[derive(Clone, Copy)]
 pub struct CountsOut {
@@ -133,7 +133,7 @@ fn counts_of(session: &SessionObject) -> CountsOut
     }
 }
 
-/// How much a session holds.
+/// Stores the size of a session.
 #[unsafe(no_mangle)]
 pub extern "C" fn hordguli_core_session_counts(
     alloc: Global,
@@ -158,7 +158,7 @@ pub extern "C" fn hordguli_core_session_counts(
     }
 }
 
-/// How much a session has worked, as `hordguli_work`.
+/// The work counters of a session, as `hordguli_work`.
 #[repr(C)]
 #[derive(Clone, Copy)]
 pub struct WorkOut {
@@ -181,7 +181,7 @@ fn work_of(session: &SessionObject) -> WorkOut
     }
 }
 
-/// How much a session has worked.
+/// Stores the work counters of a session.
 #[unsafe(no_mangle)]
 pub extern "C" fn hordguli_core_session_work(
     alloc: Global,

@@ -1,4 +1,4 @@
-//! What C holds of session: null, or the address of a session on the heap.
+//! The C handle of a session: null, or the address of a session on the heap.
 ghost use Rattle.std.specs.Prelude.{◌≡◌, None, Option, Some};
 ghost use Rattle.hordguli_c.specs.Held.{box_held, raw_held};
 ghost use Rattle.hordguli_c.specs.SessionHeld.{Value, object_at};
@@ -11,10 +11,10 @@ use std::mem::replace;
 use std::ptr::null_mut;
 use store::TreeStore;
 
-/// What lies at the address.
+/// The object at the address.
 pub type SessionObject = Session<TreeStore<Kept>>;
 
-/// A handle. Two functions look at its pointer, and one makes a handle without one.
+/// A handle. Only two functions read its pointer, and one makes a handle without an object.
 #[repr(C)]
 pub struct SessionHandle {
     at: *mut u8,
@@ -53,7 +53,7 @@ impl SessionHandle {
         }
     }
 
-    /// Puts an object in, or nothing, and gives out what was there.
+    /// Stores an object, or none, and returns the one stored before.
     pub fn swap(
         &mut self,
         alloc: Global,

@@ -1,8 +1,8 @@
-//! The statuses of the calls.
+//! The statuses of the functions.
 ghost use Rattle.std.specs.Prelude.{◌≡◌, ◌≤◌};
 ghost use Rattle.hordguli_c.specs.Statuses.{status_of};
 
-/// What a call returns. The numbers are those of include/hordguli.h, and never change.
+/// The result of a call. The numbers are those of include/hordguli.h, and never change.
 #[derive(Clone, Copy)]
 pub enum Status {
     Ok = 0,
@@ -20,7 +20,7 @@ pub enum Status {
     NoRoom = 12,
 }
 
-/// The number by which C knows a status.
+/// Returns the number of a status in C.
 #[tactic(auto, unfolding(crate::specs::Statuses::status_of))]
 pub fn number_of(status: Status) -> u32
     ensures status { status_of result ≡ status }

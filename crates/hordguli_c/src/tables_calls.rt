@@ -1,4 +1,4 @@
-//! The calls on handles of tables.
+//! Functions on handles of tables.
 ghost use Rattle.std.specs.Prelude.{◌≡◌, None};
 ghost use Rattle.ucd.specs.declared.tables.UcdFiles.{UcdFiles};
 ghost use Rattle.hordguli_c.specs.Statuses.{Returns};
@@ -9,7 +9,7 @@ use crate::tables_handle::TablesHandle;
 use std::alloc::Global;
 use ucd::{Cause, TableFault, Tables, UcdFiles};
 
-/// The first line at fault, as `hordguli_table_fault`.
+/// The first malformed line, as `hordguli_table_fault`.
 #[repr(C)]
 #[derive(Clone, Copy)]
 pub struct TableFaultOut {
@@ -32,7 +32,7 @@ fn cause_number(cause: Cause) -> usize
     }
 }
 
-// Tells a fault, and answers its status.
+// Stores a fault, and returns its status.
 fn tell(fault: TableFault, out: &mut TableFaultOut) -> Status
     ensures { TellsFault fault.cause fault result out.old out.new }
 {
@@ -47,7 +47,7 @@ fn tell(fault: TableFault, out: &mut TableFaultOut) -> Status
     Status::TableFault
 }
 
-/// Reads table files, of which each is a slice of its own.
+/// Opens tables from the contents of the files, each in its own slice.
 #[unsafe(no_mangle)]
 pub extern "C" fn hordguli_core_tables_read(
     alloc: Global,
@@ -96,7 +96,7 @@ pub extern "C" fn hordguli_core_tables_read(
     }
 }
 
-/// Gives back what a handle of tables holds.
+/// Closes a handle of tables. Frees the tables once no open session uses them.
 #[unsafe(no_mangle)]
 pub extern "C" fn hordguli_core_tables_close(alloc: Global, tables: &mut TablesHandle)
     ensures { tables.new.held ≡ None }

@@ -1,4 +1,4 @@
-//! What C holds of tables: null, or the address of tables on the heap.
+//! The C handle of tables: null, or the address of tables on the heap.
 ghost use Rattle.std.specs.Prelude.{◌≡◌, None, Option, Some};
 ghost use Rattle.hordguli_c.specs.Held.{box_held, raw_held};
 ghost use Rattle.hordguli_c.specs.TablesHeld.{Value, object_at};
@@ -10,10 +10,10 @@ use std::mem::replace;
 use std::ptr::null_mut;
 use ucd::Tables;
 
-/// What lies at the address.
+/// The object at the address.
 pub type TablesObject = Tables;
 
-/// A handle. Two functions look at its pointer, and one makes a handle without one.
+/// A handle. Only two functions read its pointer, and one makes a handle without an object.
 #[repr(C)]
 pub struct TablesHandle {
     at: *mut u8,
@@ -55,7 +55,7 @@ impl TablesHandle {
         }
     }
 
-    /// Puts an object in, or nothing, and gives out what was there.
+    /// Stores an object, or none, and returns the one stored before.
     pub fn swap(
         &mut self,
         alloc: Global,

@@ -1,4 +1,4 @@
-//! The calls that give lines and characters as bytes.
+//! Functions that write lines and characters as bytes.
 ghost use Rattle.std.specs.Prelude.{◌≡◌, ◌+◌, ◌≤◌, chars, length, IfErr, IfOk};
 ghost use Rattle.session.specs.Kept.{lines_in};
 ghost use Rattle.session.specs.Printing.{lines_page};
@@ -19,7 +19,7 @@ use std::alloc::Global;
 use std::str::from_utf8;
 use stream::Page;
 
-// Puts bytes into an array, if it has room for them.
+// Copies bytes to an array, if they fit, and stores their number.
 fn put_bytes(bytes: &[u8], array: &mut [u8], len: &mut usize) -> Status
     ensures { PutsBytes bytes.now result (array.old, len.old) (array.new, len.new) }
 {
@@ -31,7 +31,7 @@ fn put_bytes(bytes: &[u8], array: &mut [u8], len: &mut usize) -> Status
     Status::Ok
 }
 
-// Lines as they are printed.
+// Returns lines as they are printed.
 fn printed(
     alloc: Global,
     session: &SessionObject,
@@ -69,7 +69,7 @@ fn put_lines(
     }
 }
 
-/// Lines as they are printed.
+/// Lines as they are printed. Copies them to an array as UTF-8, if they fit.
 #[unsafe(no_mangle)]
 pub extern "C" fn hordguli_core_lines_utf8(
     alloc: Global,
@@ -97,7 +97,7 @@ pub extern "C" fn hordguli_core_lines_utf8(
     }
 }
 
-// Characters as UTF-8.
+// Returns characters as UTF-8.
 fn encoded(
     alloc: Global,
     session: &SessionObject,
@@ -133,7 +133,7 @@ fn put_text(
     }
 }
 
-/// Characters as UTF-8.
+/// Writes characters as UTF-8.
 #[unsafe(no_mangle)]
 pub extern "C" fn hordguli_core_text(
     alloc: Global,
@@ -169,7 +169,7 @@ fn find_utf8_len(session: &SessionObject, pos: usize, count: usize, len: &mut us
     }
 }
 
-/// How many bytes of UTF-8 some characters are.
+/// Stores the length of characters in bytes of UTF-8.
 #[unsafe(no_mangle)]
 pub extern "C" fn hordguli_core_utf8_length(
     alloc: Global,
@@ -198,7 +198,7 @@ fn char_count(text: &str) -> usize
     text.chars().count()
 }
 
-/// How many characters some UTF-8 has.
+/// Stores the number of characters of UTF-8 text.
 #[unsafe(no_mangle)]
 pub extern "C" fn hordguli_core_count_utf8(bytes: &[u8], count: &mut usize) -> u32
     ensures { Returns (λ status. OfText bytes.now status (count.new ≡ count.old)

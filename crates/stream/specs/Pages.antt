@@ -3,7 +3,7 @@ use Rattle.std.specs.Prelude.{Some, length}
 use Rattle.device.specs.Device.{Device}
 use Rattle.stream.specs.declared.page.Page.{Page}
 
--- it shows its bytes, all of which were written
+-- its state is its bytes, all of which were written
 abbrev pub page_state : Page → Device
 page_state page = record {
   bytes = Some page.bytes.items;

@@ -3,11 +3,11 @@ use Rattle.std.specs.Prelude.{◌≡◌, ℕ, ◌+◌, ◌<◌, ◌≤◌, nat_l
 use Rattle.std.specs.Str.{chars}
 use Rattle.std.specs.Str.Lossy.{utf8_valid_len, utf8_error_len}
 
--- the characters before the first byte that is not UTF-8
+-- the front of some bytes: the characters before the first byte that is not UTF-8
 abbrev pub front_of : List ℕ → List ℕ
 front_of bytes = chars (take (utf8_valid_len bytes) bytes)
 
--- whether the bytes after the front can begin no character, whatever follows them
+-- whether no character can begin with the bytes after the front, whatever follows them
 abbrev pub is_bad : List ℕ → Bool
 is_bad bytes = is_some (utf8_error_len (drop (utf8_valid_len bytes) bytes))
 
@@ -15,7 +15,8 @@ is_bad bytes = is_some (utf8_error_len (drop (utf8_valid_len bytes) bytes))
 abbrev pub char_len : ℕ → ℕ
 char_len first = if nat_lt first 0xE0 then 2 else (if nat_lt first 0xF0 then 3 else 4)
 
--- a character begins at an index, and the bytes end inside it: bytes of a character after its first one are below 0xC0
+-- A character begins at an index, and the bytes end inside it. The bytes of a character after its first one
+-- are below 0xC0.
 pub record IsCutOff (bytes : List ℕ) (at : ℕ) : Type 0 where
   pub begins : 0xC0 ≤ slice_index bytes at
   pub inside : (k : ℕ) → at < k → k < length bytes → slice_index bytes k < 0xC0

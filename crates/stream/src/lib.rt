@@ -1,4 +1,4 @@
-//! Chunked reading: bytes from a source, their characters, and bytes that are collected before they are written.
+//! Chunked reading: bytes from a source, their characters, and bytes collected before they are written.
 //!
 //! `front` splits bytes that end anywhere: the text of the whole characters, and whether the rest is invalid.
 //!

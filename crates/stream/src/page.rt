@@ -5,8 +5,8 @@ use device::Sink;
 use std::alloc::Global;
 use std::io::ErrorKind;
 
-/// Bytes that are collected before they are written, so that the writer gets large chunks, or none at all. As a
-/// sink it fails only if an allocation fails.
+/// Bytes that are collected before they are written, so that the writer gets large chunks, or none at all. As
+/// a sink it fails only if an allocation fails.
 #[derive(Debug, Drop)]
 pub struct Page {
     pub bytes: Vec<u8>,
@@ -15,7 +15,7 @@ pub struct Page {
 }
 
 impl Page {
-    /// An empty page. Allocates nothing.
+    /// Makes an empty page. Allocates nothing.
     pub fn new(alloc: Global) -> Page
         ensures { result.bytes.items ≡ [] }
     {
@@ -33,7 +33,7 @@ impl Page {
         self.bytes.clear();
     }
 
-    /// The bytes.
+    /// Returns the bytes.
     pub fn bytes(&self) -> &[u8]
         ensures { result.now ≡ self.now.bytes.items }
     {

@@ -1,4 +1,4 @@
-//! Reading a source chunk by chunk.
+//! Reads a source in chunks.
 ghost use Rattle.std.specs.Prelude.{◌≡◌, ◌<◌, length, replicate, vec_len, IfOk, OnErr};
 ghost use Rattle.device.specs.Device.{Fails};
 ghost use Rattle.stream.specs.Reading.{IsReadTo};
@@ -7,7 +7,7 @@ use device::Source;
 use std::alloc::{AllocError, Global};
 use std::io::ErrorKind;
 
-/// The size of a chunk in bytes: a source is asked for at most this many at a time.
+/// The size of a chunk in bytes: the maximum number of bytes requested from a source at a time.
 pub const CHUNK: usize = 65_536;
 
 /// Allocates a buffer of `len` zeros.
@@ -18,7 +18,7 @@ pub fn zeroed(alloc: Global, len: usize) -> Result<Vec<u8>, AllocError>
     vec![in alloc; 0; len]
 }
 
-/// Reads bytes into a buffer from an index on, and returns their number.
+/// Reads bytes into a buffer from index `place` on, and returns their number.
 pub fn read_to<R: Source>(
     reader: &mut R,
     buffer: &mut [u8],

@@ -1,4 +1,4 @@
-//! The characters of a text whose bytes come in chunks, each of which may end inside a character.
+//! Decodes a text whose bytes come in chunks, each of which may end inside a character.
 ghost use Rattle.std.specs.Prelude.{◌≡◌, ◌+◌, ◌++◌, ◌<◌, ◌≤◌, ℕ, false, true, None, OnErr, OnOk};
 ghost use Rattle.std.specs.Prelude.{length, slice_index, take, vec_len, vec_capacity};
 ghost use Rattle.std.specs.Str.{chars};
@@ -9,7 +9,7 @@ use simdutf8::compat::from_utf8;
 use std::alloc::AllocError;
 use std::mem;
 
-/// Adds the characters of a text to a list. If the allocation fails, the list keeps what it has.
+/// Adds the characters of a text to a list. If the allocation fails, the list is unchanged.
 pub fn push_characters(text: &str, characters: &mut Vec<char>) -> Result<(), AllocError>
     ensures ok { OnOk result (characters.new.items ≡ characters.old.items ++ chars text.now) }
     ensures err { OnErr result (characters.new.items ≡ characters.old.items) }
@@ -18,7 +18,7 @@ pub fn push_characters(text: &str, characters: &mut Vec<char>) -> Result<(), All
     ensures capacity { vec_capacity characters.old ≤ vec_capacity characters.new }
 {
     characters.reserve(text.len())?;
-    // Moving the list out keeps its length in a register: else it is stored for each character.
+    // Moving the list out keeps its length in a register: otherwise it is stored for each character.
     let alloc = *characters.allocator();
     let list = mem::replace(characters, Vec::new(alloc));
     *characters = with_all(text, list);
@@ -96,7 +96,7 @@ fn begins_between(text: &str, low: u8, high: u8) -> bool
     }
 }
 
-/// Returns the longest front of some bytes that is UTF-8, and whether no character begins with the bytes after
+/// Returns the longest prefix of `bytes` that is UTF-8, and whether no character begins with the bytes after
 /// it.
 pub fn front(bytes: &[u8]) -> (&str, bool)
     ensures text { result.0.now ≡ take (utf8_valid_len bytes.now) bytes.now }
@@ -140,7 +140,7 @@ fn is_beginning(bytes: &[u8]) -> bool
     }
 }
 
-// The index of the last character of some bytes, if it seems to be cut off, or else the length.
+// Returns the index of the last character of some bytes, if it seems to be cut off, or else their length.
 fn whole_len(bytes: &[u8]) -> usize
     ensures within { result ≤ length bytes.now }
     ensures cut { result < length bytes.now → IsCutOff bytes.now result }
@@ -163,7 +163,7 @@ fn whole_len(bytes: &[u8]) -> usize
     bytes.len()
 }
 
-// The length of a character by its first byte, which is not ASCII.
+// Returns the length of a character by its first byte, which is not ASCII.
 fn char_len(first: u8) -> usize
     ensures { result ≡ char_len first }
 {

@@ -1,4 +1,4 @@
--- What is left of a text: its last paragraph, and the lines that are still to be written where memory runs out.
+-- What is left of a text: its last paragraph, and the lines still to be written when an allocation fails.
 use Rattle.std.proofs.Common.{◌≡◌, ℕ, ◌+◌, ◌<◌, ◌≤◌, ◌==◌, ◌&&◌, Bool, true, false, List, [], ◌∷◌, length, take, encode_utf8_all, refl, sym, ap, ◌∙◌, arith, if◌then◌else◌}
 use Rattle.std.specs.Str.Lossy.{utf8_valid_len}
 use Rattle.std.proofs.lemmas.Bool.Decides.{nat_tests}

@@ -1,4 +1,5 @@
--- Whether the first paragraph of a text without a cut is too long, one character more after another.
+-- Whether the first paragraph of a text without a paragraph boundary is too long, one character after
+-- another.
 use Rattle.std.proofs.Common.{◌≡◌, ℕ, zero, suc, get_or, ◌+◌, ◌-◌, ◌<◌, ◌≤◌, ◌&&◌, Bool, true, false, List, [], ◌∷◌, ◌++◌, length, map, map-id, take, drop, Option, Some, None, MatchOption, encode_utf8_all, refl, sym, subst, ap, ◌∙◌, arith}
 use Rattle.std.specs.Prelude.{⊤, IsUtf8}
 use Rattle.std.specs.List.{concat, slice_get}

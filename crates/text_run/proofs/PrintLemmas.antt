@@ -1,4 +1,4 @@
--- Where nothing is printed of a paragraph, no byte is.
+-- If nothing of a paragraph is printed, no byte is.
 use Rattle.std.proofs.Common.{◌≡◌, ◌∙◌, ℕ, ◌&&◌, Bool, true, false, List, [], ◌∷◌, ◌++◌, length, refl, ap, arith}
 use Rattle.std.specs.Prelude.{◌||◌, not}
 use Rattle.std.specs.List.{enumerate_from, flat_map}

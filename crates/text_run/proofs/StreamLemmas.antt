@@ -1,4 +1,4 @@
--- How a run that reads in chunks ends: as one that has read all would.
+-- A run that reads in chunks ends like one that has read everything at once.
 use Rattle.std.proofs.Common.{◌≡◌, ◌⊎◌, inl, inr, ⊎_elim, ℕ, suc, ◌+◌, ◌-◌, ◌<◌, ◌≤◌, ◌&&◌, Bool, true, false, List, [], ◌∷◌, ◌++◌, length, take, drop, min, Option, Some, None, IfSome, unwrap_or, Err, encode_utf8_all, refl, sym, subst, ap, ◌∙◌, arith, if◌then◌else◌}
 use Rattle.std.specs.Prelude.{take_while, is_none}
 use Rattle.std.specs.List.{concat, prefix_len}

@@ -1,4 +1,4 @@
--- Rows of the definitions, worked.
+-- Worked examples of the definitions.
 use Rattle.std.proofs.Common.{◌≡◌, refl}
 use Rattle.stream.specs.declared.reading.TheConstants.{CHUNK}
 

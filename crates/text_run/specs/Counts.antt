@@ -5,7 +5,8 @@ use Rattle.lines.specs.Printing.{skips_lines}
 use Rattle.lines.specs.declared.engine.Engine.{Engine}
 use Rattle.lines.specs.declared.print.Print.{Print}
 
--- at most n characters were printed: none was filled into lines, and none of these written, where no line is printed
+-- At most n characters were printed. If no line is printed, none of them were filled into lines, and no lines
+-- were written.
 pub record PrintsAtMost (n : ℕ) (print : Print) (old new : Engine) : Type 0 where
   pub at_most : LaysOutAtMost n old new
   pub skipped : skips_lines print ≡ true → (filled_of new ≡ filled_of old) × (written_of new ≡ written_of old)

@@ -3,6 +3,6 @@ use Rattle.std.specs.Prelude.{Bool, ◌||◌, not}
 use Rattle.lines.specs.Printing.{skips_lines}
 use Rattle.lines.specs.declared.print.Print.{Print}
 
--- whether anything is printed of a paragraph
+-- whether anything of a paragraph is printed
 abbrev pub prints_some : Print → Bool
 prints_some print = print.basedir || not (skips_lines print)

@@ -1,4 +1,4 @@
--- Where the run of a text stands between two reads. Only the code speaks of these.
+-- The state of a text's run between two reads. No contract of an exported function uses these definitions.
 use Rattle.std.specs.Prelude.{◌≡◌, ℕ, ◌+◌, ◌<◌, ◌≤◌, ◌==◌, Bool, true, false, List, [], ◌∷◌, ◌++◌, length, take, drop, vec_len, Option, None, Some, Result, Ok, Err, OnErr, IsErrOf, encode_utf8_all, IsUtf8, if◌then◌else◌}
 use Rattle.std.specs.List.{concat}
 use Rattle.std.specs.Str.{chars}
@@ -22,7 +22,8 @@ use Rattle.stream.specs.declared.reading.TheConstants.{CHUNK}
 use Rattle.text_run.specs.declared.text.Held.{Held}
 
 module _ (is_cut : ℕ → ℕ → Bool) where
-  -- these are the first paragraphs of a text, whatever follows it, and the rest is left, which is empty only where the text is
+  -- These are the first paragraphs of a text, whatever follows it. The rest is left, which is empty only if
+  -- the text is.
   pub record IsFront (pars : List (List ℕ)) (text rest : List ℕ) : Type 0 where
     pub whole : text ≡ concat pars ++ rest
     pub cuts : (more : List ℕ) → paragraphs is_cut (text ++ more) ≡ pars ++ paragraphs is_cut (rest ++ more)
@@ -36,23 +37,25 @@ module _ (is_cut : ℕ → ℕ → Bool) where
     pub splits : (more : List ℕ) → paragraphs is_cut (text ++ more) ≡ first more ∷ others more
     pub long : (more : List ℕ) → is_within (first more) ≡ false
 
-  -- a text has no cut, and isn't too long for a paragraph
+  -- a text has no paragraph boundary, and is not too long for a paragraph
   pub record IsOpen (text : List ℕ) : Type 0 where
     pub uncut : SplitsAt is_cut text None
     pub short : length text ≤ PARAGRAPH_LIMIT
 
-  -- none of its paragraphs is too long, and the first one is ended
+  -- no paragraph of a text is too long, and the first one ends within it
   pub record IsEnded (text : List ℕ) : Type 0 where
     pub within : are_within (paragraphs is_cut text) ≡ true
     pub more : 1 < length (paragraphs is_cut text)
 
-  -- what is wrong with a text after which bad bytes stand or not: its first paragraph is too long, or is open there
+  -- the fault of a text that bad bytes may follow: its first paragraph is too long, or is still open before
+  -- them
   abbrev pub IsFaultAhead : List ℕ → Bool → ℕ → RunFault → Type 0
   IsFaultAhead text bad place f.ParagraphTooLong = StartsLong text
   IsFaultAhead text bad place (f.NotUtf8 n) = IsOpen text × (bad ≡ true) × (n ≡ place)
   IsFaultAhead text bad place fault = ⊥
 
--- the lines of the first paragraphs of a text are put to a page, each of their characters is counted once, and no cut is in what is left
+-- The lines of the first paragraphs of a text are added to a page, and each of their characters is counted
+-- once. The rest has no paragraph boundary.
 pub record Pushed (rules : Rules) (width : ℕ) (print : Print) (text rest before after : List ℕ) (engine_old engine_new : Engine) : Type 0 where
   pub pars : List (List ℕ)
   pub front : IsFront (cut_by rules) pars text rest
@@ -60,21 +63,21 @@ pub record Pushed (rules : Rules) (width : ℕ) (print : Print) (text rest befor
   pub counts : Prints (length (concat pars)) print engine_old engine_new
   pub left : IsOpen (cut_by rules) rest
 
--- bytes are the beginning of a character, or none
+-- bytes are the beginning of a character, or empty
 pub record IsBeginning (bytes : List ℕ) : Type 0 where
   pub none : utf8_valid_len bytes ≡ 0
   pub fault : utf8_error_len bytes ≡ None
   pub few : length bytes < 4
 
--- n bytes were read after those that wait
+-- n bytes were read after the waiting ones
 pub record IsRead (n : ℕ) (old new : Held) (reader_old reader_new : Device) : Type 0 where
   pub read : IsReadTo old.waiting n old.chunk.items new.chunk.items reader_old reader_new
   pub small : old.waiting + n ≤ vec_len old.chunk
   pub room : vec_len new.chunk ≡ vec_len old.chunk
   pub same : new ≡ record old { chunk = new.chunk }
 
--- Some bytes were decoded, and the lines of the paragraphs that are known to end then were gathered. The bytes after the
--- characters wait, and are wrong or not.
+-- Some bytes were decoded, and the lines of the paragraphs known to end then were added to the page. The
+-- bytes after the characters wait, and are bad or not.
 pub record Gathers (rules : Rules) (width : ℕ) (print : Print) (bytes : List ℕ) (old new : Held) (engine_old engine_new : Engine) (fault : Option RunFault) : Type 0 where
   pub pushed : Pushed rules width print (old.text.items ++ front_of bytes) new.text.items old.page.bytes.items new.page.bytes.items engine_old engine_new
   pub fault_is : fault ≡ (if is_bad bytes then Some (f.NotUtf8 new.decoded) else None)
@@ -85,7 +88,7 @@ pub record Gathers (rules : Rules) (width : ℕ) (print : Print) (bytes : List �
   pub written : new.written ≡ old.written
   pub room : vec_len new.chunk ≡ vec_len old.chunk
 
--- or a fault is found before any paragraph ends, and all is left as it is
+-- or a fault is found before any paragraph ends, and nothing changes
 pub record FindsFault (rules : Rules) (bytes : List ℕ) (old new : Held) (engine_old engine_new : Engine) (fault : Option RunFault) : Type 0 where
   pub wrong : RunFault
   pub ahead : IsFaultAhead (cut_by rules) (old.text.items ++ front_of bytes) (is_bad bytes) (old.decoded + utf8_valid_len bytes) wrong
@@ -93,12 +96,12 @@ pub record FindsFault (rules : Rules) (bytes : List ℕ) (old new : Held) (engin
   pub same : new ≡ old
   pub engine : engine_new ≡ engine_old
 
--- what is written at the end of a text, of which some bytes are held
+-- what is written at the end of a text, from what is held
 abbrev pub last_lines : Rules → ℕ → Print → Held → List ℕ
 last_lines rules width print held =
     held.page.bytes.items ++ page rules width print (if length held.text.items == 0 then [] else held.text.items ∷ [])
 
--- the lines of the last paragraph, if there is one, were gathered
+-- the lines of the last paragraph, if there is one, were added to the page
 pub record GathersLast (rules : Rules) (width : ℕ) (print : Print) (old new : Held) : Type 0 where
   pub lines : new.page.bytes.items ≡ last_lines rules width print old
   pub written : new.written ≡ old.written
@@ -114,7 +117,7 @@ abbrev pub StopsWriting : Held → RunFault → Device → Device → Type 0
 StopsWriting held fault writer_old writer_new =
     (n : ℕ) × (fault ≡ f.Write (held.written + n)) × StoppedAt n held.page.bytes.items writer_old writer_new
 
--- The sink failed after some bytes were read: the paragraphs that are known to end then were printed, and no other.
+-- The sink failed after some bytes were read: the paragraphs known to end then were printed, and no others.
 pub record StopsAfter (rules : Rules) (print : Print) (held : Held) (reader_old reader_new : Device) (engine_old engine_new : Engine) : Type 0 where
   pub more : List ℕ
   pub read : HasRead reader_old reader_new more
@@ -124,7 +127,7 @@ pub record StopsAfter (rules : Rules) (print : Print) (held : Held) (reader_old 
   pub left : IsOpen (cut_by rules) rest
   pub counts : Prints (length (concat pars)) print engine_old engine_new
 
--- the end of a text
+-- how a text ends
 abbrev pub Finishes : Rules → ℕ → Print → Held → Device → Device → Result (Unit {0}) RunFault → Type 0
 Finishes rules width print held old new (Ok done) = (held.waiting ≡ 0) × Wrote (last_lines rules width print held) old new
 Finishes rules width print held old new (Err (f.NotUtf8 n)) = (0 < held.waiting) × (n ≡ held.decoded) × (new ≡ old)
@@ -133,8 +136,9 @@ Finishes rules width print held old new (Err (f.Write n)) =
 Finishes rules width print held old new (Err f.Memory) = (held.waiting ≡ 0) × (0 < length held.text.items) × (prints_some print ≡ true) × (new ≡ old)
 Finishes rules width print held old new (Err fault) = ⊥
 
--- Between two states of its devices a run has read some bytes and written the lines of some paragraphs. It waits with some bytes at
--- the end, and holds the characters after the last cut, and lines that aren't written yet.
+-- What a run did between two states of its source and sink: it read some bytes, and wrote the lines of some
+-- paragraphs. Some bytes at the end wait. It holds the characters after the last paragraph boundary, and
+-- lines not written yet.
 pub record IsAt (rules : Rules) (width : ℕ) (print : Print) (reader_old reader_new writer_old writer_new : Device) (waiting text lines : List ℕ) : Type 0 where
   pub decoded : List ℕ
   pub sent : List (List ℕ)
@@ -148,7 +152,7 @@ pub record IsAt (rules : Rules) (width : ℕ) (print : Print) (reader_old reader
   pub lines_are : lines ≡ page rules width print gathered
   pub ahead : reader_new.passed ≤ reader_old.passed + length (encode_utf8_all (concat sent)) + read_ahead
 
--- so it does between two reads, where all lines are written, and counted
+-- the state between two reads, when all lines are written and counted
 pub record Stands (rules : Rules) (width : ℕ) (print : Print) (reader_old writer_old : Device) (engine_old : Engine) (reader_new writer_new : Device) (engine_new : Engine) (held : Held) : Type 0 where
   pub is_at : IsAt rules width print reader_old reader_new writer_old writer_new (take held.waiting held.chunk.items) held.text.items []
   pub all_sent : is_at.gathered ≡ []
@@ -162,7 +166,7 @@ pub record Stands (rules : Rules) (width : ℕ) (print : Print) (reader_old writ
   pub fits : Prints 0 print engine_old engine_old
   pub counts : Prints (length (concat is_at.sent)) print engine_old engine_new
 
--- the run ends so
+-- how the run ends
 pub record Ends (rules : Rules) (width : ℕ) (print : Print) (reader_old writer_old : Device) (engine_old : Engine)
     (reader_new writer_new : Device) (engine_new : Engine) (result : Result (Unit {0}) RunFault) : Type 0 where
   pub run : IsTextRun rules width print reader_old reader_new writer_old writer_new engine_old engine_new result

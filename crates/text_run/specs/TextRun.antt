@@ -24,20 +24,22 @@ pub data Ending : Type 0 where
   AtEnd : Ending
   AtFailure : Ending
 
--- What is wrong with an input: bytes that are not UTF-8, which a beginning of a character is too where the input ended, or a read that failed.
+-- What is wrong with an input: it is not UTF-8, or a read failed. At the end of the input, an incomplete
+-- character is not UTF-8 either.
 abbrev pub input_fault : Ending → List ℕ → Option RunFault
 input_fault AtEnd bytes =
     if utf8_valid_len bytes == length bytes then None else Some (fault.NotUtf8 (utf8_valid_len bytes))
 input_fault AtFailure bytes = if is_bad bytes then Some (fault.NotUtf8 (utf8_valid_len bytes)) else Some fault.Read
 
--- a paragraph's length is limited
+-- a paragraph is not too long
 abbrev pub is_within : List ℕ → Bool
 is_within paragraph = nat_le (length paragraph) PARAGRAPH_LIMIT
 
 abbrev pub are_within : List (List ℕ) → Bool
 are_within pars = list_all is_within pars
 
--- The paragraphs that are written: those before the first that is too long; else all, or all but the last where the input isn't whole.
+-- The paragraphs that are written. If one is too long, these are the paragraphs before the first such.
+-- Otherwise these are all paragraphs, or all but the last if the input is not whole.
 abbrev pub written_of : List (List ℕ) → Bool → List (List ℕ)
 written_of pars is_whole =
     if are_within pars then (if is_whole then pars else take (length pars - 1) pars) else take_while is_within pars
@@ -50,13 +52,14 @@ ending_of pars wrong = if are_within pars then wrong else Some fault.ParagraphTo
 abbrev pub front_paragraphs : Rules → List ℕ → List (List ℕ)
 front_paragraphs rules bytes = paragraphs (cut_by rules) (front_of bytes)
 
--- what a source gave between two states: all that it had, or, where it failed, the bytes that passed before
+-- what a source returned between two states: all that it had, or, if it failed, the bytes read before
 abbrev pub Gave : Device → Device → Ending → List ℕ → Type 0
 Gave old new AtEnd bytes = IfSome old.bytes (λ all. all ≡ bytes) × (new.failures ≡ old.failures)
 Gave old new AtFailure bytes = Consumes old.bytes new.bytes bytes × (new.passed ≡ old.passed + length bytes) × FailedLast old new
 
--- The run ended so: without a fault or with the input's, the whole page of the written paragraphs was taken; at a failed write,
--- a beginning of it, whose length is told; where memory ran out, the page of some of these paragraphs, from the first on.
+-- How the run ended. Without a fault, or with the input's, the whole page of the written paragraphs was
+-- written. After a failed write, a prefix of it was, whose length the fault holds. After a failed allocation,
+-- the page of the first few of these paragraphs was.
 abbrev pub EndsWith : (List (List ℕ) → List ℕ) → List (List ℕ) → Option RunFault → Device → Device → Option RunFault → Type 0
 EndsWith page_of written wrong old new (Some (fault.Write n)) = StoppedAt n (page_of written) old new
 EndsWith page_of written wrong old new (Some fault.Memory) = (k : ℕ) × Wrote (page_of (take k written)) old new
@@ -76,14 +79,15 @@ abbrev pub HasPrintedAll : Option RunFault → List ℕ → Print → Engine →
 HasPrintedAll None bytes print old new = Prints (length (chars bytes)) print old new
 HasPrintedAll (Some wrong) bytes print old new = ⊤
 
--- after a fault of the input, each character of the paragraphs that were written, and no other
+-- after a fault of the input, each character of the written paragraphs was printed, and no other
 abbrev pub HasPrinted : Option RunFault → ℕ → Print → Engine → Engine → Type 0
 HasPrinted None n print old new = ⊤
 HasPrinted (Some (fault.Write m)) n print old new = ⊤
 HasPrinted (Some fault.Memory) n print old new = ⊤
 HasPrinted (Some wrong) n print old new = Prints n print old new
 
--- The run of a text: what the reader gave has a front, whose paragraphs are written as far as they go.
+-- The run of a text: what the reader returned has a front, whose paragraphs are written up to the first
+-- fault.
 abbrev pub IsTextRun : Rules → ℕ → Print → Device → Device → Device → Device → Engine → Engine → Result (Unit {0}) RunFault → Type 0
 IsTextRun rules width print reader_old reader_new writer_old writer_new engine_old engine_new result =
     (ending : Ending) × (bytes : List ℕ) × Gave reader_old reader_new ending bytes
@@ -95,17 +99,17 @@ IsTextRun rules width print reader_old reader_new writer_old writer_new engine_o
     HasPrinted (fault_of result) (length (concat written)) print engine_old engine_new
     × EndsWith (page rules width print) written (ending_of pars wrong) writer_old writer_new (fault_of result))
 
--- a failed read is answered as one: where it isn't the answer, no call of the source failed
+-- A failed read is reported: if the result is another one, no call of the source failed.
 abbrev pub TellsReads : {A : Type 0} → Result A RunFault → Device → Device → Type 0
 TellsReads result old new = result ≢ Err fault.Read → new.failures ≡ old.failures
 
--- what was read of a source between two states
+-- what was read from a source between two states
 abbrev pub HasRead : Device → Device → List ℕ → Type 0
 HasRead old new bytes = Consumes old.bytes new.bytes bytes × (new.passed ≡ old.passed + length bytes)
 
--- Memory was wanted for what was read: no paragraph of it is too long, and the lines of one are still to be written, which ends
--- before the bytes that are not UTF-8 where there are any; or nothing was read. Where nothing is printed, that paragraph is still to be
--- counted.
+-- A run that ended with `Memory`. No paragraph of what was read is too long. Unless nothing was read, the
+-- lines of one paragraph are still to be written; if bad bytes follow, it ends before them. If nothing is
+-- printed, that paragraph is still to be counted.
 abbrev pub WantsMemory : Rules → ℕ → Print → Device → Device → Device → Device → Engine → Engine → Type 0
 WantsMemory rules width print reader_old reader_new writer_old writer_new engine_old engine_new =
     (bytes : List ℕ) × HasRead reader_old reader_new bytes
@@ -120,8 +124,8 @@ abbrev pub PrintsNoMore : Print → Device → Device → Engine → Engine → 
 PrintsNoMore print reader_old reader_new engine_old engine_new =
     (bytes : List ℕ) × HasRead reader_old reader_new bytes × PrintsAtMost (length (front_of bytes)) print engine_old engine_new
 
--- After a failed write: of what was read all paragraphs but the last were printed, or all where the source had no more. The sink
--- failed in their lines, after n bytes.
+-- After a failed write, all paragraphs but the last of what was read were printed, or all if the source had
+-- no more. The sink failed in their lines, after n bytes.
 abbrev pub HasStopped : Rules → ℕ → Print → Device → Device → Device → Device → Engine → Engine → ℕ → Type 0
 HasStopped rules width print reader_old reader_new writer_old writer_new engine_old engine_new n =
     (bytes : List ℕ) × HasRead reader_old reader_new bytes
@@ -130,12 +134,13 @@ HasStopped rules width print reader_old reader_new writer_old writer_new engine_
     × StoppedAt n (page rules width print (take k pars)) writer_old writer_new
     × Prints (length (concat (take k pars))) print engine_old engine_new)
 
--- how many bytes a run reads after the paragraphs that it has written, at most: those of one character more than a paragraph may have, and one chunk
+-- The maximum number of bytes that a run reads after the paragraphs it has written: those of one character
+-- more than a paragraph may have, and one chunk.
 abbrev pub read_ahead : ℕ
 read_ahead = 4 * (PARAGRAPH_LIMIT + 1) + CHUNK
 
--- Where a run ended with a fault, the lines of the first k paragraphs of what the reader gave were written, and n bytes of the next
--- one's. At most so many bytes after these k paragraphs were read.
+-- If a run ended with a fault, the lines of the first k paragraphs of what the reader returned were written,
+-- and n bytes of the next one's. At most `read_ahead` bytes after these k paragraphs were read.
 abbrev pub ReadsAhead : Rules → ℕ → Print → Device → Device → Device → Device → Type 0
 ReadsAhead rules width print reader_old reader_new writer_old writer_new =
     (ending : Ending) × (bytes : List ℕ) × Gave reader_old reader_new ending bytes

@@ -1,8 +1,8 @@
-//! The run of a text: its bytes in, its paragraphs' lines out.
+//! Runs a text: reads its bytes, and writes the lines of its paragraphs.
 //!
-//! `run_text` reads any source in chunks, and writes the lines of each paragraph to any sink before it reads
-//! more. A `RunFault` is why a run ended early; what was written until then is stated too. The program runs
-//! each of its texts so:
+//! `run_text` reads any source in chunks. Before it reads more, it writes the lines of each paragraph that is
+//! known to end, to any sink. A `RunFault` says why a run ended early, and the contract says what was written
+//! by then. The program runs each of its texts this way:
 //!
 //! ```rust
 //! let mut reader = FromRead::new(text);

@@ -1,4 +1,4 @@
-//! The lines of a paragraph, added to a page.
+//! Adds the lines of a paragraph to a page.
 ghost use Rattle.std.specs.Prelude.{◌≡◌, ◌++◌, ◌<◌, true, length, OnErr, OnOk};
 ghost use Rattle.lines.specs.Engine.{rules_of, Prints, SameRules};
 ghost use Rattle.lines.specs.Layouts.{IsParagraph};
@@ -11,7 +11,7 @@ use lines::{Engine, Print};
 use std::alloc::{AllocError, Global};
 use stream::Page;
 
-/// Adds the lines of one paragraph. It takes no memory where nothing is printed of it.
+/// Adds the lines of one paragraph. Allocates nothing if nothing of the paragraph is printed.
 pub fn push_paragraph(
     alloc: Global,
     page: &mut Page,
@@ -35,14 +35,14 @@ pub fn push_paragraph(
     }
 }
 
-/// Whether anything is printed of a paragraph.
+/// Whether anything of a paragraph is printed.
 pub fn prints_some(print: &Print) -> bool
     ensures { result ≡ prints_some print.now }
 {
     print.basedir || !print.novisual || print.ltov || print.vtol || print.levels
 }
 
-/// What an engine counts are numbers of 64 bits: so its counts are as they were where nothing is printed.
+/// An engine's counters are 64-bit numbers, so printing 0 characters leaves them unchanged.
 pub fn counts_fit(engine: &Engine)
     ensures { (print : Print) → Prints 0 print engine.now engine.now }
 {

@@ -1,4 +1,5 @@
-//! The paragraphs of a text whose end isn't known: those that a cut ends are laid out, and the rest waits.
+//! The paragraphs of a text whose end is not known yet. Those that end at a paragraph boundary are laid out,
+//! and the rest is kept.
 ghost use Rattle.std.specs.Prelude.{◌≡◌, ◌+◌, ◌++◌, ◌<◌, ◌≤◌, ℕ, ⊤, false, true, length};
 ghost use Rattle.std.specs.Prelude.{vec_len, vec_capacity};
 ghost use Rattle.std.specs.Prelude.{None, Some, IfSome, OnErr, OnOk, MatchOption, if◌then◌else◌};
@@ -18,7 +19,7 @@ use lines::{Engine, PARAGRAPH_LIMIT, Print};
 use std::alloc::{AllocError, Global};
 use stream::{Page, push_characters};
 
-// What the characters that come after a text make of its first paragraph.
+// What the characters after a text mean for its first paragraph.
 #[derive(Clone, Copy, Debug, PartialEq, Eq)]
 enum Ahead {
     // It is too long.
@@ -29,10 +30,14 @@ enum Ahead {
     Open,
 }
 
-/// What is wrong with a text without a cut, which isn't too long, by the characters that follow, which are
-/// no more than a paragraph may have, and whether bytes that are bad stand after them, at a place in the
-/// input: its first paragraph is too long with them, or isn't ended by them and the bytes are bad. It takes
-/// no memory.
+/// Returns the fault in the first paragraph of a text, if it is known from `more`, the characters that
+/// follow. Allocates nothing.
+///
+/// The text has no paragraph boundary and is not too long. `more` has no more characters than a paragraph may
+/// have. If `is_bad`, the bytes at `place` in the input, after `more`, are not UTF-8.
+///
+/// - `ParagraphTooLong`: with the characters of `more`, the first paragraph is too long.
+/// - `NotUtf8(place)`: the paragraph does not end within `more`, and `is_bad`.
 pub fn fault_ahead(
     engine: &Engine,
     text: &[char],
@@ -51,7 +56,7 @@ pub fn fault_ahead(
         → 1 < length (paragraphs (cut_by (rules_of engine.now)) (text.now ++ chars more.now)) }
 {
     paragraphs_are_pieces();
-    // Nearly always the bytes are good, and the two are too few to be looked at.
+    // Fast path: nearly always the bytes are good, and the two together are short.
     if !is_bad && text.len() + more.len() <= PARAGRAPH_LIMIT {
         return None;
     }
@@ -62,7 +67,7 @@ pub fn fault_ahead(
     }
 }
 
-/// The fault of bytes that are bad, if they are, at a place in the input.
+/// Returns `NotUtf8(place)` if the bytes at a place in the input are bad.
 pub fn bad_at(is_bad: bool, place: u64) -> Option<RunFault>
     ensures { result ≡ (if is_bad then Some (RunFault.NotUtf8 place) else None) }
 {
@@ -73,8 +78,8 @@ pub fn bad_at(is_bad: bool, place: u64) -> Option<RunFault>
     }
 }
 
-// What some characters, which are no more than a paragraph may have, make of a text without a cut that isn't
-// too long.
+// Returns what `more`, which has no more characters than a paragraph may have, means for a text that has no
+// paragraph boundary and is not too long.
 fn look_ahead(engine: &Engine, text: &[char], more: &str) -> Ahead
     requires uncut { SplitsAt (cut_by (rules_of engine.now)) text.now None }
     requires short { length text.now ≤ PARAGRAPH_LIMIT }
@@ -102,7 +107,7 @@ fn look_ahead(engine: &Engine, text: &[char], more: &str) -> Ahead
     Ahead::Open
 }
 
-// Whether a paragraph boundary is before a character, after the last one, if there is one.
+// Whether there is a paragraph boundary between the last character, if there is one, and the next.
 fn is_cut_after(engine: &Engine, last: Option<char>, c: char) -> bool
     ensures cut { result ≡ true
         → (a : ℕ) × (last ≡ Some a) × (cut_by (rules_of engine.now) a c ≡ true) }
@@ -115,10 +120,11 @@ fn is_cut_after(engine: &Engine, last: Option<char>, c: char) -> bool
     }
 }
 
-/// Adds to a page the lines of the paragraphs of a text that a cut ends, where the text begins with the
-/// characters that are held, which have no cut, and goes on with others. None of its paragraphs is too long.
-/// Holds what is left of the text. It takes memory only where a character follows, and, where nothing is
-/// printed, before any is counted.
+/// Adds to a page the lines of the paragraphs that end at a paragraph boundary in a text: the characters in
+/// `held`, then `text`. Keeps the rest in `held`.
+///
+/// The characters in `held` have no paragraph boundary, and no paragraph of the whole is too long. Allocates
+/// only if `text` is not empty. If nothing is printed, it allocates before it counts any characters.
 pub fn push_text(
     alloc: Global,
     page: &mut Page,
@@ -150,7 +156,7 @@ pub fn push_text(
     push_ended(alloc, page, engine, width, print, held, text)
 }
 
-// The same, where there is room for all characters if nothing is printed.
+// The same, with capacity for all characters if nothing is printed.
 fn push_ended(
     alloc: Global,
     page: &mut Page,

@@ -1,6 +1,6 @@
-//! The run of a text: its bytes are read chunk by chunk, its paragraphs are laid out as soon as it is known
-//! where they end, and their lines are written before more is read. What is written and how the run ends is
-//! one function of what the source gives.
+//! Runs a text. Its bytes are read in chunks, each paragraph is laid out as soon as its end is known, and the
+//! lines are written before more is read. What is written, and how the run ends, is one function of the
+//! source's bytes and of how they end.
 ghost use Rattle.std.specs.Prelude.{◌≡◌, ◌+◌, ◌-◌, ◌++◌, ◌<◌, ◌≤◌, ◌^◌, ◌⊎◌, ℕ, [], false, true};
 ghost use Rattle.std.specs.Prelude.{None, Some, Ok};
 ghost use Rattle.std.specs.Prelude.{take, drop, length, vec_len};
@@ -30,17 +30,17 @@ use std::alloc::{AllocError, Global};
 use std::io::ErrorKind;
 use stream::{CHUNK, Page, front, read_to, zeroed};
 
-/// What a run holds between two reads.
+/// What a run keeps between two reads.
 #[derive(Debug)]
 struct Held {
-    // What was read last, and how many bytes at its front are the beginning of a character.
+    // The last chunk. Its first `waiting` bytes are the beginning of a character.
     chunk: Vec<u8>,
     waiting: usize,
-    // How many bytes before these were decoded.
+    // The number of bytes decoded before these.
     decoded: u64,
-    // The characters after the last cut.
+    // The characters after the last paragraph boundary.
     text: Vec<char>,
-    // The lines that aren't written yet, and how many bytes are written.
+    // The lines not written yet, and the number of bytes written.
     page: Page,
     written: u64,
 }
@@ -75,7 +75,7 @@ impl Held {
         })
     }
 
-    // Reads bytes after those that wait, and says how many.
+    // Reads bytes after the waiting ones, and returns their number.
     fn read<R: Source>(&mut self, reader: &mut R) -> Result<usize, ErrorKind>
         requires { self.old.waiting < vec_len self.old.chunk }
         ensures ok { IfOk result (λ n.
@@ -85,9 +85,11 @@ impl Held {
         read_to(reader, &mut self.chunk, self.waiting)
     }
 
-    // Decodes the bytes that wait and `len` more, and gathers the lines of the paragraphs that are known to
-    // end then. Says what is wrong with the text, if anything. Memory is asked for only where no paragraph is
-    // too long, where bytes are bad only if a paragraph ends before them, and where a character is decoded.
+    // Decodes the waiting bytes and `len` more, and adds to the page the lines of the paragraphs known to end
+    // then. Returns what is wrong with the text, if anything.
+    //
+    // Allocates only if a character is decoded and no paragraph is too long. If bytes are bad, it allocates
+    // only if a paragraph ends before them.
     fn gather(
         &mut self,
         alloc: Global,
@@ -115,7 +117,7 @@ impl Held {
             (self.old.text.items ++ front_of (take (self.old.waiting + len) self.old.chunk.items)))) }
         ensures decoded { OnErr result
             (0 < utf8_valid_len (take (self.old.waiting + len) self.old.chunk.items)) }
-        // Nor for what is printed, where nothing is.
+        // If nothing is printed, allocation fails before anything is counted.
         ensures some { OnErr result (prints_some print.now ≡ false → engine.new ≡ engine.old) }
         ensures chunk { OnErr result ((self.new.chunk ≡ self.old.chunk)
             × (self.new.waiting ≡ self.old.waiting)) }
@@ -137,7 +139,7 @@ impl Held {
         Ok(bad_at(is_bad, place))
     }
 
-    // Gathers the lines of the last paragraph of a text, if there is one.
+    // Adds the lines of the last paragraph of a text, if there is one, to the page.
     fn gather_last(
         &mut self,
         alloc: Global,
@@ -164,7 +166,7 @@ impl Held {
         Ok(())
     }
 
-    // Writes the lines that were gathered.
+    // Writes the lines on the page.
     fn write<W: Sink>(&mut self, writer: &mut W) -> Result<(), RunFault>
         requires { self.old.written ≤ (W.state writer.old).passed }
         ensures ok { OnOk result (Writes self.old self.new (W.state writer.old) (W.state writer.new)) }
@@ -181,7 +183,7 @@ impl Held {
         }
     }
 
-    // Keeps the bytes between two places, which are no characters yet.
+    // Moves bytes that are not a whole character yet, from `start` to `end`, to the front of the chunk.
     fn keep_bytes(&mut self, start: usize, end: usize)
         requires within { (start ≤ end) × (end ≤ vec_len self.old.chunk) }
         requires counted { self.old.decoded + start ≤ 2 ^ 64 - 1 }
@@ -200,7 +202,7 @@ impl Held {
     }
 }
 
-// Ends a text of which no more comes.
+// Ends a text that has no more bytes.
 fn finish<W: Sink>(
     alloc: Global,
     writer: &mut W,
@@ -218,8 +220,7 @@ fn finish<W: Sink>(
     ensures counts { OnOk result (Prints (length held.old.text.items) print.now engine.old engine.new) }
     ensures at_most { PrintsAtMost (length held.old.text.items) print.now engine.old engine.new }
 
-    // Where the text ends inside a character, its last paragraph is not printed; where the sink failed, it
-    // is.
+    // If the text ends inside a character, its last paragraph is not printed. If the sink failed, it is.
     ensures inside { 0 < held.old.waiting → engine.new ≡ engine.old }
     ensures stopped { (n : ℕ) → IsErrOf result (RunFault.Write n)
         → Prints (length held.old.text.items) print.now engine.old engine.new }
@@ -234,8 +235,7 @@ fn finish<W: Sink>(
     held.write(writer)
 }
 
-// Reads a chunk, and writes the lines of the paragraphs that are known to end then. Says whether the text
-// goes on.
+// Reads a chunk, and writes the lines of the paragraphs known to end then. Returns whether the text goes on.
 fn step<R: Source, W: Sink>(
     alloc: Global,
     reader: &mut R,
@@ -256,21 +256,21 @@ fn step<R: Source, W: Sink>(
         (R.state reader.new) (W.state writer.new) engine.new held.new result }
     ensures reads { TellsReads result (R.state reader.old) (R.state reader.new) }
 
-    // Where memory ran out nothing was written: so this isn't answered once the lines before a fault
+    // If an allocation fails, nothing is written. So this error is not returned once the lines before a fault
     // are.
     ensures memory { IsErrOf result RunFault.Memory → W.state writer.new ≡ W.state writer.old }
 
-    // Where no more was read, memory is wanted for the last paragraph alone, where something is printed of it
-    // and the text doesn't end inside a character.
+    // If no more was read, allocation fails only for the last paragraph: something of it is printed, and the
+    // text does not end inside a character.
     ensures last { IsErrOf result RunFault.Memory → (R.state reader.new).passed ≡ (R.state reader.old).passed
         → (held.old.waiting ≡ 0) × (0 < length held.old.text.items) × (prints_some print.now ≡ true) }
 
-    // And where some was, a character of it is decoded.
+    // If more was read, a character of it is decoded.
     ensures decoded { IsErrOf result RunFault.Memory → (n : ℕ)
         → (R.state reader.new).passed ≡ (R.state reader.old).passed + n → 0 < n
         → 0 < utf8_valid_len (take (held.new.waiting + n) held.new.chunk.items) }
 
-    // Where the sink failed after bytes were read, no more was printed than what was to be written.
+    // If the sink fails after bytes were read, only what was to be written was printed.
     ensures stopped { (n : ℕ) → IsErrOf result (RunFault.Write n)
         → (R.state reader.old).passed < (R.state reader.new).passed
         → StopsAfter (rules_of engine.old) print.now held.old (R.state reader.old) (R.state reader.new)
@@ -301,8 +301,10 @@ fn step<R: Source, W: Sink>(
     }
 }
 
-/// Writes the lines of a text's paragraphs at a width in columns, which is not 0. What is known to end is
-/// written before more is read: of the input, no more is held than its last paragraph and one chunk.
+/// Writes the lines of a text's paragraphs, at a width in columns, which must not be 0.
+///
+/// Paragraphs known to end are written before more is read. Of the input, only the last paragraph and one
+/// chunk are kept in memory. Never fails with `BadLine` or `TextTooLong`.
 pub fn run_text<R: Source, W: Sink>(
     alloc: Global,
     reader: &mut R,

@@ -1,4 +1,4 @@
--- Numbers that few digits write fit.
+-- Numbers of few digits fit.
 use Rattle.std.proofs.Common.{ℕ, suc, ◌+◌, ◌*◌, ◌^◌, ◌<◌, ◌≤◌, arith, lit<}
 use Rattle.std.proofs.Math.Nat.{mul-le-mul_left, mul-le-mul_right, pow-le-pow_left, pow-le-pow_right, pow-succ'}
 

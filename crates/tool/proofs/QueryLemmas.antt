@@ -1,4 +1,4 @@
--- Answers to queries that are written in parts.
+-- Replies to queries that are written in parts.
 use Rattle.std.proofs.Common.{◌≡◌, ℕ, ◌+◌, ◌≤◌, Bool, true, false, List, [], ◌∷◌, ◌++◌, length, codes, nat_lt, Some, None, unwrap_or, Result, Ok, Err, IfErr, IsErrAnd, if◌then◌else◌, sym, subst, ap}
 use Rattle.std.specs.List.{flat_map, slice_range}
 use Rattle.std.proofs.lemmas.Bool.{cond-false, le-ltb}

@@ -1,4 +1,4 @@
--- How the run of a script that reads in pieces ends: as one that has read all would.
+-- A run of a script that reads in chunks ends like one that has read everything at once.
 use Rattle.std.proofs.Common.{inr, ◌<◌, ◌≡◌, ℕ, suc, ◌+◌, ◌-◌, ◌≤◌, ◌&&◌, Bool, true, false, List, [], ◌∷◌, ◌++◌, length, take, min, Option, Some, None, Ok, Err, refl, sym, subst, ap, ◌∙◌, arith, if◌then◌else◌}
 use Rattle.std.specs.List.{list_all, prefix_len, slice_split}
 use Rattle.std.specs.Io.KnownBytes.{IsAtEnd}

@@ -1,4 +1,4 @@
--- Rows of the definitions, worked.
+-- Worked examples of the definitions.
 use Rattle.std.proofs.Common.{◌≡◌, refl}
 use Rattle.tool.specs.declared.answers.TheConstants.{ANSWER_ROOM}
 use Rattle.tool.specs.declared.script.TheConstants.{LINE_LIMIT}

@@ -1,4 +1,4 @@
--- A line that was read asks for what it says, with the bytes of an insert's text beside it.
+-- The command of a line that was read, with the bytes of an insert's text beside it.
 use Rattle.std.specs.Prelude.{ℕ, List}
 use Rattle.std.specs.Str.{chars}
 use Rattle.tool.specs.Scripts.{Command, Insert, Delete, SetWidth, Show, Ask}

@@ -1,4 +1,4 @@
--- What is answered to a query about a text at a width.
+-- The reply to a query about a text at a width.
 use Rattle.std.specs.Prelude.{not, ◌≡◌, ℕ, ◌+◌, ◌-◌, ◌<◌, nat_lt, ◌&&◌, Bool, false, List, [], ◌∷◌, ◌++◌, length, codes, slice_get, slice_index, Option, Some, None, option_map, if◌then◌else◌}
 use Rattle.std.specs.Fmt.{decimal}
 use Rattle.std.specs.List.{flat_map, slice_range}
@@ -26,7 +26,7 @@ use Rattle.tool.specs.declared.queries.Query.TheVariants as ask
 abbrev pub told : List ℕ → List ℕ
 told numbers = codes "=" ++ flat_map (λ n. codes " " ++ decimal n) numbers ++ codes "\n"
 
--- or that there is nothing to tell
+-- or the reply to a query that is out of range
 abbrev pub out_of_range : List ℕ
 out_of_range = codes "! range\n"
 
@@ -34,7 +34,8 @@ abbrev pub told_of : Option (List ℕ) → List ℕ
 told_of (Some numbers) = told numbers
 told_of None = out_of_range
 
--- how many columns of the screen are left of a line's shown part; and where no line is, of one that would come, whose level is told
+-- The number of columns of the screen to the left of a line's shown part. For a line that does not exist yet,
+-- it depends on the level.
 abbrev pub screen_left : Print → ℕ → Visual → ℕ
 screen_left print width line = if print.nopad then 0 else padding_of width line
 
@@ -45,8 +46,8 @@ abbrev pub left_of : Print → ℕ → Option Visual → ℕ → ℕ
 left_of print width (Some line) level = screen_left print width line
 left_of print width None level = empty_left print width level
 
--- the character that is hit left of the shown part: the leftmost that takes columns, past which the column is where its level is odd;
--- where none takes columns the line's start
+-- The hit to the left of the shown part: the leftmost character of nonzero width, trailing if its level is
+-- odd. In a line of width 0, it is the start of the line.
 abbrev pub is_odd_at : Visual → Option ℕ → Bool
 is_odd_at line (Some place) = is_odd (slice_index line.levels (slice_index line.vtol place))
 is_odd_at line None = false
@@ -54,7 +55,7 @@ is_odd_at line None = false
 abbrev pub leftmost : Visual → Hit → Hit
 leftmost line hit = record { pos = hit.pos; trailing = is_odd_at line (covering line 0) }
 
--- ---- of a text that is laid out at a width
+-- ---- queries about a text laid out at a width
 
 module _ (print : Print) (width : ℕ) (kept : List Layout) where
   -- a line, a column on the screen and a level
@@ -76,7 +77,7 @@ module _ (print : Print) (width : ℕ) (kept : List Layout) where
   abbrev pub hit_text : ℕ → ℕ → List ℕ
   hit_text n column = told_of (option_map (λ hit. hit.pos ∷ (if hit.trailing then 1 else 0) ∷ []) (screen_hit n column))
 
-  -- how many lines follow, and the lines
+  -- the number of lines that follow, and the lines
   abbrev pub lines_text : ℕ → ℕ → List ℕ
   lines_text first count =
       if nat_lt (length (lines_in kept)) (first + count) then out_of_range
@@ -89,7 +90,7 @@ module _ (kept : List Layout) where
   abbrev pub size_text : List ℕ
   size_text = told (length (text_of kept) ∷ length (lines_in kept) ∷ length kept ∷ [])
 
-  -- how many bytes follow, the characters, and the end of the line
+  -- the number of bytes that follow, the characters, and the line end
   abbrev pub part_text : ℕ → ℕ → List ℕ
   part_text pos count =
       if nat_lt (length (text_of kept)) (pos + count) then out_of_range
@@ -103,12 +104,12 @@ query_text rules print width kept (ask.Cluster pos) = cluster_text kept pos
 query_text rules print width kept ask.Size = size_text kept
 query_text rules print width kept (ask.Text pos count) = part_text kept pos count
 
--- the queries for which memory may be wanted: the cluster of a character that is there
+-- the queries that allocate: the cluster of a character that exists
 abbrev pub AsksMemory : List ℕ → Query → Type 0
 AsksMemory text (ask.Cluster pos) = pos < length text
 AsksMemory text query = ⊥
 
--- an answer was not written whole: a write failed, or memory was wanted and nothing is written
+-- a reply was not written completely: a write failed, or an allocation failed and nothing was written
 abbrev pub AnswersNot : List ℕ → List ℕ → Query → ℕ → Device → Device → RunFault → Type 0
 AnswersNot answer text query written old new (f.Write n) = StoppedIn answer written old new n
 AnswersNot answer text query written old new f.Memory = AsksMemory text query × (new ≡ old)

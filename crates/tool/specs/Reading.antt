@@ -1,4 +1,4 @@
--- Where the run of a script stands between two lines. Only the code speaks of these.
+-- The state of a script's run between two lines. No contract of an exported function uses these definitions.
 use Rattle.std.specs.Prelude.{◌≡◌, ◌⊎◌, ℕ, ◌+◌, ◌<◌, ◌≤◌, false, true, All, Bool, List, [], ◌∷◌, ◌++◌, length, None, Some, Result, Ok, Err, string_bytes}
 use Rattle.std.specs.List.{list_all, slice_split}
 use Rattle.std.specs.Io.KnownBytes.{Consumes}
@@ -25,7 +25,8 @@ use Rattle.text_run.specs.declared.faults.RunFault.TheVariants as f
 use Rattle.tool.specs.declared.script.Reading.{Reading}
 use Rattle.tool.specs.declared.script.ScriptOptions.{ScriptOptions}
 
--- what memory may be wanted for: an edit where there is a text or a piece, and the cluster of a character that is there
+-- What allocates: an edit, if there is a text or an inserted text, and the cluster of a character that
+-- exists.
 abbrev pub TakesMemory : Held → Command → Type 0
 TakesMemory held (Insert pos piece) = 0 < length held.text + length piece
 TakesMemory held (Delete pos count) = 0 < length held.text
@@ -33,8 +34,8 @@ TakesMemory held (SetWidth width) = 0 < length held.text
 TakesMemory held Show = ⊥
 TakesMemory held (Ask query) = AsksMemory held.text query
 
--- an edit was made, and this is its damage; or it was refused, and all stays; which it does for want of memory too, but then
--- there was no reason to refuse it
+-- An edit was made, and this is its damage; or it was refused, and nothing changes. Nothing changes either if
+-- an allocation fails, and then there was no reason to refuse the edit.
 abbrev pub Edited : Rules → Command → Held → Held → Result Damage EditFault → Type 0
 Edited rules command old new (Ok damage) =
     (command_refusal rules old command ≡ None) × (new ≡ executed old command)
@@ -46,22 +47,23 @@ abbrev pub lacks_memory : Result Damage EditFault → Bool
 lacks_memory (Err NoMemory) = true
 lacks_memory edit = false
 
--- what is answered to an edit
+-- the reply to an edit
 abbrev pub answer_text : Result Damage EditFault → List ℕ
 answer_text (Ok damage) = damage_text damage.first_line damage.old_lines damage.new_lines
 answer_text (Err reason) = refusal_text reason
 
--- an answer was written only in part, or not at all
+-- a reply was written only in part, or not at all
 abbrev pub Stops : List ℕ → ℕ → Device → Device → RunFault → Type 0
 Stops answer written old new (f.Write n) = StoppedIn answer written old new n
 Stops answer written old new fault = ⊥
 
--- a command was executed and its answer written
+-- a command was executed and its reply written
 pub record Executes (rules : Rules) (print : Print) (command : Command) (written : ℕ) (held_old held_new : Held) (old new : Device) (n : ℕ) : Type 0 where
   pub held : held_new ≡ after_command rules held_old command
   pub wrote : PassedOn (answer_to rules print held_old command) written old new n
 
--- or it was executed, and a write failed; or there was no memory for it, where nothing refuses it and it takes some, and all stays
+-- Or it was executed, and a write failed. Or an allocation failed for it, and nothing changes; then the
+-- command is not refused, and it allocates.
 abbrev pub ExecutesNot : Rules → Print → Command → ℕ → Held → Held → Device → Device → RunFault → Type 0
 ExecutesNot rules print command written held_old held_new old new (f.Write n) =
     (held_new ≡ after_command rules held_old command) × StoppedIn (answer_to rules print held_old command) written old new n
@@ -77,15 +79,16 @@ pub record ExecutesLine (rules : Rules) (options : ScriptOptions) (line : List �
   pub lines : new.lines ≡ old.lines + 1
   pub empty : new.line.items ≡ []
 
--- What memory is wanted for, of a line that is UTF-8: for its characters, of which less were kept than it has; or for the text of an
--- insert, of which less was kept than it writes; or for what it asks for, which nothing refuses.
+-- What an allocation failed for, in a line that is UTF-8. One case is its characters, of which fewer were
+-- kept than it has. Another is the text of an insert, of which less was kept than the line represents. The
+-- last is its command, which is not refused.
 abbrev pub WantsMemory : Rules → Bool → List ℕ → Reading → Held → Type 0
 WantsMemory rules queries line reading held =
     (length reading.text.items < length (chars line))
     ⊎ (LacksPiece (chars line) (chars (string_bytes reading.piece))
     ⊎ ((command : Command) × (command_of_line queries line ≡ Some command) × (command_refusal rules held command ≡ None) × TakesMemory held command))
 
--- or it was not
+-- or it was not executed
 abbrev pub FailsAt : Rules → ScriptOptions → List ℕ → Reading → ℕ → ℕ → Held → Held → Device → Device → RunFault → Type 0
 FailsAt rules options line reading lines written held_old held_new old new (f.BadLine n) =
     (is_good options.queries line ≡ false) × (n ≡ lines + 1) × (held_new ≡ held_old) × (new ≡ old)
@@ -100,7 +103,7 @@ FailsAt rules options line reading lines written held_old held_new old new fault
 abbrev pub NoEnd : List ℕ → Type 0
 NoEnd bytes = All (λ b. is_line_end b ≡ false) bytes
 
--- a line ends within a piece, after its first bytes
+-- a line ends within a chunk, after its first bytes
 pub record EndsIn (piece front after : List ℕ) : Type 0 where
   pub whole : piece ≡ front ++ 10 ∷ after
   pub none : NoEnd front
@@ -112,14 +115,15 @@ pub record Grows (bytes : List ℕ) (old new : Reading) : Type 0 where
   pub lines : new.lines ≡ old.lines
   pub written : new.written ≡ old.written
 
--- or they were not, since the line would be too long, or else for want of memory, and then none was added
+-- or they were not, since the line would be too long, or else since an allocation failed, and none was added
 abbrev pub GrowsNot : List ℕ → Reading → Reading → RunFault → Type 0
 GrowsNot bytes old new (f.BadLine n) = (LINE_LIMIT < length (old.line.items ++ bytes)) × (n ≡ old.lines + 1)
 GrowsNot bytes old new f.Memory =
     (length (old.line.items ++ bytes) ≤ LINE_LIMIT) × (0 < length bytes) × (new.line.items ≡ old.line.items) × (new.lines ≡ old.lines)
 GrowsNot bytes old new fault = ⊥
 
--- Of a piece, the first n bytes were taken: all of it goes on with the line, or a line ended and was executed.
+-- Of a chunk, the first n bytes were taken: all of it goes on with the line, or a line ended and was
+-- executed.
 pub record GoesOn (piece : List ℕ) (n : ℕ) (state_old state_new : SessionState) (old new : Reading) (writer_old writer_new : Device) : Type 0 where
   pub all : n ≡ length piece
   pub none : NoEnd piece
@@ -139,7 +143,7 @@ abbrev pub Takes : Rules → ScriptOptions → List ℕ → ℕ → SessionState
 Takes rules options piece n state_old state_new old new writer_old writer_new =
     GoesOn piece n state_old state_new old new writer_old writer_new ⊎ EndsLine rules options piece n state_old state_new old new writer_old writer_new
 
--- a line that ends in a piece fails
+-- a line that ends in a chunk fails
 pub record FailsLine (rules : Rules) (options : ScriptOptions) (piece : List ℕ) (state_old state_new : SessionState) (old new : Reading) (writer_old writer_new : Device) (fault : RunFault) : Type 0 where
   pub front : List ℕ
   pub after : List ℕ
@@ -148,7 +152,7 @@ pub record FailsLine (rules : Rules) (options : ScriptOptions) (piece : List ℕ
   pub works : LineWorks rules options.queries (held_at state_old) (old.line.items ++ front) state_old.engine state_new.engine
   pub lines : new.lines ≡ old.lines
 
--- or its beginning, up to its end or to that of the piece, can't be kept
+-- or its beginning, up to its end or to that of the chunk, cannot be kept
 pub record IsNotKept (piece : List ℕ) (state_old state_new : SessionState) (old new : Reading) (writer_old writer_new : Device) (fault : RunFault) : Type 0 where
   pub front : List ℕ
   pub after : List ℕ
@@ -164,8 +168,8 @@ FailsIn rules options piece state_old state_new old new writer_old writer_new fa
     FailsLine rules options piece state_old state_new old new writer_old writer_new fault
     ⊎ IsNotKept piece state_old state_new old new writer_old writer_new fault
 
--- Between two states of its devices and of its session a run has read some bytes and executed some lines. After these it holds the
--- beginning of a line, and bytes that wait.
+-- What a run did between two states of its source, sink and session: it read some bytes and executed some
+-- lines. It holds the beginning of a line after these, and bytes that wait.
 pub record IsAt (rules : Rules) (options : ScriptOptions) (start : SessionState)
     (reader_old reader_new writer_old writer_new : Device) (now : SessionState) (reading : Reading)
     (waiting : List ℕ) : Type 0 where
@@ -186,7 +190,8 @@ pub record IsAt (rules : Rules) (options : ScriptOptions) (start : SessionState)
   pub ahead : length reading.line.items + length waiting ≤ LINE_LIMIT + CHUNK
   pub short : length reading.line.items ≤ LINE_LIMIT
 
--- Memory runs out for one line: after those that were executed, for the first one that ends in what waits, or that goes on in it.
+-- An allocation fails for one line, after those that were executed: the first one that ends in the waiting
+-- bytes, or that goes on in them.
 pub record WantsIn (rules : Rules) (options : ScriptOptions) (start : SessionState)
     (reader_old reader writer_old writer : Device) (state : SessionState) (reading : Reading) : Type 0 where
   pub state_before : SessionState
@@ -197,7 +202,7 @@ pub record WantsIn (rules : Rules) (options : ScriptOptions) (start : SessionSta
   pub lines : reading.lines ≡ before.lines
   pub fails : FailsIn rules options waiting state_before state before reading writer_before writer f.Memory
 
--- a run stands somewhere, and its counts fit
+-- a run is in some state, and its counts fit
 abbrev pub CanFeed : Rules → ScriptOptions → SessionState → Reading → Device → List ℕ → Type 0
 CanFeed rules options now reading writer_new waiting =
     (start : SessionState) × (reader_old : Device) × (writer_old : Device) × (reader_new : Device)
@@ -212,7 +217,7 @@ Steps rules options start reader_old writer_old reader_new writer_new now readin
 Steps rules options start reader_old writer_old reader_new writer_new now reading (Err fault) =
     IsScriptRun rules options start now reader_old reader_new writer_old writer_new (Err fault)
 
--- the piece that was read was taken, or the run ends within it
+-- the chunk that was read was taken, or the run ends within it
 abbrev pub Feeds : Rules → ScriptOptions → SessionState → Device → Device → Device → Device → SessionState → Reading → Result (Unit {0}) RunFault → Type 0
 Feeds rules options start reader_old writer_old reader_new writer_new now reading (Ok done) =
     IsAt rules options start reader_old reader_new writer_old writer_new now reading []

@@ -1,4 +1,4 @@
--- What an edit script does and answers, and how its run ends.
+-- What an edit script does and replies, and how its run ends.
 use Rattle.std.specs.Prelude.{ℕ, ◌+◌, ◌-◌, nat_lt, Bool, List, [], ◌∷◌, ◌++◌, length, map, take, take_while, codes, slice_range, Option, Some, None, is_some, is_none, if◌then◌else◌}
 use Rattle.std.specs.Fmt.{decimal}
 use Rattle.std.specs.List.{concat, list_all}
@@ -30,7 +30,7 @@ command_refusal rules held (SetWidth width) = if nat_lt 65535 width then Some re
 command_refusal rules held Show = None
 command_refusal rules held (Ask query) = None
 
--- what it makes of a text and a width
+-- what it changes in a text and a width
 abbrev pub executed : Held → Command → Held
 executed held (Insert pos piece) = record { text = replaced held.text (insertion pos piece); width = held.width }
 executed held (Delete pos count) = record { text = replaced held.text (deletion pos count); width = held.width }
@@ -45,18 +45,18 @@ after_command rules held command = if is_none (command_refusal rules held comman
 abbrev pub layouts_at : Rules → Held → List Layout
 layouts_at rules held = layouts_of rules held.width held.text
 
--- so many lines, from the first on, gave way to others
+-- a number of lines, from the first on, was replaced by others
 abbrev pub damage_text : ℕ → ℕ → ℕ → List ℕ
 damage_text first old new = codes "@ " ++ decimal first ++ codes " " ++ decimal old ++ codes " " ++ decimal new ++ codes "\n"
 
--- those of the touched paragraphs, and the lines in their place
+-- those of the touched paragraphs, and the lines that replace them
 abbrev pub edit_text : (old new : List Layout) → Replacement → List ℕ
 edit_text old new edit =
     let first = first_touched (pars_of old) edit in
     let touched = slice_range old first (first + touched_count (pars_of old) edit) in
     damage_text (length (lines_in (take first old))) (length (lines_in touched)) (length (lines_in touched) + length (lines_in new) - length (lines_in old))
 
--- what is answered where it isn't refused
+-- the reply to a command that is not refused
 abbrev pub executed_text : Rules → Print → Held → Command → List ℕ
 executed_text rules print held (Insert pos piece) = edit_text (layouts_at rules held) (layouts_at rules (executed held (Insert pos piece))) (insertion pos piece)
 executed_text rules print held (Delete pos count) = edit_text (layouts_at rules held) (layouts_at rules (executed held (Delete pos count))) (deletion pos count)
@@ -64,7 +64,7 @@ executed_text rules print held (SetWidth width) = damage_text 0 (length (lines_i
 executed_text rules print held Show = page rules held.width print (paragraphs (cut_by rules) held.text)
 executed_text rules print held (Ask query) = query_text rules print held.width (layouts_at rules held) query
 
--- and where it is; want of memory is no reason to refuse a command
+-- The reply to one that is. A failed allocation does not refuse a command.
 abbrev pub refusal_text : EditFault → List ℕ
 refusal_text refused.OutOfRange = codes "! range\n"
 refusal_text refused.WidthOutOfRange = codes "! width\n"
@@ -81,7 +81,8 @@ answer_to rules print held command = answer_by (command_refusal rules held comma
 
 -- ---- lines
 
--- what the lines make of a text and a width, one after another, and what is answered. A line that asks for nothing changes nothing.
+-- What lines change in a text and a width, one after another, and the replies. A line without a command
+-- changes nothing.
 abbrev pub after_line : Rules → Held → Option Command → Held
 after_line rules held None = held
 after_line rules held (Some command) = after_command rules held command
@@ -101,7 +102,7 @@ answers rules options held (line ∷ lines) =
 
 -- ---- the run
 
--- the lines before the first that is no line of a script
+-- the lines before the first that is not valid
 abbrev pub is_good : Bool → List ℕ → Bool
 is_good queries line = is_some (command_of_line queries line)
 
@@ -117,7 +118,7 @@ abbrev pub script_fault : Bool → Ending → List (List ℕ) → Option RunFaul
 script_fault queries ending lines =
     if list_all (is_good queries) lines then input_fault ending else Some (fault.BadLine (length (good_lines queries lines) + 1))
 
--- how many bytes a run reads after the lines that it has answered, at most: a line with its end, and one piece
+-- the maximum number of bytes that a run reads after the lines replied to: a line with its end, and one chunk
 abbrev pub line_read_ahead : ℕ
 line_read_ahead = LINE_LIMIT + 1 + CHUNK
 

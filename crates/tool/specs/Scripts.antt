@@ -1,4 +1,4 @@
--- The lines of an edit script, and what each asks for.
+-- The lines of an edit script, and the command of each.
 use Rattle.std.specs.Prelude.{◌≡◌, ◌<◌, ℕ, zero, suc, ◌+◌, ◌*◌, ◌-◌, ◌==◌, nat_lt, nat_le, ◌&&◌, ◌||◌, Bool, List, [], ◌∷◌, length, fold, take, drop, take_while, slice_index, codes, Option, Some, None, is_some, true, option_map, if◌then◌else◌}
 use Rattle.std.specs.Char.{digit_value, is_digit}
 use Rattle.std.specs.Cmp.Lexicographic.{pointwise}
@@ -16,8 +16,8 @@ use Rattle.text_run.specs.TextRun.{Ending, AtEnd, AtFailure}
 abbrev pub is_line_end : ℕ → Bool
 is_line_end b = b == 10
 
--- What stands after the last end is a line too, where the script ended and it isn't empty. Where the source failed it is none,
--- unless it is over the limit already.
+-- What follows the last line end is a line too if the script ended and it is not empty. If the source failed,
+-- it is not a line, unless it is over the limit already.
 abbrev pub is_last_line : Ending → List ℕ → Bool
 is_last_line AtEnd rest = nat_lt 0 (length rest)
 is_last_line AtFailure rest = nat_lt LINE_LIMIT (length rest)
@@ -31,10 +31,10 @@ lines_among ending (line ∷ next ∷ parts) = line ∷ lines_among ending (next
 abbrev pub script_lines : Ending → List ℕ → List (List ℕ)
 script_lines ending bytes = lines_among ending (slice_split is_line_end bytes)
 
--- ---- what a line asks for
+-- ---- commands
 
--- to put a piece before the character at a place, to take characters out from a place on, to set the width, to show all lines, or to
--- answer a query
+-- inserts a text before the character at a position, deletes characters from a position on, sets the width,
+-- shows all lines, or replies to a query
 pub data Command : Type 0 where
   Insert : (pos : ℕ) (piece : List ℕ) → Command
   Delete : (pos count : ℕ) → Command
@@ -52,8 +52,9 @@ are_digits radix text = list_all (λ c. is_digit c radix) text
 abbrev pub number_in : List ℕ → Option ℕ
 number_in text = if nat_lt 0 (length text) && (nat_le (length text) 9 && are_digits 10 text) then Some (number_by 10 text) else None
 
--- An escape is a backslash and `n`, `r`, another backslash, or `u{H}`, where H is 1 to 6 hexadecimal digits that write the number of a
--- character. By the text after the backslash: the character, and how many characters the whole escape has.
+-- An escape is a backslash and `n`, `r`, another backslash, or `u{H}`. H is 1 to 6 hexadecimal digits, the
+-- number of a character. From the text after the backslash: the character, and the length of the whole
+-- escape.
 abbrev pub is_character : ℕ → Bool
 is_character n = nat_lt n 0xD800 || (nat_le 0xE000 n && nat_le n 0x10FFFF)
 
@@ -72,11 +73,11 @@ escaped text =
     else (if slice_index text 0 == 92 then Some (92, 2)
     else (if slice_index text 0 == 117 && slice_index text 1 == 123 then braced (drop 2 text) else None)))
 
--- the character that a text begins to write, by its first one and those after it, and how many write it
+-- the character that a text represents first, by its first one and those after it, and how many represent it
 abbrev pub written : ℕ → List ℕ → Option (ℕ × ℕ)
 written c after = if c == 92 then escaped after else Some (c, 1)
 
--- the characters that a text writes, of which the first `skip` belong to an escape before it
+-- the characters that a text represents, of which the first `skip` belong to an escape before it
 abbrev pub onto : Option (ℕ × ℕ) → (ℕ → Option (List ℕ)) → Option (List ℕ)
 onto None others = None
 onto (Some (c, len)) others = option_map (λ cs. c ∷ cs) (others len)
@@ -89,14 +90,14 @@ unescaped_after zero (c ∷ text) = onto (written c text) (λ len. unescaped_aft
 abbrev pub unescaped : List ℕ → Option (List ℕ)
 unescaped text = unescaped_after 0 text
 
--- what stands on both sides of the first space
+-- the parts before and after the first space
 abbrev pub is_space : ℕ → Bool
 is_space c = c == 32
 
 abbrev pub parted : List ℕ → Option (List ℕ × List ℕ)
 parted text = if nat_lt (position_or_len is_space text) (length text) then Some (before_first is_space text, after_first is_space text) else None
 
--- what stands after a beginning
+-- what follows a prefix
 abbrev pub stripped : List ℕ → List ℕ → Option (List ℕ)
 stripped word text = if pointwise (◌==◌) (take (length word) text) word then Some (drop (length word) text) else None
 
@@ -110,13 +111,13 @@ abbrev pub insertion_in : Option (List ℕ × List ℕ) → Option Command
 insertion_in None = None
 insertion_in (Some (pos, text)) = insertion_of (number_in pos) (unescaped text)
 
--- A text whose escapes are right writes more than is kept of what it writes.
+-- A text whose escapes are valid represents more characters than are kept.
 pub record LacksText (text kept : List ℕ) : Type 0 where
   pub whole : List ℕ
   pub right : unescaped text ≡ Some whole
   pub short : length kept < length whole
 
--- So does that of an insert at a place that is a number: what alone is kept as a line is read.
+-- So does that of an insert at a position that is a number, the only text that is kept when a line is read.
 pub record LacksPieceIn (text kept : List ℕ) : Type 0 where
   pub pos : List ℕ
   pub piece : List ℕ
@@ -174,7 +175,7 @@ query_in line =
     query_by (stripped (codes "lines ") line) (stripped (codes "caret ") line) (stripped (codes "hit ") line) (stripped (codes "cluster ") line)
     (stripped (codes "size") line) (stripped (codes "text ") line)
 
--- a line that asks for none of the others is a query, where these are allowed
+-- a line that is no other command is a query, if queries are allowed
 abbrev pub or_query : Option Command → Option Query → Option Command
 or_query (Some command) query = Some command
 or_query None query = option_map Ask query
@@ -182,7 +183,7 @@ or_query None query = option_map Ask query
 abbrev pub command_in : Bool → List ℕ → Option Command
 command_in queries line = or_query (edit_command_in line) (if queries then query_in line else None)
 
--- what the bytes of a line ask for, if they are UTF-8 and no more than may be
+-- the command of the bytes of a line, if they are UTF-8 and not over the limit
 abbrev pub command_of_line : Bool → List ℕ → Option Command
 command_of_line queries line =
     if nat_le (length line) LINE_LIMIT && utf8_valid_len line == length line then command_in queries (chars line) else None

@@ -1,5 +1,4 @@
-//! What is answered to a line of a script, where it is short: it is put together in an array, so none ever
-//! wants for memory.
+//! Short replies to the lines of a script. A reply is built in an array, so building it never fails.
 ghost use Rattle.std.specs.Prelude.{◌≡◌, ◌+◌, ◌*◌, ◌++◌, ◌≤◌, IfOk, IfErr, length};
 ghost use Rattle.std.specs.Fmt.{decimal};
 ghost use Rattle.arrayvec.specs.ArrayVec.{array_vec_len};
@@ -14,13 +13,14 @@ use itoa::Buffer;
 use session::{Damage, EditFault};
 use text_run::RunFault;
 
-/// How many bytes an answer has at most: three numbers of 20 digits, and 5 before, between and after them.
+/// The maximum length of a reply in bytes: three numbers of 20 digits, and 5 bytes before, between and after
+/// them.
 pub const ANSWER_ROOM: usize = 65;
 
-/// The bytes of an answer.
+/// The bytes of a reply.
 pub type Answer = ArrayVec<u8, ANSWER_ROOM>;
 
-/// The answer to an edit: which lines gave way to how many, or why it was refused.
+/// Returns the reply to an edit: which lines were replaced by how many, or why the edit was refused.
 pub fn answer_of(edit: &Result<Damage, EditFault>) -> Answer
     ensures { result.items ≡ answer_text edit.now }
 {
@@ -30,7 +30,7 @@ pub fn answer_of(edit: &Result<Damage, EditFault>) -> Answer
     }
 }
 
-/// A line of numbers that are told, which are no more than three.
+/// Returns a reply of at most three numbers, on one line.
 pub fn told(numbers: &[usize]) -> Answer
     requires { length numbers.now ≤ 3 }
     ensures { result.items ≡ told numbers.now }
@@ -45,14 +45,14 @@ pub fn told(numbers: &[usize]) -> Answer
     answer
 }
 
-/// That there is nothing to tell.
+/// Returns the reply to a position or line that is past the end.
 pub fn out_of_range() -> Answer
     ensures { result.items ≡ out_of_range }
 {
     refusal_answer(EditFault::OutOfRange)
 }
 
-/// Writes bytes after so many.
+/// Writes bytes after `written` others, and returns the total. A fault counts the others too.
 pub fn write_bytes<W: Sink>(writer: &mut W, written: u64, bytes: &[u8]) -> Result<u64, RunFault>
     requires { written ≤ (W.state writer.old).passed }
     ensures ok { IfOk result (PassedOn bytes.now written (W.state writer.old) (W.state writer.new)) }
@@ -96,7 +96,7 @@ fn push_number(answer: &mut Answer, number: usize)
     push(answer, buffer.format(number).as_bytes());
 }
 
-// There is room for these bytes.
+// The capacity suffices for these bytes.
 fn push(answer: &mut Answer, bytes: &[u8])
     requires { array_vec_len answer.old + length bytes.now ≤ 65 }
     ensures items { answer.new.items ≡ answer.old.items ++ bytes.now }
@@ -108,7 +108,7 @@ fn push(answer: &mut Answer, bytes: &[u8])
     }
 }
 
-// Want of memory is no reason to refuse an edit, and has no words.
+// A failed allocation does not refuse an edit, and has no text.
 fn reason_text(reason: EditFault) -> &'static str
     ensures value { result.now ≡ refusal_text reason }
     ensures short { length result.now ≤ 65 }

@@ -1,4 +1,4 @@
-//! The lines of an edit script: what each asks for.
+//! Parses the lines of an edit script.
 ghost use Rattle.std.specs.Prelude.{◌≡◌, ◌+◌, ◌<◌, ◌≤◌, ◌^◌, List, ℕ, take, drop, length, true};
 ghost use Rattle.std.specs.Prelude.{IfOk, IfSome, None, OnErr, Some, is_some, option_map};
 ghost use Rattle.std.specs.Prelude.{if◌then◌else◌, string_bytes};
@@ -14,18 +14,18 @@ ghost use Rattle.tool.specs.Scripts.{parted, query_in, command_in, stripped, une
 use crate::queries::Query;
 use std::alloc::AllocError;
 
-/// What a line of a script asks for.
+/// A command, which is one line of a script.
 #[derive(Clone, Copy, Debug, PartialEq, Eq)]
 pub enum Command {
-    /// To put a text, which is handed out beside this, before the character at a place.
+    /// Inserts a text, which is passed beside the command, before the character at a position.
     Insert(usize),
-    /// To take so many characters out, from a place on.
+    /// Deletes a number of characters, the second field, from a position on, the first.
     Delete(usize, usize),
-    /// To set the width, in columns.
+    /// Sets the width, in columns.
     SetWidth(usize),
-    /// To write all lines.
+    /// Writes all lines.
     Show,
-    /// To answer a query.
+    /// Replies to a query.
     Ask(Query),
 }
 
@@ -49,8 +49,8 @@ const SIZE: [char; 4] = ['s', 'i', 'z', 'e'];
 
 const TEXT: [char; 5] = ['t', 'e', 'x', 't', ' '];
 
-/// What the characters of a line ask for, if it is a line of a script, in which there may be queries or
-/// not. The text of an insert is put into `piece`.
+/// Parses a line, which may be a query only if `queries`. Returns `None` if it is not a line of a script.
+/// Stores the text of an insert in `piece`.
 pub fn read_command(
     queries: bool,
     line: &[char],
@@ -66,7 +66,7 @@ pub fn read_command(
     }
 }
 
-// A line that asks for none of the others may be a query.
+// A line that is no other command may be a query.
 fn read_query(line: &[char]) -> Option<Command>
     ensures { (piece : List ℕ)
         → option_map (command_of piece) result ≡ option_map Ask (query_in line.now) }
@@ -110,7 +110,7 @@ fn both(text: &[char]) -> Option<(usize, usize)>
     Some((number(one)?, number(other)?))
 }
 
-// What a line asks for that is no query.
+// Parses a line that is not a query.
 fn read_edit_command(line: &[char], piece: &mut String) -> Result<Option<Command>, AllocError>
     ensures ok { IfOk result (λ command. option_map (command_of (string_bytes piece.new)) command
         ≡ edit_command_in line.now) }
@@ -167,14 +167,14 @@ fn width(text: &[char]) -> Option<Command>
     Some(Command::SetWidth(number(text)?))
 }
 
-// What stands after a beginning of a text, if it begins so.
+// Returns what follows a prefix of a text, if it has that prefix.
 fn after<'a>(word: &[char], text: &'a [char]) -> Option<&'a [char]>
     ensures { option_map (λ rest. rest.now) result ≡ stripped word.now text.now }
 {
     text.strip_prefix(word)
 }
 
-// What stands on both sides of the first space, if there is one.
+// Returns the parts before and after the first space, if there is one.
 fn words(text: &[char]) -> Option<(&[char], &[char])>
     ensures { option_map (λ words. (words.0.now, words.1.now)) result ≡ parted text.now }
 {
@@ -184,7 +184,7 @@ fn words(text: &[char]) -> Option<(&[char], &[char])>
     }
 }
 
-// The number that 1 to 9 decimal digits write.
+// Returns the number that a text of 1 to 9 decimal digits represents.
 fn number(text: &[char]) -> Option<usize>
     ensures { result ≡ number_in text.now }
 {
@@ -206,7 +206,7 @@ fn are_digits(text: &[char], radix: u32) -> bool
     true
 }
 
-// The number that digits write.
+// Returns the number that digits represent.
 fn value(digits: &[char], radix: u32) -> usize
     requires radix { (2 ≤ radix) × (radix ≤ 16) }
     requires digits { are_digits radix digits.now ≡ true }
@@ -224,7 +224,7 @@ fn value(digits: &[char], radix: u32) -> usize
     number
 }
 
-// Whether the escapes of a text are right.
+// Whether all escapes of a text are valid.
 fn has_right_escapes(text: &[char]) -> bool
     ensures { result ≡ is_some (unescaped text.now) }
 {
@@ -238,8 +238,8 @@ fn has_right_escapes(text: &[char]) -> bool
     true
 }
 
-// Puts the text that these characters write into a piece, if their escapes are right, which is told before
-// there is need of memory.
+// Stores the text that these characters represent in `piece`, if their escapes are valid. Checks the escapes
+// before it allocates.
 fn unescape(text: &[char], piece: &mut String) -> Result<bool, AllocError>
     ensures ok { IfOk result (λ right.
         (if right then Some (chars (string_bytes piece.new)) else None) ≡ unescaped text.now) }
@@ -263,7 +263,7 @@ fn unescape(text: &[char], piece: &mut String) -> Result<bool, AllocError>
     Ok(true)
 }
 
-// The character that a text begins to write, and how many characters write it.
+// The character that a text represents first, and the number of characters that represent it.
 fn written(c: char, after: &[char]) -> Option<(char, usize)>
     ensures value { result ≡ written c after.now }
     ensures within { IfSome result (λ w. (0 < w.1) × (w.1 ≤ length after.now + 1)) }
@@ -275,7 +275,7 @@ fn written(c: char, after: &[char]) -> Option<(char, usize)>
     }
 }
 
-// The same of an escape, by what stands after its backslash.
+// The same for an escape, from the text after its backslash.
 fn escaped(text: &[char]) -> Option<(char, usize)>
     ensures value { result ≡ escaped text.now }
     ensures within { IfSome result (λ w. (0 < w.1) × (w.1 ≤ length text.now + 1)) }
@@ -310,7 +310,7 @@ fn braced(text: &[char]) -> Option<(char, usize)>
     }
 }
 
-// How many hexadecimal digits a text begins with.
+// Returns the number of hexadecimal digits at the start of a text.
 fn hex_len(text: &[char]) -> usize
     ensures len { result ≡ prefix_len (λ c. is_digit c 16) text.now }
     ensures within { result ≤ length text.now }

@@ -1,4 +1,4 @@
-//! Why the program ends before its work is done: what it then says, and its exit status.
+//! Why the program ends early: its message and its exit status.
 ghost use Rattle.std.specs.Prelude.{◌≡◌};
 
 use command_line::LineFault;
@@ -6,13 +6,13 @@ use text_run::RunFault;
 use thiserror::Error;
 use ucd::TableFault;
 
-/// Why the program ended. The displayed text is its message on standard error; the text of a
-/// command for help is for standard output.
+/// Why the program ended. It displays as the message on standard error, or, for help and the version, as the
+/// text on standard output.
 #[derive(Debug, Drop, Error)]
 pub enum ProgramFault {
     #[error("{0}")]
     Line(LineFault),
-    /// The table file of this name can't be read.
+    /// The table file of this name cannot be read.
     #[error("fribidi: cannot read {0}")]
     TableFile(&'static str),
     #[error("fribidi: {0}")]
@@ -24,7 +24,7 @@ pub enum ProgramFault {
 impl ProgramFault {
     ghost use Rattle.tool.specs.Program.{status_of};
 
-    /// The exit status: 0 for help, 2 for a wrong command line, and else 1.
+    /// Returns the exit status: that of the fault if the arguments are refused, and otherwise 1.
     pub fn status(&self) -> u8
         ensures { result ≡ status_of self.now }
     {

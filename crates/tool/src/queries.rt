@@ -1,4 +1,4 @@
-//! The queries of a script about the text as it stands, and what is answered to each.
+//! The queries of a script about the current text, and the replies to them.
 ghost use Rattle.std.specs.Prelude.{◌≡◌, ◌^◌, ◌<◌, ◌≤◌, IfOk, IfErr, OnErr, length, slice_index};
 ghost use Rattle.lines.specs.Engine.{rules_of};
 ghost use Rattle.reorder.specs.Order.{is_odd};
@@ -17,25 +17,24 @@ use std::alloc::AllocError;
 use store::ParagraphStore;
 use text_run::RunFault;
 
-/// What a line of a script asks about the text as it stands. Positions count characters, and like lines and
-/// columns they count from 0.
+/// A query about the current text. Positions are in characters. Positions, lines and columns start at 0.
 #[derive(Clone, Copy, Debug, PartialEq, Eq)]
 pub enum Query {
-    /// So many lines, from one on.
+    /// A number of lines, the second field, from a line on, the first.
     Lines(usize, usize),
-    /// Where a caret stands on the screen before the character at a position.
+    /// The column of the screen at which to draw the caret before the character at a position.
     Caret(usize),
-    /// Which character stands at a line's column of the screen.
+    /// The character at a column of the screen, the second field, in a line, the first.
     Hit(usize, usize),
     /// The grapheme cluster of the character at a position.
     Cluster(usize),
-    /// How many characters, lines and paragraphs there are.
+    /// The numbers of characters, lines and paragraphs.
     Size,
-    /// So many characters, from a position on.
+    /// A number of characters, the second field, from a position on, the first.
     Text(usize, usize),
 }
 
-// How many columns of the screen are left of a line's shown part.
+// Returns the number of columns of the screen to the left of a line's shown part.
 fn screen_left(line: &VisualLine<'_>, width: u16, print: &Print) -> usize
     ensures value { result ≡ screen_left print.now width line.now }
     ensures fits { result < 2 ^ 32 }
@@ -47,7 +46,7 @@ fn screen_left(line: &VisualLine<'_>, width: u16, print: &Print) -> usize
     }
 }
 
-// The same where no line is, by the level that one would have.
+// The same for a line that does not exist yet, by its level.
 fn empty_left(level: u8, width: u16, print: &Print) -> usize
     ensures value { result ≡ empty_left print.now width level }
     ensures fits { result < 2 ^ 32 }
@@ -95,7 +94,7 @@ fn is_odd_level(line: &VisualLine<'_>, k: usize) -> bool
     }
 }
 
-// The character at a line's column of the screen.
+// Returns the character at a column of the screen in a line.
 fn screen_hit<S: ParagraphStore<Kept>>(
     session: &Session<S>,
     print: &Print,
@@ -153,7 +152,7 @@ fn size_answer<S: ParagraphStore<Kept>>(session: &Session<S>) -> Answer
     ])
 }
 
-// Writes so many lines, from one on, after so many bytes.
+// Writes `count` lines from line `first` on, after `written` bytes.
 fn write_lines<W: Sink, S: ParagraphStore<Kept>>(
     session: &Session<S>,
     writer: &mut W,
@@ -181,7 +180,7 @@ fn write_lines<W: Sink, S: ParagraphStore<Kept>>(
     }
 }
 
-// Writes so many characters, from a position on, after so many bytes.
+// Writes `count` characters from a position on, after `written` bytes.
 fn write_part<W: Sink, S: ParagraphStore<Kept>>(
     session: &Session<S>,
     writer: &mut W,
@@ -208,7 +207,8 @@ fn write_part<W: Sink, S: ParagraphStore<Kept>>(
     write_bytes(writer, part, b"\n")
 }
 
-/// Writes the answer to a query after so many bytes. It takes memory for the cluster of a character alone.
+/// Writes the reply to a query after `written` bytes, and returns the total. Allocates only for a query for
+/// the grapheme cluster of a character.
 pub fn write_query<W: Sink, S: ParagraphStore<Kept>>(
     session: &Session<S>,
     writer: &mut W,

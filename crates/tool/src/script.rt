@@ -1,5 +1,5 @@
-//! The run of an edit script: its bytes are read piece by piece, each line is executed as soon as its end was
-//! read, and its answer is written before more is read.
+//! Runs an edit script. Its bytes are read in chunks, each line is executed as soon as its end was read, and
+//! its reply is written before more is read.
 ghost use Rattle.std.specs.Prelude.{◌≡◌, ◌+◌, ◌-◌, ◌<◌, ◌≤◌, ◌++◌, ◌^◌, ◌∷◌, ◌⊎◌, [], true, false};
 ghost use Rattle.std.specs.Prelude.{None, Ok};
 ghost use Rattle.std.specs.Prelude.{length, nat_lt, take, drop, vec_capacity, vec_len, option_map};
@@ -33,24 +33,24 @@ use store::ParagraphStore;
 use stream::{CHUNK, front, push_characters, zeroed};
 use text_run::RunFault;
 
-/// How many bytes a line may have, without its end.
+/// The maximum length of a line in bytes, without its end.
 pub const LINE_LIMIT: usize = 1_048_576;
 
-/// What the run of a script goes by.
+/// Options for running a script.
 #[derive(Clone, Copy, Debug, PartialEq, Eq)]
 pub struct ScriptOptions {
-    /// What is printed of lines.
+    /// What is printed of each line of the text.
     pub print: Print,
     /// Whether lines of the script may be queries.
     pub queries: bool,
 }
 
-/// What a run holds between two reads.
+/// What a run keeps between two reads.
 #[derive(Debug)]
 struct Reading {
-    // The bytes after the last end of a line.
+    // The bytes after the last line end.
     line: Vec<u8>,
-    // How many lines were executed, and how many bytes are written.
+    // The number of lines executed, and the number of bytes written.
     lines: u64,
     written: u64,
     // The characters of a line, and the text of an insert.
@@ -70,7 +70,7 @@ impl Drop for Reading {
     }
 }
 
-// Sets the width of a session, if it is a width.
+// Sets the width of a session. Fails with `WidthOutOfRange` if it has more than 16 bits.
 fn set_width<S: ParagraphStore<Kept>>(
     session: &mut Session<S>,
     width: usize,
@@ -121,7 +121,7 @@ fn delete<S: ParagraphStore<Kept>>(
     session.delete(pos, count)
 }
 
-// Writes the answer to an edit after so many bytes.
+// Writes the reply to an edit after `written` bytes.
 fn write_answer<W: Sink>(
     writer: &mut W,
     written: u64,
@@ -137,7 +137,7 @@ fn write_answer<W: Sink>(
     write_bytes(writer, written, &answer_of(edit))
 }
 
-// Writes all lines after so many bytes.
+// Writes all lines after `written` bytes.
 fn show<W: Sink, S: ParagraphStore<Kept>>(
     session: &Session<S>,
     writer: &mut W,
@@ -157,7 +157,7 @@ fn show<W: Sink, S: ParagraphStore<Kept>>(
     }
 }
 
-// Answers a query after so many bytes.
+// Replies to a query after `written` bytes.
 fn ask<W: Sink, S: ParagraphStore<Kept>>(
     session: &Session<S>,
     writer: &mut W,
@@ -186,7 +186,7 @@ fn lacks_memory(edit: &Result<Damage, EditFault>) -> bool
     }
 }
 
-// Executes a line, and writes its answer after so many bytes.
+// Executes a command, and writes its reply after `written` bytes.
 fn execute<W: Sink, S: ParagraphStore<Kept>>(
     session: &mut Session<S>,
     writer: &mut W,
@@ -220,9 +220,10 @@ fn execute<W: Sink, S: ParagraphStore<Kept>>(
     write_answer(writer, written, &edit)
 }
 
-// What the bytes of a line ask for, if they are a line of a script. Whether they are UTF-8 is told
-// before there is need of memory, which is taken for their characters and for the text of an insert, as
-// these are put into `text` and `piece`.
+// Parses the bytes of a line. Returns `None` if they are not a line of a script.
+//
+// Stores its characters in `text`, and the text of an insert in `piece`. Checks that the bytes are UTF-8
+// before it allocates.
 fn read_line(
     queries: bool,
     line: &[u8],
@@ -292,8 +293,8 @@ fn execute_line<W: Sink, S: ParagraphStore<Kept>>(
     }
 }
 
-// Adds bytes to the beginning of a line, unless it is too long with them, which is told before there
-// is need of memory.
+// Adds bytes to the beginning of a line, unless the line is too long with them, which fails with `BadLine`
+// before anything is allocated.
 fn grow(reading: &mut Reading, bytes: &[u8]) -> Result<(), RunFault>
     requires { reading.old.lines < 2 ^ 64 - 1 }
     ensures ok { OnOk result (Grows bytes.now reading.old reading.new) }
@@ -316,7 +317,7 @@ fn is_too_long(line: &[u8], more: &[u8]) -> bool
     line.len() > LINE_LIMIT || more.len() > LINE_LIMIT - line.len()
 }
 
-// Where the first end of a line stands.
+// Returns the index of the first line end.
 fn line_end(piece: &[u8]) -> Option<usize>
     ensures { MatchOption result (NoEnd piece.now) (λ n. (n < length piece.now)
         × EndsIn piece.now (take n piece.now) (drop (n + 1) piece.now)) }
@@ -324,8 +325,8 @@ fn line_end(piece: &[u8]) -> Option<usize>
     piece.iter().position(|&b| b == b'\n')
 }
 
-// Takes the bytes of a piece up to the first end of a line, and executes the line; or, where none ends there,
-// takes all of them. Says how many it took.
+// Takes the bytes of a chunk up to the first line end, and executes the line. Takes all of them if no line
+// ends there. Returns how many it took.
 fn take_part<W: Sink, S: ParagraphStore<Kept>>(
     session: &mut Session<S>,
     writer: &mut W,
@@ -359,7 +360,7 @@ fn take_part<W: Sink, S: ParagraphStore<Kept>>(
     }
 }
 
-// Executes the lines that end in a piece, and keeps what stands after them.
+// Executes the lines that end in a chunk, and keeps the bytes after them.
 fn feed<W: Sink, S: ParagraphStore<Kept>>(
     session: &mut Session<S>,
     writer: &mut W,
@@ -375,7 +376,7 @@ fn feed<W: Sink, S: ParagraphStore<Kept>>(
         → Feeds (rules_of session.old.engine) options.now start reader_start writer_start reader_now
         (W.state writer.new) session.new reading.new result }
 
-    // Memory is wanted for one line, after those that were executed.
+    // If an allocation fails, it is for one line, after those that were executed.
     ensures wants { (start : SessionState) (reader_start writer_start reader_now : Device)
         → IsAt (rules_of session.old.engine) options.now start reader_start reader_now
         writer_start (W.state writer.old) session.old reading.old piece.now
@@ -394,7 +395,7 @@ fn feed<W: Sink, S: ParagraphStore<Kept>>(
     Ok(())
 }
 
-// Ends a script of which no more comes: what stands after the last end is a line too, unless it is empty.
+// Ends a script that has no more bytes. What follows the last line end is a line too, unless it is empty.
 fn finish<W: Sink, S: ParagraphStore<Kept>>(
     session: &mut Session<S>,
     writer: &mut W,
@@ -410,7 +411,7 @@ fn finish<W: Sink, S: ParagraphStore<Kept>>(
         → IsScriptRun (rules_of session.old.engine) options.now start session.new reader_start reader_now
         writer_start (W.state writer.new) result }
 
-    // Memory is wanted for the last line alone, where there is one.
+    // Allocation fails only for the last line, if there is one.
     ensures memory { IsErrOf result RunFault.Memory → (0 < length reading.old.line.items)
         × FailsAt (rules_of session.old.engine) options.now reading.old.line.items
         reading.new reading.old.lines reading.old.written (held_at session.old)
@@ -423,7 +424,7 @@ fn finish<W: Sink, S: ParagraphStore<Kept>>(
     execute_line(session, writer, options, reading)
 }
 
-// Reads a piece, and executes the lines that end in it. Says whether the script goes on.
+// Reads a chunk, and executes the lines that end in it. Returns whether the script goes on.
 fn step<R: Source, W: Sink, S: ParagraphStore<Kept>>(
     reader: &mut R,
     writer: &mut W,
@@ -443,8 +444,8 @@ fn step<R: Source, W: Sink, S: ParagraphStore<Kept>>(
         (R.state reader.new) (W.state writer.new) session.new reading.new result }
     ensures reads { TellsReads result (R.state reader.old) (R.state reader.new) }
 
-    // Memory is wanted for one line, after those that were executed; where no more was read, for the line that
-    // stands at the end, if one does.
+    // If an allocation fails, it is for one line, after those that were executed. If no more was read, it is
+    // for the line at the end, which is not empty.
     ensures wants { (start : SessionState) (reader_start writer_start : Device)
         → IsAt (rules_of session.old.engine) options.now start reader_start (R.state reader.old)
         writer_start (W.state writer.old) session.old reading.old []
@@ -501,11 +502,14 @@ pub fn run_script<R: Source, W: Sink, S: ParagraphStore<Kept> + Drop>(
 }
 
 /// Runs an edit script over a session. Each line is executed as soon as its end was read, and its reply is
-/// written before more is read. No more of the script is held than one line and one chunk.
+/// written before more is read. No more of the script is kept in memory than one line and one chunk.
 ///
 /// However the run ends, the session has made the edits of the lines that were replied to, and of the line
-/// whose reply failed to be written. It has worked no more than these lines require. Out of memory is
-/// reported only while a line is read or its edit is made, and then that line changes nothing.
+/// whose reply failed to be written. Its work is at most what these lines, and the line at which the run
+/// ended, require.
+///
+/// Fails with `Memory` only before anything is read, or while a line is read or executed. That line then
+/// changes nothing, and no byte of its reply is written.
 pub fn run_script_in<R: Source, W: Sink, S: ParagraphStore<Kept>>(
     alloc: Global,
     reader: &mut R,

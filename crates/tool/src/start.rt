@@ -1,4 +1,4 @@
-//! The text that a script begins with, as a session.
+//! Opens a session on the text that a script starts with.
 ghost use Rattle.std.specs.Prelude.{◌≡◌, ◌<◌, IfOk, IfErr};
 ghost use Rattle.lines.specs.Engine.{rules_of};
 ghost use Rattle.tool.specs.Starts.{IsStartFault, Starts, start_fault};
@@ -10,7 +10,10 @@ use store::ParagraphStore;
 use stream::front;
 use text_run::RunFault;
 
-/// A session on the text that some bytes are, at a width in columns, which is not 0.
+/// Opens a session on a text, given as bytes, at a width in columns, which must not be 0.
+///
+/// Fails with the first of `NotUtf8`, `TextTooLong` and `ParagraphTooLong` that applies. Fails with `Memory`
+/// only if none does.
 pub fn open_text<S: ParagraphStore<Kept> + Drop>(
     alloc: Global,
     engine: Engine,
