@@ -123,13 +123,13 @@ fn all_start_by(alloc: Global, nobreak: bool, rows: &[(&str, u16, &[u32])]) -> R
 }
 
 #[test]
-fn line_starts_of_rows(rt: HostRuntime) -> Result<(), Fail> {
+fn lines_end_at_breaks_or_when_the_width_is_full(rt: HostRuntime) -> Result<(), Fail> {
     assert!(rt; all_start_by(rt.alloc(), false, &STARTS)?);
     Ok(())
 }
 
 #[test]
-fn line_starts_at_mandatory_breaks(rt: HostRuntime) -> Result<(), Fail> {
+fn nobreak_ends_lines_at_mandatory_breaks_only(rt: HostRuntime) -> Result<(), Fail> {
     assert!(rt; all_start_by(rt.alloc(), true, &STARTS_AT_MANDATORY_BREAKS)?);
     Ok(())
 }
@@ -151,7 +151,7 @@ fn gives_a_line_to_each(alloc: Global, engine: &mut Engine) -> Result<bool, Fail
 }
 
 #[test]
-fn longest_paragraph_at_the_least_width(rt: HostRuntime) -> Result<(), Fail> {
+fn longest_paragraph_at_width_one_has_a_line_per_letter(rt: HostRuntime) -> Result<(), Fail> {
     let mut engine = engine(rt.alloc(), false)?;
     let result = gives_a_line_to_each(rt.alloc(), &mut engine);
     drop(engine);
@@ -204,7 +204,7 @@ fn fills_twice(alloc: Global, engine: &mut Engine) -> Result<bool, Fail> {
 }
 
 #[test]
-fn paragraph_at_two_widths(rt: HostRuntime) -> Result<(), Fail> {
+fn lines_at_another_width_are_exchanged_and_exchanged_back(rt: HostRuntime) -> Result<(), Fail> {
     let mut engine = engine(rt.alloc(), false)?;
     let result = fills_twice(rt.alloc(), &mut engine);
     drop(engine);
@@ -271,7 +271,7 @@ fn reflows_paragraph(alloc: Global, engine: &mut Engine) -> Result<bool, Fail> {
 }
 
 #[test]
-fn paragraph_reflowed(rt: HostRuntime) -> Result<(), Fail> {
+fn reflow_gives_the_lines_at_each_width(rt: HostRuntime) -> Result<(), Fail> {
     let mut engine = engine(rt.alloc(), false)?;
     let result = reflows_paragraph(rt.alloc(), &mut engine);
     drop(engine);
@@ -290,7 +290,7 @@ fn has(laid: &Laid, levels: &[u8], marks: &[Mark]) -> bool {
 }
 
 #[test]
-fn cuts_of_an_engine(rt: HostRuntime) -> Result<(), Fail> {
+fn engine_cuts_after_a_newline_and_not_before_it(rt: HostRuntime) -> Result<(), Fail> {
     let engine = engine(rt.alloc(), false)?;
     let are_right = [engine.is_cut('\n', 'a'), !engine.is_cut('a', '\n')];
     drop(engine);
@@ -306,7 +306,7 @@ fn has_parts(alloc: Global, engine: &mut Engine) -> Result<bool, Fail> {
 }
 
 #[test]
-fn parts_of_a_paragraph(rt: HostRuntime) -> Result<(), Fail> {
+fn layout_has_its_text_base_levels_and_marks(rt: HostRuntime) -> Result<(), Fail> {
     let mut engine = engine(rt.alloc(), false)?;
     let result = has_parts(rt.alloc(), &mut engine);
     drop(engine);
@@ -372,7 +372,7 @@ fn shows_paragraph(alloc: Global, engine: &mut Engine) -> Result<bool, Fail> {
 }
 
 #[test]
-fn lines_as_they_are_shown(rt: HostRuntime) -> Result<(), Fail> {
+fn lines_are_shown_mirrored_and_without_their_last_space(rt: HostRuntime) -> Result<(), Fail> {
     let mut engine = engine(rt.alloc(), false)?;
     let result = shows_paragraph(rt.alloc(), &mut engine);
     drop(engine);

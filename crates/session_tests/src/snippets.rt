@@ -16,7 +16,7 @@ fn write(rt: &impl Abort, room: &mut [u8]) {
 }
 
 #[test]
-fn sinks(rt: HostRuntime) {
+fn write_past_the_end_of_a_sink_returns_the_bytes_taken(rt: HostRuntime) {
     write(&rt, &mut [0; 4]);
 }
 
@@ -46,7 +46,7 @@ fn lay_out_text(rt: &impl Abort, alloc: Global, engine: &mut Engine) -> Result<(
 }
 
 #[test]
-fn paragraphs(rt: HostRuntime) -> Result<(), Fail> {
+fn hebrew_in_brackets_is_shown_reversed_on_its_own_line(rt: HostRuntime) -> Result<(), Fail> {
     let mut engine = engine(rt.alloc(), &FILES, Options::default())?;
     let result = lay_out_text(&rt, rt.alloc(), &mut engine);
     drop(engine);
@@ -82,6 +82,6 @@ fn edit_text(rt: &impl Abort, alloc: Global) -> Result<(), Fail> {
 }
 
 #[test]
-fn edits(rt: HostRuntime) -> Result<(), Fail> {
+fn damage_lines_and_carets_follow_each_edit(rt: HostRuntime) -> Result<(), Fail> {
     edit_text(&rt, rt.alloc())
 }

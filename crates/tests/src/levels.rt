@@ -399,7 +399,7 @@ fn all_resolve(
 }
 
 #[test]
-fn levels_of_separators(rt: HostRuntime) -> Result<(), Fail> {
+fn separators_have_the_base_level(rt: HostRuntime) -> Result<(), Fail> {
     let tables = read(rt.alloc(), &FILES)?;
     let result = all_resolve(rt.alloc(), &tables, &SEPARATED);
     drop(tables);
@@ -540,7 +540,7 @@ fn are_of_rows(alloc: Global, rows: &[ListRow]) -> Result<bool, AllocError> {
 }
 
 #[test]
-fn levels_of_lists(rt: HostRuntime) -> Result<(), Fail> {
+fn levels_follow_from_classes_and_bracket_types(rt: HostRuntime) -> Result<(), Fail> {
     let result = are_of_rows(rt.alloc(), &LIST_ROWS);
     assert!(rt; result?);
     Ok(())

@@ -151,7 +151,7 @@ fn check_numbers(
 }
 
 #[test]
-fn marks_of_rows(rt: HostRuntime) -> Result<(), Fail> {
+fn texts_have_their_break_marks(rt: HostRuntime) -> Result<(), Fail> {
     let tables = read(rt.alloc(), &FILES)?;
     let result = check_each(&rt, rt.alloc(), &tables, &ROWS);
     drop(tables);
@@ -171,12 +171,12 @@ fn check_numbers_by(
 }
 
 #[test]
-fn marks_of_numbers(rt: HostRuntime) -> Result<(), Fail> {
+fn numbers_have_their_marks_with_and_without_whole_numbers(rt: HostRuntime) -> Result<(), Fail> {
     check_numbers_by(&rt, rt.alloc(), &FILES, &NUMBERS)
 }
 
 #[test]
-fn marks_of_signs(rt: HostRuntime) -> Result<(), Fail> {
+fn signs_stay_with_numbers_except_across_a_space(rt: HostRuntime) -> Result<(), Fail> {
     let files = UcdFiles {
         line_break: b"0020;SP\n002D;HY\n0030..0039;NU\n00A0;GL\n00B0;PO\n20AC;PR",
         ..FILES
@@ -203,7 +203,7 @@ fn check_pictograph(
 
 // There is no break between an unassigned pictograph and a modifier.
 #[test]
-fn marks_after_pictographs(rt: HostRuntime) -> Result<(), Fail> {
+fn modifier_stays_with_an_unassigned_pictograph_only(rt: HostRuntime) -> Result<(), Fail> {
     for (categories, want) in &PICTOGRAPHS {
         check_pictograph(&rt, rt.alloc(), categories, want)?;
     }

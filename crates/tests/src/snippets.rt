@@ -21,7 +21,7 @@ fn look_up(rt: &impl Abort, alloc: Global, files: &UcdFiles<'_>) -> Result<(), T
 }
 
 #[test]
-fn look_ups(rt: HostRuntime) -> Result<(), Fail> {
+fn characters_have_their_classes_and_mirrors(rt: HostRuntime) -> Result<(), Fail> {
     Ok(look_up(&rt, rt.alloc(), &FILES)?)
 }
 
@@ -33,7 +33,7 @@ fn find_levels(rt: &impl Abort, alloc: Global, tables: &Tables) -> Result<(), Al
 }
 
 #[test]
-fn levels(rt: HostRuntime) -> Result<(), Fail> {
+fn latin_after_hebrew_in_brackets_has_level_two(rt: HostRuntime) -> Result<(), Fail> {
     let tables = read(rt.alloc(), &FILES)?;
     let result = find_levels(&rt, rt.alloc(), &tables);
     drop(tables);
@@ -55,7 +55,7 @@ fn order_line(rt: &impl Abort, alloc: Global, tables: &Tables) -> Result<(), All
 }
 
 #[test]
-fn line_order(rt: HostRuntime) -> Result<(), Fail> {
+fn line_is_reversed_and_mirrored_up_to_its_last_space(rt: HostRuntime) -> Result<(), Fail> {
     let tables = read(rt.alloc(), &FILES)?;
     let result = order_line(&rt, rt.alloc(), &tables);
     drop(tables);
@@ -71,7 +71,7 @@ fn find_marks(rt: &impl Abort, alloc: Global, tables: &Tables) -> Result<(), All
 }
 
 #[test]
-fn break_marks(rt: HostRuntime) -> Result<(), Fail> {
+fn break_is_allowed_after_a_space_and_required_at_the_end(rt: HostRuntime) -> Result<(), Fail> {
     let tables = read(rt.alloc(), &FILES)?;
     let result = find_marks(&rt, rt.alloc(), &tables);
     drop(tables);
@@ -113,6 +113,6 @@ fn find(rt: &impl Abort, store: &TreeStore<Paragraph>) {
 }
 
 #[test]
-fn searches(rt: HostRuntime) -> Result<(), Fail> {
+fn find_line_2_is_line_1_of_the_second_paragraph(rt: HostRuntime) -> Result<(), Fail> {
     Ok(search(&rt, rt.alloc())?)
 }

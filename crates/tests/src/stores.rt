@@ -370,7 +370,7 @@ fn check_rows<S: ParagraphStore<Item>, T: ParagraphStore<Item>>(
 }
 
 #[test]
-fn ranges_and_lists_that_are_empty_or_whole(rt: HostRuntime) -> Result<(), Fail> {
+fn both_stores_agree_after_empty_and_whole_replacements(rt: HostRuntime) -> Result<(), Fail> {
     Ok(check_stores(&rt, rt.alloc(), Check::Rows)?)
 }
 
@@ -393,7 +393,7 @@ fn replace_at_random<S: ParagraphStore<Item>, T: ParagraphStore<Item>>(
 }
 
 #[test]
-fn random_replacements(rt: HostRuntime) -> Result<(), Fail> {
+fn both_stores_agree_after_random_replacements(rt: HostRuntime) -> Result<(), Fail> {
     Ok(check_stores(&rt, rt.alloc(), Check::Random)?)
 }
 
@@ -422,7 +422,7 @@ fn check_names<S: ParagraphStore<Item>, T: ParagraphStore<Item>>(
 }
 
 #[test]
-fn three_items_by_two(rt: HostRuntime) -> Result<(), Fail> {
+fn two_items_take_the_place_of_three(rt: HostRuntime) -> Result<(), Fail> {
     Ok(check_stores(&rt, rt.alloc(), Check::ThreeByTwo)?)
 }
 
@@ -481,7 +481,7 @@ fn exchange_both<S: ParagraphStore<Item>, T: ParagraphStore<Item>>(
 }
 
 #[test]
-fn exchanges_in_order(rt: HostRuntime) -> Result<(), Fail> {
+fn parts_are_exchanged_in_the_order_of_the_items(rt: HostRuntime) -> Result<(), Fail> {
     Ok(check_stores(&rt, rt.alloc(), Check::Exchanges)?)
 }
 
@@ -523,7 +523,7 @@ fn check_thousand<S: ParagraphStore<Item>, T: ParagraphStore<Item>>(
 }
 
 #[test]
-fn a_thousand_items(rt: HostRuntime) -> Result<(), Fail> {
+fn tree_visits_at_most_19_of_1000_items_and_list_all(rt: HostRuntime) -> Result<(), Fail> {
     Ok(check_stores(&rt, rt.alloc(), Check::Thousand)?)
 }
 
@@ -540,7 +540,7 @@ fn check_million<S: ParagraphStore<Item>>(
 
 // Dropping a tree recurses no deeper than its height.
 #[test]
-fn a_million_items(rt: HostRuntime) -> Result<(), Fail> {
+fn tree_visits_at_most_39_of_a_million_items(rt: HostRuntime) -> Result<(), Fail> {
     Ok(check_stores(&rt, rt.alloc(), Check::Million)?)
 }
 

@@ -147,14 +147,14 @@ fn check_rows(rt: &impl Abort, tables: &Tables, rows: &[Row]) {
 }
 
 #[test]
-fn look_ups_of_rows(rt: HostRuntime) -> Result<(), Fail> {
+fn characters_have_their_listed_properties(rt: HostRuntime) -> Result<(), Fail> {
     let tables = read(rt.alloc(), &FILES)?;
     check_rows(&rt, &tables, &ROWS);
     Ok(())
 }
 
 #[test]
-fn classes_by_name(rt: HostRuntime) {
+fn names_give_their_classes_and_other_names_none(rt: HostRuntime) {
     assert!(rt; Bidi::from_name(b"NSM") == Some(Bidi::NSM));
     assert!(rt; Line::from_name(b"B2") == Some(Line::B2));
     assert!(rt; Line::from_name(b"NSM") == None);
@@ -220,7 +220,7 @@ fn check_order(rt: &impl Abort, alloc: Global, is_reversed: bool) -> Result<(), 
 
 // The order of the lines makes no difference.
 #[test]
-fn lines_in_order_and_reversed(rt: HostRuntime) -> Result<(), Fail> {
+fn order_of_lines_makes_no_difference(rt: HostRuntime) -> Result<(), Fail> {
     check_order(&rt, rt.alloc(), false)?;
     check_order(&rt, rt.alloc(), true)
 }
@@ -256,7 +256,7 @@ static ENDS: [(char, Bidi); 8] = [
 
 // The first and the last character, and a range over the surrogates, which are no characters.
 #[test]
-fn ends_of_all_characters(rt: HostRuntime) -> Result<(), Fail> {
+fn lines_reach_both_ends_and_across_the_surrogates(rt: HostRuntime) -> Result<(), Fail> {
     let lines = b"10FFFF;AL\nD7FF..E000;R\nD800..DFFF;EN\n0000;ON";
     assert!(rt; has_classes(rt.alloc(), &only(1, lines), &ENDS)?);
     Ok(())
@@ -276,7 +276,7 @@ static CLASSES: [(char, Bidi); 4] = [
 ];
 
 #[test]
-fn classes_of_a_file(rt: HostRuntime) -> Result<(), Fail> {
+fn surrogates_are_ignored_and_so_is_a_last_carriage_return(rt: HostRuntime) -> Result<(), Fail> {
     assert!(rt; has_classes(rt.alloc(), &FILES_OF_CLASSES, &CLASSES)?);
     Ok(())
 }
@@ -318,13 +318,13 @@ fn check_faults(rt: &impl Abort, alloc: Global, rows: &[(usize, &[u8], usize, Ca
 }
 
 #[test]
-fn faults_of_lines(rt: HostRuntime) {
+fn faulty_lines_are_refused_with_their_cause(rt: HostRuntime) {
     check_faults(&rt, rt.alloc(), &FAULTS);
 }
 
 // The first faulty line of the first faulty file is reported.
 #[test]
-fn first_fault_of_all(rt: HostRuntime) {
+fn first_faulty_line_of_the_first_faulty_file_is_reported(rt: HostRuntime) {
     let files = UcdFiles {
         bidi_class: b"0041;L\n0041;R",
         bidi_brackets: b"0028; 0029",
@@ -347,7 +347,7 @@ fn names_pictograph(alloc: Global, lines: &[u8]) -> Result<bool, TableFault> {
 // Lines of another property name no characters, so they may be repeated. Those of Extended_Pictographic may
 // not.
 #[test]
-fn emoji_named_again(rt: HostRuntime) -> Result<(), Fail> {
+fn only_extended_pictographic_is_refused_when_repeated(rt: HostRuntime) -> Result<(), Fail> {
     let lines = b"00A9;Emoji\n00A9;Emoji\n00A9;Extended_Pictographic";
     assert!(rt; names_pictograph(rt.alloc(), lines)?);
     let lines = b"00A9;Extended_Pictographic\n00A9;Extended_Pictographic";
@@ -370,7 +370,7 @@ fn shows_as(alloc: Global, fault: TableFault, want: &str) -> Result<bool, AllocE
 }
 
 #[test]
-fn faults_as_text(rt: HostRuntime) -> Result<(), Fail> {
+fn faults_are_shown_with_file_line_and_cause(rt: HostRuntime) -> Result<(), Fail> {
     let fault = TableFault {
         file: 7,
         line: 12,

@@ -175,19 +175,19 @@ fn all_ordered(
 }
 
 #[test]
-fn marks_in_reading_order(rt: HostRuntime) -> Result<(), Fail> {
+fn reordernsm_puts_marks_after_their_bases(rt: HostRuntime) -> Result<(), Fail> {
     assert!(rt; all_ordered(rt.alloc(), &FILES, READ, &READ_ROWS)?);
     Ok(())
 }
 
 #[test]
-fn marks_in_front_of_their_bases(rt: HostRuntime) -> Result<(), Fail> {
+fn marks_are_in_front_of_their_bases_without_reordernsm(rt: HostRuntime) -> Result<(), Fail> {
     assert!(rt; all_ordered(rt.alloc(), &FILES, REVERSED, &REVERSED_ROWS)?);
     Ok(())
 }
 
 #[test]
-fn marks_at_an_even_level(rt: HostRuntime) -> Result<(), Fail> {
+fn marks_at_an_even_level_are_after_their_bases(rt: HostRuntime) -> Result<(), Fail> {
     let options = Options {
         base: Base::Rtl,
         ..READ
@@ -197,13 +197,13 @@ fn marks_at_an_even_level(rt: HostRuntime) -> Result<(), Fail> {
 }
 
 #[test]
-fn points_in_reading_order(rt: HostRuntime) -> Result<(), Fail> {
+fn reordernsm_puts_hebrew_points_after_their_letters(rt: HostRuntime) -> Result<(), Fail> {
     assert!(rt; all_ordered(rt.alloc(), &POINTS, READ, &POINT_ROWS)?);
     Ok(())
 }
 
 #[test]
-fn marks_in_reading_order_printed(rt: HostRuntime) -> Result<(), Fail> {
+fn marks_are_printed_after_their_bases_with_reordernsm(rt: HostRuntime) -> Result<(), Fail> {
     let mut engine = engine(rt.alloc(), &FILES, READ)?;
     let result = are_printed(rt.alloc(), &mut engine, &PRINTED);
     drop(engine);

@@ -188,7 +188,7 @@ pub(super) fn are_printed(
 }
 
 #[test]
-fn paragraphs_printed_each_way(rt: HostRuntime) -> Result<(), Fail> {
+fn each_way_of_printing_gives_the_same_bytes(rt: HostRuntime) -> Result<(), Fail> {
     let mut engine = engine(rt.alloc(), false)?;
     let result = are_printed(rt.alloc(), &mut engine, &ROWS);
     drop(engine);

@@ -55,7 +55,7 @@ fn writes_rows(alloc: Global, engine: &mut Engine) -> Result<bool, Fail> {
 
 // A line of a right-to-left letter, a bracket and two digits.
 #[test]
-fn bytes_of_a_line(rt: HostRuntime) -> Result<(), Fail> {
+fn line_is_written_whole_or_up_to_the_writers_failure(rt: HostRuntime) -> Result<(), Fail> {
     let mut engine = engine(rt.alloc(), false)?;
     let result = writes_rows(rt.alloc(), &mut engine);
     drop(engine);

@@ -187,6 +187,6 @@ pub(super) fn check_hits<S: ParagraphStore<Kept> + Drop, T: ParagraphStore<Kept>
 }
 
 #[test]
-fn hits_of_rows(rt: HostRuntime) -> Result<(), Fail> {
+fn hits_columns_clusters_and_carets_are_as_listed(rt: HostRuntime) -> Result<(), Fail> {
     check_in_tree(&rt, rt.alloc(), Check::Hits)
 }

@@ -163,11 +163,11 @@ pub(super) fn check_parts<S: ParagraphStore<Kept> + Drop, T: ParagraphStore<Kept
 }
 
 #[test]
-fn lines_and_parts(rt: HostRuntime) -> Result<(), Fail> {
+fn ranges_give_their_lines_and_text_if_they_exist(rt: HostRuntime) -> Result<(), Fail> {
     check_in_tree(&rt, rt.alloc(), Check::Parts)
 }
 
 #[test]
-fn parts_replaced(rt: HostRuntime) -> Result<(), Fail> {
+fn replace_changes_a_range_and_returns_its_damage(rt: HostRuntime) -> Result<(), Fail> {
     check_in_tree(&rt, rt.alloc(), Check::Replaced)
 }

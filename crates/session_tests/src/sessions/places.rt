@@ -113,6 +113,6 @@ pub(super) fn check_rows<S: ParagraphStore<Kept> + Drop, T: ParagraphStore<Kept>
 }
 
 #[test]
-fn places_of_rows(rt: HostRuntime) -> Result<(), Fail> {
+fn positions_have_their_paragraph_line_and_offset(rt: HostRuntime) -> Result<(), Fail> {
     check_in_tree(&rt, rt.alloc(), Check::Places)
 }

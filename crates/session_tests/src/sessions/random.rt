@@ -275,11 +275,11 @@ pub(super) fn check_edits<S: ParagraphStore<Kept> + Drop, T: ParagraphStore<Kept
 }
 
 #[test]
-fn edits_at_random_in_a_tree(rt: HostRuntime) -> Result<(), Fail> {
+fn random_edits_in_a_tree_equal_a_fresh_layout(rt: HostRuntime) -> Result<(), Fail> {
     check_in_tree(&rt, rt.alloc(), Check::Random(15))
 }
 
 #[test]
-fn edits_at_random_in_a_list(rt: HostRuntime) -> Result<(), Fail> {
+fn random_edits_in_a_list_equal_a_fresh_layout(rt: HostRuntime) -> Result<(), Fail> {
     check_over::<VecStore<Kept>, VecStore<Kept>>(&rt, rt.alloc(), Check::Random(16))
 }

@@ -44,7 +44,7 @@ pub(super) fn check_refused<S: ParagraphStore<Kept> + Drop, T: ParagraphStore<Ke
 }
 
 #[test]
-fn edits_that_are_refused(rt: HostRuntime) -> Result<(), Fail> {
+fn refused_edits_leave_the_session_unchanged(rt: HostRuntime) -> Result<(), Fail> {
     check_in_tree(&rt, rt.alloc(), Check::Refusals)
 }
 
@@ -84,7 +84,7 @@ fn check_open(
 }
 
 #[test]
-fn sessions_that_are_refused(rt: HostRuntime) -> Result<(), Fail> {
+fn open_refuses_a_width_of_zero_and_text_that_is_too_long(rt: HostRuntime) -> Result<(), Fail> {
     let alloc = rt.alloc();
     check_open(&rt, alloc, 16_777_217, 0, EditFault::WidthOutOfRange)?;
     check_open(&rt, alloc, 16_777_217, 80, EditFault::TextTooLong)?;
@@ -124,7 +124,7 @@ fn becomes_full<S: ParagraphStore<Kept>>(
 }
 
 #[test]
-fn edits_of_long_paragraphs(rt: HostRuntime) -> Result<(), Fail> {
+fn insert_that_makes_a_paragraph_too_long_is_refused(rt: HostRuntime) -> Result<(), Fail> {
     let mut edited: Session<VecStore<Kept>> = session(rt.alloc(), "ab\ncd", 80)?;
     let result = becomes_full(rt.alloc(), &mut edited);
     drop(edited);
@@ -154,7 +154,7 @@ fn edits_show_as(alloc: Global, rows: &[(EditFault, &str)]) -> Result<bool, Allo
 }
 
 #[test]
-fn faults_of_edits_as_text(rt: HostRuntime) -> Result<(), Fail> {
+fn edit_faults_are_shown_as_their_messages(rt: HostRuntime) -> Result<(), Fail> {
     assert!(rt; edits_show_as(rt.alloc(), &MESSAGES)?);
     Ok(())
 }
@@ -168,7 +168,7 @@ fn print_shows_as(alloc: Global, fault: PrintFault, want: &str) -> Result<bool, 
 }
 
 #[test]
-fn faults_of_writing_as_text(rt: HostRuntime) -> Result<(), Fail> {
+fn range_and_print_faults_are_shown_as_their_messages(rt: HostRuntime) -> Result<(), Fail> {
     let write = WriteFault { written: 3 };
     let after = "cannot write after 3 bytes";
     assert!(rt; range_shows_as(rt.alloc(), RangeFault::OutOfRange, "out of range")?);

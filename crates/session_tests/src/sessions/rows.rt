@@ -205,7 +205,7 @@ pub(super) fn check_rows<S: ParagraphStore<Kept> + Drop, T: ParagraphStore<Kept>
 }
 
 #[test]
-fn edits_of_rows(rt: HostRuntime) -> Result<(), Fail> {
+fn each_edit_returns_its_damage_and_changes_the_text(rt: HostRuntime) -> Result<(), Fail> {
     check_in_tree(&rt, rt.alloc(), Check::Rows)
 }
 
@@ -301,7 +301,7 @@ pub(super) fn check_all_steps<S: ParagraphStore<Kept> + Drop, T: ParagraphStore<
 }
 
 #[test]
-fn edits_one_after_another(rt: HostRuntime) -> Result<(), Fail> {
+fn printed_lines_are_right_after_each_edit_in_sequence(rt: HostRuntime) -> Result<(), Fail> {
     check_in_tree(&rt, rt.alloc(), Check::Steps)
 }
 
@@ -321,7 +321,7 @@ pub(super) fn check_widths<S: ParagraphStore<Kept> + Drop, T: ParagraphStore<Kep
 }
 
 #[test]
-fn widths_there_and_back(rt: HostRuntime) -> Result<(), Fail> {
+fn changes_of_width_equal_a_fresh_layout_without_analysis(rt: HostRuntime) -> Result<(), Fail> {
     check_in_tree(&rt, rt.alloc(), Check::Widths)
 }
 
@@ -357,6 +357,6 @@ pub(super) fn check_run<S: ParagraphStore<Kept> + Drop, T: ParagraphStore<Kept> 
 }
 
 #[test]
-fn runs_of_edits(rt: HostRuntime) -> Result<(), Fail> {
+fn run_makes_all_edits_but_the_refused_ones(rt: HostRuntime) -> Result<(), Fail> {
     check_in_tree(&rt, rt.alloc(), Check::Run)
 }
