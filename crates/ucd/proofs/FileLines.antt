@@ -1,4 +1,4 @@
--- A file's lines, read one after another into entries.
+-- Adding the lines of a file to entries, one by one.
 use Rattle.std.proofs.Common.{◌≡◌, ℕ, zero, suc, ◌+◌, ◌<◌, ◌≤◌, ◌==◌, nat_lt, not, Bool, true, false, ◌&&◌, List, [], ◌∷◌, ◌++◌, length, get_or, take, drop, Option, Some, None, IsSome, IfSome, option_map, Result, Ok, Err, ◌⊎◌, inl, inr, IsTrue, add-one, refl, sym, ◌∙◌, ap, subst, if◌then◌else◌, arith}
 use Rattle.std.specs.Char.{IsScalar}
 use Rattle.std.proofs.Math.Utf8.{scalar}
@@ -13,34 +13,34 @@ use Rattle.ucd.specs.Grammar.{Form, before_comment, content_of, fields_of, point
 use Rattle.ucd.specs.Entries.{covers, value_at, IsTaken, NamesSome}
 use Rattle.ucd.specs.Files.{given_by, given, or_else, value_in, line_at, HasFault, IsFirstFault, AddsReading, AddsLine, IsReadingCause, IsLineCause, HoldsFile, IsFaultFor, WantsMemoryAt}
 
--- the lines that are left
+-- the lines that have not been read
 abbrev pub lines_left : Option (List ℕ) → List (List ℕ)
 lines_left None = []
 lines_left (Some text) = lines_of text
 
--- how many bytes and ends of lines are left
+-- the bytes that have not been read, plus one if there are any lines left
 abbrev pub size_left : Option (List ℕ) → ℕ
 size_left None = 0
 size_left (Some text) = length text + 1
 
--- none of the first k lines is refused, and the entries say what they say
+-- none of the first k lines is faulty, and the entries have the values of these lines
 pub record HoldsLines {V : Type 0} (form : Form V) (lines : List (List ℕ)) (k : ℕ) (es : List (Entry V)) : Type 0 where
   pub good : (j : ℕ) (why : Cause) → j < k → ¬ (HasFault form lines j why)
   pub values : (c : ℕ) → IsScalar c → value_at es c ≡ value_in form (take k lines) c
 
--- the text that is left is its first line and the lines after that
+-- the lines of the remaining text are its first part, and the lines after it
 first_left : (text front : List ℕ) (rest : Option (List ℕ)) → lines_of text ≡ parts_of 10 front rest → lines_of text ≡ front ∷ lines_left rest
 first_left text front None is = is
 first_left text front (Some rest) is = is
 
--- what the rest of a list tells
+-- if `drop k xs` begins with `y`, then `y` is at index k, and `ys` is what follows it
 at_drop : {X : Type 0} (xs : List X) (k : ℕ) (d y : X) (ys : List X) → drop k xs ≡ y ∷ ys → (k < length xs) × (get_or xs k d ≡ y) × (drop (k + 1) xs ≡ ys)
 at_drop [] zero d y ys is = cc
 at_drop [] (suc k) d y ys is = cc
 at_drop (x ∷ xs) zero d y ys is = (omega arith, cc, cc)
 at_drop (x ∷ xs) (suc k) d y ys is = let rest = at_drop xs k d y ys is in (omega arith, rest.1, rw add-one (rw add-one at rest.2))
 
--- no line reads as want of memory
+-- reading a line never gives the cause `Memory`
 module _ {V : Type 0} (form : Form V) where
   value_reads : (first last : ℕ) (value : Option (Option V)) → ¬ (by_value form first last value ≡ Err cause.Memory)
   value_reads first last None is = cc
@@ -78,6 +78,7 @@ module _ {V : Type 0} (form : Form V) where
       go true true err = cc
       go true false err = fields_read (fields_of (content_of line)) err
 
+-- `or_else` is associative, with `None` as its unit; its result is `Some` if either argument is
 module _ {V : Type 0} (form : Form V) where
   or_else_None : (o : Option V) → or_else form o None ≡ o
   or_else_None None = refl
@@ -103,14 +104,14 @@ module _ {V : Type 0} (form : Form V) where
   value_in_push [] line c = or_else_None (given form line c)
   value_in_push (l ∷ lines) line c = ap (or_else form (given form l c)) (value_in_push lines line c) ∙ or_else_assoc (given form l c) (value_in form lines c) (given form line c)
 
-  -- a line that names the character gives it a value
+  -- a character that one of the first k lines names has a value in these lines
   value_of_line : (lines : List (List ℕ)) (k j c : ℕ) → j < k → j < length lines → IsSome (given form (line_at form lines j) c) → IsSome (value_in form (take k lines) c)
   value_of_line [] k j c lt within some = absurd (omega arith)
   value_of_line (l ∷ lines) zero j c lt within some = absurd (omega arith)
   value_of_line (l ∷ lines) (suc k) zero c lt within some = or_else_left (given form l c) (value_in form (take k lines) c) some
   value_of_line (l ∷ lines) (suc k) (suc j) c lt within some = or_else_right (given form l c) (value_in form (take k lines) c) (value_of_line lines k j c (omega arith) (omega arith) some)
 
-  -- and a character with a value is named by a line
+  -- a character that has a value in the first k lines is named by one of them
   line_of_value : (lines : List (List ℕ)) (k c : ℕ) → IsSome (value_in form (take k lines) c) → (j : ℕ) × (j < k) × IsSome (given form (line_at form lines j) c)
   line_of_value lines zero c some = absurd (false≢true some)
   line_of_value [] (suc k) c some = absurd (false≢true some)
@@ -119,7 +120,7 @@ module _ {V : Type 0} (form : Form V) where
     | inr later ↦ let line = line_of_value lines k c later in (suc line.0, omega (arith, line.1), line.2)
   ]
 
-  -- what an entry gives to a character
+  -- a line with an entry gives a character the entry's value if the entry covers it, and otherwise none
   given_entry : (e : Entry V) (c : ℕ) → IsScalar c → given_by form (Ok (Some e)) c ≡ (if covers e c then Some e.value else None)
   given_entry e c character = rw character refl
 
@@ -145,7 +146,7 @@ module _ {V : Type 0} (form : Form V) where
         false≢true (rw none at some)
     not_refused new (Err other) is adds why fault = absurd adds
 
-    -- the values that the line adds
+    -- adding line k gives each character its earlier value, or else the value from line k
     added : (new : List (Entry V)) (r : Result (Option (Entry V)) Cause) → AddsReading form r es new → (c : ℕ) → IsScalar c → value_at new c ≡ or_else form (value_at es c) (given_by form r c)
     added new (Ok None) adds c is = rw adds (sym (or_else_None (value_at es c)))
     added new (Ok (Some e)) adds c is = elim (cases_Bool (covers e c)) [
@@ -158,7 +159,7 @@ module _ {V : Type 0} (form : Form V) where
     ]
     added new (Err why) adds c is = absurd adds
 
-    -- the next line is read
+    -- if line k is added, the first k + 1 lines are not faulty, and the entries have their values
     one_more : (new : List (Entry V)) → AddsLine form es new (line_at form lines k) → HoldsLines form lines (k + 1) new
     one_more new adds = record {
       good = λ j why lt fault. elim (cases_lt j k) [
@@ -174,7 +175,7 @@ module _ {V : Type 0} (form : Form V) where
     fault_for cause.Memory (inr (named, again)) = absurd (let no : ⊥ = cc in no)
     fault_for why fault = (omega arith, subst (λ n. IsFirstFault form lines n why) {x = k} (omega arith) (record { in_range = within; fault = fault; earlier = held.good }))
 
-    -- memory ran out at the next line, which names no character that has a value
+    -- a line whose entry names no character with a value is not faulty, so it is a line at which memory can run out
     not_named : (e : Entry V) → reading_of form (line_at form lines k) ≡ Ok (Some e) → ¬ (IsTaken es e) → (why : Cause) → ¬ (HasFault form lines k why)
     not_named e is free why (inl err) = cc
     not_named e is free why (inr (named, (j, c, lt, before, here))) =
@@ -193,7 +194,7 @@ module _ {V : Type 0} (form : Form V) where
       ];
     }
 
-    -- the next line is refused
+    -- if line k is refused for a cause, it is the first faulty line, or memory ran out there
     refused : (r : Result (Option (Entry V)) Cause) → reading_of form (line_at form lines k) ≡ r → (why : Cause) → IsReadingCause form r es why → IsFaultFor form lines (k + 1) why
     refused (Ok None) is why because = absurd because
     refused (Ok (Some e)) is cause.NamedBefore (c, character, covered, some) =
@@ -207,14 +208,14 @@ module _ {V : Type 0} (form : Form V) where
     fault_here : (why : Cause) → IsLineCause form es (line_at form lines k) why → IsFaultFor form lines (k + 1) why
     fault_here why because = refused _ refl why because
 
--- all lines are read
+-- if all lines have been read, the entries have the values of the file
 pub holds_file : {V : Type 0} (form : Form V) (lines : List (List ℕ)) (k : ℕ) (es : List (Entry V)) → HoldsLines form lines k es → length lines ≤ k → HoldsFile form lines es
 holds_file form lines k es held all = record {
   good = λ j why lt. held.good j why (omega arith);
   values = λ c is. held.values c is ∙ ap (λ ls. value_in form ls c) (take_all k lines all);
 }
 
--- the text that is left has a first line, and the rest
+-- after the first line of the remaining text: the lines that are left, the entries if it is added, the fault if it is not
 module _ {V : Type 0} (form : Form V) (file : List ℕ) (k : ℕ) (es : List (Entry V)) (text front : List ℕ)
     (rest : Option (List ℕ)) (held : HoldsLines form (lines_of file) k es) (left : drop k (lines_of file)
     ≡ lines_of text) (parts : lines_of text ≡ parts_of 10 front rest) where
@@ -230,11 +231,11 @@ module _ {V : Type 0} (form : Form V) (file : List ℕ) (k : ℕ) (es : List (En
   pub next_fault : (why : Cause) → IsLineCause form es front why → IsFaultFor form (lines_of file) (k + 1) why
   next_fault why because = fault_here form (lines_of file) k es held line_here.0 why (subst (λ line. IsLineCause form es line why) (sym line_here.1) because)
 
--- a part that is shorter leaves less
+-- the size of what follows is at most `n` if each text in it is shorter than `n`
 pub size_falls : {B : Type 0} (f : B → List ℕ) (rest : Option B) (n : ℕ) → IfSome rest (λ r. length (f r) < n) → size_left (option_map f rest) ≤ n
 size_falls f None n shorter = omega arith
 size_falls f (Some rest) n shorter = omega arith
 
--- where no line is left, all are read
+-- if no lines are left after the first k, the list has at most k lines
 pub none_left : (lines : List (List ℕ)) (k : ℕ) → drop k lines ≡ [] → length lines ≤ k
 none_left lines k left = omega (arith, simp length-drop at (ap length left))

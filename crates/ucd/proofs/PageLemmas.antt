@@ -1,11 +1,11 @@
--- Pages, one after another.
+-- The page table, built page by page.
 use Rattle.std.proofs.Common.{◌≡◌, ℕ, ◌+◌, ◌-◌, ◌*◌, ◌/◌, ◌%◌, ◌<◌, ◌≤◌, List, ◌∷◌, [], ◌++◌, length, drop, get_or, refl, sym, ◌∙◌, ap, subst, inl, inr, arith}
 use Rattle.std.proofs.lemmas.Bool.{cases_lt}
 use Rattle.std.proofs.lemmas.List.{length-append, get_or-drop, get_or-append-add, get_or_append_left, get_or_push}
 use Rattle.ucd.specs.Answers.{PropertyAnswers, unnamed}
 use Rattle.ucd.specs.Pages.{answers_at, HasPage}
 
--- the last page is the one
+-- if the last page equals this page, the entries have the page under the number of the last page
 pub has_last : (entries page : List PropertyAnswers) (end : ℕ) → end ≡ length entries → length entries % 256 ≡ 0
     → 256 ≤ end → drop (end - 256) entries ≡ page → HasPage entries entries page (end / 256 - 1)
 has_last entries page end is whole some same = record {
@@ -17,7 +17,7 @@ has_last entries page end is whole some same = record {
   longer = omega arith;
 }
 
--- it becomes the last one
+-- appending a page adds it under the next number
 pub has_next : (entries page : List PropertyAnswers) (end : ℕ) → end ≡ length entries → length entries % 256 ≡ 0 → length page ≡ 256 → HasPage entries (entries ++ page) page (end / 256)
 has_next entries page end is whole len = record {
   whole = omega (arith, length-append entries page);
@@ -28,7 +28,7 @@ has_next entries page end is whole len = record {
   longer = omega (arith, length-append entries page);
 }
 
--- the pages of the first places
+-- the entries and the index give each code point of the first `place` pages its properties
 pub record ArePages (points : List PropertyAnswers) (index : List ℕ) (entries : List PropertyAnswers) (place : ℕ) : Type 0 where
   pub places : length index ≡ place
   pub whole : length entries % 256 ≡ 0
@@ -36,7 +36,7 @@ pub record ArePages (points : List PropertyAnswers) (index : List ℕ) (entries 
   pub within : (p : ℕ) → p < place → get_or index p 0 * 256 + 256 ≤ length entries
   pub same : (c : ℕ) → c < place * 256 → answers_at index entries c ≡ get_or points c unnamed
 
--- one more page
+-- adding one page extends the table from `place` to `place + 1` pages
 module _ (points old new page : List PropertyAnswers) (index : List ℕ) (place number : ℕ) (before : ArePages points index old place) (has : HasPage old new page number)
     (is : (k : ℕ) → k < 256 → get_or page k unnamed ≡ get_or points (place * 256 + k) unnamed) where
   old_number : (p : ℕ) → p < place → get_or (index ++ number ∷ []) p 0 ≡ get_or index p 0

@@ -1,4 +1,4 @@
--- What tables say that hold pages.
+-- What the paged tables return for each code point, and the contents that they model.
 use Rattle.std.proofs.Common.{◌≡◌, ℕ, zero, suc, ◌<◌, ◌≤◌, ◌&&◌, Bool, true, false, List, [], ◌∷◌, ◌++◌, Option, Some, None, is_some, unwrap_or, refl, sym, ◌∙◌, ap, inl, inr, arith, if◌then◌else◌}
 use Rattle.std.specs.Char.{IsScalar}
 use Rattle.std.specs.BTreeMap.{BTreeMap, get}
@@ -20,7 +20,7 @@ use Rattle.ucd.specs.declared.grammar.Entry.{Entry}
 use Rattle.ucd.specs.declared.tables.Tables.{Tables}
 
 module _ {V : Type 0} where
-  -- the value that the first of two lists gives, or else the second
+  -- in a concatenation, the first list that has a value for a code point gives it; only `c` has a value in `single c`
   value_append_some : (xs ys : List (Entry V)) (c : ℕ) (v : V) → value_at xs c ≡ Some v → value_at (xs ++ ys) c ≡ Some v
   value_append_some [] ys c v is = cc
   value_append_some (x ∷ xs) ys c v is = grind (arith, nat_tests, value_append_some xs ys c v)
@@ -50,7 +50,7 @@ module _ {V : Type 0} where
   kept xs ys c None is other = value_append_none xs ys c is ∙ other refl
   kept xs ys c (Some v) is other = value_append_some xs ys c v is
 
-  -- the entries of single code points say what the function does
+  -- for a code point below n, the value in `singles f n` is `f` of the code point
   pub value_singles : (f : ℕ → Option V) (n c : ℕ) → c < n → value_at (singles f n) c ≡ f c
   unfolding singles
   value_singles f zero c lt = absurd (omega arith)
@@ -60,17 +60,18 @@ module _ {V : Type 0} where
         value_append_none (singles f n) (single n (f n)) c (value_above f n c (omega arith)) ∙ rw here (value_single c (f c))
   ]
 
--- a character is one of the code points
+-- a scalar value is below 110000 in hexadecimal
 pub below_limit : (c : ℕ) → IsScalar c → c < 1114112
 below_limit c is = grind (arith, nat_tests, is)
 
--- a category stands for a mark, and for one to come
+-- the general category made from the flags is a mark if and only if the mark flag is set
 mark_by : (mark future : Bool) → (mark && future) ≡ false → is_mark_by (if future then category.Unassigned else (if mark then category.Mark else category.Other)) ≡ mark
 mark_by true true apart = cc
 mark_by true false apart = refl
 mark_by false true apart = refl
 mark_by false false apart = refl
 
+-- a pictograph is a future pictograph if and only if its flag is set
 abbrev pictograph_if : Bool → Option Pictograph
 pictograph_if future = if future then Some (record {}) else None
 

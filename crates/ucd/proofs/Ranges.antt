@@ -1,4 +1,4 @@
--- Entries, one after another: what they say of a code point, and what one more changes.
+-- Lists of entries: the value of a code point, and what adding an entry changes.
 use Rattle.std.proofs.Common.{◌≡◌, ℕ, zero, suc, ◌+◌, ◌<◌, ◌≤◌, nat_le, nat_lt, ◌&&◌, Bool, true, false, List, [], ◌∷◌, ◌++◌, length, take, get_or, slice_get, Option, Some, None, is_some, IsTrue, if◌then◌else◌, refl, sym, ◌∙◌, ap, ◌⊎◌, inl, inr, arith}
 use Rattle.std.proofs.lemmas.Bool.{cases_Bool, cond-true, cond-false}
 use Rattle.std.proofs.lemmas.Bool.Decides.{nat_tests}
@@ -12,7 +12,7 @@ use Rattle.ucd.specs.declared.grammar.Entry.{Entry}
 use Rattle.ucd.specs.Entries.{covers, value_at, AddsEntry, AreApart, AreNamed, IsFree}
 
 module _ {V : Type 0} where
-  -- the value of a code point with one more entry
+  -- the value of a code point after an entry has been appended
   value_push : (es : List (Entry V)) (e : Entry V) (c : ℕ) → (IsTrue (covers e c) → value_at es c ≡ None) → value_at (es ++ e ∷ []) c ≡ (if covers e c then Some e.value else value_at es c)
   value_push [] e c free = refl
   value_push (x ∷ es) e c free = grind (arith, nat_tests, value_push es e c)
@@ -21,7 +21,7 @@ module _ {V : Type 0} where
   not_some None none = refl
   not_some (Some v) none = cc
 
-  -- an entry of a list with one more is of the list, or is the one more
+  -- an entry of an extended list is in the old list, or is the appended one
   entry_push : (es : List (Entry V)) (e x : Entry V) (i : ℕ) → slice_get (es ++ e ∷ []) i ≡ Some x → ((i < length es) × (slice_get es i ≡ Some x)) ⊎ ((i ≡ length es) × (x ≡ e))
   entry_push [] e x zero is = inr (refl, cc)
   entry_push [] e x (suc i) is = cc
@@ -31,19 +31,20 @@ module _ {V : Type 0} where
     | inr (end, same) ↦ inr (omega arith, same)
   ]
 
-  -- no entry names what no place names
+  -- an entry is free if no code point in its range is flagged as named
   pub free_from : (es : List (Entry V)) (named : List Bool) (e : Entry V) → AreNamed es named → e.last < 1114112 → ((c : ℕ) → e.first ≤ c → c < e.last + 1 → get_or named c false ≡ false) → IsFree es e
   free_from es named e are within none c covered =
       let from : e.first ≤ c = grind (arith, nat_tests) in
       let to : c ≤ e.last = grind (arith, nat_tests) in
       not_some (value_at es c) (sym (are.each c (omega arith)) ∙ none c from (omega arith))
 
-  -- what an entry leaves free that stands after another one
+  -- an entry that was free stays free after an entry with lower code points has been added
   pub free_after : (old mid : List (Entry V)) (one other : Entry V) → AddsEntry old mid one → one.last < other.first → IsFree old other → IsFree mid other
   free_after old mid one other adds lt free c covered =
       let outside : covers one c ≡ false = grind (arith, nat_tests) in
       adds.values c ∙ cond-false (covers one c) (Some one.value) (value_at old c) outside ∙ free c covered
 
+  -- appending a free entry adds its value, keeps the entries apart, and sets the flags of its range
   module _ (es : List (Entry V)) (named : List Bool) (e : Entry V) (apart : AreApart es) (are : AreNamed es named) (whole : e.first ≤ e.last) (within : e.last < 1114112) (free : IsFree es e) where
     pub adds_push : AddsEntry es (es ++ e ∷ []) e
     adds_push = record { free = free; values = λ c. value_push es e c (free c) }
@@ -69,14 +70,14 @@ module _ {V : Type 0} where
       each = λ c lt. rw (value_push es e c (free c)) (grind (arith, nat_tests, common_steps, each c, are.each c lt));
     }
 
-  -- the value of a code point with one more entry of a list
+  -- the value of a code point in the first i + 1 entries, from that in the first i
   pub value_more : (es : List (Entry V)) → AreApart es → (i : ℕ) (e : Entry V) → slice_get es i ≡ Some e → (c : ℕ)
       → value_at (take (i + 1) es) c ≡ (if covers e c then Some e.value else value_at (take i es) c)
   value_more es apart i e is c =
       let more : take (i + 1) es ≡ take i es ++ e ∷ [] = take_more es i e (slice_get_within es i e is) ∙ ap (λ x. take i es ++ x ∷ []) (get_or_from_slice_get es i e e is) in
       rw more (value_push (take i es) e c (apart.apart i e is c))
 
-  -- what is said of a code point with one more
+  -- the properties of a code point after the first i + 1 entries, from those after the first i
   pub put_more : (put : V → PropertyAnswers → PropertyAnswers) (es : List (Entry V)) → AreApart es → (i : ℕ) (e : Entry V) → slice_get es i ≡ Some e → (c : ℕ) (old mid new : PropertyAnswers) →
       mid ≡ put_by put (value_at (take i es) c) old → new ≡ (if nat_le e.first c && nat_lt c (e.last + 1) then put e.value mid else mid) → new ≡ put_by put (value_at (take (i + 1) es) c) old
   put_more put es apart i e is c old mid new before after =
@@ -94,7 +95,7 @@ module _ {V : Type 0} where
             after ∙ cond-false here (put e.value mid) mid is_not ∙ before ∙ sym (ap (λ v. put_by put v old) value)
       ])
 
-  -- the entry that was read at a place
+  -- the entry read at an index below the length is the entry at that index
   pub entry_read : (es : List (Entry V)) (i : ℕ) (e : Entry V) → i < length es → e ≡ get_or es i e → slice_get es i ≡ Some e
   entry_read [] i e lt is = absurd (omega arith)
   entry_read (x ∷ es) zero e lt is = ap Some (sym is)

@@ -1,4 +1,4 @@
--- What entries say of a code point, property by property.
+-- The properties of a code point that the entries determine, one lemma for each property.
 use Rattle.std.proofs.Common.{◌≡◌, ℕ, ◌&&◌, Bool, true, false, Option, Some, None, is_some, unwrap_or, refl, ◌∙◌}
 use Rattle.ucd.specs.Answers.{PropertyAnswers, unnamed}
 use Rattle.ucd.specs.Contents.{TableContents}
@@ -18,7 +18,7 @@ use Rattle.ucd.specs.declared.line_class.LineClass.TheVariants.{XX}
 use Rattle.ucd.specs.declared.width.Width.{Width}
 use Rattle.ucd.specs.declared.width.Width.TheVariants as width
 
--- a property that no value of a file changes is kept
+-- a property that no value of a file changes stays the same when a value of that file is applied
 kept : {V X : Type 0} (put : V → PropertyAnswers → PropertyAnswers) (property : PropertyAnswers → X)
     → ((v : V) (a : PropertyAnswers) → property (put v a) ≡ property a) → (o : Option V) (a : PropertyAnswers)
     → property (put_by put o a) ≡ property a
@@ -74,7 +74,7 @@ width_keeps_future : (v : Width) (a : PropertyAnswers) → (put_width v a).is_fu
 width_keeps_future width.Wide a = refl
 width_keeps_future width.Other a = refl
 
--- what the values of its own file make of a property
+-- a property after the value from its own file has been applied
 class_put : (o : Option BidiClass) (a : PropertyAnswers) → a.bidi_class ≡ L → (put_by put_bidi_class o a).bidi_class ≡ unwrap_or o L
 class_put None a is = is
 class_put (Some v) a is = refl
@@ -117,7 +117,7 @@ future_put (Some category.Unassigned) a false is = is
 future_put (Some category.Other) a true is = refl
 future_put (Some category.Other) a false is = refl
 
--- no mark is unassigned
+-- no category is both a mark and unassigned
 apart_by : (category : Category) (b : Bool) → (is_mark_by category && (b && is_unassigned_by category)) ≡ false
 apart_by category.Mark true = refl
 apart_by category.Mark false = refl

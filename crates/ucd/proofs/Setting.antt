@@ -1,11 +1,11 @@
--- What changes in some answers where some of their bits change.
+-- Setting some of the bits changes the properties that they encode, and no others.
 use Rattle.std.proofs.Common.{◌≡◌, ℕ, ◌+◌, ◌*◌, ◌/◌, ◌%◌, ◌==◌, true, false, refl, ◌∙◌, arith}
 use Rattle.ucd.specs.declared.bidi_class.BidiClass.{BidiClass}
 use Rattle.ucd.specs.declared.line_class.LineClass.{LineClass}
 use Rattle.ucd.specs.Answers.{bidi_tag, line_tag, bidi_class_at, line_class_at, answers_in}
 use Rattle.ucd.specs.Bits.{bidi_at_tag, bidi_tag_below, line_at_tag, line_tag_below}
 
--- the answers by their parts
+-- the properties that some bits encode, from the values of their bit fields
 answers_by : (bits bidi bracket mirror pictograph mark wide line : ℕ) → bits % 32 ≡ bidi → bits / 32 % 2 ≡ bracket
     → bits / 64 % 2 ≡ mirror → bits / 128 % 2 ≡ pictograph → bits / 256 % 2 ≡ mark → bits / 512 % 2 ≡ wide
     → bits / 1024 ≡ line →

@@ -1,10 +1,10 @@
--- What is left of a list without the bytes at both ends that pass a test.
+-- A list without the bytes at both ends that pass a test.
 use Rattle.std.proofs.Common.{◌≡◌, ℕ, ◌-◌, ◌<◌, ◌≤◌, Bool, true, false, List, length, get_or, take, drop, refl, arith}
 use Rattle.std.specs.List.{prefix_len, suffix_len}
 use Rattle.std.proofs.lemmas.List.Sums.{prefix_len_is, suffix_len_is}
 use Rattle.ucd.specs.Grammar.{trimmed}
 
--- start is the first place whose byte fails, and end is after the last of the rest
+-- `rest` up to `end` is the trimmed list if the bytes around it pass the test, and its first and last byte fail it
 pub trimmed_at : (p : ℕ → Bool) (bytes rest : List ℕ) (start end : ℕ) → rest ≡ drop start bytes → start ≤ length bytes
     → ((k : ℕ) → k < start → p (get_or bytes k 0) ≡ true) → (start < length bytes → p (get_or bytes start 0) ≡ false)
     → end ≤ length rest → ((k : ℕ) → end ≤ k → k < length rest → p (get_or rest k 0) ≡ true)

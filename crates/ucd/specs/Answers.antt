@@ -1,4 +1,4 @@
--- The properties of one character, and the 16 bits that hold them.
+-- The properties of one character, and the 16 bits that encode them.
 use Rattle.std.specs.Prelude.{ℕ, ◌+◌, ◌*◌, ◌/◌, ◌%◌, ◌<◌, ◌==◌, Bool, false, slice_index_or, if◌then◌else◌}
 use Rattle.ucd.specs.declared.bidi_class.TheConstants.{BIDI_CLASS_COUNT}
 use Rattle.ucd.specs.declared.bidi_class.BidiClass.{BidiClass}
@@ -33,7 +33,7 @@ unnamed = record {
   has_mirror = false;
 }
 
--- the index of a class in the order of its type, and the class at an index
+-- the index of a bidi or line breaking class in its enum, and the class at an index
 abbrev pub bidi_tag : BidiClass → ℕ
 bidi_tag class = tag_of bidi_type.the_type class
 
@@ -66,12 +66,12 @@ answers_in bits = record {
   line_class = line_class_at (bits / 1024);
 }
 
--- bits that are those of some properties
+-- bits that encode the properties of a character
 pub record AreBits (bits : ℕ) : Type 0 where
   pub bidi : bits % 32 < BIDI_CLASS_COUNT
   pub line : bits / 1024 < LINE_CLASS_COUNT
 
--- what line breaking needs, as one number
+-- the properties that line breaking needs, as one number
 abbrev pub line_index : PropertyAnswers → ℕ
 line_index a =
     line_tag a.line_class * 8 + (if a.is_wide then 4 else 0) + (if a.is_mark then 2 else 0) + (if a.is_future_pictograph then 1 else 0)

@@ -11,6 +11,6 @@ category_named name =
     if bytes_eq (codes "Mn") name || bytes_eq (codes "Mc") name then Mark
     else (if bytes_eq (codes "Cn") name then Unassigned else Other)
 
--- DerivedGeneralCategory.txt: a code point or a range, and the name of a category, which may be any
+-- DerivedGeneralCategory.txt: a code point or a range, and the name of any category
 abbrev pub category_form : Form Category
 category_form = record { has_ranges = true; has_third = false; value = λ name _. Some (Some (category_named name)) }

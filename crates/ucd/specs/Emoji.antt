@@ -4,10 +4,10 @@ use Rattle.std.specs.Str.{bytes_eq}
 use Rattle.ucd.specs.Grammar.{Form}
 use Rattle.ucd.specs.declared.emoji.Pictograph.{Pictograph}
 
--- a line of any other property names nothing
+-- a line with any property but Extended_Pictographic names no character
 abbrev pub pictograph_named : List ℕ → Option Pictograph
 pictograph_named name = if bytes_eq (codes "Extended_Pictographic") name then Some (record {}) else None
 
--- emoji-data.txt: a code point or a range, and the name of a property, which may be any
+-- emoji-data.txt: a code point or a range, and the name of any property
 abbrev pub emoji_form : Form Pictograph
 emoji_form = record { has_ranges = true; has_third = false; value = λ name _. Some (pictograph_named name) }

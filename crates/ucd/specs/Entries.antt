@@ -1,4 +1,4 @@
--- Entries, each of some code points, and the value that they give to a character.
+-- Entries, each a range of code points with a value, and the value that they give a code point.
 use Rattle.std.specs.Prelude.{◌≡◌, ℕ, ◌<◌, ◌≤◌, nat_le, Bool, false, ◌&&◌, List, [], ◌∷◌, length, take, slice_get, slice_index_or, Option, Some, None, is_some, IsSome, IsTrue, if◌then◌else◌}
 use Rattle.std.specs.Char.{IsScalar}
 use Rattle.ucd.specs.declared.grammar.Entry.{Entry}
@@ -8,17 +8,17 @@ module _ {V : Type 0} where
   abbrev pub covers : Entry V → ℕ → Bool
   covers e c = nat_le e.first c && nat_le c e.last
 
-  -- the value of the first entry that names it
+  -- the value of the first entry that covers the code point
   abbrev pub value_at : List (Entry V) → ℕ → Option V
   value_at [] c = None
   value_at (e ∷ es) c = if covers e c then Some e.value else value_at es c
 
-  -- each entry names characters, and none that an entry before it names
+  -- each entry has a valid range, and covers no code point that an earlier entry covers
   pub record AreApart (es : List (Entry V)) : Type 0 where
     pub whole : (i : ℕ) (e : Entry V) → slice_get es i ≡ Some e → (e.first ≤ e.last) × (e.last < 1114112)
     pub apart : (i : ℕ) (e : Entry V) → slice_get es i ≡ Some e → (c : ℕ) → IsTrue (covers e c) → value_at (take i es) c ≡ None
 
-  -- which code points the entries name
+  -- `named` has a flag for each code point: whether it has a value
   pub record AreNamed (es : List (Entry V)) (named : List Bool) : Type 0 where
     pub len : length named ≡ 1114112
     pub each : (c : ℕ) → c < 1114112 → slice_index_or named c false ≡ is_some (value_at es c)
@@ -28,11 +28,11 @@ module _ {V : Type 0} where
     pub free : (c : ℕ) → IsTrue (covers e c) → value_at old c ≡ None
     pub values : (c : ℕ) → value_at new c ≡ (if covers e c then Some e.value else value_at old c)
 
-  -- first one entry is added, and then the other
+  -- one entry is added, and then the other
   abbrev pub AddsBoth : List (Entry V) → List (Entry V) → Entry V → Entry V → Type 0
   AddsBoth old new one other = (mid : List (Entry V)) × AddsEntry old mid one × AddsEntry mid new other
 
-  -- the same for characters alone, without surrogates
+  -- the same as `AddsEntry`, for scalar values only
   pub record AddsCharacters (old new : List (Entry V)) (e : Entry V) : Type 0 where
     pub free : (c : ℕ) → IsScalar c → IsTrue (covers e c) → value_at old c ≡ None
     pub values : (c : ℕ) → IsScalar c → value_at new c ≡ (if covers e c then Some e.value else value_at old c)

@@ -1,4 +1,4 @@
--- The values that all lines of a file give, and which line is faulty.
+-- The values that the lines of a file give, and its first faulty line.
 use Rattle.std.specs.Prelude.{◌≡◌, ℕ, ◌-◌, ◌<◌, ◌≤◌, ◌⊎◌, ◌&&◌, List, [], ◌∷◌, length, slice_index_or, Option, Some, None, IsSome, Result, Ok, Err, if◌then◌else◌}
 use Rattle.std.specs.Char.{IsScalar}
 use lib.Utf8.{scalar}
@@ -10,7 +10,7 @@ use Rattle.ucd.specs.declared.file.FileFault.{FileFault}
 use Rattle.ucd.specs.Entries.{covers, value_at, AddsCharacters, IsTaken, NamesSome}
 
 module _ {V : Type 0} (form : Form V) where
-  -- the value that a line gives to a code point: a surrogate is no character, and gets none
+  -- the value that a line gives to a character that it names; a surrogate is not a character, so it has none
   abbrev pub given_by : Result (Option (Entry V)) Cause → ℕ → Option V
   given_by (Ok (Some e)) c = if scalar c && covers e c then Some e.value else None
   given_by (Ok None) c = None
@@ -19,7 +19,7 @@ module _ {V : Type 0} (form : Form V) where
   abbrev pub given : List ℕ → ℕ → Option V
   given line c = given_by (reading_of form line) c
 
-  -- the value of the first line that names the character
+  -- the value from the first line that names the character
   abbrev pub or_else : Option V → Option V → Option V
   or_else (Some v) other = Some v
   or_else None other = other
@@ -35,21 +35,21 @@ module _ {V : Type 0} (form : Form V) where
   abbrev pub NamesAgain : List (List ℕ) → ℕ → Type 0
   NamesAgain lines k = (j : ℕ) × (c : ℕ) × (j < k) × IsSome (given (line_at lines j) c) × IsSome (given (line_at lines k) c)
 
-  -- line k is refused, for this cause
+  -- line k is faulty, for this cause
   abbrev pub HasFault : List (List ℕ) → ℕ → Cause → Type 0
   HasFault lines k why = (reading_of form (line_at lines k) ≡ Err why) ⊎ ((why ≡ cause.NamedBefore) × NamesAgain lines k)
 
-  -- no line is refused
+  -- no line is faulty
   abbrev pub IsGood : List (List ℕ) → Type 0
   IsGood lines = (k : ℕ) (why : Cause) → k < length lines → ¬ (HasFault lines k why)
 
-  -- line k is the first that is refused
+  -- line k is the first faulty line
   pub record IsFirstFault (lines : List (List ℕ)) (k : ℕ) (why : Cause) : Type 0 where
     pub in_range : k < length lines
     pub fault : HasFault lines k why
     pub earlier : (j : ℕ) (other : Cause) → j < k → ¬ (HasFault lines j other)
 
-  -- what a line adds to the entries so far: nothing, or its entry
+  -- adding a line leaves the entries unchanged, or adds its entry
   abbrev pub AddsReading : Result (Option (Entry V)) Cause → List (Entry V) → List (Entry V) → Type 0
   AddsReading (Ok None) old new = new ≡ old
   AddsReading (Ok (Some e)) old new = AddsCharacters old new e
@@ -58,7 +58,7 @@ module _ {V : Type 0} (form : Form V) where
   abbrev pub AddsLine : List (Entry V) → List (Entry V) → List ℕ → Type 0
   AddsLine old new line = AddsReading (reading_of form line) old new
 
-  -- why a line cannot be added; if memory ran out, nothing else is wrong with it, and it names a character
+  -- The reason why a line cannot be added. `Memory` requires that the line is not faulty and names a character.
   abbrev pub IsReadingCause : Result (Option (Entry V)) Cause → List (Entry V) → Cause → Type 0
   IsReadingCause (Ok None) es why = ⊥
   IsReadingCause (Ok (Some e)) es cause.NamedBefore = IsTaken es e
@@ -69,19 +69,19 @@ module _ {V : Type 0} (form : Form V) where
   abbrev pub IsLineCause : List (Entry V) → List ℕ → Cause → Type 0
   IsLineCause es line why = IsReadingCause (reading_of form line) es why
 
-  -- the entries give the values of the lines, none of which is refused
+  -- no line is faulty, and the entries have the values of the lines
   pub record HoldsFile (lines : List (List ℕ)) (es : List (Entry V)) : Type 0 where
     pub good : IsGood lines
     pub values : (c : ℕ) → IsScalar c → value_at es c ≡ value_in lines c
 
-  -- line k names a character, and neither it nor one before it is refused, so it allocates
+  -- line k names a character, so adding it allocates; no line up to k is faulty
   pub record WantsMemoryAt (lines : List (List ℕ)) (k : ℕ) : Type 0 where
     pub entry : Entry V
     pub reads : reading_of form (line_at lines k) ≡ Ok (Some entry)
     pub names : NamesSome entry
     pub good : (j : ℕ) (why : Cause) → j ≤ k → ¬ (HasFault lines j why)
 
-  -- a line, numbered from 1, is the first that is refused; or memory ran out at it
+  -- a line, numbered from 1, is the first faulty line; or memory ran out at that line
   abbrev pub IsFaultFor : List (List ℕ) → ℕ → Cause → Type 0
   IsFaultFor lines line cause.Memory = (0 < line) × WantsMemoryAt lines (line - 1)
   IsFaultFor lines line why = (0 < line) × IsFirstFault lines (line - 1) why

@@ -6,7 +6,7 @@ use Rattle.ucd.specs.declared.fault.Cause.{Cause}
 use Rattle.ucd.specs.declared.fault.Cause.TheVariants as cause
 use Rattle.ucd.specs.declared.grammar.Entry.{Entry}
 
--- the byte that separates lines, fields or the ends of a range
+-- whether a byte is the separator of lines, fields or the ends of a range
 abbrev pub is_mark : ℕ → ℕ → Bool
 is_mark mark b = b == mark
 
@@ -28,7 +28,7 @@ spaces = 32 ∷ 9 ∷ []
 abbrev pub blanks : List ℕ
 blanks = 32 ∷ 9 ∷ 13 ∷ []
 
--- the part of a line before the first `#`, and that part without the white space at its ends
+-- the part of a line before the first `#`, and that part without the white space at both ends
 abbrev pub before_comment : List ℕ → List ℕ
 before_comment line = before_first (is_mark 35) line
 
@@ -65,16 +65,14 @@ points_by has_ranges parts = None
 abbrev pub points_of : Bool → List ℕ → Option (ℕ × ℕ)
 points_of has_ranges field = points_by has_ranges (slice_split (is_mark 46) field)
 
--- The form of a file's lines. It says whether the first field may be a range, and whether there is a third field. It
--- also says what the second and the third field (empty if there is none) stand for: no value of the file, nothing, or a
--- value.
+-- The form of a file's lines: whether the first field may be a range, and whether there is a third field.
+-- `value` parses the second and third field: `None` if the value is unknown, `Some(None)` if the line has no entry.
 pub record Form (V : Type 0) : Type 0 where
   pub has_ranges : Bool
   pub has_third : Bool
   pub value : List ℕ → List ℕ → Option (Option V)
 
--- What a line is: it names nothing, or it gives a value to the characters of a range, or it is refused by the first
--- test that applies.
+-- The result of parsing a line: no entry, an entry with its range and value, or the cause of the first test that fails.
 module _ {V : Type 0} (form : Form V) where
   abbrev pub by_value : ℕ → ℕ → Option (Option V) → Result (Option (Entry V)) Cause
   by_value first last None = Err cause.Value
@@ -97,10 +95,11 @@ module _ {V : Type 0} (form : Form V) where
       if not (list_all is_ascii (before_comment line)) then Err cause.NotAscii
       else (if length (content_of line) == 0 then Ok None else by_fields (fields_of (content_of line)))
 
--- what comes after the first mark, if there is one, and the parts of a first part and the rest
+-- what follows the first separator, if there is one
 abbrev pub rest_after : ℕ → List ℕ → Option (List ℕ)
 rest_after mark bytes = if list_any (is_mark mark) bytes then Some (after_first (is_mark mark) bytes) else None
 
+-- the parts: the first one, and those of the rest
 abbrev pub parts_of : ℕ → List ℕ → Option (List ℕ) → List (List ℕ)
 parts_of mark front None = front ∷ []
 parts_of mark front (Some rest) = front ∷ slice_split (is_mark mark) rest

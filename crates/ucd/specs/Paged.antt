@@ -1,4 +1,4 @@
--- The contents of tables, from their pages and from the brackets and mirrors of single code points.
+-- The contents that paged tables model: the pages, and the maps of brackets and mirrors.
 use Rattle.std.specs.Prelude.{◌≡◌, ℕ, ◌<◌, ◌&&◌, false, List, Some, is_some}
 use Rattle.std.specs.BTreeMap.{BTreeMap, get}
 use Rattle.std.specs.Ordering.{nat_cmp}
@@ -20,7 +20,7 @@ module _ (index : List ℕ) (entries : List PropertyAnswers) (brackets : BTreeMa
     pictographs = singles (λ c. pictograph_in (answers_at index entries c)) 1114112;
   }
 
-  -- the pages say which characters have a bracket and a mirror, and no mark is a future pictograph
+  -- the flags in the pages agree with the maps of brackets and mirrors, and no mark is a future pictograph
   pub record AreSound : Type 0 where
     pub bracket : (c : ℕ) → c < 1114112 → (answers_at index entries c).has_bracket ≡ is_some (get nat_cmp brackets c)
     pub mirror : (c : ℕ) → c < 1114112 → (answers_at index entries c).has_mirror ≡ is_some (get nat_cmp mirrors c)

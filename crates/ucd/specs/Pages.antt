@@ -1,4 +1,4 @@
--- Pages of 256 code points, and the entries that have the same content.
+-- Pages of 256 code points, and the entries that they model.
 use Rattle.std.specs.Prelude.{◌≡◌, ℕ, zero, suc, ◌+◌, ◌*◌, ◌/◌, ◌%◌, ◌<◌, ◌≤◌, length, List, [], ◌∷◌, ◌++◌, slice_index, slice_index_or, Option, Some, None, if◌then◌else◌, ◌-◌, drop}
 use Rattle.ucd.specs.Answers.{PropertyAnswers, unnamed}
 use Rattle.ucd.specs.declared.category.Category.{Category}
@@ -8,11 +8,11 @@ use Rattle.ucd.specs.declared.grammar.Entry.{Entry}
 use Rattle.ucd.specs.declared.width.Width.{Width}
 use Rattle.ucd.specs.declared.width.Width.TheVariants as width
 
--- the properties of a code point: those at its index in the page that the table's index names for it
+-- the properties of a code point: `index` has the number of its page, `entries` the contents of the pages
 abbrev pub answers_at : List ℕ → List PropertyAnswers → ℕ → PropertyAnswers
 answers_at index entries c = slice_index_or entries (slice_index index (c / 256) * 256 + c % 256) unnamed
 
--- the entries of single code points below n that give each the value of a function
+-- entries that give each code point below n the value of a function
 abbrev pub single : {V : Type 0} → ℕ → Option V → List (Entry V)
 single c None = []
 single c (Some v) = record { first = c; last = c; value = v } ∷ []
@@ -21,7 +21,7 @@ unfoldable pub singles : {V : Type 0} → (ℕ → Option V) → ℕ → List (E
 singles f zero = []
 singles f (suc n) = singles f n ++ single n (f n)
 
--- the values of the files that some properties stand for
+-- the values of the files from which the properties follow
 abbrev pub category_in : PropertyAnswers → Category
 category_in a = if a.is_future_pictograph then category.Unassigned else (if a.is_mark then category.Mark else category.Other)
 
@@ -31,11 +31,11 @@ width_in a = if a.is_wide then width.Wide else width.Other
 abbrev pub pictograph_in : PropertyAnswers → Option Pictograph
 pictograph_in a = if a.is_future_pictograph then Some (record {}) else None
 
--- the last page is this one
+-- the last page equals this page
 abbrev pub EndsWithPage : List PropertyAnswers → List PropertyAnswers → Type 0
 EndsWithPage pages page = (256 ≤ length pages) × (drop (length pages - 256) pages ≡ page)
 
--- the pages, to which one more may have been added, have this page under this number
+-- `new` has this page under this number: it is `old`, possibly with one page appended
 pub record HasPage (old new page : List PropertyAnswers) (number : ℕ) : Type 0 where
   pub whole : length new % 256 ≡ 0
   pub room : length new ≤ length old + 256

@@ -1,5 +1,5 @@
--- How a value of a file changes the properties of its characters. A pictograph is a future one until its category says
--- that it is assigned, so categories are put after pictographs.
+-- Applying a value of a file to the properties of a character. A pictograph counts as unassigned until its category
+-- is applied, so categories come after pictographs.
 use Rattle.std.specs.Prelude.{true, false, Option, Some, None}
 use Rattle.ucd.specs.Answers.{PropertyAnswers}
 use Rattle.ucd.specs.declared.bidi_class.BidiClass.{BidiClass}
@@ -36,7 +36,7 @@ put_category category.Other a = record a { is_future_pictograph = false }
 abbrev pub put_pictograph : Pictograph → PropertyAnswers → PropertyAnswers
 put_pictograph pictograph a = record a { is_future_pictograph = true }
 
--- a value, if there is one
+-- applies the value, if there is one
 abbrev pub put_by : {V : Type 0} → (V → PropertyAnswers → PropertyAnswers) → Option V → PropertyAnswers → PropertyAnswers
 put_by put (Some v) a = put v a
 put_by put None a = a

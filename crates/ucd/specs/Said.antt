@@ -1,4 +1,4 @@
--- The properties of all code points by some entries.
+-- The properties of each code point that the entries of the files determine.
 use Rattle.std.specs.Prelude.{◌≡◌, ℕ, ◌<◌, List, length, slice_index_or}
 use Rattle.ucd.specs.Answers.{PropertyAnswers, unnamed}
 use Rattle.ucd.specs.Contents.{TableContents}
@@ -17,7 +17,7 @@ contents_of e = record {
   pictographs = e.breaks.pictographs;
 }
 
--- those of one code point
+-- the properties of one code point
 abbrev pub said : TableContents → ℕ → PropertyAnswers
 said k c =
     put_by put_category (value_at k.categories c) (put_by put_pictograph (value_at k.pictographs c)

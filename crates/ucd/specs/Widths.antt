@@ -10,6 +10,6 @@ abbrev pub width_named : List ℕ → Width
 width_named name =
     if bytes_eq (codes "F") name || (bytes_eq (codes "W") name || bytes_eq (codes "H") name) then Wide else Other
 
--- EastAsianWidth.txt: a code point or a range, and the name of a width, which may be any
+-- EastAsianWidth.txt: a code point or a range, and the name of any width
 abbrev pub width_form : Form Width
 width_form = record { has_ranges = true; has_third = false; value = λ name _. Some (Some (width_named name)) }

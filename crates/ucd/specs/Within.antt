@@ -1,6 +1,6 @@
--- Indices of a list.
+-- Bounds on a list of indices.
 use Rattle.std.specs.Prelude.{ℕ, ◌<◌, List, length, slice_index}
 
--- all indices are below a length
+-- every index in the list is below the length
 abbrev pub AreWithin : ℕ → List ℕ → Type 0
 AreWithin len places = (k : ℕ) → k < length places → slice_index places k < len

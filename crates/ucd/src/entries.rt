@@ -60,7 +60,7 @@ pub struct BreakEntries {
     pictographs: ApartEntries<Pictograph>,
 }
 
-// Parses the first three files.
+// Parses the three files for bidirectional text.
 fn read_bidi(alloc: Global, files: &UcdFiles<'_>) -> Result<BidiEntries, TableFault>
     ensures classes { IfOk result (λ e.
         HoldsFile bidi_class_form (lines_of files.now.bidi_class.now) e.classes) }
@@ -77,7 +77,7 @@ fn read_bidi(alloc: Global, files: &UcdFiles<'_>) -> Result<BidiEntries, TableFa
     })
 }
 
-// Parses the other files.
+// Parses the four files for line breaking.
 fn read_breaks(alloc: Global, files: &UcdFiles<'_>) -> Result<BreakEntries, TableFault>
     ensures classes { IfOk result (λ e.
         HoldsFile line_class_form (lines_of files.now.line_break.now) e.classes) }

@@ -23,14 +23,14 @@ impl<V: Copy> Clone for Entry<V> {
     }
 }
 
-/// A property of a file, and how the file's lines express it.
+/// A property that a file gives, and how the file's lines express it.
 pub trait Property: Copy + Drop {
     ghost use Rattle.ucd.specs.Answers.{PropertyAnswers};
     ghost use Rattle.ucd.specs.Grammar.{Form};
 
     ghost form: { Form Self };
 
-    /// What a character's properties become with a value of the file.
+    /// The properties of a character after a value of the file has been applied.
     ghost put: { Self → PropertyAnswers → PropertyAnswers };
 
     /// Whether the first field may be a range.

@@ -100,7 +100,7 @@ pub fn pages_of(alloc: Global, points: &[Properties]) -> Result<Pages, AllocErro
     })
 }
 
-// Whether class B has no code points other than U+0085, U+2029 and those below U+0020.
+// Whether U+0085, U+2029 and code points below U+0020 are the only ones of class B.
 fn are_usual(points: &[Properties]) -> bool
     requires { length points.now ≡ 1114112 }
     ensures yes { result ≡ true → (c : ℕ) → c < length points.now
@@ -114,8 +114,8 @@ fn are_usual(points: &[Properties]) -> bool
     !(low | middle | high)
 }
 
-// Whether a code point from `first` up to `end` is of class B. Looks at all of them, which is faster than an
-// exit at each.
+// Whether a code point from `first` up to `end` is of class B. Reads all of them, which is faster than
+// leaving the loop at the first.
 fn has_separator(points: &[Properties], first: usize, end: usize) -> bool
     requires { (first ≤ end) × (end ≤ length points.now) }
     ensures no { result ≡ false → (c : ℕ) → first ≤ c → c < end

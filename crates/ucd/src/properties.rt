@@ -81,7 +81,7 @@ impl Properties {
         }
     }
 
-    /// Makes it wide: F, W or H.
+    /// Returns the properties with a wide width (F, W or H).
     pub(crate) fn with_wide(self) -> Properties
         ensures { result ≡ record self { is_wide = true } }
     {
@@ -90,7 +90,7 @@ impl Properties {
         }
     }
 
-    /// Makes it a mark, which is assigned.
+    /// Returns the properties of a mark, which is assigned.
     pub(crate) fn with_mark(self) -> Properties
         ensures { result ≡ record self { is_mark = true; is_future_pictograph = false } }
     {
@@ -99,7 +99,7 @@ impl Properties {
         }
     }
 
-    /// Makes it assigned.
+    /// Returns the properties of an assigned character.
     pub(crate) fn with_assignment(self) -> Properties
         ensures { result ≡ record self { is_future_pictograph = false } }
     {
@@ -108,7 +108,7 @@ impl Properties {
         }
     }
 
-    /// Makes it Extended_Pictographic and unassigned.
+    /// Returns the properties with Extended_Pictographic, unassigned.
     pub(crate) fn with_future_pictograph(self) -> Properties
         ensures { result ≡ record self { is_future_pictograph = true } }
     {
@@ -168,14 +168,14 @@ impl Properties {
         self.bits / 128 % 2 == 1
     }
 
-    /// Whether it is a bracket.
+    /// Whether the character is a bracket.
     pub fn has_bracket(self) -> bool
         ensures { result ≡ self.has_bracket }
     {
         self.bits / 32 % 2 == 1
     }
 
-    /// Whether it has a mirror.
+    /// Whether the character has a mirror.
     pub fn has_mirror(self) -> bool
         ensures { result ≡ self.has_mirror }
     {

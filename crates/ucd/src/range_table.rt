@@ -55,7 +55,7 @@ fn has_named(named: &[bool], first: usize, end: usize) -> bool
     any
 }
 
-// Marks those from `first` up to `end` as named.
+// Marks the code points from `first` up to `end` as named.
 fn name_all(named: &mut [bool], first: usize, end: usize)
     requires { (first ≤ end) × (end ≤ length named.old) }
     ensures { (c : ℕ) → slice_index_or named.new c false

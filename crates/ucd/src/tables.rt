@@ -142,7 +142,7 @@ impl Tables {
         self.properties(c).is_future_pictograph()
     }
 
-    /// All of these except which bracket and which mirror, by one lookup.
+    /// Returns all these properties by one lookup, except which bracket and which mirror the character has.
     pub fn properties(&self, c: char) -> Properties
         ensures { result ≡ properties_of self.now c }
     {

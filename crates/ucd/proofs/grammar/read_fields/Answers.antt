@@ -3,13 +3,13 @@ use Rattle.ucd.proofs.Parts.{too_many, one_missing, one_more}
 use Rattle.ucd.proofs.grammar.read_fields.Goals as goal
 use Rattle.ucd.proofs.grammar.read_fields.Goals.{in_default-rest-via-in-None+else-not-has_third, in_default-rest-via-in-Some-rest+else-has_third}
 
--- there are four fields or more
+-- the line has four or more fields
 pub returns-then-is_some : goal.returns-then-is_some
 returns-then-is_some g c =
     rw (c.cut.ensures.parts, c.in-Some.is, c.cut-2.ensures.parts, c.in-Some-rest.is, c.cut-in-Some-rest.ensures.parts)
     (too_many g.V.Property.form c.cut.result.0.now c.cut-2.result.0.now _ (λ more. more.now) c.cut-in-Some-rest.result.1 (sym c.is_some.ensures ∙ c.if-is_some.true))
 
--- there are two where the file has three, or three or more where it has two
+-- the line has two fields but the file three, or the line has three or more but the file two
 pub returns-in_default-rest : goal.returns-in_default-rest
 returns-in_default-rest g c =
     elim c.in_default-rest.branch [

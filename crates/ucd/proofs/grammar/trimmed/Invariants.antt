@@ -12,7 +12,7 @@ invariant-loop-start l = record {
 abbrev pub decreases-loop-start : goal.decreases-loop-start
 decreases-loop-start l = length l.bytes - l.start
 
--- so do the bytes of the rest from `end` on
+-- the bytes of `rest` from `end` on pass the test
 abbrev pub invariant-loop-end : goal.invariant-loop-end
 invariant-loop-end l = record {
   within : l.end ≤ length l.rest;

@@ -2,7 +2,7 @@ use Rattle.std.proofs.Common.{refl, ◌∙◌}
 use Rattle.ucd.specs.Tables.{class_of, bracket_of, mirror_of, line_class_of, is_wide_in, is_mark_in, is_future_pictograph_in}
 use Rattle.ucd.proofs.tables.Tables.read.Goals as goal
 
--- the entries hold the files, and the pages say what the entries say
+-- the entries have the values of the files, and the pages have the values of the entries
 pub returns-in-Ok-clause-ok : goal.returns-in-Ok-clause-ok
 unfolding class_of bracket_of mirror_of line_class_of is_wide_in is_mark_in is_future_pictograph_in
 returns-in-Ok-clause-ok c =
