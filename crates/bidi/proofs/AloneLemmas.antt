@@ -1,4 +1,4 @@
--- A run in which no other one continues is a sequence as it stands.
+-- A level run that continues in no other run, and in which no other continues, is an isolating run sequence by itself.
 use Rattle.std.proofs.Common.{◌≡◌, ℕ, zero, suc, ◌+◌, ◌-◌, ◌<◌, ◌≤◌, max, List, [], ◌∷◌, ◌++◌, length, get_or, set, take, drop, map, slice_index, None, Option, refl, sym, ap, ◌∙◌, arith, append_assoc}
 use Rattle.std.specs.List.{range_with_len}
 use Rattle.std.proofs.lemmas.List.{append-nil, drop-set-lt, drop_more, length-set, take-append-drop, take_more_set}
@@ -12,7 +12,7 @@ use Rattle.bidi.specs.Runs.{IsRunEnd, next_start, sequence_at}
 use Rattle.bidi.specs.Sequences.{direction, eos, level_before, level_after}
 use Rattle.bidi.proofs.RunLemmas.{first_of-range, last_match, last_of-range, rest_of, sequence_at-run}
 
--- values written to places in a row
+-- writing values to consecutive indices replaces that part of the list
 pub put-within : (values levels : List ℕ) (a : ℕ) → a + length values ≤ length levels
     → put levels (range_with_len a (length values)) values ≡ take a levels ++ (values ++ drop (a + length values) levels)
 put-within [] levels a e = let whole : a + 0 ≡ a = omega arith in rw whole (sym (take-append-drop a levels))
@@ -25,14 +25,14 @@ put-within (value ∷ values) levels a e =
     ∙ append_assoc (take a levels) (value ∷ []) (values ++ rest)
     ∙ ap (λ n. take a levels ++ ((value ∷ values) ++ drop n levels)) (sym next)
 
--- a part of a list, read by its places
+-- the items at consecutive indices are a part of the list
 pub range-part : {X : Type 0} (xs : List X) (d : X) (start n : ℕ) → start + n ≤ length xs → map (λ k. get_or xs k d) (range_with_len start n) ≡ take n (drop start xs)
 range-part xs d start zero within = refl
 range-part xs d start (suc n) within =
     ap (λ more. get_or xs start d ∷ more) (range-part xs d (start + 1) n (omega (arith, within)))
     ∙ sym (ap (take (suc n)) (drop_more xs start d (omega (arith, within))))
 
--- a run whose last character no other run begins after
+-- if no run begins at the match of a run's last character, the run is a whole sequence
 pub alone : (classes : List BidiClass) (levels matches : List ℕ) (start end : ℕ) → matches ≡ matches_of classes → length classes ≡ length levels → IsRunEnd levels start end
     → None ≡ next_start levels (get_or matches (end - 1) 0) → sequence_at classes levels start ≡ range_with_len start (end - start)
 alone classes levels matches start end e size run none =
@@ -43,7 +43,7 @@ alone classes levels matches start end e size run none =
     ∙ ap (λ o. range_with_len start (end - start) ++ rest_of classes levels size o) (sym (none ∙ ap (next_start levels) found))
     ∙ append-nil (range_with_len start (end - start))
 
--- its levels
+-- the levels of a run that is a whole sequence
 module _ (bracket : ℕ → Option Bracket) (base : ℕ) (characters : List ℕ) (classes : List BidiClass) (levels : List ℕ) (types : List BidiClass)
     (start end : ℕ) (above : start < end) (within : end ≤ length levels) (characters_size : length characters ≡ length levels) (types_size : length types ≡ length levels) where
   abbrev n : ℕ
@@ -69,7 +69,7 @@ module _ (bracket : ℕ → Option Bracket) (base : ℕ) (characters : List ℕ)
       ∙ ap (sequence_levels bracket (slice_index levels start) (before start) (after (end - 1))
       (take n (drop start characters))) (range-part types ON start n (omega (arith, above, within, types_size)))
 
-  -- written where it stands
+  -- writing the levels to the indices of such a run replaces that part of the list
   pub written_alone : (done values : List ℕ) → length done ≡ length levels → length values ≡ n
       → values ≡ sequence_levels bracket (slice_index levels start) (before start) (after (end - 1)) (take n (drop start characters)) (take n (drop start types))
       → take start done ++ (values ++ drop (start + n) done) ≡ put done places (levels_in bracket base characters classes levels types places)

@@ -1,4 +1,4 @@
--- A walk up to the first strong character outside all isolates, one character at a time.
+-- One step of the search for the first strong character outside all isolates.
 use Rattle.std.proofs.Common.{◌≡◌, ℕ, ◌+◌, ◌-◌, ◌<◌, true, List, length, Option, Some, None, is_some, if◌then◌else◌, sym, ap, ◌∙◌, inl, inr}
 use Rattle.std.proofs.lemmas.Bool.{cond-true, cond-false, cases_Bool}
 use Rattle.ucd.specs.declared.bidi_class.BidiClass.{BidiClass}
@@ -6,7 +6,7 @@ use Rattle.ucd.specs.Classes.{class_at, is_initiator, is_pdi, is_strong}
 use Rattle.bidi.specs.Base.{strong_level, first_strong_level}
 use Rattle.bidi.proofs.IsolateLemmas.{Reached, Reached-next, Reached-strong}
 
--- a class with a level is strong, and one without is not
+-- a class has a strong level if and only if it is strong
 pub is_some-level : (class : BidiClass) (level : Option ℕ) → level ≡ (if is_strong class then Some (strong_level class) else None) → is_some level ≡ is_strong class
 is_some-level class level e =
     elim (cases_Bool (is_strong class)) [
@@ -14,7 +14,7 @@ is_some-level class level e =
       | inr weak ↦ ap is_some (e ∙ cond-false (is_strong class) (Some (strong_level class)) None weak) ∙ sym weak
     ]
 
--- the level of a strong character at depth 0 is the answer
+-- a strong character at depth 0 gives the first strong level
 pub settled : (classes : List BidiClass) (k d : ℕ) (class : BidiClass) (level : Option ℕ) → k < length classes → Reached classes k d → d ≡ 0
     → class ≡ class_at classes k → level ≡ (if is_strong class then Some (strong_level class) else None) → is_some level ≡ true → level ≡ first_strong_level classes
 settled classes k d class level within reached flat there e some =
@@ -22,7 +22,7 @@ settled classes k d class level within reached flat there e some =
     e ∙ cond-true (is_strong class) (Some (strong_level class)) None strong ∙ ap (λ x. Some (strong_level x)) there
     ∙ sym (Reached-strong classes k within (rw flat at reached) (rw there at strong))
 
--- another character leaves it open
+-- after a character that is not strong, or is inside an isolate, no strong character outside isolates has been found yet
 pub stepped : (classes : List BidiClass) (k d : ℕ) (class : BidiClass) (depth : ℕ) → k < length classes → Reached classes k d → (is_strong class ≡ true → 0 < d)
     → class ≡ class_at classes k → depth ≡ (if is_initiator class then d + 1 else (if is_pdi class then d - 1 else d)) → Reached classes (k + 1) depth
 stepped classes k d class depth within reached deep there e =

@@ -1,4 +1,4 @@
--- The walk of N0: which places a set bracket sets, which strong types stand between two places, and what the pairs so far have changed.
+-- The pass of N0: the indices that a set bracket changes, the strong types inside a pair, and what earlier pairs changed.
 use Rattle.std.proofs.Common.{◌≡◌, ℕ, zero, suc, ◌+◌, ◌-◌, ◌<◌, ◌≤◌, ◌==◌, ◌⊎◌, nat_lt, Bool, true, false, ◌&&◌, not, if◌then◌else◌, List, [], ◌∷◌, length, get_or, set, take, drop, map, fold, reverse, slice_range, slice_index, Option, Some, None, refl, sym, ap, subst, ◌∙◌, inl, inr, arith, length-drop}
 use Rattle.std.specs.List.{list_any, list_all, range_with_len}
 use Rattle.std.proofs.lemmas.Bool.{cond-true, cond-false, cases_Bool, cases_eq, cases_lt, cases_order, eq-eqb, ne_eqb, lt-ltb, le-ltb, both_ways, or_left, or_right, or_from, or_cases, and_parts, and_from, and_left}
@@ -20,7 +20,7 @@ use Rattle.bidi.specs.Resolving.{IsClear}
 use Rattle.ucd.specs.Classes.{is_mark}
 use Rattle.bidi.specs.Weak.{is_left}
 
--- the items of a range
+-- the length and the items of a range of a list
 module _ {T : Type 0} where
   range_size : (xs : List T) (a b : ℕ) → b ≤ length xs → length (slice_range xs a b) ≡ b - a
   range_size xs a b within = omega (arith, length-take (b - a) (drop a xs), length-drop a xs)
@@ -58,7 +58,7 @@ module _ {T : Type 0} where
       list_any_none p (slice_range xs a b) (All-from_get_or (λ x. p x ≡ false) (slice_range xs a b) d (λ i h.
       ap p (range_item xs a b i d (omega arith)) ∙ none (a + i) (omega arith) (omega arith)))
 
--- a bracket, and marks directly after it up to a place
+-- a bracket at p, and marks from there up to q
 pub record Row (marks : List Bool) (p q : ℕ) : Type 0 where
   pub order : p ≤ q
   pub marked : (m : ℕ) → p < m → m ≤ q → get_or marks m false ≡ true
@@ -94,7 +94,7 @@ pub no_Row : (marks : List Bool) (p q : ℕ) → q < length marks → (Row marks
 no_Row marks p q within none =
     elim (cases_Bool (is_set_with marks p q)) [ inl set ↦ absurd (none (set-Row marks p q within set)) | inr free ↦ free ]
 
--- the items of a list with a bracket set
+-- the type at each index after a bracket has been set
 pub set_with-at : (marks : List Bool) (d : BidiClass) (types : List BidiClass) (p q : ℕ) (e : BidiClass) → q < length types
     → get_or (set_with marks d types p) q e ≡ (if is_set_with marks p q then d else class_at types q)
 set_with-at marks d types p q e within =
@@ -113,7 +113,7 @@ pub set_with-kept : (marks : List Bool) (d : BidiClass) (types : List BidiClass)
 set_with-kept marks d types p q e within free =
     set_with-at marks d types p q e within ∙ cond-false (is_set_with marks p q) d (class_at types q) free
 
--- what a walk over the marks after a bracket knows at a place
+-- The state of the pass over the marks after a bracket at `place`: those before k have been set.
 pub record Marked (explicit old current : List BidiClass) (d : BidiClass) (place k : ℕ) : Type 0 where
   pub sizes : length current ≡ length old
   pub reached : place < k
@@ -177,7 +177,7 @@ Marked-end explicit old current d place k w sizes stops =
       ]
     ])
 
--- one more item fails
+-- if no item before k passes, and the item at k does not, no item before k + 1 passes
 pub none_more : {T : Type 0} (p : T → Bool) (xs : List T) (from k : ℕ) (d e : T) → ((m : ℕ) → from ≤ m → m < k → p (get_or xs m d) ≡ false)
     → k < length xs → p (get_or xs k e) ≡ false → (m : ℕ) → from ≤ m → m < k + 1 → p (get_or xs m d) ≡ false
 none_more p xs from k d e passed within here m above below =
@@ -186,7 +186,7 @@ none_more p xs from k d e passed within here m above below =
       | inr ne ↦ passed m above (omega arith)
     ]
 
--- whether the next strong type of a direction stands before the closer
+-- whether a strong type of a direction is inside the pair: whether the next one is before the closer
 pub stands_is : (left : Bool) (types : List BidiClass) (place closer next : ℕ) → closer ≤ length types → place < next
     → ((m : ℕ) → place < m → m < next → m < closer → is_toward left (class_at types m) ≡ false)
     → (next < closer → is_toward left (class_at types next) ≡ true)
@@ -199,7 +199,7 @@ stands_is left types place closer next within after passed stops =
           ∙ sym (range_any_none (is_toward left) types (place + 1) closer ON within (λ m above below. passed m (omega arith) (omega arith) below))
     ]
 
--- past the next strong type of the types as they were, where none of those inside has changed
+-- the next strong type of the old types is that of the current ones if none between has changed
 pub stands_as_before : (left : Bool) (types before : List BidiClass) (place closer old from next : ℕ) → closer < length types → length before ≡ length types
     → IsClear left before place old → ((m : ℕ) → place < m → m < closer → class_at types m ≡ class_at before m)
     → from ≤ next → place < from → ((m : ℕ) → place < m → m < from → m < old)
@@ -214,7 +214,7 @@ stands_as_before left types before place closer old from next within sizes clear
     ])
     (λ inside. ap (is_toward left) (kept next (omega arith) inside) ∙ stops inside)
 
--- a place that a pair so far has set: it is in a row after a bracket of that pair, and none in the row is ON now
+-- an index that an earlier pair has set: it follows a bracket of that pair, with only marks between, none of them now ON
 pub record Touched (closers : List ℕ) (current : List BidiClass) (k q : ℕ) : Type 0 where
   pub opener : ℕ
   pub place : ℕ
@@ -224,7 +224,7 @@ pub record Touched (closers : List ℕ) (current : List BidiClass) (k q : ℕ) :
   pub order : place ≤ q
   pub row : (m : ℕ) → place ≤ m → m ≤ q → is_other (class_at current m) ≡ false
 
--- the pairs whose openers stand before a place have changed only what they have set
+-- the pairs whose openers are before k have changed only the indices that they set
 pub record Changed (closers : List ℕ) (old current : List BidiClass) (k : ℕ) : Type 0 where
   pub sizes : length current ≡ length old
   pub cases : (q : ℕ) → q < length old → (class_at current q ≡ class_at old q) ⊎ Touched closers current k q
@@ -246,7 +246,7 @@ kept_sided marks d types p m sided within here =
       | inr free ↦ ap is_other (set_with-kept marks d types p m ON within free) ∙ here
     ]
 
--- one bracket of a pair is set
+-- setting one bracket of a pair whose opener is before k
 pub Changed-set : (marks : List Bool) (closers : List ℕ) (old current : List BidiClass) (k opener p : ℕ) (d : BidiClass) → Changed closers old current k
     → length marks ≡ length old → opener < k → slice_index closers opener < length closers → (p ≡ opener) ⊎ (p ≡ slice_index closers opener) → is_other d ≡ false
     → Changed closers old (set_with marks d current p) k
@@ -284,7 +284,7 @@ sided : (left : Bool) → is_other (side left) ≡ false
 sided true = refl
 sided false = refl
 
--- a pair is set, if it takes a direction
+-- setting both brackets of a pair, if it gets a direction
 pub Changed-pair : (marks : List Bool) (closers : List ℕ) (old current : List BidiClass) (k : ℕ) (same other x y : Bool) → Changed closers old current k
     → length marks ≡ length old → slice_index closers k < length closers
     → Changed closers old (set_pair marks current k (slice_index closers k) (if same then Some (side x) else (if other then Some (side y) else None))) (k + 1)
@@ -298,7 +298,7 @@ Changed-pair marks closers old current k false true x y changed sizes paired =
     sizes (omega arith) paired (inr refl) (sided y)
 Changed-pair marks closers old current k false false x y changed sizes paired = Changed-next closers old current k changed
 
--- inside a pair whose opener is ON still, none has changed
+-- inside a pair whose opener is still ON, no type has changed
 pub unchanged : (closers : List ℕ) (old current : List BidiClass) (k m : ℕ) → Changed closers old current k → AreNested old closers → length closers ≡ length old
     → k < length closers → slice_index closers k < length closers → is_other (class_at current k) ≡ true → k < m → m < slice_index closers k
     → class_at current m ≡ class_at old m
@@ -317,7 +317,7 @@ unchanged closers old current k m changed nested sizes within paired other above
       ]
     ]
 
--- the types before a bracket that is set
+-- setting a bracket leaves the types before it unchanged
 take-set_with : (marks : List Bool) (d : BidiClass) (types : List BidiClass) (p k : ℕ) → k ≤ p → k ≤ length types → length marks ≡ length types
     → take k (set_with marks d types p) ≡ take k types
 take-set_with marks d types p k front within sizes =
@@ -336,8 +336,8 @@ take-set_pair marks types a b (Some d) front within sizes =
     take-set_with marks d (set_with marks d types a) b a front (omega arith) (omega arith) ∙ take-set_with marks d types a a (omega arith) within sizes
 take-set_pair marks types a b None front within sizes = refl
 
--- what the walk over the places of the openers knows at a place: the pairs from there on make the whole of the types as they are now,
--- and what it carries along is the nearest strong type
+-- The state of the pass over the indices of openers: the pairs from k on turn the current types into the result of N0, and
+-- the strong type carried along is the nearest one before k.
 pub record Resolved (embedding sos : BidiClass) (explicit : List BidiClass) (closers : List ℕ) (old current : List BidiClass) (k : ℕ) : Type 0 where
   pub changed : Changed closers old current k
   pub so_far : fold (λ types a. pair_step embedding sos (map is_mark explicit) types a (closer_in closers a)) current (range_with_len k (length old - k))
@@ -367,7 +367,7 @@ Resolved-step embedding sos explicit closers old current next k r within step ch
           ∙ r.so_far;
     }
 
--- past a place with a pair
+-- the step for an index at which a pair opens
 pub Resolved-pair : (embedding sos : BidiClass) (explicit : List BidiClass) (closers : List ℕ) (old current : List BidiClass) (k : ℕ)
     → Resolved embedding sos explicit closers old current k → k < length old → length explicit ≡ length old
     → slice_index closers k < length closers → k < slice_index closers k
@@ -383,7 +383,7 @@ Resolved-pair embedding sos explicit closers old current k r within sizes paired
     subst P (sym made) (Changed-pair marks closers old current k (stands (is_left embedding) current k b) (stands (not (is_left embedding)) current k b)
     (is_left embedding) (if agree (is_left embedding) (is_left (context sos current k)) then is_left embedding else not (is_left embedding)) r.changed size paired))
 
--- and without one
+-- the step for an index at which no pair opens
 pub Resolved-none : (embedding sos : BidiClass) (explicit : List BidiClass) (closers : List ℕ) (old current : List BidiClass) (k : ℕ)
     → Resolved embedding sos explicit closers old current k → k < length old → length closers ≤ slice_index closers k
     → (next : List BidiClass) → next ≡ current
@@ -396,7 +396,7 @@ Resolved-none embedding sos explicit closers old current k r within free next sa
     (ap (pair_step embedding sos marks current k) (cond-false (nat_lt b (length closers)) (Some b) None (le-ltb b (length closers) free)) ∙ sym same)
     (subst P (sym same) (Changed-next closers old current k r.changed))
 
--- and past more of them
+-- the steps for several indices at which no pair opens
 pub Resolved-skip : (embedding sos : BidiClass) (explicit : List BidiClass) (closers : List ℕ) (old current : List BidiClass) (n k j : ℕ) → j ≡ n + k → j ≤ length old
     → ((m : ℕ) → k ≤ m → m < j → length closers ≤ slice_index closers m) → Resolved embedding sos explicit closers old current k → Resolved embedding sos explicit closers old current j
 Resolved-skip embedding sos explicit closers old current zero k j e within free r =
@@ -411,12 +411,12 @@ IsClear-skip left before place next further order clear = record {
   passed = λ m above below. clear.passed m (omega arith) below;
 }
 
--- the nearest strong type, one place farther back
+-- the nearest strong type before k + 1, from that before k
 pub context-more : (sos : BidiClass) (types : List BidiClass) (k : ℕ) (e : BidiClass) → k < length types
     → context sos types (k + 1) ≡ (if is_direction (get_or types k e) then get_or types k e else context sos types k)
 context-more sos types k e within = ap (nearest is_direction sos) (ap reverse (take_more types k e within) ∙ reverse-append (take k types) (get_or types k e ∷ []))
 
--- the direction of a pair, by what the walk knows
+-- the direction of a pair, from the flags that the pass has found
 pub direction_is : (sos : BidiClass) (types : List BidiClass) (a b : ℕ) (left embedding same other : Bool) (strong : BidiClass)
     → left ≡ embedding → strong ≡ context sos types a → same ≡ stands left types a b → other ≡ stands (not left) types a b
     → (if same then Some (side left) else (if other then Some (side (if agree left (is_left strong) then left else not left)) else None)) ≡ pair_direction embedding sos types a b

@@ -1,4 +1,4 @@
--- The walk over a paragraph's classes, as far as it has come.
+-- The pass over a paragraph's classes (X1 to X9): its state after k characters, and its step.
 use Rattle.std.proofs.Common.{◌≡◌, ℕ, ◌+◌, ◌^◌, ◌<◌, ◌≤◌, Bool, true, false, cond, not, List, [], ◌∷◌, ◌++◌, length, take, drop, map, filter, fold, unwrap_or, if◌then◌else◌, refl, sym, ap, subst, ◌∙◌, inl, inr, arith, zero-add, length-drop, length-take, Option}
 use Rattle.std.specs.List.{list_any, prefix_len, range_with_len}
 use Rattle.std.proofs.lemmas.Bool.{cond-true, cond-false, cases_Bool}
@@ -17,7 +17,7 @@ use Rattle.ucd.specs.Classes.{is_removed}
 use Rattle.bidi.specs.Openers.{innermost, Holds, Follows, AreOpeners}
 use Rattle.bidi.proofs.OpenersLemmas.{innermost-level, innermost-override, level-le}
 
--- no explicit level passes 125
+-- no explicit level is above 125
 pub level_at-bound : (base : ℕ) (classes : List BidiClass) (k : ℕ) → base ≤ 1 → level_at base classes k ≤ 125
 level_at-bound base classes k low =
     elim (cases_Bool (is_separator (class_at classes k))) [
@@ -26,12 +26,12 @@ level_at-bound base classes k low =
           (level-le base (omega arith) (open_chain classes (if is_pdi (class_at classes k) then k + 1 else k)))
     ]
 
--- the numbers below the next one
+-- the numbers below k + 1 are those below k, and k
 numbers-more : (k : ℕ) → range_with_len 0 (k + 1) ≡ range_with_len 0 k ++ k ∷ []
 numbers-more k =
     sym (map-id (range_with_len 0 (k + 1))) ∙ map-range_with_len_more (λ x. x) 0 k k (zero-add k) ∙ ap (λ (l : List ℕ). l ++ k ∷ []) (map-id (range_with_len 0 k))
 
--- the indexes before k that stay
+-- the indices before k of characters that X9 keeps
 abbrev pub stayed_to : List BidiClass → ℕ → List ℕ
 stayed_to classes k = filter (λ i. not (is_removed (class_at classes i))) (range_with_len 0 k)
 
@@ -48,7 +48,7 @@ module _ {X : Type 0} (f : ℕ → X) (classes : List BidiClass) (k : ℕ) where
   goes e =
       ap (map f) (stayed_to-more classes k ∙ ap (λ (b : Bool). stayed_to classes k ++ cond (not b) (k ∷ []) []) e ∙ append-nil (stayed_to classes k))
 
--- a class opens one at most
+-- a character adds at most one opener to the chain
 close_embedding-length : (chain : List BidiClass) → length (close_embedding chain) ≤ length chain
 close_embedding-length [] = omega arith
 close_embedding-length (opener ∷ outer) =
@@ -82,12 +82,12 @@ opened-length chain (class ∷ classes) = omega (arith, opened-length (open_afte
 open_chain-length : (classes : List BidiClass) (k : ℕ) → length (open_chain classes k) ≤ length classes
 open_chain-length classes k = omega (arith, opened-length [] (take k classes), length-take k classes)
 
--- a PDI closes an isolate
+-- a PDI closes the innermost isolate
 open_after-pdi : (chain : List BidiClass) (class : BidiClass) → is_pdi class ≡ true → open_after chain class ≡ close_isolate chain
 open_after-pdi chain PDI e = refl
 open_after-pdi chain _ e = absurd (cc)
 
--- the chain that the character at k stands in
+-- the open chain that applies to the character at k
 abbrev pub chain_at : List BidiClass → ℕ → List BidiClass
 chain_at classes k = open_chain classes (if is_pdi (class_at classes k) then k + 1 else k)
 
@@ -114,7 +114,7 @@ module _ (classes : List BidiClass) (k : ℕ) (within : k < length classes) (cla
             ∙ ap (λ (c : List BidiClass). open_after c class) (chain_at-other other) ∙ ap (open_after (open_chain classes k)) at ∙ sym (fold_more open_after [] classes k ON within)
       ]
 
-  -- the level and the type that are pushed
+  -- the explicit level and type that are appended for a character
   level_is : (base : ℕ) (status : Status) → status ≡ innermost base (chain_at classes k) → (if is_separator class then base else status.level) ≡ level_at base classes k
   level_is base status inner =
       ap (λ (n : ℕ). if is_separator class then base else n) (ap (λ (s : Status). s.level) inner ∙ innermost-level base (chain_at classes k))
@@ -125,7 +125,7 @@ module _ (classes : List BidiClass) (k : ℕ) (within : k < length classes) (cla
       ap (λ (o : Option BidiClass). if is_separator class then class else unwrap_or o class) (ap (λ (s : Status). s.overriding) inner ∙ innermost-override base (chain_at classes k))
       ∙ ap (λ (c : BidiClass). if is_separator c then c else unwrap_or (inside_at base classes k).override c) at
 
--- the openers before k, and what is left of the characters there
+-- the state after k characters: the openers that are open, and the data of the kept characters before k
 pub record IsWalked (classes : List BidiClass) (base : ℕ) (k : ℕ) (openers : Openers) (left : Stayed) : Type 0 where
   pub holds : Holds base openers (open_chain classes k)
   pub classes_are : left.classes.items ≡ map (class_at classes) (stayed_to classes k)
@@ -137,7 +137,7 @@ module _ {classes : List BidiClass} {base k : ℕ} {openers : Openers} {left : S
   pub IsWalked-reached : (reached : Openers) → Follows openers reached (λ chain. if is_pdi class then close_isolate chain else chain) → Holds base reached (chain_at classes k)
   IsWalked-reached reached follows = subst (Holds base reached) (chain_at-is classes k within class at) (follows base (open_chain classes k) walked.holds)
 
-  -- a character that is taken out
+  -- the step for a character that X9 removes
   pub IsWalked-removed : (reached passed : Openers) → Holds base reached (chain_at classes k) → Follows reached passed (λ chain. if is_pdi class then chain else open_after chain class)
       → is_removed class ≡ true → IsWalked classes base (k + 1) passed left
   IsWalked-removed reached passed holds follows removed =
@@ -149,7 +149,7 @@ module _ {classes : List BidiClass} {base k : ℕ} {openers : Openers} {left : S
         types_are = walked.types_are ∙ sym (goes (type_at base classes) classes k here);
       }
 
-  -- and one that stays
+  -- the step for a character that X9 keeps
   pub IsWalked-stayed : (reached passed : Openers) → Holds base reached (chain_at classes k) → Follows reached passed (λ chain. if is_pdi class then chain else open_after chain class)
       → is_removed class ≡ false → (status : Status) → status ≡ innermost base (chain_at classes k)
       → (next : Stayed) → next.classes.items ≡ left.classes.items ++ class ∷ []

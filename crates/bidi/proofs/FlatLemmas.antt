@@ -30,7 +30,7 @@ use Rattle.bidi.proofs.WeakLemmas.{any, ends_row, left_type, separator_type, ter
 abbrev Passes : (BidiClass → Bool) → List BidiClass → Type 0
 Passes test types = All (λ type. test type ≡ true) types
 
--- what is left of such a paragraph: before W1, after it, after W6, and after W7
+-- the types that can occur in such a paragraph before W1, after W1, after W6, and after W7
 abbrev is_first : BidiClass → Bool
 is_first type = is_flat type && not (is_removed type)
 
@@ -63,7 +63,7 @@ is_calm WS = true
 is_calm ON = true
 is_calm type = false
 
--- a rule that makes of each type that passes a test one that passes another
+-- if a rule maps each type that passes one test to a type that passes another, so it does for a list
 carry-passes : (rule : BidiClass → BidiClass → List BidiClass → BidiClass) (test kept passes makes : BidiClass → Bool)
     → ((before type : BidiClass) (after : List BidiClass) → kept before ≡ true → passes type ≡ true → makes (rule before type after) ≡ true)
     → ((before type : BidiClass) → kept before ≡ true → passes type ≡ true → kept (if test type then type else before) ≡ true)
@@ -151,7 +151,7 @@ left-next strong R k p = absurd (cc)
 left-next strong AL k p = absurd (cc)
 left-next strong _ k p = k
 
--- after the weak rules all types are L or neutral
+-- after W1 to W7 all types are L or neutral
 weak-calm : (types : List BidiClass) → Passes is_first types → Passes is_calm (weak L types)
 weak-calm types first =
     let mark = λ (b type : BidiClass) (after : List BidiClass). mark_type b type in
@@ -187,7 +187,7 @@ length-weak types =
     ∙ length-carry terminator_type ends_row ON separated ∙ length-carry separator_type any ON read ∙ length-map digits w3_type
     ∙ length-carry digit is_strong L unmarked ∙ length-carry mark (λ type. not (is_mark type)) L types
 
--- brackets leave them so
+-- N0 keeps the property that all types are L or neutral
 calm_at : (types : List BidiClass) → Passes is_calm types → (k : ℕ) → is_calm (class_at types k) ≡ true
 calm_at types calm k =
     elim (cases_lt k (length types)) [
@@ -240,7 +240,7 @@ fold-calm n marks closer [] types now = now
 fold-calm n marks closer (a ∷ places) types now =
     fold-calm n marks closer places (pair_step L L marks types a (closer a)) (step-calm n marks types a (closer a) now)
 
--- and so they give level 0
+-- if all types are L or neutral, N1 to I2 give level 0
 abbrev zeros : ℕ → List ℕ
 zeros n = replicate n 0
 
@@ -272,7 +272,7 @@ sequence_levels-zero bracket characters types first =
     (record { calm = weak-calm types first; size = length-weak types }) in
     sym (levels_after-is 0 L L paired) ∙ calm_levels 0 paired now.calm ∙ ap zeros (zero-add (length paired) ∙ now.size)
 
--- the levels put back are 0 too
+-- if all kept characters have level 0, so do the characters that X9 removed
 put_back-zero : (classes : List BidiClass) (m : ℕ) → put_back 0 classes (replicate m 0) ≡ replicate (length classes) 0
 put_back-zero [] m = refl
 put_back-zero (class ∷ classes) zero = ap (λ xs. 0 ∷ xs) (put_back-zero classes zero)
@@ -284,7 +284,7 @@ put_back-zero (class ∷ classes) (suc m) =
           ∙ ap (λ xs. 0 ∷ xs) (put_back-zero classes m)
     ]
 
--- what such a class is
+-- a class that raises no level opens nothing, and it is not FSI
 flat-closed : (class : BidiClass) → is_flat class ≡ true → open_after [] class ≡ []
 flat-closed LRE e = absurd (cc)
 flat-closed LRO e = absurd (cc)

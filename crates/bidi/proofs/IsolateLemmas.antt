@@ -1,4 +1,4 @@
--- How deep in isolates a place lies, told by counts of initiators and PDIs before each place.
+-- The isolate depth at an index, from the counts of initiators and PDIs before each index.
 use Rattle.std.proofs.Common.{◌≡◌, ℕ, zero, suc, ◌+◌, ◌-◌, ◌<◌, ◌≤◌, nat_lt, Bool, true, false, cond, ◌&&◌, not, List, ◌++◌, length, take, drop, count_by, slice_range, Some, None, option_map, refl, sym, ap, ◌∙◌, inl, inr, arith, add-one, zero-add, below_more}
 use Rattle.std.specs.List.{list_all, range_with_len}
 use Rattle.std.proofs.lemmas.Bool.{cases_Bool, cases_eq, cases_lt, lt-ltb, eq-eqb, eqb-true, ne_eqb, and_from, and_left, and_right, not_from_true, not_from_false, cond_both, true_from_ne_false, true≢false}
@@ -12,7 +12,7 @@ use Rattle.ucd.specs.Classes.{class_at, is_initiator, is_pdi, is_strong}
 use Rattle.bidi.specs.Base.{is_balanced, match_of, is_before, is_in_span, is_outside, strong_level, first_strong_level}
 use Rattle.bidi.proofs.LeastLemmas.{least_found, least_none, least_reaches, least_misses}
 
--- A place's height is its `o` less its `s`, and may be below 0. The last lowest place up to k stands d below k.
+-- The height of an index is `o` minus `s`, and may be negative. The last index up to k with the least height is d below k.
 pub record Lowest (o s : ℕ → ℕ) (k d : ℕ) : Type 0 where
   pub place : ℕ
   pub reached : place ≤ k
@@ -20,12 +20,12 @@ pub record Lowest (o s : ℕ → ℕ) (k d : ℕ) : Type 0 where
   pub lowest : (m : ℕ) → m ≤ place → o place + s m ≤ o m + s place
   pub above : (m : ℕ) → place < m → m ≤ k → o place + s m < o m + s place
 
--- no place up to k is lower than the last lowest one
+-- no index up to k has less height than the last lowest one
 pub Lowest-all : (o s : ℕ → ℕ) (k d : ℕ) (low : Lowest o s k d) (m : ℕ) → m ≤ k → o low.place + s m ≤ o m + s low.place
 Lowest-all o s k d low m h =
     elim (cases_lt low.place m) [ inl up ↦ omega (arith, low.above m up h) | inr down ↦ low.lowest m down ]
 
--- the next place is the last lowest one, where none before it is lower
+-- if no index before k + 1 is lower, k + 1 is the last lowest index
 pub Lowest-fresh : (o s : ℕ → ℕ) (k : ℕ) → ((m : ℕ) → m ≤ k → o (k + 1) + s m ≤ o m + s (k + 1)) → Lowest o s (k + 1) 0
 Lowest-fresh o s k none = record {
   place = k + 1;
@@ -35,7 +35,7 @@ Lowest-fresh o s k none = record {
   above = λ m h l. absurd (omega arith);
 }
 
--- the last lowest place stays, where the next one is above it
+-- if k + 1 is higher than the last lowest index, that index stays the last lowest one
 Lowest-kept : (o s : ℕ → ℕ) (k d e : ℕ) (low : Lowest o s k d) → o (k + 1) + s low.place ≡ o low.place + s (k + 1) + e → 0 < e → Lowest o s (k + 1) e
 Lowest-kept o s k d e low next some = record {
   place = low.place;
@@ -45,11 +45,11 @@ Lowest-kept o s k d e low next some = record {
   above = λ m h l. elim (cases_eq m (k + 1)) [ inl last ↦ rw last (omega arith) | inr ne ↦ low.above m h (omega arith) ];
 }
 
--- at depth 0 the place itself is the last lowest one
+-- at depth 0, no index up to k is lower than k
 pub Lowest-here : (o s : ℕ → ℕ) (k : ℕ) (low : Lowest o s k 0) (m : ℕ) → m ≤ k → o k + s m ≤ o m + s k
 Lowest-here o s k low m h = omega (arith, Lowest-all o s k 0 low m h, low.depth)
 
--- from a place to one that is not higher, after a step up, some step comes back to the height
+-- if index i is followed by a step up, and k is not higher than i, some step between them returns to the height of i
 pub returns_to : (o s : ℕ → ℕ) (i k : ℕ) (steps : (m : ℕ) → m < k → (o m ≤ o (m + 1)) × (s (m + 1) ≤ s m + 1)) → i < k
     → o i + s (i + 1) < o (i + 1) + s i → o k + s i ≤ o i + s k
     → (j : ℕ) × (i < j) × (j < k) × (o (j + 1) + s i ≡ o i + s (j + 1))
@@ -63,12 +63,12 @@ returns_to o s i (suc k) steps before up down =
       ]
     ]
 
--- at a greater depth it stands before the place
+-- at a depth above 0, the last lowest index is before k
 pub Lowest-below : (o s : ℕ → ℕ) (k d : ℕ) (low : Lowest o s k d) → 0 < d → low.place < k
 Lowest-below o s k d low deep =
     elim (cases_eq low.place k) [ inl e ↦ absurd (omega (arith, rw e at low.depth)) | inr ne ↦ omega (arith, low.reached) ]
 
--- what an initiator, a PDI or another class at a place does to the depth
+-- the depth after an initiator, a PDI or another class
 Lowest-next : (o s : ℕ → ℕ) (k d : ℕ) (opens shuts : Bool) → (opens && shuts) ≡ false
     → o (k + 1) ≡ o k + cond opens 1 0 → s (k + 1) ≡ s k + cond shuts 1 0 → Lowest o s k d
     → Lowest o s (k + 1) (cond opens (d + 1) (cond shuts (d - 1) d))
@@ -85,7 +85,7 @@ Lowest-next o s k d false false one up down low =
       | inr flat ↦ let e : d ≡ 0 = omega arith in rw e (Lowest-fresh o s k (λ m h. omega (arith, Lowest-all o s k d low m h, low.depth)))
     ]
 
--- how many initiators stand before a place, and how many PDIs
+-- the number of initiators before an index, and the number of PDIs
 pub opened : List BidiClass → ℕ → ℕ
 opened classes k = count_by is_initiator (take k classes)
 
@@ -100,7 +100,7 @@ pub closed-next : (classes : List BidiClass) (k : ℕ) → k < length classes �
 unfolding closed
 closed-next classes k h = sum_by_more (λ x. cond (is_pdi x) 1 0) classes k ON h
 
--- no initiator is a PDI, and neither is strong
+-- an initiator is not a PDI, and neither is strong
 pub opens_or_shuts : (class : BidiClass) → (is_initiator class && is_pdi class) ≡ false
 opens_or_shuts PDI = refl
 opens_or_shuts LRI = refl
@@ -122,7 +122,7 @@ pub strong_shuts_none : (class : BidiClass) → is_strong class ≡ true → is_
 strong_shuts_none PDI h = sym h
 strong_shuts_none _ h = refl
 
--- a count over a part, from the counts before its ends
+-- the count in a range is the difference of the counts before its ends
 pub count-slice_range : (p : BidiClass → Bool) (xs : List BidiClass) (i j : ℕ) → i ≤ j
     → count_by p (take j xs) ≡ count_by p (take i xs) + count_by p (slice_range xs i j)
 count-slice_range p xs i j h =
@@ -143,28 +143,28 @@ unfolding opened closed
 unbalanced classes i j h l =
     ne_eqb _ _ (λ e. omega (arith, e, l, count-slice_range is_initiator classes i (j + 1) h, count-slice_range is_pdi classes i (j + 1) h))
 
--- a balanced part ends at the height at which it begins
+-- a balanced range ends at the height at which it begins
 pub level_at_match : (s : List BidiClass) (j k : ℕ) → j ≤ k + 1 → is_balanced s j k ≡ true → opened s (k + 1) + closed s j ≡ opened s j + closed s (k + 1)
 unfolding opened closed
 level_at_match s j k order here =
     let e : count_by is_initiator (slice_range s j (k + 1)) ≡ count_by is_pdi (slice_range s j (k + 1)) = eqb-true _ _ here in
     omega (arith, e, count-slice_range is_initiator s j (k + 1) order, count-slice_range is_pdi s j (k + 1) order)
 
--- a test that holds of each number of a range
+-- a test that each number of a range passes holds for the whole range
 list_all-range : (p : ℕ → Bool) (low count : ℕ) → ((i : ℕ) → low ≤ i → i < low + count → p i ≡ true) → list_all p (range_with_len low count) ≡ true
 list_all-range p low zero each = refl
 list_all-range p low (suc count) each =
     and_from (p low) (list_all p (range_with_len (low + 1) count)) (each low (omega arith) (omega arith))
     (list_all-range p (low + 1) count (λ i above below. each i (omega arith) (omega arith)))
 
--- the heights step down by one at most
+-- the count of initiators does not fall, and that of PDIs rises by at most one
 pub steps : (classes : List BidiClass) (k : ℕ) → k < length classes → (opened classes k ≤ opened classes (k + 1)) × (closed classes (k + 1) ≤ closed classes k + 1)
 steps classes k h = (
   omega (arith, opened-next classes k h),
   omega (arith, closed-next classes k h, cond_both (is_pdi (class_at classes k)) 1 0 (λ n. n ≤ 1) (λ e. omega arith) (λ e. omega arith)),
 )
 
--- at depth 0 an initiator before a place has its match before it
+-- at depth 0, each initiator before k has its match before k
 matched : (classes : List BidiClass) (k : ℕ) → k ≤ length classes → Lowest (opened classes) (closed classes) k 0
     → (i : ℕ) → i < k → is_initiator (class_at classes i) ≡ true → is_before k (match_of classes i) ≡ false
 matched classes k within low i below opens =
@@ -175,7 +175,7 @@ matched classes k within low i below opens =
     least_reaches (is_balanced classes i) (i + 1) (length classes - (i + 1)) found.0 k (omega (arith, found.1)) (omega (arith, found.1, found.2))
     (balanced classes i found.0 (omega (arith, found.1)) found.3) (omega (arith, found.2))
 
--- so the place lies in no span
+-- at depth 0, an index is outside all isolates
 outside_at_none : (classes : List BidiClass) (k : ℕ) → k ≤ length classes → Lowest (opened classes) (closed classes) k 0 → is_outside classes k ≡ true
 outside_at_none classes k within low =
     list_all-range (λ i. not (is_in_span classes k i)) 0 k
@@ -187,7 +187,7 @@ outside_at_none classes k within low =
     ]
     ))
 
--- at a greater depth a strong character lies in the span of the initiator at the last lowest place
+-- at a depth above 0, a strong character is inside the isolate of the initiator at the last lowest index
 inside_at_some : (classes : List BidiClass) (k d : ℕ) → k < length classes → Lowest (opened classes) (closed classes) k d → 0 < d
     → is_strong (class_at classes k) ≡ true → is_outside classes k ≡ false
 inside_at_some classes k d within low deep strong =
@@ -214,7 +214,7 @@ inside_at_some classes k d within low deep strong =
     list_all_at (λ j. not (is_in_span classes k j)) (range_with_len 0 k) i 0 (omega (arith, length-range_with_len 0 k))
     (ap (λ j. not (is_in_span classes k j)) (get_or-range_with_len 0 k i 0 below ∙ zero-add i) ∙ not_from_true (is_in_span classes k i) spans)
 
--- what a walk knows at an index and a depth: no strong character before it stands outside all isolates
+-- the state of the search at index k and depth d: no strong character before k is outside all isolates
 pub record Reached (classes : List BidiClass) (k d : ℕ) : Type 0 where
   pub bounded : d ≤ k
   pub lowest : Lowest (opened classes) (closed classes) k d
@@ -233,7 +233,7 @@ Reached-start classes = record {
   none = λ m h. absurd (omega arith);
 }
 
--- past a character that is not strong, or lies in an isolate
+-- the step for a character that is not strong, or that is inside an isolate
 pub Reached-next : (classes : List BidiClass) (k d : ℕ) → k < length classes → Reached classes k d → (is_strong (class_at classes k) ≡ true → 0 < d)
     → Reached classes (k + 1) (cond (is_initiator (class_at classes k)) (d + 1) (cond (is_pdi (class_at classes k)) (d - 1) d))
 Reached-next classes k d within reached deep = record {
@@ -249,7 +249,7 @@ Reached-next classes k d within reached deep = record {
       ]);
 }
 
--- a strong character at depth 0 is the first outside all isolates
+-- a strong character at depth 0 is the first one outside all isolates
 pub Reached-strong : (classes : List BidiClass) (k : ℕ) → k < length classes → Reached classes k 0 → is_strong (class_at classes k) ≡ true
     → first_strong_level classes ≡ Some (strong_level (class_at classes k))
 Reached-strong classes k within reached strong =
@@ -258,7 +258,7 @@ Reached-strong classes k within reached strong =
     (and_from (is_strong (class_at classes k)) (is_outside classes k) strong (outside_at_none classes k (omega arith) reached.lowest))
     (λ m above below. reached.none m below))
 
--- at the end there is none
+-- if the search reaches the end, no strong character is outside all isolates
 pub Reached-end : (classes : List BidiClass) (k d : ℕ) → length classes ≤ k → Reached classes k d → first_strong_level classes ≡ None
 Reached-end classes k d end reached =
     ap (option_map (λ m. strong_level (class_at classes m)))

@@ -1,4 +1,4 @@
--- A walk through the span of an initiator that passes over each isolate inside it in one step.
+-- A search inside the isolate of an initiator that skips each nested isolate in one step.
 use Rattle.std.proofs.Common.{◌≡◌, nat_lt, option_map, zero-add, ℕ, ◌+◌, ◌-◌, ◌<◌, ◌≤◌, true, false, cond, ◌&&◌, ◌==◌, count_by, not, List, length, take, drop, get_or, slice_range, Some, None, is_none, unwrap_or, refl, sym, ap, ◌∙◌, inl, inr, arith}
 use Rattle.std.specs.List.{range_with_len}
 use Rattle.std.proofs.lemmas.Bool.{cond-true, cond-false, cond_both, cases_Bool, cases_eq, cases_lt, and_from, and_left, and_right, not_from_true, false_from_ne_true, both_ways, lt-ltb}
@@ -22,7 +22,7 @@ opens_weak class opens =
       | inr weak ↦ weak
     ]
 
--- the part of a part
+-- a range of a range is a range of the whole list
 slice_range-span : (xs : List BidiClass) (b e i j : ℕ) → b + j ≤ e → i ≤ j → slice_range (slice_range xs b e) i j ≡ slice_range xs (b + i) (b + j)
 slice_range-span xs b e i j within order =
     let whole : e - b ≡ i + (e - b - i) = omega arith in
@@ -34,7 +34,7 @@ slice_range-span xs b e i j within order =
     ∙ ap (take (j - i)) (drop-drop i b xs)
     ∙ ap (λ n. take n (drop (b + i) xs)) (sym size)
 
--- whether a part is balanced, seen from the whole
+-- whether a range is balanced does not depend on the list around it
 balanced-span : (xs : List BidiClass) (b e i j : ℕ) → b + j < e → i ≤ j → is_balanced (slice_range xs b e) i j ≡ is_balanced xs (b + i) (b + j)
 balanced-span xs b e i j within order =
     let size : b + j + 1 ≡ b + (j + 1) = omega arith in
@@ -47,7 +47,7 @@ class_at-span xs b e j within = let lt : j < e - b = omega arith in rw get_or-ta
 pub length-span : (xs : List BidiClass) (b e : ℕ) → b ≤ e → e ≤ length xs → length (slice_range xs b e) ≡ e - b
 length-span xs b e order within = length-take-le (e - b) (drop b xs) (omega (arith, length-drop b xs))
 
--- whether an initiator has no match, told by the list of matches
+-- an initiator has no match if and only if the list of matches has the length there
 pub open-match_at : (classes : List BidiClass) (i : ℕ) → i < length classes
     → (is_initiator (class_at classes i) && is_none (match_of classes i)) ≡ (is_initiator (class_at classes i) && (match_at classes i == length classes))
 open-match_at classes i within =
@@ -60,7 +60,7 @@ open-match_at classes i within =
           ∙ ap (λ m. is_initiator (class_at classes i) && (m == length classes)) (sym e)
     ]
 
--- what the match of an initiator tells: after it, up to its match, no part is balanced, and the part up to its match is
+-- no range from an initiator to an index before its match is balanced, and the range to its match is
 module _ (classes : List BidiClass) (i : ℕ) (within : i < length classes) (opens : is_initiator (class_at classes i) ≡ true) where
   found : match_at classes i ≡ unwrap_or (match_of classes i) (length classes)
   found = cond-true (is_initiator (class_at classes i)) (unwrap_or (match_of classes i) (length classes)) (length classes) opens
@@ -77,7 +77,7 @@ module _ (classes : List BidiClass) (i : ℕ) (within : i < length classes) (ope
   match_at-within : match_at classes i ≤ length classes
   match_at-within = rw found (least_within (is_balanced classes i) (i + 1) (length classes - (i + 1)) (length classes) (omega arith))
 
--- a match is within the list, or its length
+-- the list of matches has indices in the list, or its length
 pub match_at-le : (classes : List BidiClass) (i : ℕ) → i < length classes → match_at classes i ≤ length classes
 match_at-le classes i within =
     elim (cases_Bool (is_initiator (class_at classes i))) [
@@ -88,13 +88,13 @@ match_at-le classes i within =
 pub get_or-matches_of : (classes : List BidiClass) (i d : ℕ) → i < length classes → get_or (matches_of classes) i d ≡ match_at classes i
 get_or-matches_of classes i d within = get_or-map-range_with_len (match_at classes) 0 (length classes) i i d within (omega arith)
 
--- where no strong character stands outside, no level is given
+-- if no strong character is outside isolates, no level is given
 first_strong_level-none : (s : List BidiClass) → ((m : ℕ) → m < length s → (is_strong (class_at s m) && is_outside s m) ≡ false) → first_strong_level s ≡ None
 first_strong_level-none s none =
     ap (option_map (λ m. strong_level (class_at s m)))
     (least_none (λ m. is_strong (class_at s m) && is_outside s m) 0 (length s) (λ m above below. none m (omega arith)))
 
--- an initiator in a list whose part up to each place after it isn't balanced: all after it lies in its span
+-- if no range from the initiator at j to an index up to k is balanced, k is inside its isolate
 module _ (s : List BidiClass) (j : ℕ) (within : j < length s) (opens : is_initiator (class_at s j) ≡ true) where
   spans : (k : ℕ) → j < k → ((m : ℕ) → j < m → m ≤ k → is_balanced s j m ≡ false) → is_outside s k ≡ false
   spans k after none =
@@ -109,7 +109,7 @@ module _ (s : List BidiClass) (j : ℕ) (within : j < length s) (opens : is_init
       let shuts : is_pdi (class_at s j) ≡ false = opens_shuts_none (class_at s j) opens in
       omega (arith, rw opens at (opened-next s j within), rw shuts at (closed-next s j within))
 
-  -- up to the match each place is higher
+  -- each index after the initiator, up to its match, is higher than it
   higher : (k : ℕ) → k ≤ length s → ((m : ℕ) → j < m → m < k → is_balanced s j m ≡ false) → (m : ℕ) → j < m → m ≤ k → opened s j + closed s m < opened s m + closed s j
   higher k inside none m after upto =
       elim (cases_lt (opened s j + closed s m) (opened s m + closed s j)) [
@@ -119,7 +119,7 @@ module _ (s : List BidiClass) (j : ℕ) (within : j < length s) (opens : is_init
             absurd (both_ways (is_balanced s j back.0) (none back.0 back.1 (omega (arith, back.2))) (balanced s j back.0 (omega (arith, back.1)) back.3))
       ]
 
-  -- no strong character up to k stands outside
+  -- no strong character before k is outside all isolates
   none_outside : (k : ℕ) → Reached s j 0 → ((m : ℕ) → j < m → m < k → is_balanced s j m ≡ false)
       → (m : ℕ) → m < k → (is_strong (class_at s m) && is_outside s m) ≡ false
   none_outside k reached none m below =
@@ -131,11 +131,11 @@ module _ (s : List BidiClass) (j : ℕ) (within : j < length s) (opens : is_init
         ]
       ]
 
-  -- where no part is balanced, there is no strong character outside
+  -- if no range from the initiator is balanced, no strong character is outside isolates
   pub none_after : Reached s j 0 → ((m : ℕ) → j < m → m < length s → is_balanced s j m ≡ false) → first_strong_level s ≡ None
   none_after reached none = first_strong_level-none s (none_outside (length s) reached none)
 
-  -- after the match
+  -- after the match of an initiator at depth 0, the depth is 0 again
   pub Reached-jump : (k : ℕ) → j < k → k < length s → Reached s j 0 → ((m : ℕ) → j < m → m < k → is_balanced s j m ≡ false) → is_balanced s j k ≡ true → Reached s (k + 1) 0
   Reached-jump k after inside reached none here =
       let level : opened s (k + 1) + closed s j ≡ opened s j + closed s (k + 1) = level_at_match s j k (omega arith) here in
@@ -157,8 +157,8 @@ module _ (s : List BidiClass) (j : ℕ) (within : j < length s) (opens : is_init
         ];
       }
 
--- What the walk through the span of an initiator knows at a place: up to the span's end, that no strong character before it stands
--- outside all isolates inside the span, and past it, that none does.
+-- The state of the search inside the isolate of an initiator. Up to its end: no strong character before `at` is outside
+-- the nested isolates. Past its end: there is no such character in the isolate.
 pub record Walks (classes : List BidiClass) (initiator at : ℕ) : Type 0 where
   pub after : initiator < at
   pub bounded : at ≤ length classes + 1
@@ -207,7 +207,7 @@ module _ (classes : List BidiClass) (i : ℕ) (within : i < length classes) (ope
       let after = walk.after in
       Reached-strong (span_of classes i) (at - (i + 1)) (omega (arith, length-is)) (walk.inside (omega arith)) (ap is_strong here ∙ strong) ∙ ap (λ class. Some (strong_level class)) here
 
-  -- past a character that opens no isolate
+  -- the step for a character that is neither strong nor an initiator
   pub Walks-step : (at : ℕ) → at < match_at classes i → Walks classes i at → is_strong (class_at classes at) ≡ false → is_initiator (class_at classes at) ≡ false → Walks classes i (at + 1)
   Walks-step at before walk weak other =
       let after = walk.after in
@@ -226,7 +226,7 @@ module _ (classes : List BidiClass) (i : ℕ) (within : i < length classes) (ope
         past = λ h. absurd (omega arith);
       }
 
-  -- past an isolate
+  -- the step over a nested isolate
   pub Walks-jump : (at : ℕ) → at < match_at classes i → Walks classes i at → is_initiator (class_at classes at) ≡ true → Walks classes i (match_at classes at + 1)
   Walks-jump at before walk inner =
       let after = walk.after in

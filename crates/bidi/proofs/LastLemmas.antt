@@ -1,4 +1,4 @@
--- The last character of a text, and what a character after it makes of its paragraph.
+-- A character appended to a text, with or without a paragraph boundary before it.
 use Rattle.std.proofs.Common.{◌≡◌, ℕ, ◌-◌, ◌<◌, Bool, true, false, List, [], ◌∷◌, ◌++◌, length, Option, Some, None, MatchOption, refl, sym, subst, ap, ◌∙◌, arith, sub-one, if◌then◌else◌}
 use Rattle.std.specs.Prelude.{⊤}
 use Rattle.std.specs.List.{onto_first, slice_get}
@@ -46,7 +46,7 @@ module _ (is_cut : ℕ → ℕ → Bool) where
       ∙ join is_cut xs a (c ∷ []) (a ∷ c ∷ []) [] whole (onto is_cut a c [] (c ∷ []) [] no_cut refl)
       ∙ ap (λ t. t ∷ []) (sym text_is)
 
-  -- a cut ends the text before a character
+  -- a boundary before a character makes the text before it one paragraph
   pub split_before : (text more : List ℕ) (last : Option ℕ) (c a : ℕ) → last ≡ slice_get text (length text - 1) → SplitsAt is_cut text None
       → last ≡ Some a → is_cut a c ≡ true → (0 < length text) × (paragraphs is_cut (text ++ c ∷ more) ≡ text ∷ paragraphs is_cut (c ∷ more))
   split_before text more last c a at_end uncut last_is cut =

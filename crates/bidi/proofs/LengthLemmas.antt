@@ -1,4 +1,4 @@
--- Base levels, and how many levels a paragraph has.
+-- Bounds of base levels, and the number of levels of a paragraph.
 use Rattle.std.proofs.Common.{◌≡◌, ℕ, suc, ◌≤◌, List, [], ◌∷◌, length, map, slice_index, Option, Some, None, unwrap_or, option_map, refl, ap, ◌∙◌, inl, inr, arith}
 use Rattle.std.proofs.lemmas.Bool.{cases_Bool, cond-false, cond-true}
 use Rattle.std.proofs.lemmas.List.{length-map}
@@ -17,7 +17,7 @@ use Rattle.bidi.specs.Levels.{levels_of, paragraph_levels, put_back, resolved}
 use Rattle.ucd.specs.Classes.{is_removed}
 use Rattle.bidi.specs.Sequences.{stayed}
 
--- a base level is 0 or 1
+-- a strong level is 0 or 1
 strong_level-low : (class : BidiClass) → strong_level class ≤ 1
 strong_level-low L = omega arith
 strong_level-low _ = omega arith
@@ -32,11 +32,11 @@ base_level_of-low classes Ltr = omega arith
 base_level_of-low classes WeakRtl = weak_level-low classes (first_strong classes) 1 (omega arith)
 base_level_of-low classes WeakLtr = weak_level-low classes (first_strong classes) 0 (omega arith)
 
--- the classes of a text are as many as its characters, each FSI as what it acts as too
+-- replacing each FSI keeps the number of classes
 pub length-directed : (classes : List BidiClass) → length (directed classes) ≡ length classes
 length-directed classes = length-map-range_with_len (λ k. directed_at classes k (class_at classes k)) 0 (length classes)
 
--- what is put back has a level for each class
+-- putting back the characters that X9 removed gives a level for each class
 length-put_back : (before : ℕ) (classes : List BidiClass) (levels : List ℕ) → length (put_back before classes levels) ≡ length classes
 length-put_back before [] levels = refl
 length-put_back before (class ∷ classes) [] = ap suc (length-put_back before classes [])
@@ -48,7 +48,7 @@ length-put_back before (class ∷ classes) (level ∷ levels) =
           ∙ ap suc (length-put_back level classes levels)
     ]
 
--- so a paragraph has a level for each character
+-- a paragraph has a level for each class
 pub length-paragraph_levels : (look : ℕ → Option Bracket) (text : List ℕ) (all : List BidiClass) (level : ℕ) → length (paragraph_levels look text all level) ≡ length all
 length-paragraph_levels look text all level =
     let classes = directed all in

@@ -1,4 +1,4 @@
--- The levels of sequences, found run by run.
+-- The levels of all sequences, found run by run.
 use Rattle.std.proofs.Common.{◌≡◌, ◌≢◌, ℕ, ◌-◌, ◌<◌, ◌≤◌, nat_lt, ◌==◌, Bool, true, false, ◌&&◌, ◌||◌, not, List, [], ◌∷◌, length, set, get_or, slice_index, fold, Option, Some, None, if◌then◌else◌, refl, sym, ap, ◌∙◌, inl, inr, arith}
 use Rattle.std.specs.List.{list_any, range_with_len}
 use Rattle.std.proofs.lemmas.Bool.{cond-true, cond-false, cases_Bool, cases_eq, eq-eqb, ne_eqb, and_from, not_from_false, lt-ltb, or_left}
@@ -14,23 +14,23 @@ use Rattle.bidi.specs.Cuts.{paragraphs}
 use Rattle.bidi.specs.Sequences.{changes, first_of, last_of, is_match, continues_in, joined, sequences_from}
 use Rattle.bidi.proofs.RunLemmas.{continues-match_at, next_start-within, runs_from-run, runs_from-end, first_of-range, last_of-range}
 
--- levels written to places keep their number
+-- writing values at some indices keeps the length of the list
 pub length-put : (levels places values : List ℕ) → length (put levels places values) ≡ length levels
 length-put levels [] values = refl
 length-put levels (place ∷ places) [] = refl
 length-put levels (place ∷ places) (value ∷ values) = length-put (set levels place value) places values ∙ length-set levels place value
 
--- whether one of the runs continues in the one that begins at a place
+-- whether one of the earlier runs continues in the run that begins at j
 abbrev pub continued_at : List BidiClass → List (List ℕ) → ℕ → Bool
 continued_at classes earlier j = list_any (λ run. is_initiator (class_at classes (last_of run)) && is_match (match_of classes (last_of run)) j) earlier
 
 module _ (bracket_of : ℕ → Option Bracket) (base : ℕ) (characters : List ℕ) (classes : List BidiClass) (levels : List ℕ) (types : List BidiClass) where
-  -- the levels with those of one more sequence
+  -- the levels after those of one more sequence have been written
   abbrev pub write : List ℕ → List ℕ → List ℕ
   write done sequence = put done sequence (levels_in bracket_of base characters classes levels types sequence)
 
-  -- What a walk over the runs knows at the start of one: of each place at which a run begins, whether an earlier run continues in it,
-  -- and that the levels so far, with those of the sequences that begin from here on, are the whole.
+  -- The state of the pass over the runs at the start of one. `flags` says at which indices an earlier run continues.
+  -- Writing the levels of the sequences that begin here or later completes `done`.
   pub record Resolves (start : ℕ) (flags : List Bool) (done : List ℕ) : Type 0 where
     pub earlier : List (List ℕ)
     pub edge : 0 < start → start < length levels → slice_index levels (start - 1) ≢ slice_index levels start
@@ -50,7 +50,7 @@ module _ (bracket_of : ℕ → Option Bracket) (base : ℕ) (characters : List �
         ap (λ n. fold write levels (sequences_from classes [] (paragraphs (changes levels) (range_with_len 0 n)))) size;
   }
 
-  -- past a run, whose places are marked as begun where one continues in them
+  -- the step for a run: its sequence is written unless an earlier run continues in it; the run that continues it is flagged
   pub Resolves-next : (sizes : length classes ≡ length levels) (start end : ℕ) (flags after : List Bool) (done next : List ℕ) → IsRunEnd levels start end → (now : Resolves start flags done)
       → next ≡ (if get_or flags start false then done else write done (sequence_at classes levels start)) → length after ≡ length levels
       → ((j : ℕ) → j < length levels → (0 < j → slice_index levels (j - 1) ≢ slice_index levels j) → get_or after j false ≡ ((match_at classes (end - 1) == j) || get_or flags j false))
@@ -95,11 +95,11 @@ module _ (bracket_of : ℕ → Option Bracket) (base : ℕ) (characters : List �
         ];
       }
 
-  -- at the end
+  -- at the end of the runs, all levels have been written
   pub Resolves-end : (start : ℕ) (flags : List Bool) (done : List ℕ) → length levels ≤ start → Resolves start flags done → done ≡ resolved bracket_of base characters classes levels types
   Resolves-end start flags done past now = ap (λ runs. fold write done (sequences_from classes now.earlier runs)) (sym (runs_from-end levels start past)) ∙ now.whole
 
--- a mark at the place where the next run begins, or none where the run ends its sequence
+-- the flag of the run that a run continues in is set; no flag is set if the run ends its sequence
 marked_some : (levels : List ℕ) (m next j : ℕ) (flags : List Bool) → next_start levels m ≡ Some next → length flags ≡ length levels → j < length levels
     → get_or (set flags next true) j false ≡ ((m == j) || get_or flags j false)
 marked_some levels m next j flags e size within =

@@ -1,4 +1,4 @@
--- What the walk of X1 to X8 keeps of a chain of openers, and what a step of the chain changes in it.
+-- The stack and counts that X1 to X8 keep for a chain of openers, and how each step changes them.
 use Rattle.std.proofs.Common.{◌≡◌, ℕ, suc, ◌+◌, ◌-◌, ◌<◌, ◌≤◌, ◌%◌, ◌==◌, ◌⊎◌, nat_lt, Bool, true, false, cond, ◌&&◌, ◌||◌, not, List, [], ◌∷◌, ◌++◌, length, get_or, take, drop, refl, sym, ap, ◌∙◌, inl, inr, arith, length-append, Option}
 use Rattle.std.specs.List.{list_any, prefix_len}
 use Rattle.std.proofs.lemmas.Bool.{cond-true, cond-false, cases_Bool, cases_eq, cases_lt, eq-eqb, ne_eqb, lt-ltb, le-ltb, both_ways, or_left, or_right, or_from, or_parts}
@@ -12,7 +12,7 @@ use Rattle.ucd.specs.Classes.{is_initiator}
 use Rattle.bidi.specs.Explicit.{close_embedding, close_isolate, opens_odd, level_above, override_of, Inside, inside}
 use Rattle.bidi.specs.Openers.{entry_of, innermost, statuses, isolates, overflowed_isolates, overflowed_embeddings, Holds, AreBeforeIsolate, ClosesIsolate}
 
--- an opener's level is above the one outside of it
+-- the level of an opener is above the level outside it
 pub level_above-rises : (opener : BidiClass) (level : ℕ) → level < level_above opener level
 level_above-rises opener level =
     elim (cases_Bool (opens_odd opener)) [
@@ -20,7 +20,7 @@ level_above-rises opener level =
       | inr even ↦ let e : level_above opener level ≡ level + 2 - level % 2 = cond-false (opens_odd opener) (level + 1 + level % 2) (level + 2 - level % 2) even in omega arith
     ]
 
--- a list without its last item
+-- removing the last item of a list gives the items before it
 take-last : (items front : List Status) (last : Status) → items ≡ front ++ last ∷ [] → take (length items - 1) items ≡ front
 take-last items front last e =
     let size : length items - 1 ≡ length front = omega (arith, ap length e, length-append front (last ∷ [])) in
@@ -40,7 +40,7 @@ cases_last (s ∷ items) =
       | inr w ↦ inr (s ∷ w.0, w.1, ap (λ (l : List Status). s ∷ l) w.2)
     ]
 
--- Entries below the last isolate, when the last entry is taken off: it is that isolate,
+-- if the popped entry is an isolate, the remaining entries are those below the last isolate
 pub popped_isolate : (front entries rest : List Status) (status : Status) → AreBeforeIsolate front entries → entries ≡ rest ++ status ∷ [] → status.is_isolate ≡ true → rest ≡ front
 popped_isolate front entries rest status h popped isolate =
     elim (cases_last h.inner) [
@@ -55,7 +55,7 @@ popped_isolate front entries rest status h popped isolate =
           (sym (ap (λ (s : Status). s.is_isolate) same) ∙ isolate))
     ]
 
--- or it stands above it
+-- if the popped entry is not an isolate, the last isolate and the entries below it stay
 pub popped_other : (front entries rest : List Status) (status : Status) → AreBeforeIsolate front entries → entries ≡ rest ++ status ∷ [] → status.is_isolate ≡ false → AreBeforeIsolate front rest
 popped_other front entries rest status h popped other =
     elim (cases_last h.inner) [
@@ -73,11 +73,11 @@ popped_other front entries rest status h popped other =
           }
     ]
 
--- and without an entry there is none
+-- a stack with an isolate on it is not empty
 pub popped_none : (front entries : List Status) → AreBeforeIsolate front entries → length entries ≡ 0 → ⊥
 popped_none front entries h none = omega (arith, ap length h.split, length-append front (h.isolate ∷ h.inner))
 
--- an entry that is no isolate above them
+-- pushing an entry that is not an isolate keeps the last isolate
 AreBeforeIsolate-more : (front entries : List Status) (status : Status) → AreBeforeIsolate front entries → status.is_isolate ≡ false → AreBeforeIsolate front (entries ++ status ∷ [])
 AreBeforeIsolate-more front entries status h other = record {
   isolate = h.isolate;
@@ -89,7 +89,7 @@ AreBeforeIsolate-more front entries status h other = record {
       (or_from status.is_isolate false other refl);
 }
 
--- the innermost isolate is the innermost opener, or it is outside of that
+-- closing the innermost isolate removes the innermost opener if that is an isolate, and else closes an isolate outside it
 close_isolate-here : (opener : BidiClass) (outer : List BidiClass) → is_initiator opener ≡ true → close_isolate (opener ∷ outer) ≡ outer
 close_isolate-here opener outer isolate =
     ap (λ (x : Bool). cond (x || list_any is_initiator outer) (drop (cond (not x) (1 + prefix_len (λ o. not (is_initiator o)) outer) 0 + 1) (opener ∷ outer)) (opener ∷ outer)) isolate
@@ -104,7 +104,7 @@ close_isolate-outside opener outer embedding some =
     ∙ sym (cond-true (list_any is_initiator outer) (drop (p + 1) outer) outer some)
 
 module _ (base : ℕ) where
-  -- what an opener adds, by whether it is void and whether it is an isolate initiator
+  -- the entries and counts that an opener adds, by whether it is void and whether it is an isolate initiator
   pub record Adds (void isolate : Bool) (opener : BidiClass) (outer : List BidiClass) : Type 0 where
     pub statuses_are : statuses base (opener ∷ outer) ≡ cond void (statuses base outer) (statuses base outer ++ innermost base (opener ∷ outer) ∷ [])
     pub isolates_are : isolates base (opener ∷ outer) ≡ cond (isolate && not void) (isolates base outer + 1) (isolates base outer)
@@ -127,7 +127,7 @@ module _ (base : ℕ) where
         ∙ ap (λ (x : Bool). cond void (innermost base outer) (entry_of (inside base (opener ∷ outer)) x)) i;
   }
 
-  -- an opener has a level of its own, or it is void
+  -- an opener that has a level of its own, and one that is void
   pub record IsEntered (opener : BidiClass) (outer : List BidiClass) : Type 0 where
     pub not_void : (inside base outer).is_void ≡ false
     pub fits : level_above opener (inside base outer).level ≤ 125
@@ -166,7 +166,7 @@ module _ (base : ℕ) where
         ]
       ]
 
-  -- the innermost entry tells what holds inside
+  -- the innermost entry has the level and override that apply inside the chain
   pub innermost-level : (chain : List BidiClass) → (innermost base chain).level ≡ (inside base chain).level
   innermost-level [] = refl
   innermost-level (opener ∷ outer) =
@@ -185,7 +185,7 @@ module _ (base : ℕ) where
             ∙ innermost-override outer ∙ sym (ap (λ (i : Inside). i.override) v.is)
       ]
 
-  -- no level passes 125
+  -- no level is above 125
   pub level-le : base ≤ 125 → (chain : List BidiClass) → (inside base chain).level ≤ 125
   level-le low [] = low
   level-le low (opener ∷ outer) =
@@ -194,7 +194,7 @@ module _ (base : ℕ) where
         | inr v ↦ rw v.is (level-le low outer)
       ]
 
-  -- the stack has an entry for the paragraph, and the innermost entry is the last one
+  -- the stack is not empty, and its last entry is the innermost one
   pub statuses-last : (chain : List BidiClass) → (front : List Status) × (statuses base chain ≡ front ++ innermost base chain ∷ [])
   statuses-last [] = ([], refl)
   statuses-last (opener ∷ outer) =
@@ -205,7 +205,7 @@ module _ (base : ℕ) where
             (before.0, a.statuses_are ∙ before.1 ∙ ap (λ (s : Status). before.0 ++ s ∷ []) (sym a.innermost_is))
       ]
 
-  -- each entry has a level above the one before it
+  -- the stack has at most as many entries as its innermost level plus one
   pub statuses-length : (chain : List BidiClass) → length (statuses base chain) ≤ (inside base chain).level + 1
   statuses-length [] = omega arith
   statuses-length (opener ∷ outer) =
@@ -215,7 +215,7 @@ module _ (base : ℕ) where
         | inr v ↦ rw ((adds true (is_initiator opener) opener outer (ap (λ (i : Inside). i.is_void) v.is) refl).statuses_are, v.is) (statuses-length outer)
       ]
 
-  -- where no opener is void, none is counted
+  -- if the innermost opener is not void, both overflow counts are 0
   pub none_void : (chain : List BidiClass) → (inside base chain).is_void ≡ false → (overflowed_isolates base chain ≡ 0) × (overflowed_embeddings base chain ≡ 0)
   none_void [] live = (refl, refl)
   none_void (opener ∷ outer) live =
@@ -228,7 +228,7 @@ module _ (base : ℕ) where
         | inr v ↦ absurd (both_ways ((inside base (opener ∷ outer)).is_void) live (ap (λ (i : Inside). i.is_void) v.is))
       ]
 
-  -- a void embedding is counted where no void isolate is open
+  -- a void embedding is counted if no void isolate is open
   pub embedding_counted : (opener : BidiClass) (outer : List BidiClass) → Adds true false opener outer
       → overflowed_isolates base outer ≡ 0 → overflowed_embeddings base (opener ∷ outer)
       ≡ overflowed_embeddings base outer + 1
@@ -241,7 +241,7 @@ module _ (base : ℕ) where
   embedding_passed opener outer a some = a.overflowed_embeddings_are
       ∙ cond-false (overflowed_isolates base outer == 0) (overflowed_embeddings base outer + 1) (overflowed_embeddings base outer) (ne_eqb (overflowed_isolates base outer) 0 (omega arith))
 
-  -- where an opener is void, one is counted
+  -- if the innermost opener is void, an overflow count is above 0
   pub some_void : (chain : List BidiClass) → (inside base chain).is_void ≡ true → 0 < overflowed_isolates base chain + overflowed_embeddings base chain
   some_void [] void = absurd (cc)
   some_void (opener ∷ outer) void =
@@ -254,7 +254,7 @@ module _ (base : ℕ) where
             ]
       ]
 
-  -- an opener is counted at most once
+  -- each opener is counted at most once
   pub counts-le : (chain : List BidiClass) → isolates base chain + overflowed_isolates base chain + overflowed_embeddings base chain ≤ length chain
   counts-le [] = omega arith
   counts-le (opener ∷ outer) =
@@ -281,7 +281,7 @@ module _ (base : ℕ) where
   counts-entered true opener outer a = (a.isolates_are, a.overflowed_isolates_are, a.overflowed_embeddings_are)
   counts-entered false opener outer a = (a.isolates_are, a.overflowed_isolates_are, a.overflowed_embeddings_are)
 
-  -- Of openers that are kept for a chain:
+  -- the properties of a state that belongs to a chain
   module _ (openers : Openers) (chain : List BidiClass) (holds : Holds base openers chain) where
     pub is_live : openers.overflowed_isolates ≡ 0 → openers.overflowed_embeddings ≡ 0 → (inside base chain).is_void ≡ false
     is_live no_isolate no_embedding =
@@ -297,7 +297,7 @@ module _ (base : ℕ) where
           | inr live ↦ let none = none_void chain live in absurd (omega (arith, none.0, none.1, holds.overflowed_isolates_are, holds.overflowed_embeddings_are))
         ]
 
-    -- an opener with a level of its own
+    -- the step for an opener with a level of its own
     pub Holds-entered : (opener : BidiClass) (status : Status) (level : ℕ) (overriding : Option BidiClass) (isolate : Bool) (entries : List Status)
         → openers.overflowed_isolates ≡ 0 → openers.overflowed_embeddings ≡ 0 → status ≡ innermost base chain
         → level ≡ level_above opener status.level → level ≤ 125 → overriding ≡ override_of opener → isolate ≡ is_initiator opener
@@ -317,7 +317,7 @@ module _ (base : ℕ) where
           overflowed_embeddings_are = holds.overflowed_embeddings_are ∙ sym (counts-entered b opener chain a).2;
         }
 
-    -- a void one
+    -- the step for a void isolate initiator
     pub Holds-void_isolate : (opener : BidiClass) → ((inside base chain).is_void ≡ true) ⊎ (125 < level_above opener (inside base chain).level) → is_initiator opener ≡ true
         → Holds base (record openers { overflowed_isolates = openers.overflowed_isolates + 1 }) (opener ∷ chain)
     Holds-void_isolate opener cause isolate =
@@ -351,7 +351,7 @@ module _ (base : ℕ) where
           overflowed_embeddings_are = holds.overflowed_embeddings_are ∙ sym (embedding_passed opener chain a (omega (arith, holds.overflowed_isolates_are)));
         }
 
-  -- PDF under a void isolate
+  -- PDF inside a void isolate changes nothing
   pub Holds-passed : (openers : Openers) (chain : List BidiClass) → Holds base openers chain → 0 < openers.overflowed_isolates → Holds base openers (close_embedding chain)
   Holds-passed openers [] holds some = absurd (omega (arith, holds.overflowed_isolates_are))
   Holds-passed openers (opener ∷ outer) holds some =
@@ -387,7 +387,7 @@ module _ (base : ℕ) where
             })
       ]
 
-  -- PDF closes an embedding
+  -- PDF closes an embedding that is not void
   pub Holds-closed : (openers : Openers) (chain : List BidiClass) → Holds base openers chain → openers.overflowed_isolates ≡ 0 → openers.overflowed_embeddings ≡ 0
       → (status : Status) (entries : List Status) → status ≡ innermost base chain → 1 < length openers.statuses.items → status.is_isolate ≡ false
       → entries ≡ take (length openers.statuses.items - 1) openers.statuses.items
@@ -406,7 +406,7 @@ module _ (base : ℕ) where
         overflowed_embeddings_are = holds.overflowed_embeddings_are ∙ a.overflowed_embeddings_are;
       }
 
-  -- PDF closes nothing
+  -- PDF closes nothing if the innermost entry is an isolate, or if the stack has only one entry
   pub Holds-kept : (openers : Openers) (chain : List BidiClass) → Holds base openers chain → openers.overflowed_isolates ≡ 0 → openers.overflowed_embeddings ≡ 0
       → (length openers.statuses.items ≤ 1) ⊎ ((status : Status) × (status ≡ innermost base chain) × (status.is_isolate ≡ true))
       → Holds base openers (close_embedding chain)
@@ -426,7 +426,7 @@ module _ (base : ℕ) where
         | inr w ↦ rw (cond-true (is_initiator opener) (opener ∷ outer) outer (sym (ap (λ (s : Status). s.is_isolate) (w.1 ∙ a.innermost_is)) ∙ w.2)) holds
       ]
 
-  -- an isolate that is counted is in the chain
+  -- if an isolate is counted, the chain contains one
   some_isolate : (chain : List BidiClass) → 0 < isolates base chain + overflowed_isolates base chain → list_any is_initiator chain ≡ true
   some_isolate [] some = absurd (omega arith)
   some_isolate (opener ∷ outer) some =
@@ -475,7 +475,7 @@ module _ (base : ℕ) where
             } some)
       ]
 
-  -- what is left of a chain without its innermost isolate, which isn't void
+  -- the state after the innermost isolate of a chain, which is not void, has been closed
   pub record IsIsolateClosed (chain : List BidiClass) : Type 0 where
     pub before : AreBeforeIsolate (statuses base (close_isolate chain)) (statuses base chain)
     pub isolates_are : isolates base (close_isolate chain) + 1 ≡ isolates base chain
@@ -521,7 +521,7 @@ module _ (base : ℕ) where
             }
       ]
 
-  -- PDI closes an isolate
+  -- PDI closes an isolate that is not void
   pub Holds-isolate_closed : (openers : Openers) (chain : List BidiClass) → Holds base openers chain → openers.overflowed_isolates ≡ 0 → 0 < openers.isolates
       → (entries : List Status) → ClosesIsolate openers.statuses.items entries
       → Holds base (record openers { statuses = record { items = entries }; isolates = openers.isolates - 1; overflowed_embeddings = 0 }) (close_isolate chain)
@@ -534,7 +534,7 @@ module _ (base : ℕ) where
         overflowed_embeddings_are = sym closed.overflowed_embeddings_are;
       }
 
-  -- PDI closes nothing
+  -- PDI closes nothing if no isolate is open
   pub Holds-no_isolate : (openers : Openers) (chain : List BidiClass) → Holds base openers chain → openers.overflowed_isolates ≡ 0 → openers.isolates ≡ 0
       → Holds base openers (close_isolate chain)
   Holds-no_isolate openers chain holds none_void none =

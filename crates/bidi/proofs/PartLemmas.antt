@@ -1,4 +1,4 @@
--- What holds of all items of a list holds of those at some places.
+-- A property of all items of a list holds for the items at selected indices.
 use Rattle.std.proofs.Common.{◌≡◌, ℕ, ◌<◌, Bool, List, length, get_or, map, filter, slice_index, sym, subst, ◌∙◌, zero-add}
 use Rattle.std.specs.List.{range_with_len, All}
 use Rattle.std.proofs.lemmas.List.{get_or_default}

@@ -1,4 +1,4 @@
--- A text's paragraphs are its pieces between cuts, whatever the cuts are.
+-- The paragraphs of a text are its parts between boundaries, for any definition of a boundary.
 use Rattle.std.proofs.Common.{◌≡◌, ℕ, zero, suc, ◌+◌, ◌-◌, ◌<◌, ◌≤◌, Bool, true, false, List, [], ◌∷◌, ◌++◌, length, take, drop, slice_index, refl, sym, ap, subst, ◌∙◌, inl, inr, arith, add-one, sub-one}
 use Rattle.std.specs.List.{concat, onto_first}
 use Rattle.std.proofs.lemmas.Bool.{cond-true, cond-false, cases_Bool}
@@ -6,7 +6,7 @@ use Rattle.std.proofs.lemmas.List.{append-nil, take-append-drop, drop_more, take
 use Rattle.bidi.specs.Cuts.{paragraphs}
 use Rattle.bidi.specs.Pieces.{IsPiece, ArePieces, ParagraphsArePieces}
 
--- the last of a text stays when a character is put before it
+-- putting a character before a text does not change the text's last character
 last-cons : (a b : ℕ) (text : List ℕ) → slice_index (a ∷ b ∷ text) (length (a ∷ b ∷ text) - 1) ≡ slice_index (b ∷ text) (length (b ∷ text) - 1)
 last-cons a b text = rw (sub-one (length (a ∷ b ∷ text)), sub-one (length (b ∷ text))) refl
 
@@ -15,7 +15,7 @@ concat-onto_first a [] = refl
 concat-onto_first a (part ∷ parts) = refl
 
 module _ (is_cut : ℕ → ℕ → Bool) where
-  -- a character before a text, with a cut after it and with none
+  -- the paragraphs of a text with a character put before it, with and without a boundary after that character
   paragraphs-cut : (a b : ℕ) (text : List ℕ) → is_cut a b ≡ true → paragraphs is_cut (a ∷ b ∷ text) ≡ (a ∷ []) ∷ paragraphs is_cut (b ∷ text)
   paragraphs-cut a b text = cond-true (is_cut a b) ((a ∷ []) ∷ paragraphs is_cut (b ∷ text)) (onto_first a (paragraphs is_cut (b ∷ text)))
 
@@ -38,14 +38,14 @@ module _ (is_cut : ℕ → ℕ → Bool) where
     uncut = λ k h. rw (add-one k) (rw (add-one (suc k)) at (piece.uncut (suc k) (omega arith)));
   }
 
-  -- a piece alone is one paragraph
+  -- a part without a boundary is one paragraph
   paragraphs-piece : (piece : List ℕ) → IsPiece is_cut piece → paragraphs is_cut piece ≡ piece ∷ []
   paragraphs-piece [] h = let filled = h.filled in absurd (omega arith)
   paragraphs-piece (a ∷ []) h = refl
   paragraphs-piece (a ∷ b ∷ text) h =
       paragraphs-uncut a b text (h.uncut 0 (omega arith)) ∙ ap (onto_first a) (paragraphs-piece (b ∷ text) (IsPiece-tail a b text h))
 
-  -- a piece before a cut is the first paragraph
+  -- a part without a boundary inside, followed by a boundary, is the first paragraph
   paragraphs-append : (piece : List ℕ) (c : ℕ) (text : List ℕ) → IsPiece is_cut piece → is_cut (slice_index piece (length piece - 1)) c ≡ true
       → paragraphs is_cut (piece ++ c ∷ text) ≡ piece ∷ paragraphs is_cut (c ∷ text)
   paragraphs-append [] c text h split = let filled = h.filled in absurd (omega arith)
@@ -54,7 +54,7 @@ module _ (is_cut : ℕ → ℕ → Bool) where
       paragraphs-uncut a b (rest ++ c ∷ text) (h.uncut 0 (omega arith))
       ∙ ap (onto_first a) (paragraphs-append (b ∷ rest) c text (IsPiece-tail a b rest h) (rw (last-cons a b rest) at split))
 
-  -- a text up to its first cut
+  -- a text up to its first boundary has no boundary inside
   front_is_piece : (text : List ℕ) (k : ℕ) → 0 < k → k ≤ length text → ((m : ℕ) → 1 ≤ m → m < k → is_cut (slice_index text (m - 1)) (slice_index text m) ≡ false) → IsPiece is_cut (take k text)
   front_is_piece text k some within before =
       let size : length (take k text) ≡ k = length-take-le k text within in
@@ -74,12 +74,12 @@ module _ (is_cut : ℕ → ℕ → Bool) where
       ∙ paragraphs-append (take k text) (slice_index text k) (drop (k + 1) text) (front_is_piece text k some (omega arith) before) split
       ∙ ap (λ ys. take k text ∷ paragraphs is_cut ys) rest
 
-  -- a text with no cut
+  -- a text without a boundary is one paragraph
   pub paragraphs-no_cut : (text : List ℕ) → 0 < length text → ((m : ℕ) → 1 ≤ m → m < length text → is_cut (slice_index text (m - 1)) (slice_index text m) ≡ false) → paragraphs is_cut text ≡ text ∷ []
   paragraphs-no_cut text some none =
       paragraphs-piece text (subst (IsPiece is_cut) (take_all (length text) text (omega arith)) (front_is_piece text (length text) some (omega arith) none))
 
-  -- the first paragraph of a text begins with its first character
+  -- the first paragraph of a text begins with the text's first character
   paragraphs-cons : (a : ℕ) (text : List ℕ) → (rest : List ℕ) × (parts : List (List ℕ)) × (paragraphs is_cut (a ∷ text) ≡ (a ∷ rest) ∷ parts)
   paragraphs-cons a [] = ([], [], refl)
   paragraphs-cons a (b ∷ text) =
@@ -88,7 +88,7 @@ module _ (is_cut : ℕ → ℕ → Bool) where
         | inr joined ↦ let next = paragraphs-cons b text in (b ∷ next.0, next.1, paragraphs-uncut a b text joined ∙ ap (onto_first a) next.2)
       ]
 
-  -- a character put onto the first piece, where there is no cut after it
+  -- putting a character before the first part keeps the parts valid if there is no boundary after the character
   ArePieces-onto_first : (a b : ℕ) (rest : List ℕ) (parts : List (List ℕ)) → is_cut a b ≡ false → ArePieces is_cut ((b ∷ rest) ∷ parts) → ArePieces is_cut ((a ∷ b ∷ rest) ∷ parts)
   ArePieces-onto_first a b rest [] joined piece = IsPiece-cons a b rest joined piece
   ArePieces-onto_first a b rest (next ∷ parts) joined pieces = (IsPiece-cons a b rest joined pieces.0, rw (last-cons a b rest) pieces.1, pieces.2)

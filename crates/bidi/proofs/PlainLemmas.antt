@@ -1,4 +1,4 @@
--- A paragraph in which nothing is opened, closed or taken out is one isolating run sequence as it stands.
+-- A paragraph without openers, closers and characters that X9 removes is one isolating run sequence.
 use Rattle.std.proofs.Common.{◌≡◌, ℕ, zero, suc, ◌+◌, ◌-◌, ◌<◌, ◌==◌, max, is_none, Bool, true, false, ◌&&◌, not, if◌then◌else◌, List, [], ◌∷◌, ◌++◌, length, get_or, set, take, map, filter, fold, replicate, unwrap_or, slice_index, Option, refl, sym, ap, ◌∙◌, inl, inr, arith, append_assoc, zero-add}
 use Rattle.std.specs.List.{range_with_len, All}
 use Rattle.std.proofs.lemmas.Bool.{cond-true, cond-false, cases_lt, eq-eqb, not_from_false}
@@ -19,7 +19,7 @@ use Rattle.ucd.specs.Classes.{is_removed}
 use Rattle.bidi.specs.Sequences.{changes, direction, eos, first_of, last_of, level_before, level_after, sequences, sequences_from, sos, stayed}
 use Rattle.bidi.proofs.RunLemmas.{first_of-range, last_of-range, runs_from-end, runs_from-run}
 
--- a function of the places of a list that reads its items
+-- mapping each index to the item there gives the list itself
 pub range-read : {X : Type 0} (f : ℕ → X) (xs : List X) (d : X) → ((k : ℕ) → k < length xs → f k ≡ get_or xs k d) → map f (range_with_len 0 (length xs)) ≡ xs
 range-read f xs d reads =
     let sizes = length-map-range_with_len f 0 (length xs) in
@@ -41,7 +41,7 @@ filter-range p a (suc n) passes =
     cond-true (p a) (a ∷ filter p (range_with_len (a + 1) n)) (filter p (range_with_len (a + 1) n)) (passes a (omega arith))
     ∙ ap (λ xs. a ∷ xs) (filter-range p (a + 1) n (λ k below. passes k (omega arith)))
 
--- values written to all places from one on
+-- writing values to all indices from one on replaces the rest of the list
 put-range : (values levels : List ℕ) (a : ℕ) → a + length values ≡ length levels → put levels (range_with_len a (length values)) values ≡ take a levels ++ values
 put-range [] levels a e = sym (append-nil (take a levels) ∙ take_all a levels (omega arith))
 put-range (value ∷ values) levels a e =
@@ -49,7 +49,7 @@ put-range (value ∷ values) levels a e =
     ∙ ap (λ xs. xs ++ values) (take_more_set levels a value (omega arith))
     ∙ append_assoc (take a levels) (value ∷ []) values
 
--- no opener is open where none opens
+-- if no character is an opener, no opener is open at any index
 module _ (classes : List BidiClass) (closed : All (λ class. open_after [] class ≡ []) classes) where
   none_open : (xs : List BidiClass) → All (λ class. open_after [] class ≡ []) xs → (k : ℕ) → fold open_after [] (take k xs) ≡ []
   none_open xs all zero = refl
@@ -71,7 +71,7 @@ module _ (classes : List BidiClass) (closed : All (λ class. open_after [] class
       ap (λ chain. if is_separator class then class else unwrap_or (inside base chain).override class) (none_open classes closed place)
       ∙ elim (is_separator class) as (λ b. (if b then class else class) ≡ class) [ true ↦ refl | false ↦ refl ]
 
--- nothing is directed where no FSI stands
+-- a class other than FSI stays the same
 directed_other : (classes : List BidiClass) (k : ℕ) (class : BidiClass) → is_first_strong class ≡ false → directed_at classes k class ≡ class
 directed_other classes k FSI e = absurd (cc)
 directed_other classes k class e = refl
@@ -81,7 +81,7 @@ directed-none classes none =
     range-read (λ k. directed_at classes k (class_at classes k)) classes ON (λ k within.
     directed_other classes k (class_at classes k) (All-get_or (λ c. is_first_strong c ≡ false) classes k ON within none))
 
--- one level throughout is one run, and one sequence where no initiator stands at its end
+-- if all levels are equal, there is one level run; it is one sequence unless its last character is an isolate initiator
 module _ (bracket : ℕ → Option Bracket) (base : ℕ) (characters : List ℕ) (classes types : List BidiClass) (n : ℕ) (some : 0 < n)
     (classes_size : length classes ≡ n) (types_size : length types ≡ n) (characters_size : length characters ≡ n)
     (last_is : is_initiator (class_at classes (n - 1)) ≡ false) where
@@ -172,7 +172,7 @@ module _ (bracket : ℕ → Option Bracket) (base : ℕ) (characters : List ℕ)
       ∙ ap (λ m. put levels (range_with_len 0 m) values) (sym whole)
       ∙ put-range values levels 0 all
 
--- nothing is put back where nothing was taken out
+-- if X9 removed nothing, putting back changes nothing
 put_back-all : (before : ℕ) (classes : List BidiClass) (values : List ℕ) → All (λ class. is_removed class ≡ false) classes → length values ≡ length classes → put_back before classes values ≡ values
 put_back-all before [] [] stays size = refl
 put_back-all before [] (value ∷ values) stays size = absurd (omega arith)
@@ -181,7 +181,7 @@ put_back-all before (class ∷ classes) (value ∷ values) stays size =
     cond-false (is_removed class) (before ∷ put_back before classes (value ∷ values)) (value ∷ put_back value classes values) (All-head (λ c. is_removed c ≡ false) class classes stays)
     ∙ ap (λ xs. value ∷ xs) (put_back-all value classes values (All-tail (λ c. is_removed c ≡ false) class classes stays) (omega arith))
 
--- what a plain class is
+-- a plain class is not an opener, and it is kept
 plain-closed : (class : BidiClass) → is_plain class ≡ true → open_after [] class ≡ []
 plain-closed LRE e = absurd (cc)
 plain-closed LRO e = absurd (cc)

@@ -1,4 +1,4 @@
--- What the tables say of a text's characters, as the resolver reads it.
+-- The properties of a text's characters, as the resolver reads them from the tables.
 use Rattle.std.proofs.Common.{◌≡◌, ℕ, ◌<◌, Bool, true, false, List, [], ◌∷◌, length, get_or, map, replicate, Option, Some, None, is_some, refl, sym, ap, ◌∙◌, inl, inr}
 use Rattle.std.specs.List.{All, list_all, list_any}
 use Rattle.std.proofs.lemmas.Bool.{cases_Bool, cond-true, cond-false, both_ways}
@@ -45,7 +45,7 @@ no_brackets tables text none k d within =
       | inr free ↦ free
     ])
 
--- a place at which the tables know no bracket
+-- a character without the bracket property has the bracket type `Other`
 pub no_bracket_at : (tables : Tables) (text : List ℕ) (properties : List Properties) (k : ℕ) (e : Properties) → properties ≡ map (properties_of tables) text
     → k < length text → has_bracket_in (get_or properties k e) ≡ false → get_or (bracket_types (bracket_of tables) text) k Other ≡ Other
 no_bracket_at tables text properties k e are within none =
@@ -54,7 +54,7 @@ no_bracket_at tables text properties k e are within none =
     sym (ap has_bracket_in (ap (λ xs. get_or xs k e) are ∙ get_or-map (properties_of tables) text k 0 e within)) ∙ none in
     get_or-map (λ b. type_by (bracket_of tables b) b) text k 0 Other within ∙ ap (λ o. type_by o c) (is_none-from (bracket_of tables c) there)
 
--- a list in which nothing is a bracket is that of a text without brackets
+-- if no bracket type in a list is a bracket, no character is one
 is_none-by : (bracket : Option Bracket) (c : ℕ) → is_bracket (type_by bracket c) ≡ false → bracket ≡ None
 is_none-by None c e = refl
 is_none-by (Some bracket) c e =

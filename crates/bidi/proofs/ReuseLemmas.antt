@@ -1,4 +1,4 @@
--- Matches go by initiators and PDIs alone: they are the same where an FSI acts as another initiator, and where X9 takes nothing out.
+-- Matches depend on initiators and PDIs alone, so replacing an FSI and removing characters in X9 leave them unchanged.
 use Rattle.std.proofs.Common.{◌≡◌, ℕ, zero, suc, ◌+◌, ◌-◌, ◌==◌, Bool, true, false, cond, not, if◌then◌else◌, List, [], ◌∷◌, length, map, filter, take, drop, get_or, count_by, slice_range, fold, unwrap_or, Some, refl, sym, ap, ap₂, ◌∙◌, inl, inr, arith}
 use Rattle.std.specs.List.{range_with_len}
 use Rattle.std.proofs.Math.ListN.{get_or-map}
@@ -29,7 +29,7 @@ least_same : (p q : ℕ → Bool) → ((k : ℕ) → p k ≡ q k) → (low count
 least_same p q same low zero = refl
 least_same p q same low (suc count) = ap₂ (λ b rest. if b then Some low else rest) (same low) (least_same p q same (suc low) count)
 
--- a count of what passes is one of the answers
+-- counting the items that pass a test equals counting the results `true`
 count_from : {X : Type 0} (p : X → Bool) (n : ℕ) (xs : List X) → fold (λ k x. k + cond (p x) 1 0) n xs ≡ fold (λ k b. k + cond b 1 0) n (map p xs)
 count_from p n [] = refl
 count_from p n (x ∷ xs) = count_from p (n + cond (p x) 1 0) xs
@@ -80,7 +80,7 @@ directed_keeps p classes keeps =
     ∙ ap (λ n. map answer (range_with_len 0 n)) (sym (length-map classes p))
     ∙ range-read answer (map p classes) (p ON) (λ k within. keeps k (class_at classes k) ∙ sym (get_or-map p classes k ON)))
 
--- so a paragraph's matches are found before its FSI act as other initiators
+-- the matches of a paragraph are the same before and after each FSI is replaced
 pub matches_directed : (classes : List BidiClass) → length classes ≡ length (directed classes) → matches_of classes ≡ matches_of (directed classes)
 matches_directed classes size =
     matches_same classes (directed classes) size (directed_keeps is_initiator classes (keeps_initiator classes)) (directed_keeps is_pdi classes (keeps_pdi classes))
@@ -97,7 +97,7 @@ filter_all p (x ∷ xs) size =
           absurd (omega (arith, less, length-filter p xs, count_by-le-length p xs))
     ]
 
--- where as many classes are left as there were, they are all of them
+-- if X9 keeps as many classes as there are, it keeps all
 pub all_stay : (classes left : List BidiClass) → left ≡ map (class_at classes) (stayed classes) → length left ≡ length classes → left ≡ classes
 all_stay classes left are size =
     let n : ℕ = length classes in

@@ -25,9 +25,9 @@ past_two c h = ⊎_elim (λ l. absurd (omega (arith, ap length (two c (past_one 
 past_three : (c : ℕ) → 3 < length (encode c) → 65536 ≤ c
 past_three c h = ⊎_elim (λ l. absurd (omega (arith, ap length (three c (past_two c (omega arith)) l)))) (λ l. l) (cases_lt c 65536)
 
--- a beginning of a character is no fault
+-- bytes that may begin a separator
 
--- what follows some bytes begins in a text as it does by itself
+-- whether a separator may begin in the second part of a text depends on that part alone
 leads_later : (xs ys : List ℕ) (k : ℕ) → leads_at (xs ++ ys) (length xs + k) ≡ leads_at ys k
 leads_later xs ys k =
     let one : length xs + k + 1 ≡ length xs + (k + 1) = omega arith in
@@ -36,7 +36,7 @@ leads_later xs ys k =
     (ap (λ i. get_or (xs ++ ys) i 0) one ∙ get_or-append-add xs ys (k + 1) 0)
     ∙ ap (λ c. may_lead (get_or ys k 0) (get_or ys (k + 1) 0) c) (ap (λ i. get_or (xs ++ ys) i 0) two ∙ get_or-append-add xs ys (k + 2) 0)
 
--- and in a part of it that goes on
+-- whether a separator may begin at k is the same in a part of the text that extends two bytes past k
 pub leads_within : (bytes : List ℕ) (at n k : ℕ) → k + 2 < n → leads_at (take n (drop at bytes)) k ≡ leads_at bytes (at + k)
 leads_within bytes at n k lt =
     let one : at + (k + 1) ≡ at + k + 1 = omega arith in
@@ -46,7 +46,7 @@ leads_within bytes at n k lt =
     ∙ ap (λ c. may_lead (get_or bytes (at + k) 0) (get_or bytes (at + k + 1) 0) c)
     (get_or-take n (drop at bytes) (k + 2) 0 lt ∙ get_or-drop at bytes (k + 2) 0 ∙ ap (λ i. get_or bytes i 0) two)
 
--- a character begins in UTF-8 with bytes that tell whether it may separate
+-- if the bytes of a character cannot begin a separator, the character is not one
 lead_by : (c : ℕ) (rest : List ℕ) → Shape c → leads_at (encode c ++ rest) 0 ≡ false → may_separate c ≡ false
 lead_by c rest (of1 l e) plain =
     let first : may_lead c (get_or rest 0 0) (get_or rest 1 0) ≡ false = subst (λ (t : List ℕ). leads_at (t ++ rest) 0 ≡ false) e plain in
@@ -69,7 +69,7 @@ lead_plain c rest valid plain = lead_by c rest (shape c (scalar_cases c valid)) 
 scalar_lt : (c : ℕ) → scalar c ≡ true → c < 1114112
 scalar_lt c is = grind (arith, nat_tests, is)
 
--- a text that begins with a character
+-- the first character of a valid text is a scalar value
 scalar_of : (bytes more : List ℕ) (c : ℕ) → IsUtf8 bytes → bytes ≡ encode c ++ more → scalar c ≡ true
 scalar_of bytes more c utf8 is =
     let later = cons_from_encodes utf8.0 more c (utf8.1.1 ∙ is) in
@@ -86,12 +86,12 @@ some_chars bytes utf8 some = go (chars bytes) (encodes-chars bytes utf8)
     go (c ∷ cs) is = omega arith
 
 module _ (is_cut : ℕ → ℕ → Bool) where
-  -- there is no cut between a character and a text
+  -- there is no boundary between a character and the text after it
   abbrev pub NotAfter : ℕ → List ℕ → Type 0
   NotAfter a [] = ⊤
   NotAfter a (b ∷ text) = is_cut a b ≡ false
 
-  -- nor after any of some characters, where others follow
+  -- there is no boundary after any character of a list, if the text `ys` follows
   abbrev pub Uncut : List ℕ → List ℕ → Type 0
   Uncut [] ys = ⊤
   Uncut (x ∷ xs) ys = NotAfter x (xs ++ ys) × Uncut xs ys
@@ -121,7 +121,7 @@ module _ (is_cut : ℕ → ℕ → Bool) where
   not_before c [] no_cut = tt
   not_before c (d ∷ text) no_cut = no_cut d text refl
 
-  -- characters whose bytes begin none after which there is a cut
+  -- if no byte of some characters may begin a separator, there is no boundary after any of them
   plain_uncut : AreUsual is_cut → (cs ys : List ℕ) (after : List ℕ) → scalars cs ≡ true → ((k : ℕ) → k < length (encodes cs) → leads_at (encodes cs ++ after) k ≡ false) → Uncut cs ys
   plain_uncut usual [] ys after valid plain = tt
   plain_uncut usual (c ∷ cs) ys after valid plain =
@@ -135,7 +135,7 @@ module _ (is_cut : ℕ → ℕ → Bool) where
             ∙ subst (λ (t : List ℕ). leads_at t (length (encode c) + k) ≡ false) whole (plain (length (encode c) + k) (omega (arith, lt, len)))),
       )
 
-  -- what of a text was passed without a cut, and what is left of it
+  -- the text up to `rest` has been searched and has no boundary
   pub record Passed (text rest : List ℕ) : Type 0 where
     pub front : List ℕ
     pub whole : text ≡ front ++ rest
@@ -152,7 +152,7 @@ module _ (is_cut : ℕ → ℕ → Bool) where
     uncut = subst (λ (cs : List ℕ). Uncut cs (chars text)) (sym chars-nil) tt;
   }
 
-  -- bytes that begin no character after which there is a cut are passed
+  -- bytes that cannot begin a separator are skipped
   passed_by : (text rest : List ℕ) (n : ℕ) → Passed text rest → IsCharBoundary rest n → ((ys : List ℕ) → Uncut (chars (take n rest)) ys) → Passed text (drop n rest)
   passed_by text rest n p boundary plain =
       let front = take n rest in
@@ -182,7 +182,7 @@ module _ (is_cut : ℕ → ℕ → Bool) where
   passed_plain text rest n false usual p boundary plain unknown =
       passed_by text rest n p boundary (λ ys. subst (λ (cs : List ℕ). Uncut cs ys) (sym (ap (λ k. chars (take k rest)) (unknown refl) ∙ chars-nil)) tt)
 
-  -- a character after which there is no cut is passed
+  -- a character without a boundary after it is skipped
   pub passed_char : (text rest more : List ℕ) (c : ℕ) → Passed text rest → rest ≡ encode c ++ more → NotAfter c (chars more) → Passed text more
   passed_char text rest more c p is no_cut =
       let valid : scalar c ≡ true = scalar_of rest more c p.rest_utf8 is in
@@ -196,7 +196,7 @@ module _ (is_cut : ℕ → ℕ → Bool) where
             (uncut_join (chars p.front) (c ∷ []) (chars more) (subst (λ (cs : List ℕ). Uncut (chars p.front) cs) rest_is p.uncut) (no_cut, tt));
       }
 
-  -- all is passed
+  -- if the whole text has been searched, it has no boundary
   pub passed_all : (text rest : List ℕ) → Passed text rest → length rest ≡ 0 → SplitsAt is_cut (chars text) None
   passed_all text rest p none =
       let empty : rest ≡ [] = nil_from_length rest none in
@@ -204,7 +204,7 @@ module _ (is_cut : ℕ → ℕ → Bool) where
       let uncut : Uncut (chars text) [] = subst (λ (t : List ℕ). Uncut (chars t) []) (sym text_is) (subst (λ (cs : List ℕ). Uncut (chars p.front) cs) (ap chars empty ∙ chars-nil) p.uncut) in
       uncut_whole (chars text) uncut
 
-  -- or a character after which there is a cut ends the first paragraph
+  -- a character with a boundary after it ends the first paragraph
   pub passed_cut : (text rest more others : List ℕ) (c d : ℕ) → Passed text rest → rest ≡ encode c ++ more → more ≡ encode d ++ others → is_cut c d ≡ true
       → EndsFirst is_cut text (length text - length more)
   passed_cut text rest more others c d p is more_is cut =
@@ -233,9 +233,9 @@ module _ (is_cut : ℕ → ℕ → Bool) where
             ∙ ap₂ (λ x y. x ∷ paragraphs is_cut y) (sym (ap chars front_is ∙ front_chars)) (sym (ap chars back_is ∙ more_chars));
       }
 
-  -- ---- after characters that are held
+  -- a text after characters that are held back
 
-  -- the first character of what follows begins no paragraph
+  -- there is no boundary between the held characters and the first character of the text
   uncut_first : (held cs : List ℕ) (last : Option ℕ) → last ≡ slice_get held (length held - 1) → SplitsAt is_cut held None
       → cuts_before is_cut last cs ≡ false → SplitsAt is_cut (take (length held + 1) (held ++ cs)) None
   uncut_first held [] last at_end uncut none =
@@ -312,7 +312,7 @@ module _ (is_cut : ℕ → ℕ → Bool) where
           skip_none_seen is_cut (held ++ c ∷ cs) (length held + 1) (length held) there first
           (subst (λ (t : List ℕ). SplitsAt is_cut t None) (sym (after_held held (c ∷ cs))) ends)
 
--- the first paragraph of some characters and a text after them, and what is left
+-- the first paragraph of held characters and the text after them, and the rest
 pub ends_parts : (held text : List ℕ) (n : ℕ) → IsUtf8 (take n text)
     → (held ++ chars (take n text) ≡ take (length (held ++ chars (take n text))) (held ++ chars text))
     × (chars (drop n text) ≡ drop (length (held ++ chars (take n text))) (held ++ chars text))

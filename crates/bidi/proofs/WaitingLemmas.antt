@@ -1,4 +1,4 @@
--- One step of the walk over the weak rules.
+-- One step of the pass over the weak rules W1 to W7.
 use Rattle.std.proofs.Common.{◌≡◌, ℕ, ◌+◌, ◌-◌, ◌<◌, ◌≤◌, Bool, true, false, not, if◌then◌else◌, List, [], ◌∷◌, ◌++◌, length, get_or, set, take, drop, replicate, refl, sym, ap, subst, ◌∙◌, inl, inr, arith, append_assoc}
 use Rattle.std.proofs.lemmas.Bool.{cond-true, cond-false, cases_Bool, not_from_false}
 use Rattle.std.proofs.lemmas.List.{append-nil, length-set, length-take-le, drop-drop, drop-set-lt, drop_more, drop_all, take-take, take-append-le, take-set, take-set-le, take_all, take_more_set, replicate_more}
@@ -12,7 +12,7 @@ use Rattle.bidi.specs.Weak.{is_left, w3_type, weak}
 use Rattle.bidi.specs.Waiting.{is_settled, is_weak, mark_type, digit_type, read_types, waits, lengthens, completes, written, row_after, start_after, types_after, AreTypesSoFar, SettlesRow}
 use Rattle.bidi.proofs.WeakLemmas.{left-w3, weak-is}
 
--- the strong type after a type, before W3 and after it
+-- the strong type before a type, with AL replaced by R (W3) before or after the type is read
 strong-read : (marked strong : BidiClass)
     → w3_type (if is_strong marked then marked else strong) ≡ (if is_strong (w3_type (digit_type strong marked)) then w3_type (digit_type strong marked) else w3_type strong)
 strong-read EN AL = refl
@@ -22,7 +22,7 @@ strong-read R strong = refl
 strong-read AL strong = refl
 strong-read marked strong = refl
 
--- a type that takes its place in a row is ET in a row of such
+-- a type that joins the waiting run leaves the state unchanged
 lengthened-row : (row : Row) (type : BidiClass) → lengthens row type ≡ true → row_after row type ≡ row
 lengthened-row Terminators ET e = refl
 lengthened-row Terminators _ e = absurd (cc)
@@ -43,7 +43,7 @@ lengthened-strong Terminators ET e = refl
 lengthened-strong Terminators _ e = absurd (cc)
 lengthened-strong _ type e = absurd (cc)
 
--- what waits is written as ON
+-- a type that waits is written as ON
 waits-written : (row : Row) (left : Bool) (type : BidiClass) → waits (row_after row type) ≡ true → written row left type ≡ ON
 waits-written row left EN e = absurd (cc)
 waits-written row left AN e = absurd (cc)
@@ -78,7 +78,7 @@ module _ (sos : BidiClass) (old current : List BidiClass) (before strong : BidiC
   beyond : drop (at + 1) current ≡ drop (at + 1) old
   beyond = sym (drop-drop 1 at current) ∙ ap (drop 1) so_far.rest ∙ drop-drop 1 at old
 
-  -- the list so far, with the type read
+  -- the types written so far and those that the pass will write, including the type that has been read
   opened : take start current ++ types_after row (at - start) (w3_type strong) (type ∷ later) ≡ whole
   opened =
       let item : drop at old ≡ get_or current at d ∷ drop (at + 1) old =
@@ -105,7 +105,7 @@ module _ (sos : BidiClass) (old current : List BidiClass) (before strong : BidiC
   front-next : take (at + 1) (set filled at value) ≡ take at filled ++ value ∷ []
   front-next = take_more_set filled at value inside
 
-  -- what stood before the row still does
+  -- the types before the run are unchanged
   kept : take start (set filled at value) ≡ take start current
   kept =
       let order : start ≤ at = so_far.order in
@@ -147,7 +147,7 @@ module _ (sos : BidiClass) (old current : List BidiClass) (before strong : BidiC
             ∙ opened;
       }
 
-  -- the types that waited, and what the walk makes of those after them
+  -- the types that waited, and those that the pass will write after them
   passed : lengthens row type ≡ false
       → take at filled ++ (if waits (row_after row type) then types_after (row_after row type) 1 (w3_type nearest_strong) later
       else value ∷ types_after (row_after row type) 0 (w3_type nearest_strong) later) ≡ whole
@@ -217,7 +217,7 @@ module _ (sos : BidiClass) (old current : List BidiClass) (before strong : BidiC
         ])
       ])
 
--- a type of which these rules make nothing ends the row
+-- a type that W4 to W7 do not change is written unchanged, and ends the run
 other-written : (row : Row) (left : Bool) (type : BidiClass) → is_weak type ≡ false → written row left type ≡ type
 other-written row left EN e = absurd (cc)
 other-written row left ES e = absurd (cc)
@@ -267,7 +267,7 @@ twice : {X : Type 0} (b : Bool) (x y : X) → (if b then x else (if b then x els
 twice true x y = refl
 twice false x y = refl
 
--- past a type of which W3 alone makes something
+-- the step for a type that only W3 can change
 not_mark : (class : BidiClass) → is_settled class ≡ true → is_mark class ≡ false
 not_mark NSM e = absurd (cc)
 not_mark _ e = refl
@@ -298,7 +298,7 @@ types-settled sos old current before strong row start at so_far d within e =
     subst P (cond-true (not (is_mark class)) class before (not_from_false (is_mark class) (not_mark class e))) (
     types-other sos old current before strong row start at so_far d within class type (settled-mark before class e) (settled-type strong class e) (settled-other class e))
 
--- past a row of equal types of which W3 alone makes something: its first,
+-- a run of equal types that only W3 can change: its first type is written
 pub types-row-first : (current : List BidiClass) (at : ℕ) (class type : BidiClass) → at < length current → class_at current at ≡ class → is_settled class ≡ true → type ≡ w3_type class
     → SettlesRow current at class (set current at type) (at + 1)
 types-row-first current at class type within here e is sos old before strong row start so_far =
@@ -306,7 +306,7 @@ types-row-first current at class type within here e is sos old before strong row
     let there : is_settled (class_at current at) ≡ true = ap is_settled here ∙ e in
     subst (λ t. P class t) (sym is) (subst (λ c. P c (w3_type c)) here (types-settled sos old current before strong row start at so_far ON within there))
 
--- and one more
+-- a run of equal types that only W3 can change: one more type is written
 pub types-row-next : (first : List BidiClass) (start : ℕ) (class type : BidiClass) (current : List BidiClass) (at : ℕ)
     → at < length current → get_or current at L ≡ class → is_settled class ≡ true → type ≡ w3_type class → SettlesRow first start class current at
     → SettlesRow first start class (set current at type) (at + 1)
@@ -318,7 +318,7 @@ types-row-next first start class type current at within here e is settled sos ol
     let next = subst (λ t. P class t) (sym is) (subst (λ c. P c (w3_type c)) here (types-settled sos old current class s Nothing at at now L within there)) in
     subst (λ x. AreTypesSoFar sos old (set current at type) class x Nothing (at + 1) (at + 1)) (twice (is_strong class) class strong) next
 
--- at the end, what waits stays ON
+-- at the end of the types, those that wait stay ON
 pub types-end : (sos : BidiClass) (old current : List BidiClass) (before strong : BidiClass) (row : Row) (start at : ℕ) → AreTypesSoFar sos old current before strong row start at
     → length current ≤ at → current ≡ weak sos old
 types-end sos old current before strong row start at so_far past =

@@ -1,4 +1,4 @@
--- The weak rules in one walk.
+-- W1 to W7 in one pass.
 use Rattle.std.proofs.Common.{◌≡◌, ℕ, zero, suc, ◌+◌, Bool, true, false, ◌&&◌, ◌||◌, not, if◌then◌else◌, List, [], ◌∷◌, ◌++◌, map, replicate, refl, sym, ap, ◌∙◌, append_assoc}
 use Rattle.std.proofs.lemmas.List.{append-nil, replicate_more}
 use Rattle.ucd.specs.declared.bidi_class.BidiClass.{BidiClass}
@@ -10,7 +10,7 @@ use Rattle.ucd.specs.Classes.{is_mark}
 use Rattle.bidi.specs.Weak.{is_number, is_left, is_terminator, w1_at, w1, w2_at, w2, w3, w3_type, w4_at, w4, w5_at, w5, w6, w6_type, w7_at, weak}
 use Rattle.bidi.specs.Waiting.{carry, mark_type, digit_type, read_types, number_type, types_after}
 
--- a rule that looks back at the nearest such item
+-- a rule that looks back only at the nearest item that passes a test can carry that item along
 carry-is : {T : Type 0} (rule : List T → T → List T → T) (by_nearest : T → T → List T → T) (test : T → Bool) (other : T)
     → ((front : List T) (item : T) (after : List T) → rule front item after ≡ by_nearest (nearest test other front) item after)
     → (front items : List T) → each_by rule front items ≡ carry by_nearest test (nearest test other front) items
@@ -19,7 +19,7 @@ carry-is rule by_nearest test other same front (item ∷ items) =
     ap (λ x. x ∷ each_by rule (item ∷ front) items) (same front item items)
     ∙ ap (λ xs. by_nearest (nearest test other front) item items ∷ xs) (carry-is rule by_nearest test other same (item ∷ front) items)
 
--- the rules as such
+-- W4, W5 and W7 as functions of the type that they look back at
 abbrev pub separator_type : BidiClass → BidiClass → List BidiClass → BidiClass
 separator_type before type after = w4_at (before ∷ []) type after
 
@@ -67,7 +67,7 @@ w7-by : (sos : BidiClass) (front : List BidiClass) (type : BidiClass) (after : L
 w7-by sos front EN after = refl
 w7-by sos front _ after = refl
 
--- W4 to W7, after the types that they look back at
+-- W4 to W7 on a list, from the types before it that they look back at
 abbrev pub later : BidiClass → BidiClass → BidiClass → List BidiClass → List BidiClass
 later before number strong types =
     carry left_type is_strong strong (map w6_type (carry terminator_type ends_row number (carry separator_type any before types)))
@@ -86,7 +86,7 @@ weak-later sos types =
     ∙ ap (carry terminator_type ends_row ON) (
     carry-is w4_at separator_type any ON w4-by [] (w3 second) ∙ ap (carry separator_type any ON) read))
 
--- what stands before matters to a separator only where it is a number
+-- of the type before a separator, only whether it is a number, and which, matters (W4)
 
 abbrev joint : BidiClass → Bool
 joint EN = true
@@ -102,7 +102,7 @@ apart : (before : BidiClass) (types : List BidiClass) → joint before ≡ false
 apart before [] e = refl
 apart before (type ∷ types) e = ap (λ x. x ∷ carry separator_type any type types) (apart_first before type types e)
 
--- to terminators only where it is a European number
+-- of the type before terminators, only whether it is a European number matters (W5)
 plain : (number : BidiClass) (types : List BidiClass) → is_number number ≡ false → carry terminator_type ends_row number types ≡ carry terminator_type ends_row ON types
 plain number [] e = refl
 plain number (ET ∷ types) e =
@@ -111,7 +111,7 @@ plain number (ET ∷ types) e =
     ∙ ap (λ xs. (if after then EN else ET) ∷ xs) (plain number types e)
 plain number (_ ∷ types) e = refl
 
--- and to numbers only whether it is L
+-- of the strong type before numbers, only whether it is L matters (W7)
 same_left : (strong other : BidiClass) (types : List BidiClass) → is_left strong ≡ is_left other → carry left_type is_strong strong types ≡ carry left_type is_strong other types
 same_left strong other [] e = refl
 same_left strong other (EN ∷ types) e =
@@ -135,7 +135,7 @@ later-plain before number strong types e = ap (λ xs. carry left_type is_strong 
 later-other : (before number strong : BidiClass) (types : List BidiClass) → joint before ≡ false → is_number number ≡ false → later before number strong types ≡ later ON ON strong types
 later-other before number strong types e f = later-apart before number strong types e ∙ later-plain ON number strong types f
 
--- a row of terminators
+-- W4 to W7 on a run of terminators
 separators-row : (n : ℕ) (types : List BidiClass) → carry separator_type any ON (replicate n ET ++ types) ≡ replicate n ET ++ carry separator_type any ON types
 separators-row zero types = refl
 separators-row (suc n) types = ap (λ xs. ET ∷ xs) (apart ET (replicate n ET ++ types) refl ∙ separators-row n types)
@@ -169,7 +169,7 @@ later-row (suc n) strong types =
     ∙ ap (λ b. (if b then number_type (is_left strong) else ON) ∷ later ON ON strong (replicate n ET ++ types)) same
     ∙ ap (λ xs. value ∷ xs) (later-row n strong types)
 
--- the walk over some types makes of them what the rules make, whatever stands before them
+-- whatever type is before the list, the pass gives the same types as W4 to W7
 record IsWalked (types : List BidiClass) : Type 0 where
   nothing : (strong : BidiClass) → types_after Nothing 0 strong types ≡ later ON ON strong types
   european : (strong : BidiClass) → types_after European 0 strong types ≡ later EN EN strong types
@@ -226,7 +226,7 @@ module _ (types : List BidiClass) (walked : IsWalked types) where
   european_terminators-step CS strong = other-more CS CS ON strong refl refl
   european_terminators-step type strong = other-more type type type (strong_after strong type) refl refl
 
-  -- a separator that no number follows
+  -- a separator that is not followed by a number becomes ON
   lone : (separator type strong : BidiClass) → joint separator ≡ false → is_number separator ≡ false
       → ON ∷ types_after Nothing 0 strong (type ∷ types) ≡ ON ∷ later separator separator strong (type ∷ types)
   lone separator type strong e f = ap (λ xs. ON ∷ xs) (nothing-step type strong ∙ sym (later-other separator separator strong (type ∷ types) e f))

@@ -1,4 +1,4 @@
--- Rows of bracket pairs, worked.
+-- Examples of bracket pairs.
 use Rattle.std.proofs.Common.{◌≡◌, ℕ, ◌++◌, ◌==◌, true, false, List, [], ◌∷◌, Option, Some, None, map, if◌then◌else◌, refl}
 use Rattle.std.specs.List.{repeat}
 use Rattle.ucd.specs.declared.bidi_class.BidiClass.{BidiClass}
@@ -6,7 +6,7 @@ use Rattle.ucd.specs.declared.bidi_class.BidiClass.TheVariants.{L, R, WS, ON, NS
 use Rattle.ucd.specs.declared.bracket.Bracket.{Bracket}
 use Rattle.bidi.specs.Levels.{paragraph_levels}
 
--- parentheses and angle brackets; a letter of each direction, a space and a mark
+-- the brackets of the examples: parentheses and angle brackets
 abbrev bracket : ℕ → Option Bracket
 bracket c =
     if c == 40 then Some (record { pair = 41; opens = true })

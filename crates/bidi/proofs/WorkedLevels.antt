@@ -1,11 +1,11 @@
--- Rows of levels, worked.
+-- Examples of levels.
 use Rattle.std.proofs.Common.{◌≡◌, None, ℕ, List, ◌++◌, [], ◌∷◌, refl}
 use Rattle.std.specs.List.{repeat}
 use Rattle.ucd.specs.declared.bidi_class.BidiClass.{BidiClass}
 use Rattle.ucd.specs.declared.bidi_class.BidiClass.TheVariants.{L, R, AL, EN, ES, ET, B, WS, RLE, RLO, PDF, LRI, RLI, FSI, PDI}
 use Rattle.bidi.specs.Levels.{paragraph_levels}
 
--- a paragraph without brackets
+-- the levels of a paragraph without brackets
 abbrev levels : List BidiClass → ℕ → List ℕ
 levels classes base = paragraph_levels (λ c. None) [] classes base
 

@@ -1,4 +1,4 @@
--- Rows of the definitions, worked.
+-- Examples of the definitions.
 use Rattle.std.proofs.Common.{◌≡◌, ℕ, ◌==◌, true, false, cond, ◌||◌, [], ◌∷◌, Some, None, refl}
 use Rattle.ucd.specs.declared.bidi_class.BidiClass.{BidiClass}
 use Rattle.ucd.specs.declared.bidi_class.BidiClass.TheVariants.{L, R, AL, EN, B, RLE, PDF, LRI, RLI, FSI, PDI}
@@ -7,7 +7,7 @@ use Rattle.bidi.specs.Base.{match_of, base_level_of}
 use Rattle.bidi.specs.Cuts.{cut, paragraphs, first_cut}
 use Rattle.bidi.specs.declared.explicit.TheConstants.{MAX_ENTRIES}
 
--- the first strong character decides, and a weak option speaks only where there is none
+-- the first strong character gives the base level; a weak option counts only if there is none
 strong_right : base_level_of (R ∷ B ∷ []) WeakLtr ≡ 1
 strong_right = refl
 
@@ -26,7 +26,7 @@ fixed_right = refl
 fixed_left : base_level_of (R ∷ []) Ltr ≡ 0
 fixed_left = refl
 
--- isolates are skipped, up to the match, or to the end where there is none
+-- isolates are skipped, up to the match of the initiator, or to the end if it has none
 isolate_skipped : base_level_of (RLI ∷ L ∷ PDI ∷ R ∷ []) WeakLtr ≡ 1
 isolate_skipped = refl
 
@@ -48,7 +48,7 @@ nested_no_match = refl
 nested_open : base_level_of (LRI ∷ RLI ∷ R ∷ PDI ∷ R ∷ []) WeakLtr ≡ 0
 nested_open = refl
 
--- a PDI that matches nothing closes nothing
+-- a PDI without a matching initiator closes nothing
 lone_pdi : base_level_of (PDI ∷ L ∷ []) WeakRtl ≡ 0
 lone_pdi = refl
 
@@ -58,7 +58,7 @@ lone_pdi_before = refl
 lone_pdi_between : base_level_of (LRI ∷ PDI ∷ PDI ∷ RLI ∷ R ∷ PDI ∷ L ∷ []) WeakRtl ≡ 0
 lone_pdi_between = refl
 
--- embeddings are not skipped
+-- the characters inside embeddings are not skipped
 embedding_counts : base_level_of (RLE ∷ L ∷ PDF ∷ R ∷ []) WeakRtl ≡ 0
 embedding_counts = refl
 
@@ -93,6 +93,6 @@ first_place = refl
 no_place : first_cut (cut class_of_code) (97 ∷ 10 ∷ []) ≡ None
 no_place = refl
 
--- the statuses of X1 stand on the stack
+-- the stack of X1 to X8 has at most 127 entries
 most_statuses : MAX_ENTRIES ≡ 127
 most_statuses = refl

@@ -1,4 +1,4 @@
--- Isolates and the base level of a paragraph, by the classes of its characters (UAX #9, BD9, P2, P3 and HL1).
+-- Isolates and the base level of a paragraph, from the classes of its characters (UAX #9, BD9, P2, P3 and HL1).
 use Rattle.std.specs.Prelude.{ℕ, ◌+◌, ◌-◌, nat_lt, ◌==◌, ◌&&◌, not, Bool, true, List, length, Option, Some, None, option_map, unwrap_or, count_by}
 use Rattle.std.specs.List.{list_all, range_with_len, slice_range}
 use Rattle.ucd.specs.declared.bidi_class.BidiClass.{BidiClass}
@@ -8,12 +8,12 @@ use Rattle.bidi.specs.declared.base.Base.TheVariants.{Rtl, Ltr, WeakRtl, WeakLtr
 use Rattle.ucd.specs.Classes.{class_at, is_initiator, is_pdi, is_strong}
 use Rattle.ucd.specs.Least.{least}
 
--- from i to j, both included, there are as many initiators as PDIs
+-- whether the range from i to j, both included, has as many initiators as PDIs
 abbrev pub is_balanced : List BidiClass → ℕ → ℕ → Bool
 is_balanced classes i j =
     let part = slice_range classes i (j + 1) in count_by is_initiator part == count_by is_pdi part
 
--- the match of the initiator at i: the least index after it up to which they are balanced
+-- the match of the initiator at i: the least index j after i for which the range from i to j is balanced
 abbrev pub match_of : List BidiClass → ℕ → Option ℕ
 match_of classes i = least (is_balanced classes i) (i + 1) (length classes - (i + 1))
 
@@ -33,7 +33,7 @@ is_outside classes k = list_all (λ i. not (is_in_span classes k i)) (range_with
 abbrev pub first_strong : List BidiClass → Option ℕ
 first_strong classes = least (λ k. is_strong (class_at classes k) && is_outside classes k) 0 (length classes)
 
--- P3: its level
+-- P3: the level of a strong class
 abbrev pub strong_level : BidiClass → ℕ
 strong_level L = 0
 strong_level _ = 1

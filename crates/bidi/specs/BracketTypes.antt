@@ -4,16 +4,16 @@ use Rattle.ucd.specs.declared.bracket.Bracket.{Bracket}
 use Rattle.bidi.specs.declared.bracket_type.BracketType.{BracketType}
 use Rattle.bidi.specs.declared.bracket_type.BracketType.TheVariants.{Other, Opening, Closing}
 
--- an opening bracket is named by the closing one of its pair, and a closing one by itself
+-- an opening bracket is identified by the closing one of its pair, and a closing one by itself
 abbrev pub type_by : Option Bracket → ℕ → BracketType
 type_by (Some bracket) c = if bracket.opens then Opening bracket.pair else Closing c
 type_by None c = Other
 
--- the bracket type of each character, by a lookup
+-- the bracket type of each character of a text
 abbrev pub bracket_types : (ℕ → Option Bracket) → List ℕ → List BracketType
 bracket_types look text = map (λ c. type_by (look c) c) text
 
--- that at an index
+-- the bracket type at an index
 abbrev pub bracket_at : List BracketType → ℕ → BracketType
 bracket_at brackets k = slice_index_or brackets k Other
 

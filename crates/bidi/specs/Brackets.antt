@@ -42,7 +42,7 @@ pub record Pair : Type 0 where
   pub opener : ℕ
   pub closer : ℕ
 
--- by the brackets of a table, and by the characters of a sequence and their current types
+-- the brackets of a sequence, from its characters and their current types
 module _ (bracket_of : ℕ → Option Bracket) (characters : List ℕ) (types : List BidiClass) where
   -- BD14 and BD15: only characters whose current type is ON count
   abbrev pub is_opener : ℕ → Bool
@@ -103,15 +103,15 @@ stands left types a b = list_any (is_toward left) (slice_range types (a + 1) b)
 abbrev pub context : BidiClass → List BidiClass → ℕ → BidiClass
 context sos types a = nearest is_direction sos (reverse (take a types))
 
--- N0: the direction of a pair, if it gets one. If a strong type of the embedding direction is inside, it is that
--- direction. Else, if one of the opposite direction is inside, it is the opposite direction if the nearest strong type
--- before has that too, and else the embedding direction.
+-- N0: the direction of a pair, if it gets one. A strong type of the embedding direction inside gives that direction.
+-- Otherwise one of the opposite direction inside gives that direction if the nearest strong type before the pair
+-- has it too, and else the embedding direction.
 abbrev pub pair_direction : Bool → BidiClass → List BidiClass → ℕ → ℕ → Option BidiClass
 pair_direction left sos types a b =
     if stands left types a b then Some (side left)
     else (if stands (not left) types a b then Some (side (if agree left (is_left (context sos types a)) then left else not left)) else None)
 
--- whether an index is that of a set bracket, or of a mark directly after it, which was NSM before W1
+-- whether an index is that of a set bracket, or of a mark directly after it (NSM before W1)
 abbrev pub is_set_with : List Bool → ℕ → ℕ → Bool
 is_set_with marks p k = (p == k) || (nat_lt p k && list_all (λ mark. mark) (slice_range marks (p + 1) (k + 1)))
 
@@ -128,11 +128,11 @@ module _ (embedding : BidiClass) (sos : BidiClass) (marks : List Bool) where
   pair_step types a (Some b) = set_pair marks types a b (pair_direction (is_left embedding) sos types a b)
   pair_step types a None = types
 
-  -- the pairs in the order of their opening brackets, each by the types that the earlier ones left
+  -- the pairs in the order of their opening brackets, each resolved with the types that the earlier ones left
   abbrev pub resolve_pairs : (ℕ → Option ℕ) → List BidiClass → List BidiClass
   resolve_pairs closer types = fold (λ current a. pair_step current a (closer a)) types (range_with_len 0 (length types))
 
--- N0 on a sequence: by its characters, its types before W1 and its current types
+-- N0 on a sequence: `explicit` has the types before W1, `types` the current ones
 abbrev pub brackets : (ℕ → Option Bracket) → BidiClass → BidiClass → List ℕ → List BidiClass → List BidiClass → List BidiClass
 brackets bracket_of embedding sos characters explicit types =
     resolve_pairs embedding sos (map is_mark explicit) (closer_of (pairs_of bracket_of characters types)) types

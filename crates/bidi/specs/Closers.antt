@@ -1,4 +1,4 @@
--- Bracket pairs as a list: at each index that of its closing bracket, or the length if no pair opens there.
+-- Bracket pairs as a list: for each index, that of its closing bracket, or the length if no pair opens there.
 use Rattle.std.specs.Prelude.{◌≡◌, ℕ, ◌<◌, ◌⊎◌, ◌==◌, nat_lt, List, length, map, take, slice_index, slice_set, Option, Some, None, unwrap_or, if◌then◌else◌}
 use Rattle.std.specs.List.{range_with_len}
 use Rattle.ucd.specs.declared.bidi_class.BidiClass.{BidiClass}
@@ -21,7 +21,7 @@ pub record AreNested (types : List BidiClass) (closers : List ℕ) : Type 0 wher
   pub apart : (a b : ℕ) → a < b → b < length closers → slice_index closers a < length closers → slice_index closers b < length closers
       → (slice_index closers a < b) ⊎ (slice_index closers b < slice_index closers a)
 
--- The pass that finds the pairs keeps the live opening brackets, the newest last.
+-- the live opening brackets during the pass that finds the pairs, the newest last
 
 abbrev pub place_of : List Opener → ℕ → ℕ
 place_of openers m = slice_index (map (λ (o : Opener). o.place) openers) m
@@ -29,16 +29,16 @@ place_of openers m = slice_index (map (λ (o : Opener). o.place) openers) m
 abbrev pub pair_of : List Opener → ℕ → ℕ
 pair_of openers m = slice_index (map (λ (o : Opener). o.pair) openers) m
 
--- the newest of them that a closing bracket matches
+-- the newest opener that a closing bracket matches
 abbrev pub newest : List Opener → ℕ → Option ℕ
 newest openers c = greatest (λ m. canonical (pair_of openers m) == canonical c) (length openers)
 
--- what remains of them after a closing bracket
+-- the openers that remain after a closing bracket
 abbrev pub left_by : Option ℕ → List Opener → List Opener
 left_by (Some m) openers = take m openers
 left_by None openers = openers
 
--- the list of closing brackets after one at an index
+-- the list of closers after a closing bracket at an index
 abbrev pub closed_by : Option ℕ → List Opener → List ℕ → ℕ → List ℕ
 closed_by (Some m) openers closers place = slice_set closers (place_of openers m) place
 closed_by None openers closers place = closers

@@ -10,19 +10,19 @@ abbrev pub cut : (ℕ → BidiClass) → ℕ → ℕ → Bool
 cut class_of before after =
     is_separator (class_of before) && not (before == 13 && (after == 10 && is_separator (class_of after)))
 
--- the parts of a text between its cuts: a character belongs to the first part of what follows it, unless there is a cut
--- after it
+-- The parts of a text between its boundaries. A character belongs to the first part of the text after it, unless there
+-- is a boundary after the character.
 abbrev pub paragraphs : (ℕ → ℕ → Bool) → List ℕ → List (List ℕ)
 paragraphs is_cut [] = []
 paragraphs is_cut (a ∷ []) = (a ∷ []) ∷ []
 paragraphs is_cut (a ∷ b ∷ text) =
     if is_cut a b then (a ∷ []) ∷ paragraphs is_cut (b ∷ text) else onto_first a (paragraphs is_cut (b ∷ text))
 
--- the least index in a text at which there is a cut
+-- the least index before which there is a boundary
 abbrev pub first_cut : (ℕ → ℕ → Bool) → List ℕ → Option ℕ
 first_cut is_cut text = least (λ k. is_cut (slice_index text (k - 1)) (slice_index text k)) 1 (length text - 1)
 
--- The first paragraph of a text ends at that index, and the others are those of the rest. Without one the text is one
+-- The first paragraph of a text ends at k, and its other paragraphs are those of the rest. Without k, the text is one
 -- paragraph, or empty.
 abbrev pub SplitsAt : (ℕ → ℕ → Bool) → List ℕ → Option ℕ → Type 0
 SplitsAt is_cut text (Some k) =

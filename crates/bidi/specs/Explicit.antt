@@ -23,8 +23,8 @@ directed_at classes k class = class
 abbrev pub directed : List BidiClass → List BidiClass
 directed classes = map (λ k. directed_at classes k (class_at classes k)) (range_with_len 0 (length classes))
 
--- The openers that are open, the innermost first. An opener is an embedding, an override or an isolate initiator. PDF
--- closes the innermost one if it is not an isolate. PDI closes the innermost isolate and all that was opened inside it.
+-- The openers that are open, the innermost first: embeddings, overrides and isolate initiators. PDF closes the
+-- innermost one if it is not an isolate. PDI closes the innermost isolate and all openers inside it.
 abbrev pub close_embedding : List BidiClass → List BidiClass
 close_embedding [] = []
 close_embedding (opener ∷ outer) = if is_initiator opener then opener ∷ outer else outer
@@ -58,14 +58,14 @@ opens_odd class = false
 abbrev pub level_above : BidiClass → ℕ → ℕ
 level_above opener level = if opens_odd opener then level + 1 + level % 2 else level + 2 - level % 2
 
--- the class that an override gives to what is inside it
+-- the type that an override gives to the characters inside it
 abbrev pub override_of : BidiClass → Option BidiClass
 override_of RLO = Some R
 override_of LRO = Some L
 override_of opener = None
 
--- The state inside openers: the level and the override of the innermost one that is not void, and whether the innermost
--- is void. An opener is void if its level would be above 125, or if it is inside a void one.
+-- The state inside a chain of openers: the level and override of the innermost one that is not void. An opener is void
+-- if its level would be above 125, or if it is inside a void one.
 pub record Inside : Type 0 where
   pub level : ℕ
   pub override : Option BidiClass
@@ -80,7 +80,7 @@ abbrev pub inside : ℕ → List BidiClass → Inside
 inside base [] = record { level = base; override = None; is_void = false }
 inside base (opener ∷ outer) = enter (inside base outer) opener
 
--- the openers that apply to a character: a PDI is outside of those that it closes
+-- the state that applies to a character; a PDI is outside the openers that it closes
 abbrev pub inside_at : ℕ → List BidiClass → ℕ → Inside
 inside_at base classes k = inside base (open_chain classes (if is_pdi (class_at classes k) then k + 1 else k))
 

@@ -1,4 +1,4 @@
--- The bracket types of two characters, as looked up.
+-- The bracket types of two characters that have been looked up.
 use Rattle.std.specs.Prelude.{◌≡◌}
 use Rattle.ucd.specs.Tables.{bracket_of}
 use Rattle.ucd.specs.declared.tables.Tables.{Tables}

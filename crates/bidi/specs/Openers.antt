@@ -1,5 +1,5 @@
--- How the pass of X1 to X8 keeps the open openers: a stack, and counts. The stack has an entry for the paragraph and
--- one for each opener that is not void.
+-- The open openers, as the pass of X1 to X8 keeps them: a stack and counts. The stack has an entry for the paragraph
+-- and one for each opener that is not void.
 use Rattle.std.specs.Prelude.{◌≡◌, ℕ, ◌+◌, ◌==◌, ◌≤◌, ◌<◌, ◌^◌, Bool, true, false, ◌&&◌, not, List, [], ◌∷◌, ◌++◌, length, if◌then◌else◌}
 use Rattle.std.specs.List.{list_any}
 use Rattle.ucd.specs.declared.bidi_class.BidiClass.{BidiClass}
@@ -8,7 +8,7 @@ use Rattle.bidi.specs.declared.explicit.Status.{Status}
 use Rattle.ucd.specs.Classes.{is_initiator}
 use Rattle.bidi.specs.Explicit.{Inside, inside}
 
--- the state inside an opener, or in the paragraph outside of all
+-- the stack entry for a state
 abbrev pub entry_of : Inside → Bool → Status
 entry_of inside is_isolate = record { level = inside.level; overriding = inside.override; is_isolate = is_isolate }
 
@@ -19,13 +19,13 @@ module _ (base : ℕ) where
   innermost (opener ∷ outer) =
       if (inside base (opener ∷ outer)).is_void then innermost outer else entry_of (inside base (opener ∷ outer)) (is_initiator opener)
 
-  -- the entries, the outermost first
+  -- the stack entries, the outermost first
   abbrev pub statuses : List BidiClass → List Status
   statuses [] = innermost [] ∷ []
   statuses (opener ∷ outer) =
       if (inside base (opener ∷ outer)).is_void then statuses outer else statuses outer ++ innermost (opener ∷ outer) ∷ []
 
-  -- how many isolates are not void, and how many are
+  -- the number of isolates that are not void, and the number of void ones
   abbrev pub isolates : List BidiClass → ℕ
   isolates [] = 0
   isolates (opener ∷ outer) =
@@ -36,7 +36,7 @@ module _ (base : ℕ) where
   overflowed_isolates (opener ∷ outer) =
       if is_initiator opener && (inside base (opener ∷ outer)).is_void then overflowed_isolates outer + 1 else overflowed_isolates outer
 
-  -- how many embeddings are void, of those outside of all void isolates
+  -- the number of void embeddings that are outside all void isolates
   abbrev pub overflowed_embeddings : List BidiClass → ℕ
   overflowed_embeddings [] = 0
   overflowed_embeddings (opener ∷ outer) =
@@ -50,7 +50,7 @@ module _ (base : ℕ) where
     pub overflowed_isolates_are : openers.overflowed_isolates ≡ overflowed_isolates chain
     pub overflowed_embeddings_are : openers.overflowed_embeddings ≡ overflowed_embeddings chain
 
--- this is the innermost entry of any chain that the state belongs to
+-- `status` is the innermost entry of any chain that the state belongs to
 abbrev pub IsInnermost : Openers → Status → Type 0
 IsInnermost openers status = (base : ℕ) (chain : List BidiClass) → Holds base openers chain → status ≡ innermost base chain
 
@@ -58,7 +58,7 @@ IsInnermost openers status = (base : ℕ) (chain : List BidiClass) → Holds bas
 abbrev pub Follows : Openers → Openers → (List BidiClass → List BidiClass) → Type 0
 Follows old new step = (base : ℕ) (chain : List BidiClass) → Holds base old chain → Holds base new (step chain)
 
--- the chain is one of a paragraph
+-- the state belongs to some chain
 pub record AreOpeners (openers : Openers) : Type 0 where
   pub base : ℕ
   pub chain : List BidiClass
@@ -66,7 +66,7 @@ pub record AreOpeners (openers : Openers) : Type 0 where
   pub short : length chain < 2 ^ 63
   pub holds : Holds base openers chain
 
--- the entries below the last isolate
+-- `front` has the entries below the last isolate
 pub record AreBeforeIsolate (front entries : List Status) : Type 0 where
   pub isolate : Status
   pub inner : List Status

@@ -1,25 +1,25 @@
--- The paragraphs of a text are its parts between cuts, and no other list is.
+-- The paragraphs of a text are its parts between boundaries, and no other list is.
 use Rattle.std.specs.Prelude.{◌≡◌, ℕ, ◌+◌, ◌-◌, ◌<◌, Bool, true, false, List, [], ◌∷◌, length, slice_index, ⊤}
 use Rattle.std.specs.List.{concat}
 use Rattle.bidi.specs.Cuts.{paragraphs}
 
 module _ (is_cut : ℕ → ℕ → Bool) where
-  -- a part is not empty, and there is no cut inside it
+  -- a part is not empty, and has no boundary inside
   pub record IsPiece (piece : List ℕ) : Type 0 where
     pub filled : 0 < length piece
     pub uncut : (k : ℕ) → k + 1 < length piece → is_cut (slice_index piece k) (slice_index piece (k + 1)) ≡ false
 
-  -- there is a cut where one part ends and the next begins
+  -- there is a boundary between two parts
   abbrev pub IsCutBetween : List ℕ → List ℕ → Type 0
   IsCutBetween before after = is_cut (slice_index before (length before - 1)) (slice_index after 0) ≡ true
 
-  -- parts one after another, with a cut between each two
+  -- all parts are valid, with a boundary between any two neighbours
   abbrev pub ArePieces : List (List ℕ) → Type 0
   ArePieces [] = ⊤
   ArePieces (piece ∷ []) = IsPiece piece
   ArePieces (piece ∷ next ∷ pieces) = IsPiece piece × IsCutBetween piece next × ArePieces (next ∷ pieces)
 
--- the paragraphs of each text are such parts of it, and such parts are the paragraphs of the text that they make
+-- the paragraphs of each text are such parts, and such parts are the paragraphs of their concatenation
 pub record ParagraphsArePieces : Type 0 where
   pub pieces : (is_cut : ℕ → ℕ → Bool) (text : List ℕ) → ArePieces is_cut (paragraphs is_cut text)
   pub whole : (is_cut : ℕ → ℕ → Bool) (text : List ℕ) → concat (paragraphs is_cut text) ≡ text

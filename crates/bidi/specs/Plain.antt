@@ -4,7 +4,7 @@ use Rattle.ucd.specs.declared.bidi_class.BidiClass.{BidiClass}
 use Rattle.ucd.specs.declared.properties.Properties.{Properties}
 use Rattle.ucd.specs.declared.bidi_class.BidiClass.TheVariants.{R, AL, AN, BN, LRE, LRO, RLE, RLO, PDF, LRI, RLI, FSI, PDI}
 
--- A character that opens nothing, closes nothing and is kept by X9. A paragraph of such characters is one isolating run
+-- A character that is not an opener or a closer, and that X9 keeps. A paragraph of such characters is one isolating run
 -- sequence.
 abbrev pub is_plain : BidiClass → Bool
 is_plain BN = false

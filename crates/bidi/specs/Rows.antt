@@ -1,5 +1,5 @@
--- The state of the pass for the neutral and implicit rules: all levels are written before the current or last run of
--- neutrals.
+-- The state of the pass for the neutral and implicit rules: all levels before the current or last run of neutrals have
+-- been written.
 use Rattle.std.specs.Prelude.{◌≡◌, ℕ, ◌+◌, ◌-◌, ◌≤◌, List, [], ◌∷◌, ◌++◌, length, take, drop, replicate, if◌then◌else◌}
 use Rattle.ucd.specs.declared.bidi_class.BidiClass.{BidiClass}
 use Rattle.bidi.specs.Neutral.{between, implicit_level, is_neutral}
@@ -16,14 +16,14 @@ levels_after level eos n before (type ∷ types) =
     if is_neutral type then levels_after level eos (n + 1) before types
     else replicate n (row_level level before type) ++ implicit_level level type ∷ levels_after level eos 0 type types
 
--- what the pass knows at an index, if the run begins at `start` after the type `before`
+-- the state of the pass at an index: a run of neutrals begins at `start`, after the type `before`
 pub record AreLevelsSoFar (level : ℕ) (sos eos : BidiClass) (types : List BidiClass) (levels : List ℕ) (before : BidiClass) (start at : ℕ) : Type 0 where
   pub sizes : length levels ≡ length types
   pub order : start ≤ at
   pub whole : take start levels ++ levels_after level eos (at - start) before (drop at types) ≡ levels_after level eos 0 sos types
 
--- the levels of a run of equal types: whatever waits before it, if the levels of neutrals that wait are written, those
--- of the run are too
+-- the levels of a run of equal types: if the levels of the neutrals before it have been written, so have those of the
+-- run, for any such neutrals
 abbrev pub PutsRow : ℕ → List BidiClass → List ℕ → ℕ → BidiClass → List ℕ → ℕ → Type 0
 PutsRow level types levels at class put next =
     (sos eos before : BidiClass) (old : List ℕ) (start : ℕ) → AreLevelsSoFar level sos eos types old before start at → length levels ≡ length old

@@ -5,7 +5,7 @@ use Rattle.ucd.specs.declared.bidi_class.BidiClass.{BidiClass}
 use Rattle.bidi.specs.Cuts.{paragraphs}
 use Rattle.bidi.specs.Sequences.{changes, joined}
 
--- the indices from `start` up to `end` have one level, and that at `end` has another
+-- a level run from `start` up to `end`: all its levels are equal, and the one at `end` differs
 pub record IsRunEnd (levels : List ℕ) (start end : ℕ) : Type 0 where
   pub above : start < end
   pub within : end ≤ length levels
@@ -16,7 +16,7 @@ pub record IsRunEnd (levels : List ℕ) (start end : ℕ) : Type 0 where
 abbrev pub runs_from : List ℕ → ℕ → List (List ℕ)
 runs_from levels start = paragraphs (changes levels) (range_with_len start (length levels - start))
 
--- the first of the runs, with those that it continues in
+-- the first of the runs, joined with those in which it continues
 abbrev pub joined_first : List BidiClass → List (List ℕ) → List ℕ
 joined_first classes [] = []
 joined_first classes (run ∷ later) = joined classes run later
@@ -28,7 +28,7 @@ sequence_at classes levels start = joined_first classes (runs_from levels start)
 abbrev pub next_start : List ℕ → ℕ → Option ℕ
 next_start levels k = if nat_lt k (length levels) && not (slice_index levels k == slice_index levels (k - 1)) then Some k else None
 
--- marks with one more, if there is an index to mark
+-- the list of flags, with the flag at an index set if there is one
 abbrev pub marked : List Bool → Option ℕ → List Bool
 marked marks None = marks
 marked marks (Some place) = slice_set marks place true

@@ -1,5 +1,5 @@
--- Level runs and isolating run sequences (UAX #9, X9, X10, BD7 and BD13). A character is named by its index in the list
--- that X9 leaves. This list has all initiators and PDIs of the paragraph, so their matches are the paragraph's.
+-- Level runs and isolating run sequences (UAX #9, X9, X10, BD7 and BD13). An index refers to the list of characters that
+-- X9 keeps. This list has all initiators and PDIs of the paragraph, so their matches are the paragraph's.
 use Rattle.std.specs.Prelude.{ℕ, ◌+◌, ◌-◌, ◌%◌, ◌==◌, max, Bool, true, false, ◌&&◌, not, List, [], ◌∷◌, ◌++◌, length, filter, slice_index, Option, Some, None, is_none, if◌then◌else◌}
 use Rattle.std.specs.List.{list_any, range_with_len}
 use Rattle.ucd.specs.declared.bidi_class.BidiClass.{BidiClass}
@@ -12,7 +12,7 @@ use Rattle.bidi.specs.Cuts.{paragraphs}
 abbrev pub stayed : List BidiClass → List ℕ
 stayed classes = filter (λ k. not (is_removed (class_at classes k))) (range_with_len 0 (length classes))
 
--- BD7: level runs, the parts between changes of the level
+-- BD7: level runs are the parts of the list between changes of the level
 abbrev pub changes : List ℕ → ℕ → ℕ → Bool
 changes levels j k = not (slice_index levels j == slice_index levels k)
 
@@ -34,12 +34,12 @@ module _ (classes : List BidiClass) where
   abbrev pub continues_in : List ℕ → List ℕ → Bool
   continues_in run next = is_initiator (class_at classes (last_of run)) && is_match (match_of classes (last_of run)) (first_of next)
 
-  -- a run with those that it continues in, of the runs after it
+  -- a run joined with those later runs in which it continues
   abbrev pub joined : List ℕ → List (List ℕ) → List ℕ
   joined run [] = run
   joined run (next ∷ later) = if continues_in run next then run ++ joined next later else joined run later
 
-  -- a sequence from each run in which no earlier one continues
+  -- one sequence for each run in which no earlier run continues
   abbrev pub sequences_from : List (List ℕ) → List (List ℕ) → List (List ℕ)
   sequences_from earlier [] = []
   sequences_from earlier (run ∷ later) =
@@ -53,7 +53,7 @@ module _ (classes : List BidiClass) where
 abbrev pub direction : ℕ → BidiClass
 direction level = if level % 2 == 1 then R else L
 
--- X10: sos and eos, by the higher of the levels on both sides of an end of a sequence
+-- X10: sos and eos, from the higher of the two levels at each end of a sequence
 module _ (base : ℕ) (levels : List ℕ) where
   abbrev pub level_before : ℕ → ℕ
   level_before k = if k == 0 then base else slice_index levels (k - 1)
@@ -62,7 +62,7 @@ module _ (base : ℕ) (levels : List ℕ) where
   sos sequence = direction (max (slice_index levels (first_of sequence)) (level_before (first_of sequence)))
 
 module _ (base : ℕ) (classes : List BidiClass) (levels : List ℕ) where
-  -- an initiator without a match is followed by the paragraph level
+  -- after an initiator without a match, the paragraph level counts
   abbrev pub level_after : ℕ → ℕ
   level_after k =
       if is_initiator (class_at classes k) && is_none (match_of classes k) then base

@@ -1,4 +1,4 @@
--- What the pass over a paragraph keeps (UAX #9, X1 to X9): the class, the explicit level and the explicit type of each
+-- The data that the pass over a paragraph keeps (UAX #9, X1 to X9): the class, explicit level and explicit type of each
 -- kept character.
 use Rattle.std.specs.Prelude.{◌≡◌, ◌≤◌, ℕ, List, length, map, slice_index}
 use Rattle.ucd.specs.declared.bidi_class.BidiClass.{BidiClass}
@@ -12,7 +12,7 @@ pub record IsStayed (classes : List BidiClass) (base : ℕ) (left : Stayed) : Ty
   pub levels_are : left.levels.items ≡ map (level_at base classes) (stayed classes)
   pub types_are : left.types.items ≡ map (type_at base classes) (stayed classes)
 
--- each character has all three, and no level is above the greatest explicit one
+-- each kept character has all three, and no explicit level is above 125
 pub record HasAll (left : Stayed) : Type 0 where
   pub classes : length left.classes.items ≡ length left.levels.items
   pub types : length left.types.items ≡ length left.levels.items

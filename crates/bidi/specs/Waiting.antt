@@ -1,5 +1,5 @@
--- The state of the single pass for the weak rules: types that wait for what follows them, and what W1 to W3 and W7 look
--- back at.
+-- The state of the single pass for the weak rules: the types that wait for what follows them, and the types that W1 to
+-- W3 and W7 look back at.
 use Rattle.std.specs.Prelude.{◌≡◌, ℕ, ◌+◌, ◌-◌, ◌≤◌, Bool, true, false, ◌&&◌, not, List, [], ◌∷◌, ◌++◌, length, map, take, drop, replicate, if◌then◌else◌}
 use Rattle.ucd.specs.declared.bidi_class.BidiClass.{BidiClass}
 use Rattle.ucd.specs.declared.bidi_class.BidiClass.TheVariants.{L, EN, ES, ET, AN, CS, NSM, ON}
@@ -9,7 +9,7 @@ use Rattle.ucd.specs.Classes.{is_strong}
 use Rattle.ucd.specs.Classes.{is_mark}
 use Rattle.bidi.specs.Weak.{mark_after, is_number, is_arabic, is_left, w3_type}
 
--- a rule that looks back only at the nearest item that passes a test: the list that it makes, after such an item
+-- the list that a rule makes if it looks back only at the nearest item that passes a test, which is `before` at the start
 abbrev pub carry : {T : Type 0} → (T → T → List T → T) → (T → Bool) → T → List T → List T
 carry rule test before [] = []
 carry rule test before (item ∷ after) = rule before item after ∷ carry rule test (if test item then item else before) after
@@ -21,7 +21,7 @@ mark_type before type = if is_mark type then mark_after before else type
 abbrev pub digit_type : BidiClass → BidiClass → BidiClass
 digit_type strong type = if is_number type && is_arabic strong then AN else type
 
--- W1 to W3 for a list of types, after a type that is not NSM and a strong type
+-- W1 to W3 for a list, from the last type before it that is not NSM, and the last strong type before it
 abbrev pub read_types : BidiClass → BidiClass → List BidiClass → List BidiClass
 read_types before strong types =
     map w3_type (carry (λ s type after. digit_type s type) is_strong strong (carry (λ b type after. mark_type b type) (λ type. not (is_mark type)) before types))
@@ -62,7 +62,7 @@ abbrev pub lengthens : Row → BidiClass → Bool
 lengthens Terminators ET = true
 lengthens row type = false
 
--- whether a type is the number that makes numbers of those that wait (W4 and W5)
+-- whether a type is the number that turns the waiting types into numbers (W4 and W5)
 abbrev pub completes : Row → BidiClass → Bool
 completes EuropeanSeparator EN = true
 completes ArabicSeparator AN = true
@@ -77,7 +77,7 @@ written row left ES = ON
 written row left CS = ON
 written row left type = type
 
--- what is before the next type
+-- the state after a type: which run, if any, is before the next type
 abbrev pub after_comma : Row → Row
 after_comma European = EuropeanSeparator
 after_comma Arabic = ArabicSeparator
@@ -95,11 +95,11 @@ row_after row ES = after_sign row
 row_after row CS = after_comma row
 row_after row type = Nothing
 
--- where the run begins after a type
+-- the index at which the waiting run begins after a type
 abbrev pub start_after : Row → BidiClass → ℕ → ℕ → ℕ
 start_after row type start at = if lengthens row type then start else (if waits (row_after row type) then at else at + 1)
 
--- W4 to W7 for n types that wait and for the types after them, by the strong type before them
+-- W4 to W7 for n waiting types and the types after them, from the strong type before them
 abbrev pub types_after : Row → ℕ → BidiClass → List BidiClass → List BidiClass
 types_after row n strong [] = replicate n ON
 types_after row n strong (type ∷ types) =
@@ -108,8 +108,8 @@ types_after row n strong (type ∷ types) =
     ++ (if waits (row_after row type) then types_after (row_after row type) 1 (if is_strong type then type else strong) types
     else written row (is_left strong) type ∷ types_after (row_after row type) 0 (if is_strong type then type else strong) types)
 
--- what the pass knows at an index: before `start` all types are final, those from there on wait and are ON, and the
--- others are unchanged
+-- The state of the pass at an index: the types before `start` are final, those from there to `at` wait and are ON, and
+-- the others are unchanged.
 pub record AreTypesSoFar (sos : BidiClass) (old current : List BidiClass) (before strong : BidiClass) (row : Row) (start at : ℕ) : Type 0 where
   pub sizes : length current ≡ length old
   pub order : start ≤ at
@@ -118,7 +118,7 @@ pub record AreTypesSoFar (sos : BidiClass) (old current : List BidiClass) (befor
   pub whole : take start current ++ types_after row (at - start) (w3_type strong) (read_types before strong (drop at old))
       ≡ types_after Nothing 0 (w3_type sos) (read_types sos sos old)
 
--- whatever the pass knew at an index, it then knows for its types with those of a run settled
+-- after a run of equal types has been settled, the state of the pass holds at the end of the run
 abbrev pub SettlesRow : List BidiClass → ℕ → BidiClass → List BidiClass → ℕ → Type 0
 SettlesRow current at class settled next =
     (sos : BidiClass) (old : List BidiClass) (before strong : BidiClass) (row : Row) (start : ℕ) → AreTypesSoFar sos old current before strong row start at

@@ -1,5 +1,5 @@
--- The weak rules (UAX #9, W1 to W7). Each makes a list of types from a list of types, and decides every item by the
--- list that it is given.
+-- The weak rules (UAX #9, W1 to W7). Each rule maps a list of types to a list of types, and reads only the list that it
+-- is given.
 use Rattle.std.specs.Prelude.{Bool, true, false, ◌||◌, not, List, [], ◌∷◌, map, if◌then◌else◌}
 use Rattle.ucd.specs.declared.bidi_class.BidiClass.{BidiClass}
 use Rattle.ucd.specs.declared.bidi_class.BidiClass.TheVariants.{L, R, AL, EN, ES, ET, AN, CS, NSM, ON, LRI, RLI, FSI, PDI}
@@ -91,6 +91,6 @@ w7_at sos before type after = type
 abbrev pub w7 : BidiClass → List BidiClass → List BidiClass
 w7 sos types = each_by (w7_at sos) [] types
 
--- the rules in their order
+-- all weak rules in order
 abbrev pub weak : BidiClass → List BidiClass → List BidiClass
 weak sos types = w7 sos (w6 (w5 (w4 (w3 (w2 sos (w1 sos types))))))

@@ -45,14 +45,14 @@ pub(crate) fn bracket_type(tables: &Tables, character: char) -> BracketType
     }
 }
 
-/// Whether it is a bracket.
+/// Whether a bracket type is that of a bracket.
 pub(crate) fn is_bracket(bracket: BracketType) -> bool
     ensures { result ≡ is_bracket bracket }
 {
     !matches!(bracket, BracketType::Other)
 }
 
-/// What may be a bracket.
+/// A character or bracket type, as input for a search for brackets.
 pub(crate) trait MaybeBracket {
     ghost is_one: { Self → Bool };
 

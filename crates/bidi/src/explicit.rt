@@ -69,9 +69,9 @@ struct Status {
     is_isolate: bool,
 }
 
-// What is open. A stack has the paragraph's status, and above it each embedding, override and isolate with a
-// level of its own. The counts are of those that overflowed, as X2 to X5c count them. Embeddings are counted
-// only up to the first isolate that overflowed.
+// The open embeddings, overrides and isolates. The stack has the paragraph's status, and above it one for
+// each of them that has a level of its own. The counts are of those that overflowed, as X2 to X5c count them.
+// Embeddings are counted only up to the first isolate that overflowed.
 #[derive(Drop)]
 struct Openers {
     statuses: ArrayVec<Status, MAX_ENTRIES>,
@@ -98,7 +98,7 @@ impl Openers {
         }
     }
 
-    // The state inside all that is open.
+    // Returns the state inside all open embeddings, overrides and isolates.
     fn status(&self) -> Status
         requires { AreOpeners self.now }
         ensures { IsInnermost self.now result }
@@ -145,7 +145,7 @@ impl Openers {
         }
     }
 
-    // Closes the innermost isolate and all that is open inside it, if there is one (X6a).
+    // Closes the innermost isolate, if there is one, and all that is open inside it (X6a).
     fn close_isolate(&mut self)
         requires { AreOpeners self.old }
         ensures { Follows self.old self.new close_isolate }
@@ -159,7 +159,8 @@ impl Openers {
         }
     }
 
-    // What a character does before its own state is read: a PDI is outside of what it closes.
+    // Closes the isolate of a PDI. The state of the PDI itself is read afterwards: it is outside that
+    // isolate.
     fn reach(&mut self, class: BidiClass)
         requires { AreOpeners self.old }
         ensures { Follows self.old self.new (λ chain. if is_pdi class then close_isolate chain else chain) }
@@ -169,7 +170,8 @@ impl Openers {
         }
     }
 
-    // What a character does after its own state is read: an initiator is outside of what it opens.
+    // Opens or closes what a character other than PDI opens or closes. Its own state is read before: an
+    // isolate initiator is outside its isolate.
     fn pass(&mut self, class: BidiClass)
         requires { AreOpeners self.old }
         ensures { Follows self.old self.new
@@ -199,7 +201,7 @@ fn pop_isolate(statuses: &mut ArrayVec<Status, MAX_ENTRIES>)
     }
 }
 
-// The next odd or even level above a level, as required by what is opened (X2 to X5b).
+// The next odd or even level above a level, as an opener requires (X2 to X5b).
 fn level_above(opener: BidiClass, level: u8) -> u8
     requires { level ≤ 125 }
     ensures { result ≡ level_above opener level }

@@ -120,7 +120,7 @@ fn is_first_strong(class: BidiClass) -> bool
     matches!(class, BidiClass::FSI)
 }
 
-// The class that a character acts as.
+// The class of a character, with FSI replaced by LRI or RLI.
 fn acting_class(classes: &[BidiClass], matches: &[usize], at: usize) -> BidiClass
     requires within { at < length classes.now }
     requires matches { matches.now ≡ matches_of classes.now }
@@ -159,7 +159,7 @@ fn first_strong_level(classes: &[BidiClass], matches: &[usize], initiator: usize
     None
 }
 
-// The next index that is outside of an isolate that begins here.
+// The index after a character, or after the match if it is an isolate initiator.
 fn place_after(class: BidiClass, found: usize, at: usize) -> usize
     requires at { at + 1 < usize.MAX }
     requires found { found + 1 < usize.MAX }

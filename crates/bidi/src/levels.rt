@@ -101,7 +101,7 @@ fn resolve_stayed(
     )
 }
 
-// The bracket types of the characters that X9 keeps.
+// Replaces the contents of `brackets` with the bracket types of the characters that X9 keeps.
 fn stayed_brackets(
     all: &[BracketType],
     classes: &[BidiClass],
@@ -120,7 +120,7 @@ fn stayed_brackets(
     Ok(())
 }
 
-// The same for a paragraph that may have no brackets.
+// Replaces the contents of `brackets` likewise, if the paragraph has any brackets.
 fn any_stayed_brackets(
     all: &Brackets<'_>,
     classes: &[BidiClass],
@@ -217,7 +217,8 @@ pub(crate) fn resolve_classes(
     resolve_acting(&paragraph, is_found, work, levels)
 }
 
-/// Finds the levels of a paragraph in which nothing is opened, closed or removed. It is a single sequence.
+/// Finds the levels of a paragraph that has no openers, no closers and no characters that X9 removes. It is a
+/// single sequence.
 pub(crate) fn resolve_plain(
     paragraph: &Classified<'_>,
     work: &mut Work,

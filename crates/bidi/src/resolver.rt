@@ -23,7 +23,7 @@ use crate::sequence_levels::Brackets;
 use std::alloc::{AllocError, Global};
 use ucd::{BidiClass, Properties, Tables};
 
-// Whether a character opens nothing, closes nothing, and is kept by X9.
+// Whether a character is no opener and no closer, and is kept by X9.
 fn is_plain(class: BidiClass) -> bool
     ensures { result ≡ is_plain class }
 {
@@ -75,7 +75,7 @@ fn are_flat(classes: &[BidiClass]) -> bool
     classes.iter().all(|class| is_flat(*class))
 }
 
-// The same for properties.
+// Whether no character raises a level above 0, from the properties of the characters.
 fn are_flat_by(properties: &[Properties]) -> bool
     ensures { result ≡ list_all (λ one. is_flat (class_in one)) properties.now }
 {
@@ -88,10 +88,10 @@ fn has_brackets(brackets: &[BracketType]) -> bool
     brackets.iter().any(|bracket| is_bracket(*bracket))
 }
 
-// What decides which rules a paragraph needs.
+// The facts that decide which rules a paragraph needs.
 #[derive(Clone, Copy)]
 struct Summary {
-    // Whether nothing is opened, closed or removed.
+    // Whether no character is an opener or a closer, and X9 removes none.
     is_plain: bool,
     has_brackets: bool,
 }
@@ -271,10 +271,10 @@ impl Resolver {
         }
     }
 
-    /// Returns the base level of one paragraph, 0 or 1, and replaces the contents of `levels` by the level of
-    /// each character before L1, from 0 to 126. The properties are those of its characters. The text may be
-    /// any list, also one that is no paragraph. After an allocation failure the resolver can be used again,
-    /// and `levels` is unspecified.
+    /// Returns the base level of one paragraph, 0 or 1. Replaces the contents of `levels` with the level of
+    /// each character, from 0 to 126, before L1 is applied. The properties are those of the text's
+    /// characters. The text may be any list, also one that is no paragraph. After an allocation failure the
+    /// resolver can be used again, and `levels` is unspecified.
     pub fn resolve(
         &mut self,
         tables: &Tables,
@@ -337,10 +337,11 @@ impl Resolver {
         )
     }
 
-    /// Returns the base level of one paragraph, 0 or 1, and replaces the contents of `levels` by the level of
-    /// each character before L1, from 0 to 126. They depend on the classes and bracket types alone: all texts
-    /// and tables with these have the same levels. The list may be any, also one that is no paragraph. After
-    /// an allocation failure the resolver can be used again, and `levels` is unspecified.
+    /// Returns the base level of one paragraph, 0 or 1. Replaces the contents of `levels` with the level of
+    /// each character, from 0 to 126, before L1 is applied. The levels depend on the classes and bracket
+    /// types alone: all texts and tables with these have the same levels. The list may be any, also one that
+    /// is no paragraph. After an allocation failure the resolver can be used again, and `levels` is
+    /// unspecified.
     pub fn resolve_by(
         &mut self,
         classes: &[BidiClass],
@@ -385,8 +386,8 @@ impl Resolver {
     }
 }
 
-// Finds the levels of a paragraph with a base level. It is known whether anything is opened, closed or
-// removed.
+// Finds the levels of a paragraph with a base level. The caller knows whether the paragraph has openers,
+// closers or characters that X9 removes.
 fn resolve_classified(
     paragraph: &Classified<'_>,
     all_plain: bool,

@@ -56,7 +56,7 @@ fn sides_of(paragraph: &Paragraph<'_>, places: &[usize]) -> Sides
     sides_between(paragraph, first, last)
 }
 
-// Those of a sequence that begins and ends at these indices.
+// The level, sos and eos of a sequence that begins and ends at these indices.
 fn sides_between(paragraph: &Paragraph<'_>, first: usize, last: usize) -> Sides
     requires paragraph { IsReady paragraph.now }
     requires first { first < length paragraph.now.stayed.now.levels.items }
@@ -133,7 +133,7 @@ fn fill_types(
     Ok(())
 }
 
-// The bracket types at the indices of a sequence.
+// Replaces the contents of `brackets` with the bracket types at the indices of a sequence.
 fn fill_brackets(
     all: &[BracketType],
     places: &[usize],
@@ -150,7 +150,7 @@ fn fill_brackets(
     Ok(())
 }
 
-// The same for a paragraph that may have no brackets.
+// Replaces the contents of `brackets` likewise, if the paragraph has any brackets.
 fn fill_any_brackets(
     all: &Brackets<'_>,
     places: &[usize],

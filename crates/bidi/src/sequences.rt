@@ -125,14 +125,14 @@ pub(crate) fn eos(
     direction(levels[last].max(after))
 }
 
-// Whether a character is an initiator without a match.
+// Whether the character at an index is an initiator without a match.
 fn is_open(class: BidiClass, found: usize, len: usize) -> bool
     ensures { result ≡ (is_initiator class && (found == len)) }
 {
     is_initiator(class) && found == len
 }
 
-// The level after a character.
+// The level after a character, for eos (X10).
 fn level_after(levels: &[u8], base: u8, is_open: bool, last: usize) -> u8
     requires { last < length levels.now }
     ensures { result ≡ (if is_open then base

@@ -1,4 +1,4 @@
-//! Paragraph boundaries in UTF-8 text, found by its bytes: in the files of Unicode only few characters end a
+//! Paragraph boundaries in UTF-8 text, found by its bytes. In Unicode's files only few characters end a
 //! paragraph, and the text between them is not decoded.
 ghost use Rattle.std.specs.Prelude.{◌≡◌, ℕ, ◌<◌, ◌≤◌, ◌+◌, true, false, None, length, slice_index};
 ghost use Rattle.std.specs.Str.{IsCharBoundary};
@@ -9,11 +9,11 @@ ghost use Rattle.bidi.specs.TextCuts.{AreUsual, FindsEnd, FindsEndAfter, BeginsA
 use crate::cuts::is_cut;
 use ucd::Tables;
 
-// How many places of a text are tested together.
+// The number of positions of a text that are tested together.
 const AT_ONCE: usize = 16;
 
-/// Returns the first paragraph boundary of `before` followed by `text`, as the number of bytes of `text` before
-/// it. `before` has no boundary itself; the boundary may be directly after it.
+/// Returns the first paragraph boundary of `before` followed by `text`, as the number of bytes of `text`
+/// before it. `before` has no boundary itself; the boundary may be directly after it.
 pub fn first_cut_in_text(tables: &Tables, before: &[char], text: &str) -> Option<usize>
     requires uncut { SplitsAt (cut (class_of tables.now)) before.now None }
     ensures { FindsEndAfter (cut (class_of tables.now)) before.now text.now result }
@@ -63,8 +63,8 @@ fn first_end(tables: &Tables, text: &str, is_usual: bool) -> Option<usize>
     }
 }
 
-// How many bytes at the front of a text begin no character after which a paragraph may end, as far as that is
-// known.
+// Returns a number of bytes at the front of a text in which no paragraph separator begins: 0 if the
+// separators are not the usual ones.
 fn plain_len(text: &str, is_usual: bool) -> usize
     ensures boundary { IsCharBoundary text.now result }
     ensures plain { (k : ℕ) → k < result → leads_at text.now k ≡ false }
@@ -77,13 +77,13 @@ fn plain_len(text: &str, is_usual: bool) -> usize
     }
 }
 
-// The place of the first byte that begins such a character, or the end.
+// Returns the index of the first byte that may begin a paragraph separator, or the length.
 fn next_lead(bytes: &[u8]) -> usize
     ensures within { result ≤ length bytes.now }
     ensures before { (k : ℕ) → k < result → leads_at bytes.now k ≡ false }
     ensures here { result < length bytes.now → leads_at bytes.now result ≡ true }
 {
-    // (In a row of such characters no more than the first is looked at.)
+    // In a run of separators, only the first is tested.
     if bytes.is_empty() || is_lead(bytes, 0) {
         return 0;
     }
@@ -97,7 +97,8 @@ fn next_lead(bytes: &[u8]) -> usize
     at
 }
 
-// Whether one begins before the last two of some bytes: all are looked at, which is faster than to stop.
+// Whether a paragraph separator may begin before the last two bytes. Reads all bytes, which is faster than
+// leaving the loop at the first.
 fn has_lead(bytes: &[u8]) -> bool
     ensures { result ≡ false → (k : ℕ) → k + 2 < length bytes.now → leads_at bytes.now k ≡ false }
 {
@@ -108,7 +109,7 @@ fn has_lead(bytes: &[u8]) -> bool
     any
 }
 
-// Whether one begins at a place.
+// Whether a paragraph separator may begin at an index.
 fn is_lead(bytes: &[u8], at: usize) -> bool
     requires { at < length bytes.now }
     ensures { result ≡ leads_at bytes.now at }
@@ -123,14 +124,14 @@ fn is_lead(bytes: &[u8], at: usize) -> bool
     may_lead(first, byte_at(bytes, at + 1), byte_at(bytes, at + 2))
 }
 
-// The byte at a place, 0 past the end.
+// The byte at an index, or 0 past the end.
 fn byte_at(bytes: &[u8], at: usize) -> u8
     ensures { result ≡ slice_index bytes.now at }
 {
     if at < bytes.len() { bytes[at] } else { 0 }
 }
 
-// (Without a branch.)
+// Whether three bytes may begin a paragraph separator. Has no branch.
 fn may_lead(first: u8, second: u8, third: u8) -> bool
     ensures { result ≡ may_lead first second third }
 {

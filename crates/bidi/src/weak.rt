@@ -9,10 +9,10 @@ ghost use Rattle.bidi.specs.Weak.{is_left, mark_after, w3_type, weak};
 use crate::fill::fill;
 use ucd::BidiClass;
 
-// What is before an index, and which types there wait for the type at it.
+// The state before an index: the type before it, and which types wait for the type at the index.
 #[derive(Clone, Copy, Debug, PartialEq, Eq)]
 enum Row {
-    // Nothing that matters.
+    // No type that W4 to W7 look back at.
     Nothing,
     // A European number.
     European,
@@ -161,7 +161,7 @@ fn written(row: Row, left: bool, class: BidiClass) -> BidiClass
     }
 }
 
-// W4 and W5: whether a type makes numbers of those that wait.
+// W4 and W5: whether a type makes the pending types numbers.
 fn completes(row: Row, class: BidiClass) -> bool
     ensures { result ≡ completes row class }
 {
@@ -172,7 +172,7 @@ fn completes(row: Row, class: BidiClass) -> bool
     )
 }
 
-// What is before the next type.
+// Returns the state after a type.
 fn row_after(row: Row, class: BidiClass) -> Row
     ensures { result ≡ row_after row class }
 {
@@ -187,7 +187,7 @@ fn row_after(row: Row, class: BidiClass) -> Row
     }
 }
 
-// The start of the types that wait, after the type at an index.
+// Returns where the pending types start, once the type at `at` has been read.
 fn start_after(row: Row, class: BidiClass, start: usize, at: usize) -> usize
     requires { at < usize.MAX }
     ensures { result ≡ start_after row class start at }

@@ -16,7 +16,7 @@ use Rattle.bidi.proofs.PairLemmas.{Walks, Walks-start, Walks-other, Walks-skip, 
 use Rattle.bidi.proofs.brackets.find_pairs.Goals as goal
 use Rattle.bidi.proofs.brackets.find_pairs.Goals.{After-next_bracket-place-in-loop-place, in-Opening+else-is_full, in-Closing, in-Other}
 
--- what the answers say of a bracket
+-- whether a bracket type is an opening or a closing bracket
 abbrev opens_by : BracketType → Bool
 opens_by (Opening n) = true
 opens_by bracket = false
@@ -58,7 +58,7 @@ says (Some b) c =
       | inr closes ↦ rw (cond-false b.opens (Opening b.pair) (Closing c) closes) (says_closing b c closes)
     ]
 
--- what was answered of the character at a place
+-- the bracket type that was read agrees with the character at k
 record Told (look : ℕ → Option Bracket) (text : List ℕ) (types : List BidiClass) (k : ℕ) (answer : BracketType) : Type 0 where
   opens : is_opener look text types k ≡ opens_by answer
   closes : is_closer look text types k ≡ closes_by answer
@@ -98,7 +98,7 @@ length-closed_by : (found : Option ℕ) (openers : List Opener) (closers : List 
 length-closed_by (Some m) openers closers k = length-set closers (place_of openers m) k
 length-closed_by None openers closers k = refl
 
--- past places at which no bracket stands
+-- the bracket type `Other` is not a bracket
 no_bracket : (bracket : BracketType) → is_bracket bracket ≡ false → bracket ≡ Other
 no_bracket Other e = refl
 no_bracket (Opening n) e = absurd (cc)
@@ -122,7 +122,7 @@ skipped look text kinds types k j openers closers size are order within none now
     (λ m above below. (other_told look text kinds types m (omega arith) size are (none m above below)).opens)
     (λ m above below. (other_told look text kinds types m (omega arith) size are (none m above below)).closes) now
 
--- one place further, in the program's sum
+-- the state after k + 1 characters, with the index as the program computes it
 next : (look : ℕ → Option Bracket) (text : List ℕ) (types : List BidiClass) (k : ℕ) (openers : List Opener) (closers : List ℕ)
     → Walks look text types (suc k) openers closers → Walks look text types (k + 1) openers closers
 next look text types k openers closers now = let e : k + 1 ≡ suc k = omega arith in rw e now

@@ -2,7 +2,7 @@ use Rattle.std.proofs.Common.{◌≡◌, ℕ, ◌<◌, ◌+◌, ◌-◌, List, �
 use Rattle.std.proofs.lemmas.List.{take_more_set}
 use Rattle.bidi.proofs.fill.fill.Goals as goal
 
--- the first item, and the others after it
+-- writing the first item and then the others fills the whole range
 with_first : {T : Type 0} (old : List T) (start end : ℕ) (value : T) → start < end → start < length old
     → take (start + 1) (set old start value) ++ replicate (end - (start + 1)) value ≡ take start old ++ replicate (end - start) value
 with_first old start end value some within =

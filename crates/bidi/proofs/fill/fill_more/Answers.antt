@@ -2,7 +2,7 @@ use Rattle.std.proofs.Common.{◌≡◌, ℕ, ◌+◌, ◌-◌, ◌<◌, ◌≤�
 use Rattle.std.proofs.lemmas.List.{drop-drop, drop-set-lt, replicate_more, take_more_set}
 use Rattle.bidi.proofs.fill.fill_more.Goals as goal
 
--- one more place
+-- filling one more item extends the filled range
 front_more : {T : Type 0} (old items : List T) (start at : ℕ) (value : T) → start ≤ at → at < length items → take at items ≡ take start old ++ replicate (at - start) value
     → take (at + 1) (set items at value) ≡ take start old ++ replicate (at + 1 - start) value
 front_more old items start at value order within front =

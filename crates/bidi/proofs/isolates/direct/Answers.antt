@@ -38,7 +38,7 @@ loop-at-preserved c =
     ∙ ap (λ class. map (acting c.args.classes.now) (range_with_len 0 c.loop-at.at) ++ class ∷ []) c.acting_class.ensures
     ∙ sym (map-range_with_len_more (acting c.args.classes.now) 0 c.loop-at.at c.loop-at.at (omega arith))
 
--- the matches go by initiators and PDIs, which stay what they are
+-- the matches depend only on initiators and PDIs, and replacing an FSI keeps both
 pub returns-clause-found : goal.returns-clause-found
 returns-clause-found c = λ found.
     let all : c.loop-at.acting.items ≡ directed c.args.classes.now = search rules in

@@ -19,7 +19,7 @@ use Rattle.bidi.specs.Isolates.{matches_of}
 use Rattle.bidi.proofs.ReuseLemmas.{all_stay}
 use Rattle.bidi.proofs.levels.resolve_acting.Goals as goal
 
--- what the walk leaves is whole
+-- the pass keeps a class, a level and a type for each kept character
 whole : (classes : List BidiClass) (base : ℕ) (left : Stayed) → base ≤ 1 → IsStayed classes base left → HasAll left
 whole classes base left low kept =
     let places = stayed classes in
@@ -33,7 +33,7 @@ whole classes base left low kept =
       ];
     }
 
--- the levels of what stayed, put back
+-- putting back the characters that X9 removed gives the levels of the paragraph
 all_levels : (bracket : ℕ → Option Bracket) (text : List ℕ) (classes : List BidiClass) (base : ℕ) (characters : List ℕ) (left : Stayed) (done : List ℕ) → IsStayed classes base left
     → characters ≡ map (slice_index text) (stayed classes) → done ≡ resolved bracket base characters left.classes.items left.levels.items left.types.items
     → put_back base classes done ≡ levels_by bracket text classes base

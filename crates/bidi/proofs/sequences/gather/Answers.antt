@@ -8,7 +8,7 @@ use Rattle.bidi.specs.Runs.{IsRunEnd, next_start, sequence_at}
 use Rattle.bidi.proofs.RunLemmas.{AreWithin-range, last_match, match_at-above, next_start-within, sequence_at-run}
 use Rattle.bidi.proofs.sequences.gather.Goals as goal
 
--- the places of a run, and the rest of its sequence
+-- appending the indices of a run, and then the rest of its sequence, appends the whole sequence
 run_then : (classes : List BidiClass) (levels matches places after : List ℕ) (start end : ℕ) → matches ≡ matches_of classes → length classes ≡ length levels → IsRunEnd levels start end
     → after ≡ places ++ range_with_len start (end - start) → (next : List ℕ) → sequence_at classes levels start
     ≡ range_with_len start (end - start) ++ next → after ++ next ≡ places ++ sequence_at classes levels start
@@ -22,7 +22,7 @@ next_run-requires-clause-above c =
     rw (last_match c.args.classes.now c.args.matches.now c.run_end-end.result (length c.args.levels.now) c.requires.matches c.requires.length (omega arith) (omega arith))
     (match_at-above c.args.classes.now (c.run_end-end.result - 1) (omega (arith, c.requires.length)))
 
--- what a walk knows of a run that goes on at `next`
+-- a run that continues at `next`: the sequence that begins there remains to be appended
 goes_on : (classes : List BidiClass) (levels matches places after : List ℕ) (start end next : ℕ) → matches ≡ matches_of classes → length classes ≡ length levels → IsRunEnd levels start end
     → after ≡ places ++ range_with_len start (end - start) → Some next ≡ next_start levels (get_or matches (end - 1) 0)
     → (end ≤ next) × (next < length levels) × (after ++ sequence_at classes levels next ≡ places ++ sequence_at classes levels start)
@@ -59,7 +59,7 @@ loop-next-preserved c =
           c.run_end-end.ensures.within (omega arith) c.loop-next.invariant.inside);
     }
 
--- what a walk knows of a run that ends its sequence
+-- a run that ends its sequence: the whole sequence has been appended
 ends : (classes : List BidiClass) (levels matches places after : List ℕ) (start end : ℕ) → matches ≡ matches_of classes → length classes ≡ length levels → IsRunEnd levels start end
     → after ≡ places ++ range_with_len start (end - start) → None ≡ next_start levels (get_or matches (end - 1) 0) → after ≡ places ++ sequence_at classes levels start
 ends classes levels matches places after start end e size run pushed f =

@@ -4,7 +4,7 @@ use Rattle.std.proofs.lemmas.List.{append_assoc}
 use Rattle.bidi.proofs.RunLemmas.{range-append}
 use Rattle.bidi.proofs.sequences.push_places.Goals as goal
 
--- one more number
+-- pushing one more index extends the range
 more : (xs : List ℕ) (start place : ℕ) → start ≤ place → (xs ++ range_with_len start (place - start)) ++ place ∷ [] ≡ xs ++ range_with_len start (place + 1 - start)
 more xs start place order =
     let size : place + 1 - start ≡ place - start + 1 = omega arith in

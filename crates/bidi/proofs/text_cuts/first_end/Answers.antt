@@ -11,7 +11,7 @@ use lib.Utf8.{encode}
 pub loop-c-init : goal.loop-c-init
 loop-c-init c = record { utf8 = c.utf8.text; passed = passed_none (cut (class_of c.args.tables.now)) c.args.text.now c.utf8.text }
 
--- nothing is left
+-- the text is exhausted
 pub returns-in_default : goal.returns-in_default
 returns-in_default c =
     let is_cut = cut (class_of c.args.tables.now) in
@@ -22,7 +22,7 @@ returns-in_default c =
     c.plain_len.ensures.boundary c.plain_len.ensures.plain c.plain_len.ensures.unknown) in
     passed_all is_cut text c.chars-characters.result.rest.now passed c.in_default.ensures.steps.0.0
 
--- the last character is left
+-- only the last character remains
 pub returns-in_default-next : goal.returns-in_default-next
 returns-in_default-next c =
     let is_cut = cut (class_of c.args.tables.now) in
@@ -51,7 +51,7 @@ returns-then-is_cut c =
     passed_cut is_cut text c.chars-characters.result.rest.now c.as_str-rest.result.now c.next-in-loop-c.new.self.rest.now c.in-Some.c c.in-Some-next.next passed char_is
     (sym c.chars.ensures.rest ∙ c.in-Some-next.ensures.steps.0) (sym c.is_cut.ensures ∙ c.if-is_cut.true)
 
--- no cut after this character
+-- there is no boundary after this character
 pub loop-c-preserved : goal.loop-c-preserved
 loop-c-preserved c =
     let is_cut = cut (class_of c.args.tables.now) in

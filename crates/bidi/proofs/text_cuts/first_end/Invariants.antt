@@ -6,7 +6,7 @@ use Rattle.bidi.specs.Cuts.{cut}
 use Rattle.bidi.proofs.TextCutLemmas.{Passed}
 use Rattle.bidi.proofs.text_cuts.first_end.Given as goal
 
--- what was passed has no cut
+-- the text searched so far has no boundary
 abbrev pub invariant-loop-c : goal.invariant-loop-c
 invariant-loop-c l = record {
   utf8 : shadow (Utf8 l.rest);

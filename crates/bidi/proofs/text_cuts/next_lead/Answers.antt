@@ -5,7 +5,7 @@ use Rattle.bidi.specs.TextCuts.{leads_at}
 use Rattle.bidi.proofs.TextCutLemmas.{leads_within}
 use Rattle.bidi.proofs.text_cuts.next_lead.Goals as goal
 
--- none of those looked at together
+-- none of the 16 bytes that are tested together may begin a separator
 pub loop-at-preserved : goal.loop-at-preserved
 loop-at-preserved c =
     let at = c.loop-at.at in

@@ -10,7 +10,7 @@ use Rattle.bidi.proofs.BracketTypeLemmas.{look_for, text_for, told}
 use Rattle.bidi.proofs.PairLemmas.{closer_in-pairs_of, fold-same, length-closers_of}
 use Rattle.bidi.proofs.brackets.Pairs.resolve.Goals as goal
 
--- the pairs in the list of closers are those of the text
+-- resolving the pairs in the list of closers is resolving those of the text
 by_pairs : (look : ℕ → Option Bracket) (text : List ℕ) (types : List BidiClass) (embedding sos : BidiClass) (marks : List Bool) (closers : List ℕ)
     → closers ≡ closers_of (pairs_of look text types) (length types)
     → resolve_pairs embedding sos marks (closer_in closers) types ≡ resolve_pairs embedding sos marks (closer_of (pairs_of look text types)) types
@@ -21,7 +21,7 @@ by_pairs look text types embedding sos marks closers are =
     (λ current a. pair_step embedding sos marks current a (closer_of pairs a)) 0 (length types) types
     (λ k current from to. ap (pair_step embedding sos marks current k) (closer_in-pairs_of look text types k (omega arith)))
 
--- without any, nothing changes
+-- without bracket pairs, N0 changes nothing
 no_pairs : (embedding sos : BidiClass) (explicit : List BidiClass) (closers : List ℕ) (types : List BidiClass) → length closers ≡ length types
     → ((m : ℕ) → m < length types → length closers ≤ slice_index closers m) → types ≡ resolve_pairs embedding sos (map is_mark explicit) (closer_in closers) types
 no_pairs embedding sos explicit closers types size free =

@@ -3,7 +3,7 @@ use Rattle.bidi.specs.declared.explicit.Status.{Status}
 use Rattle.bidi.proofs.OpenersLemmas.{item-last, statuses-last}
 use Rattle.bidi.proofs.explicit.Openers.status.Goals as goal
 
--- there is an entry
+-- a list with a last item is not empty
 some_entry : (entries front : List Status) (last : Status) → entries ≡ front ++ last ∷ [] → 0 < length entries
 some_entry entries front last e = omega (arith, ap length e, length-append front (last ∷ []))
 
