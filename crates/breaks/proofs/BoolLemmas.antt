@@ -1,4 +1,4 @@
--- Tests that compute, and what they say.
+-- Tests that compute, and the statements that they decide.
 use Rattle.std.proofs.Common.{◌≡◌, ℕ, zero, suc, ◌<◌, ◌≤◌, ◌==◌, nat_lt, nat_le, Bool, true, false, not, ◌&&◌, List, [], ◌∷◌, refl, arith}
 use Rattle.std.proofs.lemmas.Bool.Decides.{nat_tests}
 use borrow.Author.Count.{below_more}
@@ -7,7 +7,7 @@ pub both : (a b : Bool) → (a && b) ≡ true → (a ≡ true) × (b ≡ true)
 both true b h = (refl, h)
 both false b h = cc
 
--- whether two answers are the same, and lists of them
+-- whether two Booleans, or two lists of Booleans, are equal
 abbrev pub same : Bool → Bool → Bool
 same true b = b
 same false b = not b
@@ -32,7 +32,7 @@ all_same_is [] (b ∷ y) h = cc
 all_same_is (a ∷ x) [] h = cc
 all_same_is (a ∷ x) (b ∷ y) h = let parts = both _ _ h in cons a b x y (same_is a b parts.0) (all_same_is x y parts.1)
 
--- a test of every number below one
+-- whether all numbers below n pass a test
 abbrev pub all_below : ℕ → (ℕ → Bool) → Bool
 all_below zero test = true
 all_below (suc n) test = test n && all_below n test
@@ -43,7 +43,7 @@ below (suc n) test all k lt =
     let parts = both (test n) (all_below n test) all in
     below_more (λ k. test k ≡ true) n (below n test parts.1) parts.0 k (omega arith)
 
--- tests of numbers
+-- a comparison of numbers that computes to true holds
 pub is_below : (a b : ℕ) → nat_lt a b ≡ true → a < b
 is_below a b h = grind (arith, nat_tests)
 

@@ -1,4 +1,4 @@
--- What the tables of the walk say is what the rules say, computed for each entry.
+-- The entries of the break table are those of the rules, computed for each entry.
 use Rattle.std.proofs.Common.{◌≡◌, ℕ, ◌+◌, ◌*◌, ◌/◌, ◌%◌, ◌==◌, nat_lt, nat_le, Bool, true, false, not, ◌&&◌, ◌||◌, List, [], ◌∷◌, map, get_or, refl, if◌then◌else◌}
 use Rattle.std.proofs.Math.ListN.{set}
 use Rattle.ucd.specs.declared.line_class.LineClass.TheVariants.{CM, NU, OP, ZWJ}
@@ -15,7 +15,7 @@ use Rattle.breaks.specs.declared.table.TheConstants.{ENTRY_COUNT, LAST_ROW, PART
 use Rattle.breaks.proofs.BoolLemmas.{same, all_same, all_below}
 use Rattle.ucd.specs.declared.properties.TheConstants.{LINE_INDEX_COUNT}
 
--- the mark of the first rule of which both answers are true, and LB31 where there is none
+-- the mark of the first row whose conditions before and after both hold, and LB31 if there is none
 abbrev pub decide : List Mark → List Bool → List Bool → Mark
 decide (mark ∷ marks) (before ∷ befores) (after ∷ afters) = if before && after then mark else decide marks befores afters
 decide _ _ _ = May
@@ -23,7 +23,7 @@ decide _ _ _ = May
 abbrev pub marks_by_row : Bool → List Mark
 marks_by_row whole_numbers = map (λ row. row.mark) (rows whole_numbers)
 
--- the answers of what stands after: a character that begins a base, and whether the base after that is NU
+-- the results of all conditions on the bases after a position: a base that begins with c, and then NU or nothing
 abbrev pub bases_after : Character → Bool → List Base
 bases_after c true = alone c ∷ base NU ∷ []
 bases_after c false = alone c ∷ []
@@ -31,7 +31,7 @@ bases_after c false = alone c ∷ []
 abbrev pub answers_after : Bool → Character → Bool → List Bool
 answers_after whole_numbers c before_digit = map (λ row. row.after (bases_after c before_digit)) (rows whole_numbers)
 
--- the answers of all rows: LB8a is the eighth, LB30b of pictographs the last
+-- the results of all conditions before a position, with LB8a (index 7) and LB30b for pictographs (the last) set
 abbrev pub last_row : Bool → ℕ
 last_row true = 48
 last_row false = 47
@@ -39,23 +39,23 @@ last_row false = 47
 abbrev pub answered_with : Bool → Bool → Bool → List Bool → List Bool
 answered_with whole_numbers is_joined is_pictograph answers = set (set answers 7 is_joined) (last_row whole_numbers) is_pictograph
 
--- whether two marks are the same
+-- whether two marks are equal
 abbrev pub is_mark : Mark → Mark → Bool
 is_mark Never Never = true
 is_mark May May = true
 is_mark Must Must = true
 is_mark _ _ = false
 
--- whether the character of a symbol stays with the last base of those that a state shows
+-- whether the character of a symbol joins the last base of a state (LB9)
 abbrev pub stays : ℕ → ℕ → Bool
 stays state symbol = is_one_of (CM ∷ ZWJ ∷ []) (shown symbol).class && not (is unattached (bases_at state))
 
--- the bases of one state are to the rules as those of another
+-- two lists of bases give all conditions the same results, and carry the same results
 abbrev pub is_as : Bool → List Base → List Base → Bool
 is_as whole_numbers bases others =
     all_same (answers whole_numbers bases) (answers whole_numbers others) && all_same (carried bases) (carried others)
 
--- An outcome is the mark that the rules give, by what a state answers and what stands after, which are computed once.
+-- the outcome of an entry gives the same mark as the rules, from the results of their conditions before and after
 module _ (whole_numbers : Bool) (answered : List Bool) (after digit_after : List Bool) (outcome : ℕ) where
   abbrev pub gives : List Bool → Bool → Bool → Bool → Bool
   gives after is_joined is_pictograph before_digit =
@@ -65,7 +65,7 @@ module _ (whole_numbers : Bool) (answered : List Bool) (after digit_after : List
   abbrev pub gives_both : Bool → Bool → Bool
   gives_both is_joined is_pictograph = gives after is_joined is_pictograph false && gives digit_after is_joined is_pictograph true
 
-  -- where a ZWJ is the last character, the last base is one to which a character may be attached
+  -- the last character can be a ZWJ only if a character may be attached to the last base
   abbrev pub gives_all : Bool → Bool
   gives_all is_unattached =
       (gives_both false false && gives_both false true) && (is_unattached || (gives_both true false && gives_both true true))
@@ -75,7 +75,7 @@ gives_each whole_numbers state symbol outcome =
     gives_all whole_numbers (answers whole_numbers (bases_at state)) (answers_after whole_numbers (shown symbol) false)
     (answers_after whole_numbers (shown symbol) true) outcome (is unattached (bases_at state))
 
--- what waits is before a character to which others may be attached
+-- only before OP can the outcome wait for the base after next
 abbrev pub waits_for_base : ℕ → ℕ → Bool
 waits_for_base symbol outcome = not (outcome == WAITS) || is_one_of (OP ∷ []) (shown symbol).class
 
@@ -102,7 +102,7 @@ abbrev pub all_right : Bool → ℕ → Bool
 all_right whole_numbers state =
     all_below SYMBOL_COUNT (λ symbol. is_right whole_numbers state symbol (get_or TABLE (state * SYMBOL_COUNT + symbol) 0))
 
--- A test that computes to true has a proof, so that one that computes to false is refused at once.
+-- A type that has a proof if the test is true. A test that is false is refused at once.
 abbrev Holds : Bool → Type 0
 Holds true = Unit {0}
 Holds false = ⊥

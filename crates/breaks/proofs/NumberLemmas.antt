@@ -1,4 +1,4 @@
--- A position is in a number where the bases before it and those after it are at the same place of the expression.
+-- A position is inside a number if and only if the bases before and after it match at one of four places of the expression.
 use Rattle.std.proofs.Common.{◌≡◌, Bool, true, false, ◌&&◌, ◌||◌, List, [], ◌∷◌, ◌++◌, map, reverse, refl, sym, ap, ◌∙◌}
 use Rattle.std.specs.List.{list_any}
 use Rattle.std.proofs.lemmas.List.{append_assoc}
@@ -14,7 +14,7 @@ use Rattle.breaks.specs.Walk.{ends_in_digits, ends_in_closed_digits, begins_unaf
 abbrev classes_of : List Base → List LineClass
 classes_of bases = map class_of bases
 
--- four places of the expression: after an affix, after an opening, after digits and after what closes them
+-- the four places of the expression: after an affix, after an opening, after digits, and after closed digits
 abbrev at_place : Bool → Bool → Bool → Bool → List LineClass → Bool
 at_place affixed opened digits closed back =
     (affixed && is_unaffixed back) || ((opened && begins_with_digit back) || ((digits && goes_on back) || (closed && is_end back)))
@@ -51,7 +51,7 @@ shuffled false true true e = refl
 shuffled false true false e = refl
 shuffled false false d e = refl
 
--- an answer that some conditions only repeat
+-- disjunctions in which some terms are false or only repeat the first term
 opens : (r a b d e : Bool) → (r || ((a && r) || ((b && false) || ((d && false) || (e && false))))) ≡ (r || false)
 opens true a b d e = refl
 opens false a b d e = rw (and_false a, and_false b, and_false d, and_false e) refl
@@ -69,7 +69,7 @@ ends r a b d e = rw (and_false a, and_false b, and_false e, or_false (d && r)) r
 begins : (r a b d e : Bool) → (r || ((a && false) || ((b && false) || ((d && false) || (e && false))))) ≡ (r || false)
 begins r a b d e = rw (and_false a, and_false b, and_false d, and_false e) refl
 
--- one base more after the position is one less before it
+-- moving the position back past one base: the conditions on what follows then include that base
 step : (class next : LineClass) (back : List LineClass) (a b d e : Bool) →
     (is_number (class ∷ next ∷ back) || at_place a b d e (class ∷ next ∷ back))
     ≡ at_place (is_one_of affix class) (is_one_of opening class) (is_same class NU || (is_one_of middle class && d)) (is_one_of closing class && d) (next ∷ back)
@@ -84,7 +84,7 @@ step CL next back a b d e = ends (is_end (next ∷ back)) a b d e
 step CP next back a b d e = ends (is_end (next ∷ back)) a b d e
 step class next back a b d e = none_of a b d e
 
--- the numbers that end in some bases after a position, by how many of those before it stand before these
+-- whether some bases directly before a position, with `next` and `back` after them, form a number
 abbrev begun : List Base → Base → List Base → Bool
 begun before next back = list_any (λ front. is_number (classes_of (reverse front ++ next ∷ back))) (fronts before)
 
@@ -123,7 +123,7 @@ begun_is (b ∷ before) next back =
     ∙ ap (λ rest. is_number (classes_of (b ∷ next ∷ back)) || rest) (begun_is before b (next ∷ back))
     ∙ step (class_of b) (class_of next) (classes_of back) (is affix before) (is opening before) (ends_in_digits before) (ends_in_closed_digits before)
 
--- which places some of the bases after a position are at
+-- a test of either of two conditions, for the items of a list
 any_or : {A : Type 0} (p q : A → Bool) (xs : List A) → list_any (λ x. p x || q x) xs ≡ (list_any p xs || list_any q xs)
 any_or p q [] = refl
 any_or p q (x ∷ xs) = ap (λ rest. (p x || q x) || rest) (any_or p q xs) ∙ shuffled (p x) (q x) (list_any p xs) (list_any q xs)
@@ -147,7 +147,7 @@ module _ (a b d e : Bool) where
         any_and e is_end backs,
       ) refl
 
--- fronts of a list by its first item
+-- the non-empty prefixes of a list are its first item, and that item before each prefix of the rest
 fronts_begin : (test : List LineClass → Bool) (class : LineClass) (back : List LineClass)
     → list_any test (fronts (class ∷ back))
     ≡ (test (class ∷ []) || list_any (λ front. test (class ∷ front)) (fronts back))
@@ -186,7 +186,7 @@ some_unaffixed OP back = fronts_begin is_unaffixed OP back ∙ some_digits back
 some_unaffixed HY back = fronts_begin is_unaffixed HY back ∙ some_digits back
 some_unaffixed class back = fronts_begin is_unaffixed class back ∙ any_none (fronts back)
 
--- fronts of bases and of their classes
+-- the classes of prefixes are the prefixes of the classes
 fronts_map : (bases : List Base) → map (λ front. classes_of front) (fronts bases) ≡ fronts (classes_of bases)
 fronts_map [] = refl
 fronts_map (b ∷ bases) =
@@ -199,12 +199,12 @@ first_is_class : (classes : List LineClass) (bases : List Base) → first_is cla
 first_is_class classes [] = refl
 first_is_class classes (b ∷ bases) = refl
 
--- the two orders in which some before a position and some after it are looked for
+-- searching all pairs of two lists finds the same in either order
 either_way : {A B : Type 0} (test : A → B → Bool) (xs : List A) (ys : List B) → list_any (λ x. list_any (test x) ys) xs ≡ list_any (λ y. list_any (λ x. test x y) xs) ys
 either_way test [] ys = sym (any_none ys)
 either_way test (x ∷ xs) ys = ap (λ rest. list_any (test x) ys || rest) (either_way test xs ys) ∙ sym (any_or (test x) (λ y. list_any (λ x. test x y) xs) ys)
 
--- some bases before the position, and some after it, are a number
+-- some bases before a position and a prefix of those after it form a number if the conditions hold for the prefix
 begun_fronts : (before : List Base) (b : Base) (fs : List (List Base))
     → list_any (λ back. list_any (λ front. is_number (classes_of (reverse front ++ back))) (fronts before))
     (map (λ front. b ∷ front) fs) ≡ list_any (λ back. is_at before (classes_of back)) (map (λ front. b ∷ front) fs)
@@ -217,7 +217,7 @@ begun_all : (before after : List Base)
 begun_all before [] = refl
 begun_all before (b ∷ after) = begun_fronts before b ([] ∷ fronts after)
 
--- the conditions on what stands before, and on what stands after
+-- a position is inside a number if the conditions before and after it hold for one of the four places
 pub in_number_is : (before after : List Base) → is_in_number before after
     ≡ ((is affix before && begins_unaffixed after) ||
     ((is opening before && is (NU ∷ []) after) ||

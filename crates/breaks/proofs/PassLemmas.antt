@@ -1,4 +1,4 @@
--- One step of the walk keeps that its state stands for the bases so far, and finds the mark that the rules give.
+-- One step of the pass: the new state belongs to the bases so far, and the mark is that of the rules.
 use Rattle.std.proofs.Common.{◌≡◌, ℕ, ◌+◌, ◌*◌, ◌/◌, ◌%◌, ◌<◌, ◌≤◌, ◌==◌, nat_lt, nat_le, Bool, true, false, not, ◌&&◌, ◌||◌, List, [], ◌∷◌, ◌++◌, map, get_or, refl, sym, ap, ◌∙◌, arith, if◌then◌else◌, inl, inr}
 use Rattle.std.proofs.lemmas.Bool.{cases_Bool}
 use Rattle.ucd.specs.declared.line_class.LineClass.{LineClass}
@@ -47,7 +47,7 @@ and_false : (b : Bool) → (b && false) ≡ false
 and_false true = refl
 and_false false = refl
 
--- the outcome of an entry, in each of the eight cases that a walk knows
+-- an entry's outcome is right in each of the eight cases for the ZWJ bit, the pictograph bit and the next digit
 abbrev both_of : Bool → ℕ → ℕ → ℕ → Bool → Bool → Bool
 both_of whole_numbers state symbol outcome =
     gives_both whole_numbers (answers whole_numbers (bases_at state)) (answers_after whole_numbers (shown symbol) false)
@@ -81,7 +81,7 @@ given whole_numbers state symbol outcome true is_pictograph before_digit free ea
       | true ↦ given_both whole_numbers state symbol outcome true true before_digit (both _ _ whole).1
     ]
 
--- what an entry says
+-- the next state of an entry, and the proof that the entry is right
 pub record Leads (whole_numbers : Bool) (state symbol entry : ℕ) : Type 0 where
   pub next : ℕ
   pub below : next < STATE_COUNT
@@ -104,7 +104,7 @@ entry_is_right whole_numbers state symbol row entry state_lt symbol_lt begins re
     let next_and : (nat_lt next STATE_COUNT ≡ true) × (leading ≡ true) = both _ _ row_and.1 in
     record { next = next; below = is_below _ _ next_and.0; row = is_equal _ _ row_and.0; leads = next_and.1 }
 
--- what it says before a character that begins a base
+-- the entry is right for a character that begins a base
 record Begins (whole_numbers : Bool) (state symbol outcome next : ℕ) : Type 0 where
   answered : answers whole_numbers (alone (shown symbol) ∷ bases_at state) ≡ answers whole_numbers (bases_at next)
   carries : carried (alone (shown symbol) ∷ bases_at state) ≡ carried (bases_at next)
@@ -132,7 +132,7 @@ beginning whole_numbers state symbol outcome next led =
       gives = waits.1;
     }
 
--- a character that begins a base, after bases that carry what those of a state do
+-- the step for a character that begins a base, if `carried` is the same for the bases before it as for the state's
 pub begins : (whole_numbers : Bool) (state symbol entry : ℕ) (c : Character) (before : List Base)
     → symbol < SYMBOL_COUNT → shown symbol ≡ told c → Leads whole_numbers state symbol entry → stays state symbol
     ≡ false → carried before ≡ carried (bases_at state)
@@ -159,7 +159,7 @@ begins whole_numbers state symbol entry c before symbol_lt shows entry_leads beg
       is_pictograph = refl;
     }
 
--- a character that stays with the last base
+-- the step for a character that joins the last base
 attached : (whole_numbers : Bool) (walk : Walk) (last : Base) (others : List Base)
     (stands : Stands whole_numbers walk last others) (symbol entry : ℕ) (c : Character) → symbol < SYMBOL_COUNT
     → shown symbol ≡ told c → Leads whole_numbers stands.state symbol entry → stays stands.state symbol ≡ true
@@ -192,7 +192,7 @@ attached whole_numbers walk last others stands symbol entry c symbol_lt shows en
       is_pictograph = stands.is_pictograph;
     }
 
--- of the bases after a position the rules read what the first begins with, and whether the second is NU
+-- the conditions after a position read only the character there, and whether the second base is NU
 reads_after : (whole_numbers : Bool) (c : Character) (attached : List Character) (bases : List Base)
     → map (λ row. row.after (record { first = c; attached = attached } ∷ bases)) (rows whole_numbers)
     ≡ answers_after whole_numbers c (is (NU ∷ []) bases)
@@ -208,7 +208,7 @@ reads_after false c attached bases =
       | inr other ↦ rw other refl
     ]
 
--- the bases of a text that is not empty begin with one that begins with its first character
+-- the first base of a text begins with its first character
 pub first_base : (c : Character) (text : List Character) → (attached : List Character) × (bases : List Base) × (bases_of (c ∷ text) ≡ record { first = c; attached = attached } ∷ bases)
 first_base c [] = ([], [], refl)
 first_base c (d ∷ text) =
@@ -218,7 +218,7 @@ first_base c (d ∷ text) =
       | inr begins ↦ ([], record { first = d; attached = next.0 } ∷ next.1, rw (begins, next.2) refl)
     ]
 
--- whether the base after the one that begins with a character is NU
+-- whether the second base is NU
 abbrev second_is_digit : List Base → Bool
 second_is_digit [] = false
 second_is_digit (b ∷ bases) = is (NU ∷ []) bases
@@ -233,7 +233,7 @@ second_joined : (c : Character) (bases : List Base) → second_is_digit (joined 
 second_joined c [] = refl
 second_joined c (b ∷ bases) = refl
 
--- where others may be attached to it
+-- the second base is NU if and only if NU follows the characters that join the first one, if any can join it
 second_is : (c : Character) (text : List Character) → is_one_of unattached c.class ≡ false → second_is_digit (bases_of (c ∷ text)) ≡ is_before_digit text
 second_is c [] free = refl
 second_is c (d ∷ text) free =
@@ -244,7 +244,7 @@ second_is c (d ∷ text) free =
           rw (begins, next.2) (digit_class d.class begins)
     ]
 
--- what is read of the bases of a text
+-- the results of all conditions after a position, from the text there
 read_text : (whole_numbers : Bool) (c : Character) (text : List Character)
     → map (λ row. row.after (bases_of (c ∷ text))) (rows whole_numbers)
     ≡ answers_after whole_numbers c (second_is_digit (bases_of (c ∷ text)))
@@ -252,7 +252,7 @@ read_text whole_numbers c text =
     let next = first_base c text in
     rw next.2 (reads_after whole_numbers c next.0 next.1)
 
--- whether what is after the second base matters
+-- the mark depends on the base after next only if the outcome waits
 waits_or_not : (whole_numbers : Bool) (outcome : ℕ) (is_joined is_pictograph : Bool) (a b : Bool) → (outcome == WAITS)
     ≡ false → mark_of whole_numbers (decided_at outcome is_joined is_pictograph) a
     ≡ mark_of whole_numbers (decided_at outcome is_joined is_pictograph) b
@@ -309,7 +309,7 @@ marks_begun whole_numbers walk last others stands symbol entry c text shows entr
     (ap (λ d. answers_after whole_numbers d digit) shows ∙ sym (answers_after_told whole_numbers c digit) ∙ sym (read_text whole_numbers c text))
     ∙ sym (marked whole_numbers last others (bases_of (c ∷ text)))
 
--- whether the next character stays with the last base
+-- the next character joins the last base if and only if its symbol joins the last base of the state
 stays_is : (whole_numbers : Bool) (walk : Walk) (last : Base) (others : List Base)
     (stands : Stands whole_numbers walk last others) (symbol : ℕ) (c : Character) → shown symbol ≡ told c
     → stays_with (end_of last) c ≡ stays stands.state symbol
@@ -317,7 +317,7 @@ stays_is whole_numbers walk last others stands symbol c shows =
     ap (λ attaches. is_one_of (CM ∷ ZWJ ∷ []) c.class && not attaches) stands.attaches
     ∙ ap (λ d. is_one_of (CM ∷ ZWJ ∷ []) d.class && not (is unattached (bases_at stands.state))) (sym shows)
 
--- where it does, the outcome says so
+-- the outcome is `STAYS` if and only if the next character joins the last base
 outcome_stays : (whole_numbers : Bool) (walk : Walk) (last : Base) (others : List Base)
     (stands : Stands whole_numbers walk last others) (symbol entry : ℕ) → Leads whole_numbers stands.state symbol entry
     → (entry % PARTS == STAYS) ≡ stays stands.state symbol
@@ -331,11 +331,11 @@ outcome_stays whole_numbers walk last others stands symbol entry entry_leads =
           not_true _ (both _ _ led).0 ∙ sym begun
     ]
 
--- what is kept of a pictograph to come
+-- whether the last base is a future pictograph after the step
 abbrev pub kept : Walk → ℕ → Character → Bool
 kept walk outcome c = if outcome == STAYS then walk.is_pictograph else c.is_future_pictograph
 
--- LB9: no line ends before a character that stays
+-- LB9: no line ends before a character that joins the last base
 never_outcome : (whole_numbers before_digit is_pictograph : Bool) → mark_of whole_numbers (decided_at STAYS false is_pictograph) before_digit ≡ Never
 never_outcome true before_digit is_pictograph = refl
 never_outcome false before_digit is_pictograph = refl
@@ -377,7 +377,7 @@ passes whole_numbers walk symbol entry c symbol_lt shows reads last others stand
           )
     ]
 
--- a text's start is to what follows as BK is
+-- the first character of a text is read as one after BK, and gives the state after it
 pub starts : (symbol entry : ℕ) (c : Character) → symbol < SYMBOL_COUNT → shown symbol ≡ told c → entry
     ≡ get_or TABLE (0 + symbol) 0 → (whole_numbers : Bool)
     → Stands whole_numbers (record {
@@ -389,7 +389,7 @@ pub starts : (symbol entry : ℕ) (c : Character) → symbol < SYMBOL_COUNT → 
 starts symbol entry c symbol_lt shows reads whole_numbers =
     begins whole_numbers 0 symbol entry c [] symbol_lt shows (entry_is_right whole_numbers 0 symbol 0 entry (omega arith) symbol_lt refl reads) (and_false _) refl
 
--- the same, of what a step makes of what is kept
+-- the step, stated for the values that the program has computed
 pub passes_as : (walk : Walk) (symbol entry : ℕ) (c : Character) (is_pictograph : Bool) (decided : ℕ)
     → symbol < SYMBOL_COUNT → shown symbol ≡ told c → entry ≡ get_or TABLE (walk.row + symbol) 0
     → kept walk (entry % PARTS) c ≡ is_pictograph → decided
@@ -404,7 +404,7 @@ pub passes_as : (walk : Walk) (symbol entry : ℕ) (c : Character) (is_pictograp
 passes_as walk symbol entry c is_pictograph decided symbol_lt shows reads keeps is whole_numbers last others stands =
     rw (← keeps, is) (passes whole_numbers walk symbol entry c symbol_lt shows reads last others stands)
 
--- each entry's next row is one of the table
+-- the next row of each entry is in the table
 pub row_within : (place entry : ℕ) → place < ENTRY_COUNT → entry ≡ get_or TABLE place 0 → entry / PARTS ≤ LAST_ROW
 row_within place entry lt reads =
     let test : nat_le (get_or TABLE place 0 / PARTS) LAST_ROW ≡ true = below ENTRY_COUNT (λ place. nat_le (get_or TABLE place 0 / PARTS) LAST_ROW) entries_are_within place lt in

@@ -1,4 +1,4 @@
--- One step of the walk.
+-- How the results of all conditions change in one step of the pass.
 use Rattle.std.proofs.Common.{◌≡◌, ℕ, ◌+◌, ◌%◌, ◌==◌, Bool, true, false, not, cond, ◌&&◌, ◌||◌, List, [], ◌∷◌, ◌++◌, map, get_or, refl, sym, ap, ◌∙◌, arith, if◌then◌else◌}
 use Rattle.std.specs.List.{prefix_len}
 use Rattle.std.proofs.lemmas.Bool.Decides.{nat_tests}
@@ -17,12 +17,12 @@ use Rattle.breaks.proofs.NumberLemmas.{in_number_is}
 use Rattle.breaks.proofs.SymbolLemmas.{narrow_before}
 use Rattle.breaks.proofs.Computed.{decide, answered_with, marks_by_row}
 
--- a base with a character attached ends with it
+-- the last character of a base after another has been attached is that character
 pub end_attached : (first : Character) (attached : List Character) (c : Character) → last_of first (attached ++ c ∷ []) ≡ c
 end_attached first [] c = refl
 end_attached first (a ∷ attached) c = end_attached a attached c
 
--- rows as rules, where others follow
+-- the mark of the first row that applies, or else the given mark
 abbrev row_mark : List Row → Mark → List Base → List Base → Mark
 row_mark [] else_mark before after = else_mark
 row_mark (row ∷ rest) else_mark before after = if row.before before && row.after after then row.mark else row_mark rest else_mark before after
@@ -39,7 +39,7 @@ more_rows : (some more : List Row) (mark : Mark) (before after : List Base) → 
 more_rows [] more mark before after = refl
 more_rows (row ∷ some) more mark before after = ap (λ rest. if row.before before && row.after after then row.mark else rest) (more_rows some more mark before after)
 
--- rows decide by their answers
+-- the rows give the mark that `decide` gives for the results of their conditions
 decides : (some : List Row) (before after : List Base) → row_mark some May before after ≡ decide (map (λ row. row.mark) some) (map (λ row. row.before before) some) (map (λ row. row.after after) some)
 decides [] before after = refl
 decides (row ∷ some) before after = ap (λ rest. if row.before before && row.after after then row.mark else rest) (decides some before after)
@@ -51,14 +51,14 @@ four false false true d mark = refl
 four false false false true mark = refl
 four false false false false mark = refl
 
--- the rule of whole numbers is its rows
+-- the rule on whole numbers gives the same mark as its rows
 number_mark : (mark : Mark) (before after : List Base) → (if is_in_number before after then Never else mark) ≡ row_mark (number_rows true) mark before after
 number_mark mark before after =
     ap (λ whole. if whole then Never else mark) (in_number_is before after)
     ∙ four (is affix before && begins_unaffixed after) (is opening before && is (NU ∷ []) after)
     (ends_in_digits before && is goes_on_after_digits after) (ends_in_closed_digits before && is affix after) mark
 
--- the rules are their rows
+-- all rules together give the same mark as their rows
 rows_mark : (whole_numbers : Bool) (before after : List Base) → mark_by (rules whole_numbers) before after
     ≡ row_mark rows_before_numbers
     (row_mark (number_rows whole_numbers) (row_mark rows_after_numbers May before after) before after) before after
@@ -84,7 +84,7 @@ rules_decide whole_numbers before after =
     ∙ ap (λ mark. row_mark rows_before_numbers mark before after) (more_rows (number_rows whole_numbers) rows_after_numbers May before after))
     ∙ decides (rows_before_numbers ++ (number_rows whole_numbers ++ rows_after_numbers)) before after
 
--- of one base more the rules ask what is carried
+-- after one more base, each condition on several bases depends on that base and on a carried result
 pair_after : (firsts classes : List LineClass) (b : Base) (bases : List Base) → is_pair firsts classes (b ∷ bases) ≡ (is firsts bases && is_one_of classes (class_of b))
 pair_after firsts classes b [] = refl
 pair_after firsts classes b (a ∷ bases) = refl
@@ -94,7 +94,7 @@ spaced_after classes b bases =
     elim (is_same (class_of b) SP) as (λ space. is classes (if space then without_spaces bases else b ∷ bases)
     ≡ (if space then is_spaced classes bases else is_one_of classes (class_of b))) [ true ↦ refl | false ↦ refl ]
 
--- of a base the class alone says what it is after spaces
+-- the conditions after spaces depend only on the class of the last base
 pub spaced_same_class : (classes : List LineClass) (b d : Base) (bases : List Base) → class_of b ≡ class_of d → is_spaced classes (b ∷ bases) ≡ is_spaced classes (d ∷ bases)
 spaced_same_class classes b d bases e =
     spaced_after classes b bases
@@ -145,7 +145,7 @@ module _ (b : Base) (p q : List Base) (carry : carried p ≡ carried q) where
   pub carried_same : carried (b ∷ p) ≡ carried (b ∷ q)
   carried_same = cons _ _ _ _ refl (cons _ _ _ _ zw (cons _ _ _ _ op (cons _ _ _ _ qu (cons _ _ _ _ after_closing (cons _ _ _ _ dash (cons _ _ _ _ odd (cons _ _ _ _ digits refl)))))))
 
--- the class alone says what is carried
+-- the carried results depend only on the class of the last base
 pub carried_same_class : (b d : Base) (bases : List Base) → class_of b ≡ class_of d → carried (b ∷ bases) ≡ carried (d ∷ bases)
 carried_same_class b d bases e =
     cons _ _ _ _ (ap (is_one_of (HL ∷ [])) e)
@@ -177,7 +177,7 @@ answers_same_plain false b p q carry = rw (zw b p q carry, op b p q carry, qu b 
 pub answers_same : (whole_numbers : Bool) (b : Base) (p q : List Base) → carried p ≡ carried q → answers whole_numbers (b ∷ p) ≡ answers whole_numbers (b ∷ q)
 answers_same whole_numbers b p q carry = answers_same_plain whole_numbers (record { first = record b.first { is_future_pictograph = false }; attached = narrow CM ∷ [] }) p q carry
 
--- all answers of some bases, with what LB8a and LB30b ask of the last one
+-- the results of all conditions, with those of LB8a and LB30b set from the last base
 all_answers : (whole_numbers : Bool) (last : Base) (others : List Base)
     → map (λ row. row.before (last ∷ others)) (rows whole_numbers)
     ≡ answered_with whole_numbers (is_same (end_of last).class ZWJ) last.first.is_future_pictograph
@@ -211,7 +211,7 @@ marked whole_numbers last others after =
     rules_decide whole_numbers (last ∷ others) after
     ∙ ap (λ befores. decide (marks_by_row whole_numbers) befores (map (λ row. row.after after) (rows whole_numbers))) (all_answers whole_numbers last others)
 
--- a character attached changes no other answer
+-- attaching a character changes no condition except LB8a
 pub answers_attached : (whole_numbers : Bool) (last : Base) (others : List Base) (attached : List Character)
     → answers whole_numbers (record { first = last.first; attached = attached } ∷ others)
     ≡ answers whole_numbers (last ∷ others)
@@ -222,7 +222,7 @@ answers_attached false last others attached = refl
 pub carried_attached : (last : Base) (others : List Base) (attached : List Character) → carried (record { first = last.first; attached = attached } ∷ others) ≡ carried (last ∷ others)
 carried_attached last others attached = carried_same_class (record { first = last.first; attached = attached }) last others refl
 
--- the rules read no more of a base than what the symbol of its first character shows
+-- the conditions read no more of a base than the symbol of its first character has
 pub answers_told : (whole_numbers : Bool) (c : Character) (bases : List Base) → answers whole_numbers (alone c ∷ bases) ≡ answers whole_numbers (alone (told c) ∷ bases)
 unfolding rows rows_before_numbers rows_of_numbers rows_after_numbers
 answers_told true c bases =

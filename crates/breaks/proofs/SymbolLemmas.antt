@@ -1,4 +1,4 @@
--- The symbol of a character, by what the tables say of it.
+-- The symbol of a character, from its properties.
 use Rattle.std.proofs.Common.{◌≡◌, ℕ, ◌+◌, ◌*◌, ◌<◌, nat_lt, Bool, true, false, not, ◌&&◌, ◌==◌, [], ◌∷◌, get_or, refl, ap, ◌∙◌, if◌then◌else◌}
 use Rattle.ucd.specs.declared.line_class.LineClass.{LineClass}
 use Rattle.ucd.specs.declared.line_class.LineClass.TheVariants.{BK, CM, CR, GL, LF, NL, SP, WJ, ZW, ZWJ, B2, BA, BB, CB, HY, CL, CP, EX, IN, NS, OP, QU, IS, NU, PO, PR, SY, AI, AL, CJ, EB, EM, H2, H3, HL, ID, JL, JT, JV, RI, SA, SG, XX}
@@ -16,7 +16,7 @@ use Rattle.breaks.proofs.BoolLemmas.{same, same_is, below, is_below}
 use Rattle.breaks.proofs.Computed.{attached_are_last, answers_after, digit_is_one, joiner_is_one, symbols_are_within}
 use Rattle.ucd.specs.declared.properties.TheConstants.{LINE_INDEX_COUNT}
 
--- the table has the symbol of a class
+-- the symbol table has a symbol that agrees with LB1 for these properties
 abbrev HasSymbol : LineClass → Bool → Bool → Bool → Type 0
 HasSymbol class is_wide is_mark is_future_pictograph =
     shown (get_or SYMBOLS (tag_of the_type class * 8 + (if is_wide then 4 else 0) + (if is_mark then 2 else 0) + (if is_future_pictograph then 1 else 0)) 0)
@@ -79,18 +79,18 @@ has_symbol SA = eight (HasSymbol SA) refl refl refl refl refl refl refl refl
 has_symbol SG = eight (HasSymbol SG) refl refl refl refl refl refl refl refl
 has_symbol XX = eight (HasSymbol XX) refl refl refl refl refl refl refl refl
 
--- which symbol is that of ZWJ
+-- a symbol is `JOINER` if and only if its class is ZWJ
 pub is_joiner : (symbol : ℕ) → symbol < SYMBOL_COUNT → (symbol == JOINER) ≡ is_same (shown symbol).class ZWJ
 is_joiner symbol lt = same_is _ _ (below SYMBOL_COUNT (λ x. same (x == JOINER) (is_same (shown x).class ZWJ)) joiner_is_one symbol lt)
 
--- which is that of a digit, and which those of what stays with the character before it
+-- a symbol is `DIGIT` if and only if its class is NU, and at least `ATTACHED` if and only if it is CM or ZWJ
 pub is_digit : (symbol : ℕ) → symbol < SYMBOL_COUNT → (symbol == DIGIT) ≡ is_same (shown symbol).class NU
 is_digit symbol lt = same_is _ _ (below SYMBOL_COUNT (λ x. same (x == DIGIT) (is_same (shown x).class NU)) digit_is_one symbol lt)
 
 pub is_not_attached : (symbol : ℕ) → symbol < SYMBOL_COUNT → nat_lt symbol ATTACHED ≡ not (is_one_of (CM ∷ ZWJ ∷ []) (shown symbol).class)
 is_not_attached symbol lt = same_is _ _ (below SYMBOL_COUNT (λ x. same (nat_lt x ATTACHED) (not (is_one_of (CM ∷ ZWJ ∷ []) (shown x).class))) attached_are_last symbol lt)
 
--- the rules read no more of a character than its symbol shows
+-- the conditions read no more of a character than its symbol has
 pub narrow_before : (class : LineClass) (is_wide : Bool) → (is_one_of (CP ∷ []) (base_class class) && not is_wide)
     ≡ (is_one_of (CP ∷ []) (base_class class) && not (is_one_of (CP ∷ OP ∷ []) class && is_wide))
 narrow_before CP is_wide = refl
@@ -108,7 +108,7 @@ answers_after_told true c false = rw (narrow_after c.class c.is_wide) refl
 answers_after_told false c true = rw (narrow_after c.class c.is_wide) refl
 answers_after_told false c false = rw (narrow_after c.class c.is_wide) refl
 
--- the symbol that the table has for some properties
+-- the symbol in the table has all that the rules read of the character
 pub symbol_shown : (p : Properties) (index symbol : ℕ) → index ≡ line_index p → symbol ≡ get_or SYMBOLS index 0 → shown symbol ≡ told (character_by p)
 symbol_shown p index symbol is reads =
     ap shown reads ∙ ap (λ i. shown (get_or SYMBOLS i 0)) is

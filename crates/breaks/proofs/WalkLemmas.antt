@@ -1,4 +1,4 @@
--- The marks that a walk over the characters finds are those of the bases.
+-- The marks of the pass over the characters are those of the bases.
 use Rattle.std.proofs.Common.{◌≡◌, ℕ, Bool, true, false, ◌==◌, nat_lt, not, suc, ◌+◌, ◌-◌, ◌<◌, ◌≤◌, Some, length, get_or, take, drop, arith, List, [], ◌∷◌, ◌++◌, map, if◌then◌else◌, refl, sym, ap, ◌∙◌, append_assoc, append-nil, inl, inr}
 use Rattle.std.proofs.Math.ListN.{set}
 use Rattle.std.specs.List.{slice_get}
@@ -23,23 +23,23 @@ use Rattle.breaks.proofs.PassLemmas.{first_base}
 use Rattle.breaks.proofs.StepLemmas.{end_attached}
 use Rattle.breaks.proofs.SymbolLemmas.{is_digit, is_not_attached}
 
--- the marks from the position after the last character so far on, where others are to come
+-- the marks from the position after the last base on, by a recursion over the characters
 abbrev pub walk : Bool → List Base → Base → List Character → List Mark
 walk whole_numbers others last [] = Must ∷ []
 walk whole_numbers others last (c ∷ text) =
     if stays_with (end_of last) c then Never ∷ walk whole_numbers others (with_attached last c) text
     else mark_by (rules whole_numbers) (last ∷ others) (bases_of (c ∷ text)) ∷ walk whole_numbers (last ∷ others) (alone c) text
 
--- a base that goes on with the first of some bases
+-- the base that results if the first of some bases is joined to another
 abbrev grown : Base → List Base → List Base
 grown last [] = last ∷ []
 grown last (b ∷ bases) = record { first = last.first; attached = last.attached ++ b.attached } ∷ bases
 
--- no line ends inside these
+-- a mark `Never` for each attached character
 abbrev nevers : List Character → List Mark
 nevers attached = map (λ _. Never) attached
 
--- after the last base stands LB3
+-- LB3: the mark after the last base is `Must`
 end_mark : (whole_numbers : Bool) (before : List Base) → mark_by (rules whole_numbers) before [] ≡ Must
 unfolding rules rows_before_numbers
 end_mark true before = refl
@@ -61,7 +61,7 @@ nevers_attached (a ∷ attached) c marks = ap (λ ms. Never ∷ ms) (nevers_atta
 same_tail : (front : List Mark) (m n : Mark) (ms ns : List Mark) → m ≡ n → ms ≡ ns → front ++ m ∷ ms ≡ front ++ n ∷ ns
 same_tail front m n ms ns mark marks = rw (mark, marks) refl
 
--- the walk from a base on
+-- the marks of the recursion from a base on are those of the bases
 walk_is : (whole_numbers : Bool) (others : List Base) (last : Base) (text : List Character) (end : Character)
     → end_of last ≡ end → nevers last.attached ++ walk whole_numbers others last text
     ≡ marks_after whole_numbers others (grown last (bases_of (end ∷ text)))
@@ -80,24 +80,24 @@ walk_is whole_numbers others last (c ∷ text) end is =
           ∙ ap (marks_after whole_numbers others) (sym (grown_end last end (bases_of (c ∷ text)))))
     ]
 
--- the walk over a text
+-- the marks of the recursion over a text are those of the bases
 pub walk_from_start : (whole_numbers : Bool) (c : Character) (text : List Character) → walk whole_numbers [] (alone c) text ≡ marks_after whole_numbers [] (bases_of (c ∷ text))
 walk_from_start whole_numbers c text = walk_is whole_numbers [] (alone c) text c refl ∙ ap (marks_after whole_numbers []) (grown_alone c text)
 
--- a text with no character has no mark
+-- an empty text has no marks
 pub none_marked : (t : Tables) (whole_numbers : Bool) (text : List ℕ) → length text ≡ 0 → marks_of t whole_numbers text ≡ []
 unfolding marks_of
 none_marked t whole_numbers [] none = refl
 none_marked t whole_numbers (c ∷ text) none = absurd (omega arith)
 
--- the walk begins after the first character
+-- the marks of a text are those of the recursion from its second character on
 pub begins_walk : (t : Tables) (whole_numbers : Bool) (text rest : List ℕ) (c : ℕ) (first : Character)
     (marks : List Mark) → text ≡ c ∷ rest → first ≡ character t c → marks ≡ [] → marks
     ++ walk whole_numbers [] (alone first) (map (character t) rest) ≡ marks_of t whole_numbers text
 unfolding marks_of
 begins_walk t whole_numbers text rest c first marks is reads none = rw (none, is, reads) (walk_from_start whole_numbers (character t c) (map (character t) rest))
 
--- what the walk knows: what it keeps of the bases so far, and that the marks so far and those to come are all of them
+-- the state belongs to the bases so far, and the marks so far and those of the recursion are all marks
 abbrev pub Walks : Bool → Walk → List Mark → List Character → List Mark → Type 0
 Walks whole_numbers before marks text whole =
     (last : Base) × (others : List Base) × Stands whole_numbers before last others × (marks ++ walk whole_numbers others last text ≡ whole)
@@ -141,7 +141,7 @@ other_class symbol c below shows begins =
     ap (λ d. is_one_of (CM ∷ ZWJ ∷ []) d.class) (sym shows) ∙ not_is _ (sym (is_not_attached symbol below) ∙ begins)
 
 module _ {X : Type 0} (read : X → Character) (rest : List X) where
-  -- looking for NU over what is attached: one more, or the answer
+  -- NU follows the characters from i on if it follows those from i + 1 on, if the one at i joins the base before
   pub looks_on : (i : ℕ) (x : X) (symbol : ℕ) → i < length rest → x ≡ get_or rest i x → symbol < SYMBOL_COUNT
       → shown symbol ≡ told (read x) → ATTACHED ≤ symbol → is_before_digit (map read (drop i rest))
       ≡ is_before_digit (map read (drop (i + 1) rest))
@@ -158,7 +158,7 @@ module _ {X : Type 0} (read : X → Character) (rest : List X) where
       rw (here, other) (is_digit symbol below ∙ ap (λ d. is_same d.class NU) shows)
 
 module _ {X : Type 0} (read : X → Character) (rest : List X) (whole : List Mark) where
-  -- one step of it, over what stands at a place, whose mark is written there
+  -- one step of the pass writes the mark at its index
   pub steps : (whole_numbers : Bool) (i : ℕ) (x : X) (c : Character) (before after : Walk) (marks new : List Mark)
       (mark : Mark) (decided : ℕ) → i < length rest → x ≡ get_or rest i x → c ≡ read x
       → Walks whole_numbers before (take i marks) (map read (drop i rest)) whole
@@ -171,7 +171,7 @@ module _ {X : Type 0} (read : X → Character) (rest : List X) (whole : List Mar
       rw written (passes_on whole_numbers before after (take i marks) mark decided c (map read (drop (i + 1) rest))
       whole last others (rw (here, ← reads) at so_far) (passes whole_numbers last others stands) seen)
 
-  -- the last mark, after the whole text
+  -- after the last character, the mark `Must` completes the list
   pub ends : (whole_numbers : Bool) (i : ℕ) (before : Walk) (marks : List Mark) → i ≡ length rest → length marks
       ≡ length rest + 1 → Walks whole_numbers before (take i marks) (map read (drop i rest)) whole
       → set marks (length rest) Must ≡ whole
@@ -184,7 +184,7 @@ module _ {X : Type 0} (read : X → Character) (rest : List X) (whole : List Mar
       (omega (arith, length-set marks (length rest) Must)) in
       sym all_of_it ∙ written ∙ ap (λ n. take n marks ++ Must ∷ []) (sym last_place) ∙ rw none at so_far
 
--- the walk finds a mark for each character
+-- the recursion gives a mark for each position
 length-walk : (whole_numbers : Bool) (others : List Base) (last : Base) (text : List Character) → length (walk whole_numbers others last text) ≡ suc (length text)
 length-walk whole_numbers others last [] = refl
 length-walk whole_numbers others last (c ∷ text) =
@@ -199,7 +199,7 @@ length-marks t whole_numbers (c ∷ text) =
     ap length (sym (begins_walk t whole_numbers (c ∷ text) text c (character t c) [] refl refl refl))
     ∙ length-walk whole_numbers [] (alone (character t c)) (map (character t) text) ∙ ap suc (length-map text (character t))
 
--- the last one of them is that of the end
+-- the last mark is `Must`
 last-walk : (whole_numbers : Bool) (others : List Base) (last : Base) (text : List Character) → slice_get (walk whole_numbers others last text) (length text) ≡ Some Must
 last-walk whole_numbers others last [] = refl
 last-walk whole_numbers others last (c ∷ text) =
@@ -216,12 +216,12 @@ last_mark t whole_numbers (c ∷ text) some =
     ∙ ap (λ ms. slice_get ms (length (map (character t) text))) (sym (begins_walk t whole_numbers (c ∷ text) text c (character t c) [] refl refl refl))
     ∙ last-walk whole_numbers [] (alone (character t c)) (map (character t) text)
 
--- what is read of the properties is what is read of the characters
+-- the characters read from the properties are those read from the tables
 pub read_once : (t : Tables) (text : List ℕ) → map character_by (map (properties_of t) text) ≡ map (character t) text
 read_once t [] = refl
 read_once t (c ∷ text) = ap (λ cs. character t c ∷ cs) (read_once t text)
 
--- a list with no character has no mark
+-- an empty text has no marks, for a list of its length
 pub none_at_all : (t : Tables) (whole_numbers : Bool) (text : List ℕ) (marks : List Mark) → length text ≡ 0 → length marks ≡ length text → marks ≡ marks_of t whole_numbers text
 none_at_all t whole_numbers [] [] none len = sym (none_marked t whole_numbers [] refl)
 none_at_all t whole_numbers [] (m ∷ marks) none len = absurd (omega arith)
@@ -230,7 +230,7 @@ none_at_all t whole_numbers (c ∷ text) marks none len = absurd (omega arith)
 pub one_longer : {X : Type 0} (text : List X) (x : X) (rest : List X) (marks : List Mark) → length marks ≡ length text → text ≡ x ∷ rest → length marks ≡ length rest + 1
 one_longer text x rest marks len is = omega (arith, ap length is)
 
--- the walk begins after the first character, of which the properties are read
+-- the marks of a text are those of the recursion from its second character on, read from the properties
 pub begins_read : (t : Tables) (whole_numbers : Bool) (text : List ℕ) (properties rest : List Properties)
     (p : Properties) → properties ≡ map (properties_of t) text → properties ≡ p ∷ rest
     → walk whole_numbers [] (alone (character_by p)) (map character_by rest) ≡ marks_of t whole_numbers text

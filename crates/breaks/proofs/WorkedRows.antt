@@ -1,4 +1,4 @@
--- Rows of the definitions, worked.
+-- Examples of the definitions.
 use Rattle.std.proofs.Common.{◌≡◌, true, false, List, [], ◌∷◌, map, refl}
 use Rattle.ucd.specs.declared.line_class.LineClass.{LineClass}
 use Rattle.ucd.specs.declared.line_class.LineClass.TheVariants.{AI, AL, B2, BA, BK, CB, CJ, CL, CM, CP, CR, EB, EM, GL, H2, HL, HY, ID, IS, JT, LF, NL, NS, NU, OP, PO, PR, QU, RI, SA, SP, SY, WJ, XX, ZW, ZWJ}
@@ -29,7 +29,7 @@ marks_by classes = marks (map narrow classes)
 abbrev whole_marks_by : List LineClass → List Mark
 whole_marks_by classes = whole_marks (map narrow classes)
 
--- LB1
+-- LB1: the resolved classes
 ambiguous : resolved AI true ≡ AL
 ambiguous = refl
 
@@ -45,7 +45,7 @@ small_kana = refl
 unknown : resolved XX true ≡ AL
 unknown = refl
 
--- LB3 to LB6: a line ends where it must, but not between CR and LF, nor before either
+-- LB3 to LB6: a line ends after BK, CR, LF and NL, but not between CR and LF, nor before any of them
 ends : marks_by (AL ∷ CR ∷ LF ∷ []) ≡ Never ∷ Never ∷ Must ∷ []
 unfolding rules rows_before_numbers rows_of_numbers rows_after_numbers
 ends = refl
@@ -58,7 +58,7 @@ twice : marks_by (LF ∷ CR ∷ NL ∷ []) ≡ Must ∷ Must ∷ Must ∷ []
 unfolding rules rows_before_numbers rows_of_numbers rows_after_numbers
 twice = refl
 
--- LB7, LB8 and LB18: after spaces and not before them
+-- LB7, LB8 and LB18: a line may end after spaces, and not before them
 spaces : marks_by (AL ∷ SP ∷ SP ∷ AL ∷ []) ≡ Never ∷ Never ∷ May ∷ Must ∷ []
 unfolding rules rows_before_numbers rows_of_numbers rows_after_numbers
 spaces = refl
@@ -67,7 +67,7 @@ zero_width : marks_by (AL ∷ ZW ∷ SP ∷ CL ∷ []) ≡ Never ∷ Never ∷ M
 unfolding rules rows_before_numbers rows_of_numbers rows_after_numbers
 zero_width = refl
 
--- LB8a and LB9: a joiner binds what stands after it, also at the end of a base
+-- LB8a and LB9: no line ends after a ZWJ, whether it is a base itself or is attached to one
 joiner : marks_by (AL ∷ ZWJ ∷ ID ∷ []) ≡ Never ∷ Never ∷ Must ∷ []
 unfolding rules rows_before_numbers rows_of_numbers rows_after_numbers
 joiner = refl
@@ -76,7 +76,7 @@ joiner_within : marks_by (AL ∷ ZWJ ∷ CM ∷ ID ∷ []) ≡ Never ∷ Never �
 unfolding rules rows_before_numbers rows_of_numbers rows_after_numbers
 joiner_within = refl
 
--- LB10: a mark after a space is a letter, with those after it
+-- LB10: a combining mark after a space counts as AL, with the marks after it attached
 lone_mark : marks_by (AL ∷ SP ∷ CM ∷ CM ∷ AL ∷ []) ≡ Never ∷ May ∷ Never ∷ Never ∷ Must ∷ []
 unfolding rules rows_before_numbers rows_of_numbers rows_after_numbers
 lone_mark = refl
@@ -90,7 +90,7 @@ glue : marks_by (BA ∷ GL ∷ ID ∷ GL ∷ []) ≡ May ∷ Never ∷ Never ∷
 unfolding rules rows_before_numbers rows_of_numbers rows_after_numbers
 glue = refl
 
--- LB13 to LB17: over spaces
+-- LB13 to LB17: rules that hold across spaces
 opening : marks_by (OP ∷ SP ∷ AL ∷ []) ≡ Never ∷ Never ∷ Must ∷ []
 unfolding rules rows_before_numbers rows_of_numbers rows_after_numbers
 opening = refl
@@ -124,7 +124,7 @@ hebrew_solidus : marks_by (SY ∷ HL ∷ SY ∷ AL ∷ []) ≡ Never ∷ Never �
 unfolding rules rows_before_numbers rows_of_numbers rows_after_numbers
 hebrew_solidus = refl
 
--- LB23 to LB29
+-- LB23 to LB29: numbers, syllables and letters
 price : marks_by (PR ∷ NU ∷ IS ∷ NU ∷ PO ∷ []) ≡ Never ∷ Never ∷ Never ∷ Never ∷ Must ∷ []
 unfolding rules rows_before_numbers rows_of_numbers rows_after_numbers
 price = refl
@@ -133,7 +133,7 @@ in_parentheses : marks_by (PR ∷ OP ∷ NU ∷ CP ∷ PO ∷ []) ≡ Never ∷ 
 unfolding rules rows_before_numbers rows_of_numbers rows_after_numbers
 in_parentheses = refl
 
--- LB25: of two bases, and of whole numbers
+-- LB25 as a rule on two bases, and with whole numbers
 opened_price : (marks_by (PR ∷ OP ∷ NU ∷ []) ≡ Never ∷ Never ∷ Must ∷ []) × (whole_marks_by (PR ∷ OP ∷ NU ∷ []) ≡ Never ∷ Never ∷ Must ∷ [])
 unfolding rules rows_before_numbers rows_of_numbers rows_after_numbers
 opened_price = (refl, refl)
@@ -166,7 +166,7 @@ listed_digit : (marks_by (NU ∷ IS ∷ NU ∷ []) ≡ Never ∷ Never ∷ Must 
 unfolding rules rows_before_numbers rows_of_numbers rows_after_numbers
 listed_digit = (refl, refl)
 
--- a whole price, a negative one in parentheses, and one that a space takes apart
+-- a whole price, a negative one in parentheses, and one with a space inside
 amount : (marks_by (PR ∷ NU ∷ IS ∷ NU ∷ NU ∷ NU ∷ IS ∷ NU ∷ [])
     ≡ Never ∷ Never ∷ Never ∷ Never ∷ Never ∷ Never ∷ Never ∷ Must ∷ [])
     × (whole_marks_by (PR ∷ NU ∷ IS ∷ NU ∷ NU ∷ NU ∷ IS ∷ NU ∷ [])
@@ -198,7 +198,7 @@ wide_parenthesis : marks (narrow AL ∷ wide OP ∷ narrow AL ∷ wide CP ∷ na
 unfolding rules rows_before_numbers rows_of_numbers rows_after_numbers
 wide_parenthesis = refl
 
--- LB30a: pairs, from the start of their run
+-- LB30a: regional indicators form pairs from the start of their run
 flags : marks_by (RI ∷ RI ∷ CM ∷ RI ∷ RI ∷ RI ∷ []) ≡ Never ∷ Never ∷ May ∷ Never ∷ May ∷ Must ∷ []
 unfolding rules rows_before_numbers rows_of_numbers rows_after_numbers
 flags = refl
@@ -207,7 +207,7 @@ flags_again : marks_by (RI ∷ AL ∷ RI ∷ RI ∷ []) ≡ May ∷ May ∷ Neve
 unfolding rules rows_before_numbers rows_of_numbers rows_after_numbers
 flags_again = refl
 
--- LB30b: a modifier after its base, or after a pictograph to come
+-- LB30b: an emoji modifier after its base, or after a future pictograph
 modifier : marks_by (EB ∷ EM ∷ ID ∷ EM ∷ []) ≡ Never ∷ May ∷ May ∷ Must ∷ []
 unfolding rules rows_before_numbers rows_of_numbers rows_after_numbers
 modifier = refl
@@ -216,7 +216,7 @@ future_modifier : marks (pictograph ID ∷ narrow EM ∷ []) ≡ Never ∷ Must 
 unfolding rules rows_before_numbers rows_of_numbers rows_after_numbers
 future_modifier = refl
 
--- no text
+-- an empty text
 nothing : marks [] ≡ []
 unfolding rules rows_before_numbers rows_of_numbers rows_after_numbers
 nothing = refl

@@ -16,13 +16,13 @@ resolved SA false = AL
 resolved CJ is_mark = NS
 resolved class is_mark = class
 
--- what the rules need of a character, with the class that LB1 gives it
+-- the properties of a character that the rules need, with the class that LB1 gives it
 pub record Character : Type 0 where
   pub class : LineClass
   pub is_wide : Bool
   pub is_future_pictograph : Bool
 
--- a character by the tables
+-- the character at a code point, from the tables
 abbrev pub character : Tables → ℕ → Character
 character t c = record {
   class = resolved (line_class_of t c) (is_mark_in t c);
@@ -40,7 +40,7 @@ abbrev pub stays_with : Character → Character → Bool
 stays_with before c =
     is_one_of (CM ∷ ZWJ ∷ []) c.class && not (is_one_of (BK ∷ CR ∷ LF ∷ NL ∷ SP ∷ ZW ∷ []) before.class)
 
--- a character before bases: it is a base of its own, or the first of them joins it
+-- puts a character before some bases: it is a base of its own, or the first base joins it
 abbrev pub alone : Character → Base
 alone c = record { first = c; attached = [] }
 

@@ -1,4 +1,4 @@
--- Line breaking classes as the rules list them.
+-- Tests of line breaking classes.
 use Rattle.std.specs.Prelude.{Bool, List}
 use Rattle.std.specs.List.{list_any}
 use Rattle.ucd.specs.declared.line_class.LineClass.{LineClass}

@@ -6,14 +6,14 @@ use Rattle.breaks.specs.Rules.{rules, mark_by}
 use Rattle.breaks.specs.declared.mark.Mark.{Mark}
 use Rattle.breaks.specs.declared.mark.Mark.TheVariants.{Never}
 
--- The marks of the positions after the characters of some bases, by the bases before these, the nearest first. LB9: no
--- line ends inside a base. After a base the rules give the mark.
+-- The marks after the characters of some bases: `Never` inside a base (LB9), and the mark of the rules after each.
+-- `before` has the bases before these, the nearest first.
 abbrev pub marks_after : Bool → List Base → List Base → List Mark
 marks_after whole_numbers before [] = []
 marks_after whole_numbers before (b ∷ after) =
     map (λ _. Never) b.attached
     ++ mark_by (rules whole_numbers) (b ∷ before) after ∷ marks_after whole_numbers (b ∷ before) after
 
--- the mark of the position after each character of a paragraph, with whole numbers or with LB25 as a rule on two bases
+-- the mark after each character of a paragraph, with whole numbers, or with LB25 as a rule on two bases
 unfoldable pub marks_of : Tables → Bool → List ℕ → List Mark
 marks_of t whole_numbers text = marks_after whole_numbers [] (bases_of (map (character t) text))

@@ -20,7 +20,7 @@ middle = NU ∷ SY ∷ IS ∷ []
 abbrev pub closing : List LineClass
 closing = CL ∷ CP ∷ []
 
--- the rest of a list after one of these classes, if it begins with one, and after all of them that it begins with
+-- the rest of a list after its first item, if that has one of the classes; and after all such items at its front
 abbrev pub after_one : List LineClass → List LineClass → List LineClass
 after_one classes [] = []
 after_one classes (class ∷ rest) = if is_one_of classes class then rest else class ∷ rest
@@ -33,8 +33,8 @@ abbrev pub is_nothing : List LineClass → Bool
 is_nothing [] = true
 is_nothing (class ∷ rest) = false
 
--- `(PR | PO)?`, and the expression from each earlier part on. No class is in two adjacent parts, so what a part may
--- take from the front of a list is no part of what follows.
+-- The expression from each of its parts on, the last part first. No class is in two adjacent parts, so a part can
+-- take all that it matches.
 abbrev pub is_end : List LineClass → Bool
 is_end classes = is_nothing (after_one affix classes)
 
@@ -52,12 +52,12 @@ is_unaffixed classes = begins_with_digit (after_one opening classes)
 abbrev pub is_number : List LineClass → Bool
 is_number classes = is_unaffixed (after_one affix classes)
 
--- the first item, the first two and so on of a list
+-- the non-empty prefixes of a list
 abbrev pub fronts : {A : Type 0} → List A → List (List A)
 fronts [] = []
 fronts (a ∷ rest) = (a ∷ []) ∷ map (λ front. a ∷ front) (fronts rest)
 
--- some of the bases before a position, the nearest first, and some of those after it are together a number
+-- some bases directly before a position, the nearest first, and some directly after it form a number
 abbrev pub is_in_number : List Base → List Base → Bool
 is_in_number before after =
     list_any (λ front. list_any (λ back. is_number (map class_of (reverse front ++ back))) (fronts after)) (fronts before)

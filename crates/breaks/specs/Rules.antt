@@ -11,8 +11,8 @@ use Rattle.breaks.specs.Numbers.{is_in_number}
 use Rattle.breaks.specs.declared.mark.Mark.{Mark}
 use Rattle.breaks.specs.declared.mark.Mark.TheVariants.{Never, May, Must}
 
--- A rule: the positions to which it applies, by the bases before one, the nearest first, and those after it, and the
--- mark that it gives.
+-- A rule: a condition on the bases before a position, the nearest first, and those after it; and the mark that it
+-- gives.
 pub record Rule : Type 0 where
   pub holds : List Base → List Base → Bool
   pub mark : Mark
@@ -26,7 +26,7 @@ pub record Row : Type 0 where
 abbrev pub rule_of : Row → Rule
 rule_of row = record { holds = λ before after. row.before before && row.after after; mark = row.mark }
 
--- `×`, `÷` and `!`
+-- the rows for `×`, `÷` and `!`
 abbrev pub never : (List Base → Bool) → (List Base → Bool) → Row
 never before after = record { before = before; after = after; mark = Never }
 
@@ -36,7 +36,7 @@ may before after = record { before = before; after = after; mark = May }
 abbrev must : (List Base → Bool) → (List Base → Bool) → Row
 must before after = record { before = before; after = after; mark = Must }
 
--- conditions on the bases before a position, and on those after it
+-- the condition that is always true, and the one that is true at the end
 abbrev pub any : List Base → Bool
 any bases = true
 
@@ -49,7 +49,7 @@ abbrev pub is : List LineClass → List Base → Bool
 is classes [] = false
 is classes (b ∷ bases) = is_one_of classes (class_of b)
 
--- and it is not wide
+-- the nearest base has one of the classes, and is not wide
 abbrev pub is_narrow : List LineClass → List Base → Bool
 is_narrow classes [] = false
 is_narrow classes (b ∷ bases) = is_one_of classes (class_of b) && not b.first.is_wide
@@ -186,7 +186,7 @@ rows_after_numbers =
     never is_future_pictograph (is (EM ∷ [])) ∷
     []
 
--- LB25: with whole numbers, no line ends inside one; else it has its rows on two bases
+-- LB25: one rule on whole numbers, or its rows on two bases
 abbrev pub numbers : Bool → List Rule
 numbers true = record { holds = is_in_number; mark = Never } ∷ []
 numbers false = map rule_of rows_of_numbers
@@ -194,7 +194,7 @@ numbers false = map rule_of rows_of_numbers
 unfoldable pub rules : Bool → List Rule
 rules whole_numbers = map rule_of rows_before_numbers ++ (numbers whole_numbers ++ map rule_of rows_after_numbers)
 
--- the mark of a position: that of the first rule that applies, and LB31 if none does
+-- the mark of the first rule that applies, or `May` if none does (LB31)
 abbrev pub mark_by : List Rule → List Base → List Base → Mark
 mark_by [] before after = May
 mark_by (rule ∷ rules) before after = if rule.holds before after then rule.mark else mark_by rules before after

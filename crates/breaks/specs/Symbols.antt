@@ -1,4 +1,4 @@
--- What the rules read of a character, as a symbol.
+-- The part of a character that the rules read, as a symbol.
 use Rattle.std.specs.Prelude.{ℕ, true, false, ◌&&◌, List, [], ◌∷◌, get_or}
 use Rattle.ucd.specs.declared.line_class.LineClass.{LineClass}
 use Rattle.ucd.specs.declared.line_class.LineClass.TheVariants as class
@@ -6,7 +6,7 @@ use Rattle.ucd.specs.declared.properties.Properties.{Properties}
 use Rattle.breaks.specs.Bases.{Character, resolved}
 use Rattle.breaks.specs.Classes.{is_one_of}
 
--- what line breaking needs of a character with these properties
+-- the character with these properties, as the rules need it
 abbrev pub character_by : Properties → Character
 character_by p = record {
   class = resolved p.line_class p.is_mark;
@@ -14,7 +14,7 @@ character_by p = record {
   is_future_pictograph = p.is_future_pictograph;
 }
 
--- LB30 needs the width of parentheses only, and LB30b only looks back
+-- the part of a character that the rules read: LB30 needs the width of parentheses only, and LB30b only looks back
 abbrev pub told : Character → Character
 told c = record {
   class = c.class;
@@ -28,7 +28,7 @@ narrow class = record { class = class; is_wide = false; is_future_pictograph = f
 abbrev pub wide : LineClass → Character
 wide class = record { class = class; is_wide = true; is_future_pictograph = false }
 
--- the characters that the symbols stand for, in their order
+-- the characters that the symbols represent, in the order of the symbols
 abbrev pub symbols : List Character
 symbols =
     narrow class.BK ∷

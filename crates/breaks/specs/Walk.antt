@@ -19,7 +19,7 @@ use Rattle.breaks.specs.declared.symbol.TheConstants.{SYMBOL_COUNT}
 abbrev pub base : LineClass → Base
 base class = alone (narrow class)
 
--- example bases of each state, in the order of the states, the nearest first
+-- example bases of each state, the nearest first, in the order of the states
 abbrev pub states : List (List Base)
 states =
     (base class.BK ∷ []) ∷
@@ -68,11 +68,11 @@ states =
 abbrev pub bases_at : ℕ → List Base
 bases_at number = get_or states number []
 
--- the outcome, if the last character is a ZWJ or the last base a future pictograph
+-- the final outcome, from whether the last character is a ZWJ and whether the last base is a future pictograph
 abbrev pub decided_at : ℕ → Bool → Bool → ℕ
 decided_at outcome is_joined is_pictograph = if is_joined || ((outcome == UNLESS) && is_pictograph) then NEVER else outcome
 
--- the mark of an outcome, if what follows the next character does not matter
+-- the mark of an outcome that does not wait for the base after next
 abbrev pub marks_alone : Bool → List Mark
 marks_alone true = WHOLE_MARKS
 marks_alone false = MARKS
@@ -81,7 +81,7 @@ abbrev pub mark_of : Bool → ℕ → Bool → Mark
 mark_of whole_numbers decided before_digit =
     if whole_numbers && ((decided == WAITS) && before_digit) then Never else get_or (marks_alone whole_numbers) decided Never
 
--- whether NU is the next base in some characters, the first of which may be attached to the base before them
+-- whether the next base of some characters is NU; the first of them may join the base before
 abbrev pub is_before_digit : List Character → Bool
 is_before_digit [] = false
 is_before_digit (c ∷ text) = if is_one_of (class.CM ∷ class.ZWJ ∷ []) c.class then is_before_digit text else is_same c.class class.NU
@@ -90,7 +90,7 @@ is_before_digit (c ∷ text) = if is_one_of (class.CM ∷ class.ZWJ ∷ []) c.cl
 abbrev pub unattached : List LineClass
 unattached = class.BK ∷ class.CR ∷ class.LF ∷ class.NL ∷ class.SP ∷ class.ZW ∷ []
 
--- LB25 with whole numbers, as conditions on the bases before and after: a place in the expression of a number
+-- LB25 with whole numbers: the conditions on the bases before and after for each place of the expression
 abbrev pub ends_in_digits : List Base → Bool
 ends_in_digits [] = false
 ends_in_digits (b ∷ bases) = is_same (class_of b) class.NU || (is_one_of middle (class_of b) && ends_in_digits bases)
@@ -115,20 +115,20 @@ number_rows true =
     []
 number_rows false = rows_of_numbers
 
--- all rules as such conditions
+-- all rules as rows, with whole numbers or without
 unfoldable pub rows : Bool → List Row
 rows whole_numbers = rows_before_numbers ++ (number_rows whole_numbers ++ rows_after_numbers)
 
--- bases of which the nearest does not end in a ZWJ and is not a future pictograph
+-- the bases with LB8a and LB30b for pictographs made false for the nearest one
 abbrev pub plain : List Base → List Base
 plain [] = []
 plain (b ∷ bases) = record { first = record b.first { is_future_pictograph = false }; attached = narrow class.CM ∷ [] } ∷ bases
 
--- whether each condition on the bases before a position holds, except LB8a and LB30b for pictographs
+-- the result of each condition on the bases before a position, with LB8a and LB30b for pictographs false
 abbrev pub answers : Bool → List Base → List Bool
 answers whole_numbers bases = map (λ row. row.before (plain bases)) (rows whole_numbers)
 
--- what may hold of the next base, if it is a hyphen after HL, a space, an RI or what continues a number
+-- the results that a rule may need after one more base: hyphens after HL, spaces, RI and numbers
 abbrev pub carried : List Base → List Bool
 carried bases =
     is (class.HL ∷ []) bases
@@ -136,9 +136,8 @@ carried bases =
     ∷ is_spaced (class.CL ∷ class.CP ∷ []) bases ∷ is_spaced (class.B2 ∷ []) bases
     ∷ ends_in_odd_run bases ∷ ends_in_digits bases ∷ []
 
--- The state of the pass belongs to bases of which the nearest is the last one, to which a character may still be
--- attached. The row is that of a state whose example bases give and carry the same results, and attach a CM or ZWJ if
--- these do. The two bits describe the last base.
+-- The state belongs to bases, the nearest one first, which is the last one so far and may still grow. Its row is that of
+-- a state whose example bases give and carry the same results. The two bits describe the last base.
 pub record Stands (whole_numbers : Bool) (walk : Walk) (last : Base) (others : List Base) : Type 0 where
   pub state : ℕ
   pub below : state < STATE_COUNT
@@ -149,11 +148,11 @@ pub record Stands (whole_numbers : Bool) (walk : Walk) (last : Base) (others : L
   pub is_joined : walk.is_joined ≡ is_same (end_of last).class class.ZWJ
   pub is_pictograph : walk.is_pictograph ≡ last.first.is_future_pictograph
 
--- the next character joins the last base, or begins the next one
+-- the last base after the next character has joined it
 abbrev pub with_attached : Base → Character → Base
 with_attached last c = record { first = last.first; attached = last.attached ++ c ∷ [] }
 
--- the outcome before it gives the mark, once it is known whether the base after it is NU
+-- the outcome before a character gives the mark of the rules, and the new state belongs to the bases with it
 abbrev pub Passes : Bool → Walk → Base → List Base → Character → ℕ → Type 0
 Passes whole_numbers after last others c decided =
     MatchBool (stays_with (end_of last) c)

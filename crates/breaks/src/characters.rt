@@ -1,4 +1,4 @@
-//! The characters of a paragraph as they are read: their properties are known, or looked up once each.
+//! The characters of a paragraph as input: their properties are known, or looked up once each.
 ghost use Rattle.std.specs.Prelude.{◌≡◌, ◌<◌, ◌∷◌, List, MatchOption, length, map, slice_index_or};
 ghost use Rattle.ucd.specs.Properties.{properties_of};
 ghost use Rattle.ucd.specs.declared.properties.Properties.{Properties};

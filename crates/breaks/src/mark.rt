@@ -114,8 +114,8 @@ fn mark_before<C: Characters>(
     }
 }
 
-// Whether the base after one is NU, by the characters from an index on. Reads only those again that are
-// attached to the base before them.
+// Whether the base after the next one is NU, from the characters from an index on. Only characters that are
+// attached to the next base are read twice.
 fn is_before_digit<C: Characters>(characters: C, from: usize) -> bool
     requires { from ≤ length (C.all characters) }
     ensures { result ≡ is_before_digit (map character_by (drop from (C.all characters))) }

@@ -80,8 +80,8 @@ fn symbol_at(index: usize) -> u8
     SYMBOLS[index]
 }
 
-// Four symbols for each class: of a narrow character, of a narrow mark, of a wide character and of a wide
-// mark. Each is there twice, because a future pictograph has the symbol of others of its class.
+// The four symbols of each class: for a narrow character, a narrow mark, a wide character and a wide mark.
+// Each occurs twice, because a future pictograph has the same symbol as other characters of its class.
 macro_rules! symbols {
     ($($narrow:ident $narrow_mark:ident $wide:ident $wide_mark:ident;)*) => {
         [$(

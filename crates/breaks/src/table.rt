@@ -1,6 +1,6 @@
 //! The break table: the outcome before a character, by the state before it, and the next state. It has LB4 to
-//! LB31, except LB8a, and LB30b for future pictographs, for which the walk has a bit each. Its entries are in
-//! entries.rt.
+//! LB31, except for two rules that the walk decides by one bit each: LB8a, and LB30b for future pictographs.
+//! Its entries are in entries.rt.
 ghost use Rattle.std.specs.Prelude.{◌≡◌, ◌<◌, ◌≤◌, ◌+◌, slice_index};
 ghost use Rattle.breaks.specs.declared.table.TheConstants.{ENTRY_COUNT};
 
@@ -15,7 +15,7 @@ pub enum State {
     /// LF or NL.
     LF,
     ZW,
-    /// A space, after none of the following.
+    /// A space after none of the classes of the next five states.
     SP,
     /// Spaces after ZW.
     SpaceAfterZW,
@@ -66,27 +66,27 @@ pub enum State {
     Other,
     /// IS after a number, as `NU (NU | SY | IS)*`, that may go on after it.
     NumberIS,
-    /// SY after one.
+    /// SY after a number that may go on after it.
     NumberSY,
-    /// CL after one, or CP that is wide.
+    /// CL after a number, or wide CP.
     NumberCL,
-    /// CP that is not wide, after one.
+    /// CP that is not wide, after a number.
     NumberCP,
 }
 
-/// LB9: the character joins the last base.
+/// LB9: the next character joins the last base.
 pub const STAYS: u16 = 0;
 
-/// No line ends there.
+/// No line ends before the next character.
 pub const NEVER: u16 = 1;
 
-/// A line may end there if the last base is not a future pictograph.
+/// A line may end before the next character if the last base is not a future pictograph.
 pub const UNLESS: u16 = 2;
 
-/// A line may end there.
+/// A line may end before the next character.
 pub const MAY: u16 = 3;
 
-/// A line must end there.
+/// A line must end before the next character.
 pub const MUST: u16 = 4;
 
 /// LB25 for two bases: no line ends there, but with whole numbers a line may.

@@ -11,7 +11,7 @@ use crate::symbol::{JOINER, symbol_of};
 use crate::table::{NEVER, PARTS, START, STAYS, UNLESS, entry};
 use ucd::Properties;
 
-/// The state of the pass: what it needs of the bases before a position.
+/// The state of the pass: the part of the bases before a position that the rules need.
 #[derive(Clone, Copy)]
 pub struct Walk {
     // The start of the state's row in the table.
@@ -78,7 +78,7 @@ fn decide(outcome: u16, is_joined: bool, is_pictograph: bool) -> u16
     }
 }
 
-/// Returns the mark before the next character, if what follows that does not matter.
+/// Returns the mark before the next character, if the base after that is not NU or does not matter.
 pub fn mark_alone(decided: u16, whole_numbers: bool) -> Mark
     requires { decided < 8 }
     ensures { result ≡ get_or (marks_alone whole_numbers) decided Never }
@@ -90,7 +90,7 @@ pub fn mark_alone(decided: u16, whole_numbers: bool) -> Mark
     }
 }
 
-// The mark of each outcome, if what follows does not matter.
+// The mark of each outcome, with LB25 as a rule on two bases.
 static MARKS: [Mark; 8] = [
     Mark::Never,
     Mark::Never,
@@ -102,7 +102,7 @@ static MARKS: [Mark; 8] = [
     Mark::Never,
 ];
 
-// The same with whole numbers.
+// The mark of each outcome, with whole numbers.
 static WHOLE_MARKS: [Mark; 8] = [
     Mark::Never,
     Mark::Never,
