@@ -1,4 +1,4 @@
--- A base and its marks are reversed in place before L2, which then puts the base first.
+-- Reversing each base with its marks before L2 makes L2 put the base first.
 use Rattle.std.proofs.Common.{◌≡◌, ℕ, zero, suc, ◌+◌, ◌-◌, ◌<◌, ◌≤◌, ◌==◌, Bool, true, false, ◌&&◌, ◌||◌, not, List, [], ◌∷◌}
 use Rattle.std.proofs.Common.{length, get_or, map, take, drop, reverse, Option, None, refl, sym, ap, subst, ◌∙◌, inl, inr, arith}
 use Rattle.std.specs.Prelude.{nat_lt}
@@ -17,10 +17,10 @@ use Rattle.reorder.specs.InPlace.{IsChunk}
 use Rattle.reorder.specs.Groups.{IsAlone, IsGroup, StandsTogether}
 use Rattle.reorder.specs.Order.{has_base, is_mark_at, is_odd, lowest_odd, ltov_of, order_by, order_of, precedes_mark, reverse_with_next, vtol_of, AreInverse}
 
--- ---- what a group is
+-- ---- the groups that the scan finds
 
 module _ (classes : List BidiClass) (levels : List ℕ) where
-  -- what the scan of the marks after a base knows
+  -- the state of the scan after a base: `len` characters, the base and the marks after it, have the same level
   pub record MarksSoFar (start len : ℕ) : Type 0 where
     pub some : 0 < len
     pub within : start + len ≤ length levels
@@ -59,7 +59,7 @@ module _ (classes : List BidiClass) (levels : List ℕ) where
         ];
       }
 
-  -- after the end of the scan, there is no mark of the base
+  -- where the scan ends, no mark of the base follows
   stops : (start place : ℕ) → is_mark_of place (get_or levels start 0) ≡ false → is_odd (get_or levels start 0) ≡ true
       → is_mark_at classes place ≡ true → get_or levels place 0 ≡ get_or levels start 0 → ⊥
   stops start place ended odd marked same =
@@ -74,7 +74,7 @@ module _ (classes : List BidiClass) (levels : List ℕ) where
   no_base_after : (i : ℕ) → precedes_mark classes levels i ≡ false → has_base classes levels (suc i) ≡ false
   no_base_after i none = and_left (precedes_mark classes levels i) (not (is_mark_at classes i) || has_base classes levels i) none
 
-  -- the base with its marks, and that no character right after them has a base
+  -- the base with its marks is a chunk, and the character right after it has no base
   pub group_is : (start len : ℕ) → MarksSoFar start len → is_mark_of (start + len) (get_or levels start 0) ≡ false → is_odd (get_or levels start 0) ≡ true
       → is_mark_at classes start ≡ false → IsChunk classes levels start len × (has_base classes levels (start + len) ≡ false)
   group_is start len w ended odd plain =
@@ -103,7 +103,7 @@ module _ (classes : List BidiClass) (levels : List ℕ) where
         ap (has_base classes levels) next ∙ no_base_after last none,
       )
 
-  -- a character alone: a mark without a base, or one at an even level
+  -- a mark without a base, or a character at an even level, is a chunk by itself
   alone : (start next : ℕ) → has_base classes levels start ≡ false → has_base classes levels (suc start) ≡ false → next ≡ start + 1
       → IsChunk classes levels start 1 × (has_base classes levels next ≡ false)
   alone start next none more past =
@@ -126,10 +126,10 @@ pub plain_order : (classes : List BidiClass) (levels : List ℕ) → vtol_of fal
 unfolding vtol_of
 plain_order classes levels = refl
 
--- ---- the scan
+-- ---- the scan of a line
 
 module _ (classes : List BidiClass) (levels : List ℕ) where
-  -- a character whose group is reversed already
+  -- the character at `place` is in a chunk that has been reversed
   pub record IsTurned (old current : List ℕ) (place : ℕ) : Type 0 where
     pub start : ℕ
     pub len : ℕ
@@ -138,7 +138,7 @@ module _ (classes : List BidiClass) (levels : List ℕ) where
     pub to : place < start + len
     pub there : get_or current place 0 ≡ get_or old (start + (len - 1 - (place - start))) 0
 
-  -- what the scan knows at an index
+  -- the state of the scan at an index: the chunks before it have been reversed, and the rest is unchanged
   pub record Chunked (old current : List ℕ) (at : ℕ) : Type 0 where
     pub sizes : length current ≡ length old
     pub no_base : has_base classes levels at ≡ false
@@ -186,18 +186,18 @@ module _ (classes : List BidiClass) (levels : List ℕ) where
         left = λ k above. after k above ∙ w.left k (omega (arith, above, past));
       }
 
-  -- what the theorems on L2 and L3 say of the groups
+  -- the theorems on L2 and L3, as assumptions on the groups of the line
   module _ (together : (base n : ℕ) → IsGroup classes levels base n → StandsTogether classes levels base n)
       (others : (k : ℕ) → k < length levels → IsAlone classes levels (get_or (vtol_of false classes levels) k 0)
       → get_or (vtol_of true classes levels) k 0 ≡ get_or (vtol_of false classes levels) k 0)
       (inverse : AreInverse (length levels) (vtol_of false classes levels) (ltov_of false classes levels)) where
-    -- two visual positions of one character are equal
+    -- no character has two visual positions
     same_position : (j k : ℕ) → j < length levels → k < length levels
         → get_or (vtol_of false classes levels) j 0 ≡ get_or (vtol_of false classes levels) k 0 → j ≡ k
     same_position j k first second same =
         sym (inverse.at_vtol j first) ∙ ap (λ p. get_or (ltov_of false classes levels) p 0) same ∙ inverse.at_vtol k second
 
-    -- so the item at a position of L2's order, with each group reversed, is that of L3's order
+    -- reversing each group and then ordering by L2 gives the same item as ordering by L3
     read_at : (old current : List ℕ) (k : ℕ) → k < length levels → IsTurned old current (get_or (vtol_of false classes levels) k 0)
         → get_or current (get_or (vtol_of false classes levels) k 0) 0 ≡ get_or old (get_or (vtol_of true classes levels) k 0) 0
     read_at old current k within t =
@@ -234,9 +234,9 @@ module _ (classes : List BidiClass) (levels : List ℕ) where
         ∙ read_at old current k within (w.turned (get_or plain k 0) (omega (arith, inverse.vtol_within k within, past)))
         ∙ sym (get_or-map (λ p. get_or old p 0) read k 0 0 (omega (arith, within, wide))))
 
--- ---- a line without such groups
+-- ---- a line without groups
 
--- nothing is reversed where nothing passes
+-- if no item passes the test, the list stays the same
 none_reversed : (test : ℕ → Bool) (xs : List ℕ) → ((x : ℕ) → test x ≡ false) → reverse_with_next test [] xs ≡ xs
 none_reversed test [] none = refl
 none_reversed test (x ∷ xs) none =
@@ -276,7 +276,7 @@ without_odd asked classes levels even =
     (λ i. and_right (is_mark_at classes (suc i)) (is_odd (get_or levels i 0) && (get_or levels (suc i) 0 == get_or levels i 0))
     (and_left (is_odd (get_or levels i 0)) (get_or levels (suc i) 0 == get_or levels i 0) (all i))))
 
--- then an array stays as it is
+-- if no level is odd, the visual order is the logical order, with L3 or without
 pub stays : (asked : Bool) (classes : List BidiClass) (levels old : List ℕ) → None ≡ lowest_odd levels
     → ((k : ℕ) → k < length levels → is_odd (get_or levels k 0) ≡ false) → length old ≡ length levels
     → old ≡ map (λ k. get_or old k 0) (vtol_of asked classes levels)

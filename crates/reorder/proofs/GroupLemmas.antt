@@ -14,7 +14,7 @@ use Rattle.reorder.proofs.NeighbourLemmas.{neighbours, Adjacent}
 use Rattle.reorder.proofs.OrderLemmas.{length-order, order_of_permutes}
 use Rattle.reorder.proofs.PlainLemmas.{front_written}
 
--- ---- the indices of two adjacent items
+-- ---- the positions of two adjacent items
 
 adjacent_at : (n : ℕ) (xs : List ℕ) (x y k : ℕ) → ArePlaces n xs → Adjacent x y xs → k < n → get_or xs k 0 ≡ x → (suc k < n) × (get_or xs (suc k) 0 ≡ y)
 adjacent_at n xs x y k p a within here =
@@ -34,7 +34,7 @@ adjacent_at n xs x y k p a within here =
       ]
     ]
 
--- the rest of the order consists of positions
+-- the rest of a visual order has only logical positions of the line
 pub rest_within : (levels xs : List ℕ) (start : ℕ) → xs ≡ drop start (order_of levels) → AreWithin (length levels) xs
 rest_within levels xs start is k below =
     let order : List ℕ = order_of levels in
@@ -42,7 +42,7 @@ rest_within levels xs start is k below =
     let at : get_or xs k 0 ≡ get_or order (start + k) 0 = ap (λ (zs : List ℕ). get_or zs k 0) is ∙ get_or-drop start order k 0 in
     omega (arith, at, p.within (start + k) (omega (arith, below, ap length is, length-drop start order, p.sizes)))
 
--- a mark at the same odd level as the character before it is directly left of this one
+-- a mark at the same odd level as the character before it is directly to the left of that character
 pub mark_stands : (classes : List BidiClass) (levels : List ℕ) (k i : ℕ) → k < length levels → get_or (order_of levels) k 0 ≡ suc i
     → precedes_mark classes levels i ≡ true → (suc k < length levels) × (get_or (order_of levels) (suc k) 0 ≡ i)
 mark_stands classes levels k i within here some =
@@ -52,7 +52,7 @@ mark_stands classes levels k i within here some =
     adjacent_at (length levels) (order_of levels) (suc i) i k (permuted_places (length levels) (order_of levels) (order_of_permutes levels))
     (neighbours levels i parts.0 (eqb-true (get_or levels (suc i) 0) (get_or levels i 0) parts.1)) within here
 
--- ---- which marks have a base
+-- ---- marks that have a base
 
 module _ (classes : List BidiClass) (levels : List ℕ) where
   bound_is : (x y : ℕ) → is_bound classes levels x y ≡ true → (x ≡ suc y) × (precedes_mark classes levels y ≡ true)
@@ -75,7 +75,7 @@ module _ (classes : List BidiClass) (levels : List ℕ) where
       let parts = bound_is x y is in
       ap (has_base classes levels) parts.0 ∙ ap (λ b. b && (not (is_mark_at classes y) || has_base classes levels y)) parts.1
 
-  -- marks that are bound up to a character that is none have a base
+  -- if each of n positions is bound to the next, and the last is not a mark, all before the last have a base
   based : (xs : List ℕ) (n d k : ℕ) → AreBound classes levels xs n → is_mark_at classes (get_or xs n 0) ≡ false → k + suc d ≡ n
       → has_base classes levels (get_or xs k 0) ≡ true
   based xs n zero k are plain e =
@@ -88,7 +88,7 @@ module _ (classes : List BidiClass) (levels : List ℕ) where
       base_of (get_or xs k 0) next (are.bound k (omega (arith, e)))
       ∙ or_right (not (is_mark_at classes next)) (has_base classes levels next) (based xs n d (k + 1) are plain (omega (arith, e)))
 
-  -- up to a mark without one they have none
+  -- if each of n positions is bound to the next, and the last is a mark without a base, none of them has one
   unbased : (xs : List ℕ) (n d k : ℕ) → AreBound classes levels xs n → is_mark_at classes (get_or xs n 0) ≡ true
       → has_base classes levels (get_or xs n 0) ≡ false → k + d ≡ n → has_base classes levels (get_or xs k 0) ≡ false
   unbased xs n zero k are mark free e =
@@ -105,7 +105,7 @@ module _ (classes : List BidiClass) (levels : List ℕ) where
       base_of (get_or xs k 0) next (are.bound k (omega (arith, e)))
       ∙ ap₂ (λ (m b : Bool). not m || b) marked (unbased xs n d (k + 1) are mark free (omega (arith, e)))
 
-  -- the last position that is reached has none
+  -- the position after n bound positions, which is bound to none, has no base
   free_of : (start : ℕ) (xs : List ℕ) (n z : ℕ) → xs ≡ drop start (order_of levels) → AreBound classes levels xs n → get_or xs n 0 ≡ z
       → has_base classes levels z ≡ false
   free_of start xs n zero is are here = refl
@@ -125,9 +125,9 @@ module _ (classes : List BidiClass) (levels : List ℕ) where
             absurd (both_ways (is_bound classes levels (suc i) i) (sym (ap₂ (is_bound classes levels) here there) ∙ stops) (bound_back i some))
       ]
 
--- ---- lists
+-- ---- lists with intervals reversed
 
--- an interval that passes, with the item after it, before the rest
+-- an interval whose items pass the test is reversed together with the next item, before the rest of the list
 passed : (test : ℕ → Bool) (run xs : List ℕ) (n : ℕ) → n < length xs → ((k : ℕ) → k < n → test (get_or xs k 0) ≡ true) → test (get_or xs n 0) ≡ false
     → reverse_with_next test run xs ≡ reverse (take (suc n) xs) ++ run ++ reverse_with_next test [] (drop (suc n) xs)
 passed test run [] n within passes stops = absurd (omega (arith, within))
@@ -146,7 +146,7 @@ reversed test xs n within passes stops =
     passed test [] xs n within passes stops
     ∙ ap (λ front. front ++ reverse_with_next test [] (drop (suc n) xs)) (append-nil (reverse (take (suc n) xs)))
 
--- items that fail stay
+-- items that fail the test stay where they are
 pub stayed : (test : ℕ → Bool) (xs : List ℕ) (n : ℕ) → n < length xs → ((k : ℕ) → k ≤ n → test (get_or xs k 0) ≡ false)
     → reverse_with_next test [] xs ≡ take (suc n) xs ++ reverse_with_next test [] (drop (suc n) xs)
 stayed test [] n within fails = absurd (omega (arith, within))
@@ -157,7 +157,7 @@ stayed test (x ∷ xs) (suc n) within fails =
     ∙ ap (λ zs. x ∷ zs) (stayed test xs n (omega (arith, within)) (λ k h. fails (suc k) (omega (arith, h))))
 
 module _ (classes : List BidiClass) (levels : List ℕ) (start : ℕ) (xs : List ℕ) (n : ℕ) (is : xs ≡ drop start (order_of levels)) (are : AreBound classes levels xs n) where
-  -- positions that are bound to a base
+  -- a base after n bound marks: these positions are reversed together
   pub group_reversed : is_mark_at classes (get_or xs n 0) ≡ false
       → reverse_with_next (has_base classes levels) [] xs ≡ reverse (take (suc n) xs) ++ reverse_with_next (has_base classes levels) [] (drop (suc n) xs)
   group_reversed plain =
@@ -167,7 +167,7 @@ module _ (classes : List BidiClass) (levels : List ℕ) (start : ℕ) (xs : List
       based classes levels xs n (n - suc k) k are plain d)
       (free_of classes levels start xs n (get_or xs n 0) is are refl)
 
-  -- and to none
+  -- a mark without a base after n bound marks: these positions stay where they are
   pub marks_stay : is_mark_at classes (get_or xs n 0) ≡ true
       → reverse_with_next (has_base classes levels) [] xs ≡ take (suc n) xs ++ reverse_with_next (has_base classes levels) [] (drop (suc n) xs)
   marks_stay mark =
@@ -179,7 +179,7 @@ module _ (classes : List BidiClass) (levels : List ℕ) (start : ℕ) (xs : List
   abbrev done : List ℕ → List ℕ
   done ys = reverse_with_next (has_base classes levels) [] ys
 
-  -- with the list as it is written
+  -- the result, with the group at the front of the list already written
   pub group_written : (ys new : List ℕ) → is_mark_at classes (get_or xs n 0) ≡ false → ys ≡ reverse (take (n + 1) xs) → new ≡ ys ++ drop (n + 1) xs
       → done xs ≡ take (n + 1) new ++ done (drop (n + 1) xs)
   group_written ys new plain written whole =
@@ -194,15 +194,15 @@ module _ (classes : List BidiClass) (levels : List ℕ) (start : ℕ) (xs : List
       marks_stay mark ∙ ap (λ k. take k xs ++ done (drop k xs)) (sym (add-one n))
       ∙ ap (λ zs. take (n + 1) zs ++ done (drop (n + 1) xs)) (sym same)
 
--- ---- the scan
+-- ---- the scan of the order
 
--- what is known at an index: what is before it is done, and the rest is unchanged
+-- the state of the scan at an index: the order before it is final, and the rest is unchanged
 pub record Grouped (test : ℕ → Bool) (old current : List ℕ) (start : ℕ) : Type 0 where
   pub sizes : length current ≡ length old
   pub rest : drop start current ≡ drop start old
   pub done : take start current ++ reverse_with_next test [] (drop start old) ≡ reverse_with_next test [] old
 
--- past some more
+-- the step over n more positions
 pub Grouped-next : (test : ℕ → Bool) (old current ys new : List ℕ) (start n : ℕ) → Grouped test old current start → start ≤ length current
     → new ≡ take start current ++ ys → length ys ≡ length (drop start current) → drop n ys ≡ drop n (drop start current)
     → reverse_with_next test [] (drop start current) ≡ take n ys ++ reverse_with_next test [] (drop n (drop start current))
@@ -224,7 +224,7 @@ Grouped-next test old current ys new start n w within is sizes rest done =
           ∙ w.done;
     }
 
--- the same if a part of the list is written
+-- the step over n more positions, with the rest of the order as a list of its own
 pub Grouped-part : (test : ℕ → Bool) (old current part ys : List ℕ) (start n : ℕ) → Grouped test old current start → start ≤ length current
     → part ≡ drop start current → length ys ≡ length part → drop n ys ≡ drop n part
     → reverse_with_next test [] part ≡ take n ys ++ reverse_with_next test [] (drop n part)

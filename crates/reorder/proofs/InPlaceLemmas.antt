@@ -1,4 +1,4 @@
--- Intervals of an array reversed in place give the order of L2.
+-- Reversing intervals of an array in place gives the order of L2.
 use Rattle.std.proofs.Common.{◌≡◌, ℕ, zero, suc, ◌+◌, ◌-◌, ◌<◌, ◌≤◌, Bool, true, false, if◌then◌else◌, List, [], ◌∷◌, ◌++◌, length}
 use Rattle.std.proofs.Common.{get_or, map, take, drop, replicate, reverse, Some, refl, sym, ap, subst, ◌∙◌, inl, inr, arith, add-one, append_assoc}
 use Rattle.std.specs.Prelude.{nat_le}
@@ -13,16 +13,16 @@ use borrow.Rule.Slice.PartMut.{put_mid, same_len_mid}
 use Rattle.reorder.specs.Order.{highest, is_at_least, lowest_odd, order_by, order_of, places, reverse_runs, reversed_from}
 use Rattle.reorder.specs.InPlace.{flags_at, reverse_flagged}
 
--- ---- an array, and a list of positions
+-- ---- an array, and its list of positions
 
--- the flags are the results of a test
+-- reversing by flags is reversing by a test, if the flags are the results of the test
 runs_flagged : (test : ℕ → Bool) (run xs : List ℕ) → reverse_runs test run xs ≡ reverse_flagged (map test xs) run xs
 runs_flagged test run [] = refl
 runs_flagged test run (x ∷ xs) =
     ap (λ (front : List ℕ). if test x then front else run ++ x ∷ reverse_runs test [] xs) (runs_flagged test (x ∷ run) xs)
     ∙ ap (λ (back : List ℕ). if test x then reverse_flagged (map test xs) (x ∷ run) xs else run ++ x ∷ back) (runs_flagged test [] xs)
 
--- the items of an array are reversed as their positions are
+-- reversing the items of an array is reversing their positions
 map_flagged : (f : ℕ → ℕ) (flags : List Bool) (run xs : List ℕ) → map f (reverse_flagged flags run xs) ≡ reverse_flagged flags (map f run) (map f xs)
 map_flagged f [] run xs = refl
 map_flagged f (flag ∷ flags) run [] = refl
@@ -30,7 +30,7 @@ map_flagged f (true ∷ flags) run (x ∷ xs) = map_flagged f flags (x ∷ run) 
 map_flagged f (false ∷ flags) run (x ∷ xs) =
     map-append f run (x ∷ reverse_flagged flags [] xs) ∙ ap (λ back. map f run ++ f x ∷ back) (map_flagged f flags [] xs)
 
--- ---- reversing intervals within those of a lower level moves nothing into them, and nothing out
+-- ---- reversing intervals inside larger ones keeps the positions that the larger ones cover
 
 trues_first : (n : ℕ) (bits : List Bool) → replicate n true ++ true ∷ bits ≡ true ∷ (replicate n true ++ bits)
 trues_first zero bits = refl
@@ -67,7 +67,7 @@ module _ (levels : List ℕ) where
   map_places : (test : ℕ → Bool) → map (λ k. test (get_or levels k 0)) (places levels) ≡ map test levels
   map_places test = sym (map-map test (λ k. get_or levels k 0) (places levels)) ∙ ap (map test) levels_at_places
 
-  -- so the flags of a level are those of the levels, whatever higher levels have reversed
+  -- the flags of a level stay the same when the intervals of higher levels are reversed
   flags_kept : (level low count : ℕ) → level ≤ low → map (is_at_least levels level) (reversed_from levels low count (places levels)) ≡ flags_at level levels
   flags_kept level low zero below = map_places (nat_le level)
   flags_kept level low (suc count) below =
@@ -81,7 +81,7 @@ get_or_first xs start = sym (get_or-drop start xs 0 0 ∙ ap (λ n. get_or xs n 
 
 -- ---- the scan for one level
 
--- the first n flags are set, and the next one is not: they are an interval, after what is already reversed
+-- an interval of n set flags is reversed at the front, if the flag after it is not set
 interval : (test : ℕ → Bool) (levels run xs : List ℕ) (n : ℕ) → length levels ≡ length xs → n ≤ length levels
     → ((k : ℕ) → k < n → test (get_or levels k 0) ≡ true) → (n < length levels → test (get_or levels n 0) ≡ false)
     → reverse_flagged (map test levels) run xs ≡ reverse (take n xs) ++ run ++ reverse_flagged (map test (drop n levels)) [] (drop n xs)
@@ -100,7 +100,7 @@ interval test (l ∷ levels) run (x ∷ xs) (suc n) sizes within passes stops =
     ∙ ap (λ (front : List ℕ). front ++ rest) (sym (append_assoc (reverse (take n xs)) (x ∷ []) run))
     ∙ ap (λ (front : List ℕ). front ++ run ++ rest) (sym (reverse-append (x ∷ []) (take n xs)))
 
--- what the scan of an array knows at an index: the intervals before it are reversed, and the rest is unchanged
+-- the state of the scan at an index: the intervals before it have been reversed, and the rest is unchanged
 pub record Flagged (test : ℕ → Bool) (levels old current : List ℕ) (start : ℕ) : Type 0 where
   pub sizes : length current ≡ length old
   pub rest : drop start current ≡ drop start old
@@ -109,7 +109,7 @@ pub record Flagged (test : ℕ → Bool) (levels old current : List ℕ) (start 
 pub Flagged-start : (test : ℕ → Bool) (levels old : List ℕ) → Flagged test levels old old 0
 Flagged-start test levels old = record { sizes = refl; rest = refl; done = refl }
 
--- past an interval, which may be empty
+-- the step over an interval, which may be empty
 pub Flagged-next : (test : ℕ → Bool) (levels old current ys : List ℕ) (start n k next : ℕ) → Flagged test levels old current start → length levels ≡ length old
     → start ≤ length levels → n ≡ prefix_len test (drop start levels) → k ≡ n → ys ≡ reverse (take k (drop start current)) → next ≡ start + n
     → Flagged test levels old (put_mid start k current ys) next
@@ -138,7 +138,7 @@ Flagged-next test levels old current ys start n k next w same inside found e is 
           ∙ w.done;
     }
 
--- past one index that is in none
+-- the step over an index whose flag is not set
 pub Flagged-skip : (test : ℕ → Bool) (levels old current : List ℕ) (start next : ℕ) → Flagged test levels old current start → length levels ≡ length old
     → start < length levels → test (get_or levels start 0) ≡ false → next ≡ start + 1 → Flagged test levels old current next
 Flagged-skip test levels old current start next w same inside failed past =
@@ -165,9 +165,9 @@ Flagged-end test levels old current start w same past =
     ∙ ap (λ (ls : List ℕ). take start current ++ reverse_flagged (map test ls) [] (drop start old)) (sym (drop_all start levels (omega arith)))
     ∙ w.done
 
--- ---- the levels from the highest one down
+-- ---- the levels, from the highest down
 
--- what they are done with: those above `level`
+-- the intervals of all levels above `level` have been reversed
 pub record TurnedInPlace (levels old : List ℕ) (top low : ℕ) (current : List ℕ) (level : ℕ) : Type 0 where
   pub from : low ≤ level + 1
   pub to : level ≤ top
@@ -187,7 +187,7 @@ TurnedInPlace-start levels old top low same below =
       done = items_at_places levels old same ∙ ap (λ count. map (λ k. get_or old k 0) (reversed_from levels (top + 1) count (places levels))) (sym e);
     }
 
--- past one more level
+-- the step for one more level
 pub TurnedInPlace-next : (levels old : List ℕ) (top low : ℕ) (current : List ℕ) (level before : ℕ) (after : List ℕ) → TurnedInPlace levels old top low current level
     → before + 1 ≡ level → low ≤ level → length after ≡ length current → after ≡ reverse_flagged (flags_at level levels) [] current
     → TurnedInPlace levels old top low after before

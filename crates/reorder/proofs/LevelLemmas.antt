@@ -1,4 +1,4 @@
--- What a scan of levels finds: the highest one, and the lowest odd one.
+-- The highest level and the lowest odd level, as a scan of the levels finds them.
 use Rattle.std.proofs.Common.{◌≡◌, ℕ, zero, suc, ◌+◌, ◌%◌, ◌<◌, ◌≤◌, ◌==◌, min, max, Bool, true, false, ◌&&◌, ◌||◌, if◌then◌else◌}
 use Rattle.std.proofs.Common.{List, length, get_or, take, Option, Some, None, unwrap_or, IfSome, refl, sym, ap, subst, ◌∙◌, inl, inr, arith}
 use Rattle.std.specs.List.{list_any}
@@ -9,7 +9,7 @@ use Rattle.std.proofs.lemmas.List.Sums.{fold_more}
 use Rattle.ucd.specs.Least.{least}
 use Rattle.reorder.specs.Order.{has_odd, highest, is_odd, lowest_odd}
 
--- the first number of a range that passes
+-- `least` finds k if k passes and no smaller number does
 least_found : (p : ℕ → Bool) (low count k : ℕ) → low ≤ k → k < low + count → p k ≡ true → ((m : ℕ) → m < k → p m ≡ false) → least p low count ≡ Some k
 least_found p low zero k from to here before = absurd (omega arith)
 least_found p low (suc count) k from to here before =
@@ -24,19 +24,19 @@ least_none p low zero fails = refl
 least_none p low (suc count) fails =
     cond-false (p low) (Some low) (least p (suc low) count) (fails low) ∙ least_none p (suc low) count fails
 
--- the lowest odd level of a list whose levels are at most `top`
+-- `low` is the lowest odd level of the list, and at most `top`
 pub record IsLow (levels : List ℕ) (top low : ℕ) : Type 0 where
   pub found : has_odd levels low ≡ true
   pub first : (m : ℕ) → m < low → has_odd levels m ≡ false
   pub above : 0 < low
   pub below : low ≤ top
 
--- the same, if there is one
+-- the lowest odd level, if there is one
 abbrev pub IsLowest : List ℕ → ℕ → Option ℕ → Type 0
 IsLowest levels top None = (m : ℕ) → has_odd levels m ≡ false
 IsLowest levels top (Some low) = IsLow levels top low
 
--- what the scan knows at an index
+-- the state of the scan after k levels
 pub record Extremes (levels : List ℕ) (k top : ℕ) (lowest : Option ℕ) : Type 0 where
   pub top_is : top ≡ highest (take k levels)
   pub lowest_is : IsLowest (take k levels) top lowest
@@ -48,14 +48,14 @@ or_none : (b : Bool) → (b || false) ≡ b
 or_none true = refl
 or_none false = refl
 
--- one more level makes no other one odd
+-- appending a level does not change whether another level is an odd one of the list
 other : (levels : List ℕ) (k m : ℕ) → k < length levels → (get_or levels k 0 ≡ m → ⊥) → has_odd (take (k + 1) levels) m ≡ has_odd (take k levels) m
 other levels k m within ne =
     let before = list_any (λ level. level == m) (take k levels) in
     ap (λ b. is_odd m && b) (list_any_more (λ level. level == m) levels k 0 within
     ∙ ap (λ b. before || b) (ne_eqb (get_or levels k 0) m ne) ∙ or_none before)
 
--- an even level makes none odd
+-- appending an even level does not change the odd levels of the list
 even : (levels : List ℕ) (k m : ℕ) → k < length levels → is_odd (get_or levels k 0) ≡ false → has_odd (take (k + 1) levels) m ≡ has_odd (take k levels) m
 even levels k m within e =
     elim (cases_eq (get_or levels k 0) m) [
@@ -66,14 +66,14 @@ even levels k m within e =
       | inr ne ↦ other levels k m within ne
     ]
 
--- an odd level is one
+-- an odd level is among the odd levels of the prefix that ends with it
 here : (levels : List ℕ) (k : ℕ) → k < length levels → is_odd (get_or levels k 0) ≡ true → has_odd (take (k + 1) levels) (get_or levels k 0) ≡ true
 here levels k within odd =
     let x = get_or levels k 0 in
     and_from (is_odd x) (list_any (λ level. level == x) (take (k + 1) levels)) odd
     (list_any_more (λ level. level == x) levels k 0 within ∙ or_right (list_any (λ level. level == x) (take k levels)) (x == x) (eq-eqb x x refl))
 
--- one that is there already stays
+-- an odd level of a prefix is one of each longer prefix
 kept : (levels : List ℕ) (k m : ℕ) → has_odd (take k levels) m ≡ true → has_odd (take (k + 1) levels) m ≡ true
 kept levels k m there =
     let both = and_parts (is_odd m) (list_any (λ level. level == m) (take k levels)) there in
@@ -82,7 +82,7 @@ kept levels k m there =
 positive : (x : ℕ) → is_odd x ≡ true → 0 < x
 positive x odd = let e : x % 2 ≡ 1 = eqb-true (x % 2) 1 odd in omega arith
 
--- the lowest odd level with one more even level
+-- the lowest odd level after an even level
 past_even : (levels : List ℕ) (k top next : ℕ) (lowest : Option ℕ) → k < length levels → is_odd (get_or levels k 0) ≡ false → top ≤ next
     → IsLowest (take k levels) top lowest → IsLowest (take (k + 1) levels) next lowest
 past_even levels k top next None within e more w = λ m. even levels k m within e ∙ w m
@@ -93,7 +93,7 @@ past_even levels k top next (Some low) within e more w = record {
   below = omega (arith, w.below);
 }
 
--- with one more odd level, which is the lower one
+-- the lowest odd level after an odd level that is lower than the earlier ones
 past_lower : (levels : List ℕ) (k top next : ℕ) → k < length levels → is_odd (get_or levels k 0) ≡ true → get_or levels k 0 ≤ next
     → ((m : ℕ) → m < get_or levels k 0 → has_odd (take k levels) m ≡ false) → IsLow (take (k + 1) levels) next (get_or levels k 0)
 past_lower levels k top next within odd more w = record {
@@ -145,13 +145,13 @@ Extremes-next levels k top next lowest after w within most is =
       ];
     }
 
--- at the end of the scan
+-- the result of the scan
 pub record Found (levels : List ℕ) (top : ℕ) (lowest : Option ℕ) : Type 0 where
   pub top_is : top ≡ highest levels
   pub lowest_is : lowest ≡ lowest_odd levels
   pub ordered : IfSome lowest (λ low. (0 < low) × (low ≤ top))
 
--- the least number that passes is the lowest odd level
+-- the lowest odd level found is that of the definition
 is_least : (levels : List ℕ) (top : ℕ) (lowest : Option ℕ) → top ≡ highest levels → IsLowest levels top lowest → Found levels top lowest
 is_least levels top None e w = record { top_is = e; lowest_is = sym (least_none (has_odd levels) 0 (suc (highest levels)) w); ordered = tt }
 is_least levels top (Some low) e w = record {
@@ -165,7 +165,7 @@ Extremes-end levels k top lowest w past =
     let whole : take k levels ≡ levels = take_all k levels past in
     is_least levels top lowest (w.top_is ∙ ap highest whole) (subst (λ (xs : List ℕ). IsLowest xs top lowest) whole w.lowest_is)
 
--- ---- the same by a number and whether it counts: 255 represents a level that does not
+-- ---- the same scan with a number and a flag; an even level is represented by 255
 
 abbrev pub lowest_by : Bool → ℕ → Option ℕ
 lowest_by any low = if any then Some low else None
@@ -198,7 +198,7 @@ Reduced-next levels k top next any more low after w within fits most adds is =
       small = omega (arith, is, w.small);
     }
 
--- if no level is odd
+-- if the scan finds no odd level, all levels are even
 pub all_even : (levels : List ℕ) (k top : ℕ) (lowest : Option ℕ) → Extremes levels k top lowest → length levels ≤ k → lowest ≡ None
     → (i : ℕ) → i < length levels → is_odd (get_or levels i 0) ≡ false
 all_even levels k top lowest w past none i within =

@@ -1,4 +1,4 @@
--- In L2's order, two adjacent characters of a line at the same odd level are adjacent, the second one first.
+-- L2 puts two adjacent characters at the same odd level next to each other, the second one first.
 use Rattle.std.proofs.Common.{◌≡◌, ℕ, zero, suc, ◌+◌, ◌-◌, ◌%◌, ◌/◌, ◌<◌, ◌≤◌, ◌==◌, max, Bool, true, false, not, List, []}
 use Rattle.std.proofs.Common.{◌∷◌, ◌++◌, length, get_or, Option, Some, None, refl, sym, ap, subst, ◌∙◌, inl, inr, arith, append_assoc, zero-add}
 use Rattle.std.specs.List.{fold, list_any, range_with_len}
@@ -7,7 +7,7 @@ use Rattle.std.proofs.lemmas.List.{get_or_past}
 use Rattle.ucd.specs.Least.{least}
 use Rattle.reorder.specs.Order.{has_odd, highest, is_at_least, is_odd, lowest_odd, order_by, order_of, places, reverse_runs, reversed_from}
 
--- two items are adjacent
+-- x is directly before y in the list
 pub record Adjacent (x y : ℕ) (xs : List ℕ) : Type 0 where
   pub front : List ℕ
   pub back : List ℕ
@@ -20,7 +20,7 @@ after ys xs x y a = record {
   is = ap (λ zs. ys ++ zs) a.is ∙ sym (append_assoc ys a.front (x ∷ y ∷ a.back));
 }
 
--- ---- one level
+-- ---- reversing the intervals of one level
 
 -- adjacent items of the current interval stay adjacent
 inside : (test : ℕ → Bool) (ys run back : List ℕ) (x y : ℕ) → Adjacent y x (reverse_runs test (ys ++ y ∷ x ∷ run) back)
@@ -76,9 +76,9 @@ pass_keeps : (test : ℕ → Bool) (xs : List ℕ) (x y : ℕ) → Adjacent x y 
 pass_keeps test xs x y a px py =
     subst (λ (zs : List ℕ). Adjacent x y (reverse_runs test [] zs)) (sym a.is) (kept test [] a.front a.back x y px py)
 
--- ---- all levels
+-- ---- reversing the intervals of all levels
 
--- next to one another, and whether turned
+-- x and y are adjacent, in this order or reversed
 abbrev Lies : Bool → ℕ → ℕ → List ℕ → Type 0
 Lies true x y xs = Adjacent y x xs
 Lies false x y xs = Adjacent x y xs
@@ -87,7 +87,7 @@ pass_lies : (b : Bool) (test : ℕ → Bool) (xs : List ℕ) (x y : ℕ) → Lie
 pass_lies true test xs x y a px py = pass_turns test xs y x a py px
 pass_lies false test xs x y a px py = pass_turns test xs x y a px py
 
--- whether reversed, after n times
+-- whether n reversals change the order
 abbrev is_turned : ℕ → Bool
 is_turned zero = false
 is_turned (suc n) = not (is_turned n)
@@ -122,7 +122,7 @@ module _ (levels : List ℕ) (i : ℕ) (same : get_or levels (suc i) 0 ≡ get_o
   at_start : Adjacent i (suc i) (places levels)
   at_start = subst (λ (k : ℕ). Adjacent k (suc k) (places levels)) (zero-add i) (range_pair 0 i (length levels) within)
 
-  -- the levels above theirs
+  -- reversing the intervals of levels above that of two characters keeps them adjacent, in the same order
   above : (low count : ℕ) → get_or levels i 0 < low → Adjacent i (suc i) (reversed_from levels low count (places levels))
   above low zero h = at_start
   above low (suc count) h =
@@ -130,7 +130,7 @@ module _ (levels : List ℕ) (i : ℕ) (same : get_or levels (suc i) 0 ≡ get_o
       let there : is_at_least levels low (suc i) ≡ false = lt-leb low (get_or levels (suc i) 0) (omega (arith, h, same)) in
       pass_keeps (is_at_least levels low) (reversed_from levels (suc low) count (places levels)) i (suc i) (above (suc low) count (omega (arith, h))) here there
 
-  -- and those from theirs down
+  -- reversing the intervals of `d + 1` levels, from that of two characters down, keeps them adjacent
   down : (d low count : ℕ) → low + d ≡ get_or levels i 0 → d < count → Lies (is_turned (suc d)) i (suc i) (reversed_from levels low count (places levels))
   down d low zero e h = absurd (omega (arith, h))
   down zero low (suc count) e h =
@@ -145,7 +145,7 @@ module _ (levels : List ℕ) (i : ℕ) (same : get_or levels (suc i) 0 ≡ get_o
 
 -- ---- the lowest odd level
 
--- what the least number that passes says, or that there is none
+-- the properties of a result of `least`
 abbrev Says : (ℕ → Bool) → ℕ → ℕ → Option ℕ → Type 0
 Says p low count None = (m : ℕ) → low ≤ m → m < low + count → p m ≡ false
 Says p low count (Some k) = (p k ≡ true) × ((m : ℕ) → low ≤ m → m < k → p m ≡ false)
@@ -214,7 +214,7 @@ by_lowest levels i (Some low) odd same within says =
           (down levels i same within d low (suc (highest levels) - low) (omega (arith, over)) (omega (arith, over, top)))
     ]
 
--- so two neighbours at one odd level are neighbours in the visual order
+-- two adjacent characters at the same odd level are adjacent in visual order, the second one first
 pub neighbours : (levels : List ℕ) (i : ℕ) → is_odd (get_or levels i 0) ≡ true → get_or levels (suc i) 0 ≡ get_or levels i 0 → Adjacent (suc i) i (order_of levels)
 unfolding order_of
 neighbours levels i odd same =

@@ -1,4 +1,4 @@
--- A line without odd levels is in visual order.
+-- A line without odd levels is in logical order.
 use Rattle.std.proofs.Common.{◌≡◌, ℕ, zero, suc, ◌<◌, ◌==◌, Bool, true, false, ◌&&◌, ◌||◌, not, List, [], ◌∷◌, length, map, take, drop, ◌++◌, get_or, None, refl, sym, ap, ◌∙◌, inl, inr, arith}
 use Rattle.std.specs.List.{list_any, range_with_len}
 use Rattle.std.proofs.lemmas.Bool.{and_left, and_right, both_ways, cases_Bool, cond-false, ne_eqb}
@@ -20,7 +20,7 @@ use Rattle.reorder.proofs.OrderLemmas.{without_odd}
 abbrev pub AreZero : List ℕ → Type 0
 AreZero levels = (k : ℕ) → get_or levels k 0 ≡ 0
 
--- a part of such a line is one
+-- if all levels are 0, so are those of a prefix
 pub zero_take : (levels : List ℕ) (n : ℕ) → AreZero levels → AreZero (take n levels)
 zero_take levels zero zeros k = get_or_past (take zero levels) k 0 (omega arith)
 zero_take [] (suc n) zeros k = refl
@@ -33,7 +33,7 @@ AreEven levels = (k : ℕ) → is_odd (get_or levels k 0) ≡ false
 pub zeros_even : (levels : List ℕ) → AreZero levels → AreEven levels
 zeros_even levels zeros k = ap is_odd (zeros k)
 
--- no character has an odd level then
+-- if all levels are even, no odd level occurs
 lacks : (levels : List ℕ) (m : ℕ) → AreEven levels → is_odd m ≡ true → list_any (λ other. other == m) levels ≡ false
 lacks [] m evens odd = refl
 lacks (level ∷ levels) m evens odd =
@@ -52,7 +52,7 @@ plain_order levels evens =
     let none : lowest_odd levels ≡ None = least_none (has_odd levels) 0 (suc (highest levels)) (λ m. none_odd levels m evens) in
     without_odd levels (places levels) refl (sym none)
 
--- no mark has a base
+-- if all levels are even, no mark has a base
 without_base : (classes : List BidiClass) (levels : List ℕ) (i : ℕ) → AreEven levels → has_base classes levels i ≡ false
 without_base classes levels zero evens = refl
 without_base classes levels (suc i) evens =
@@ -103,11 +103,11 @@ plain_within n k below =
     let lt : k < n = omega (arith, below, length-range_with_len 0 n) in
     omega (arith, lt, get_or-range_with_len 0 n k 0 lt)
 
--- the classes in what the tables say of characters are theirs
+-- the classes in the properties of characters are those of the tables
 pub classes_are : (t : Tables) (line : List ℕ) → map class_in (map (properties_of t) line) ≡ map (class_of t) line
 classes_are t [] = refl
 classes_are t (c ∷ line) = ap (λ cs. class_of t c ∷ cs) (classes_are t line)
 
--- a part that was written before what was there
+-- a list written over the front of another is the front of the result
 pub front_written : {X : Type 0} (new old : List X) (n : ℕ) → length new ≡ n → take n (new ++ drop n old) ≡ new
 front_written new old n size = ap (λ k. take k (new ++ drop n old)) (sym size) ∙ take-append_seam new (drop n old)

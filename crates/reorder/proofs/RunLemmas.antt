@@ -1,4 +1,4 @@
--- L2 on level runs, each named by its start, is L2 on characters.
+-- Applying L2 to level runs, each represented by its start, gives the same order as applying it to characters.
 use Rattle.std.proofs.Common.{◌≡◌, ℕ, zero, suc, ◌+◌, ◌-◌, ◌%◌, ◌<◌, ◌≤◌, ◌==◌, max, Bool, true, false, List, [], ◌∷◌, ◌++◌, length}
 use Rattle.std.proofs.Common.{◌≡◌, ℕ, zero, suc, ◌+◌, ◌-◌, ◌%◌, ◌<◌, ◌≤◌, ◌==◌, nat_le, max, min, Bool, true, false, List, [], ◌∷◌, ◌++◌, length}
 use Rattle.std.proofs.Common.{get_or, set, map, take, drop, reverse, Option, Some, None, unwrap_or, if◌then◌else◌}
@@ -24,7 +24,7 @@ use Rattle.reorder.specs.Order.{has_odd, highest, is_at_least, is_odd, lowest_od
 use Rattle.reorder.proofs.LevelLemmas.{Extremes, Extremes-next}
 use Rattle.reorder.proofs.OrderLemmas.{reversed_permute}
 
--- ---- a test with the same result at several positions
+-- ---- lists whose items all give a test the same result
 
 abbrev Each : (ℕ → Bool) → Bool → List ℕ → Type 0
 Each test b [] = Unit {0}
@@ -40,7 +40,7 @@ Each-reverse test b (x ∷ xs) each =
     subst (λ (ys : List ℕ). Each test b ys) (sym (reverse-append (x ∷ []) xs))
     (Each-append test b (reverse xs) (x ∷ []) (Each-reverse test b xs each.1) (each.0, tt))
 
--- ---- an interval that is a block, and one that a block ends
+-- ---- blocks of items that all pass a test, or all fail it
 
 all_pass : (test : ℕ → Bool) (run xs ys : List ℕ) → Each test true xs → reverse_runs test run (xs ++ ys) ≡ reverse_runs test (reverse xs ++ run) ys
 all_pass test run [] ys each = refl
@@ -61,7 +61,7 @@ block_ends test run (x ∷ xs) ys each some =
     cond-false (test x) (reverse_runs test (x ∷ run) (xs ++ ys)) (run ++ x ∷ reverse_runs test [] (xs ++ ys)) each.0
     ∙ ap (λ zs. run ++ x ∷ zs) (none_pass test xs ys each.1)
 
--- blocks of which each passes as a whole, or fails: those that pass are reversed
+-- blocks whose items all pass the test or all fail it; those that pass are reversed
 record Blocks (test : ℕ → Bool) (old new : ℕ → List ℕ) : Type 0 where
   some : (s : ℕ) → 0 < length (old s)
   each : (s : ℕ) → Each test (test s) (old s)
@@ -128,7 +128,7 @@ module _ (levels : List ℕ) where
             (λ i e. ap (nat_le k) e),
       )
 
-  -- a run as the levels from the highest down to k leave it
+  -- the positions of a run after the intervals of all levels from the highest down to k have been reversed
   shown_from : ℕ → ℕ → List ℕ
   shown_from k s = if is_odd (suc (get_or levels s 0) - k) then reverse (run_at levels s) else run_at levels s
 
@@ -183,7 +183,7 @@ module _ (levels : List ℕ) where
         below k s low ∙ sym (below (suc k) s (omega arith));
   }
 
-  -- from a level above all down to a level
+  -- reversing runs, and then the positions in each, is reversing the positions of all runs
   all_turned : (k count : ℕ) (items : List ℕ) → ((s : ℕ) → get_or levels s 0 < k + count)
       → flat_map (shown_from k) (reversed_from levels k count items) ≡ reversed_from levels k count (flat_map (run_at levels) items)
   all_turned k zero items most = flat_map-ext (shown_from k) (run_at levels) items (λ s. below k s (omega (arith, most s)))
@@ -194,7 +194,7 @@ module _ (levels : List ℕ) where
 
   -- ---- down to the lowest odd level
 
-  -- off level is above the highest
+  -- no level is above the highest one
   most_of : (acc s : ℕ) (others : List ℕ) → (acc ≤ fold max acc others) × (get_or others s 0 ≤ fold max acc others)
   most_of acc s [] = (omega arith, omega arith)
   most_of acc zero (level ∷ others) =
@@ -208,7 +208,7 @@ module _ (levels : List ℕ) where
   level_within : (s : ℕ) → get_or levels s 0 < suc (highest levels)
   level_within s = omega (arith, (most_of 0 s levels).1)
 
--- the least number that passes
+-- the result of `least` passes, is in the range, and no smaller number of the range passes
 least_is : (p : ℕ → Bool) (low count k : ℕ) → least p low count ≡ Some k → (p k ≡ true) × (k < low + count) × ((m : ℕ) → low ≤ m → m < k → p m ≡ false)
 least_is p low zero k is = absurd (cc)
 least_is p low (suc count) k is =
@@ -227,7 +227,7 @@ least_is p low (suc count) k is =
           )
     ]
 
--- if a number passes, one is found
+-- if a number of the range passes, `least` finds one
 least_some : (p : ℕ → Bool) (low count k : ℕ) → low ≤ k → k < low + count → p k ≡ true → least p low count ≡ None → ⊥
 least_some p low zero k from to here none = absurd (omega arith)
 least_some p low (suc count) k from to here none =
@@ -272,7 +272,7 @@ module _ (levels : List ℕ) where
         | inr even ↦ even
       ]
 
-  -- the lowest odd level turns those runs that are odd
+  -- from the highest level down to the lowest odd one, a run is reversed an odd number of times only if its level is odd
   odd_turned : (low s : ℕ) → lowest_odd levels ≡ Some low → is_odd (suc (get_or levels s 0) - low) ≡ is_odd (get_or levels s 0)
   odd_turned low s is =
       let level : ℕ = get_or levels s 0 in
@@ -309,7 +309,7 @@ module _ (levels : List ℕ) where
   by_places None = refl
   by_places (Some low) = refl
 
-  -- characters are ordered as runs are
+  -- the order of the runs, with the positions of each, is the visual order of the characters
   pub places_in_order : turned levels (places levels) ≡ order_of levels
   unfolding turned order_of
   places_in_order = by_places (lowest_odd levels)
@@ -341,7 +341,7 @@ within_more n s (x ∷ xs) within below zero short = within zero (omega arith)
 within_more n s (x ∷ xs) within below (suc k) short =
     within_more n s xs (λ j inside. within (suc j) (omega arith)) below k (omega arith)
 
--- the runs of the characters before an index are found, and start there
+-- the list begins with the starts of the runs before an index
 pub record RunsFound (levels items : List ℕ) (count start : ℕ) : Type 0 where
   pub few : count ≤ start
   pub within : start ≤ length levels
@@ -383,7 +383,7 @@ RunsFound-end levels items count start w past =
     let e : start ≡ length levels = omega (arith, w.within) in
     w.runs ∙ ap (range_with_len 0) e
 
--- ---- the loop that writes their positions, from the last one on
+-- ---- the loop that writes the positions of the runs, from the last run to the first
 
 length-run_shown : (levels : List ℕ) (s : ℕ) → length (run_shown levels s) ≡ level_run_len levels s
 length-run_shown levels s =
@@ -394,19 +394,19 @@ length-run_shown levels s =
           ∙ length-range_with_len s (level_run_len levels s)
     ]
 
--- a list of its length, counted from where it starts
+-- the positions of a run in visual order, from its start and its length
 pub is_run_shown : (levels xs : List ℕ) (s n len : ℕ) → n ≡ len → len ≡ level_run_len levels s
     → xs ≡ (if is_odd (get_or levels s 0) then reverse (range_with_len s n) else range_with_len s n) → xs ≡ run_shown levels s
 is_run_shown levels xs s n len e len_is is =
     is ∙ ap (λ (m : ℕ). if is_odd (get_or levels s 0) then reverse (range_with_len s m) else range_with_len s m) (e ∙ len_is)
 
--- at least as many positions as runs
+-- a line has at least as many characters as runs
 runs_few : (levels starts : List ℕ) → length starts ≤ length (flat_map (run_shown levels) starts)
 runs_few levels [] = omega arith
 runs_few levels (s ∷ starts) =
     omega (arith, length-append (run_shown levels s) (flat_map (run_shown levels) starts), length-run_shown levels s, runs_few levels starts)
 
--- the positions of the runs from the `left`-th on are at the end of the list, and what precedes them is unchanged
+-- the positions of all runs but the first `left` are at the end of the list, and the starts before them are unchanged
 pub record RunsLaid (levels starts old current : List ℕ) (left end : ℕ) : Type 0 where
   pub sizes : length current ≡ length old
   pub below : left ≤ length starts
@@ -429,7 +429,7 @@ RunsLaid-start levels old count few whole =
       within = omega arith;
     }
 
--- one run less is left
+-- the step for one more run
 module _ (levels starts old current : List ℕ) (left end before len s : ℕ) (w : RunsLaid levels starts old current left «end»)
     (one : before + 1 ≡ left) (s_is : s ≡ get_or current before 0) (len_is : len ≡ level_run_len levels s) where
   left_starts : take left starts ≡ take before starts ++ s ∷ []
@@ -494,7 +494,7 @@ RunsLaid-end levels starts old current left «end» w none =
     let first : «end» ≡ 0 = w.place ∙ ap (λ (n : ℕ). length (flat_map (run_shown levels) (take n starts))) none in
     ap (λ (n : ℕ). drop n current) (sym first) ∙ w.back ∙ ap (λ (n : ℕ). flat_map (run_shown levels) (drop n starts)) none
 
--- ---- how long a run is
+-- ---- the length of a run
 
 module _ (levels : List ℕ) (level s : ℕ) where
   same_more : s < length levels → level ≡ get_or levels s 0
@@ -517,7 +517,7 @@ module _ (levels : List ℕ) (level s : ℕ) where
             ap (same_len levels level s) none
       ]
 
--- what a scan of a run knows at an index
+-- the state of the scan of a run: the characters from `start` up to `end` have the same level
 pub record AlongRun (levels : List ℕ) (start level «end» : ℕ) : Type 0 where
   pub above : start < «end»
   pub within : «end» ≤ length levels
@@ -550,7 +550,7 @@ AlongRun-end levels start level «end» w other =
 
 -- ---- the characters of a run
 
--- two functions of a position that agree at a run's level
+-- two functions that agree at positions of a run's level agree on the run
 module _ (levels : List ℕ) (f g : ℕ → ℕ) where
   map_same : (level s count : ℕ) → ((i : ℕ) → get_or levels i 0 ≡ level → f i ≡ g i)
       → map f (range_with_len s (same_len levels level s count)) ≡ map g (range_with_len s (same_len levels level s count))
@@ -568,7 +568,7 @@ module _ (levels : List ℕ) (f g : ℕ → ℕ) where
   map_run : (s : ℕ) → ((i : ℕ) → get_or levels i 0 ≡ get_or levels s 0 → f i ≡ g i) → map f (run_at levels s) ≡ map g (run_at levels s)
   map_run s same = ap₂ (λ (x : ℕ) (xs : List ℕ). x ∷ xs) (same s refl) (map_same (get_or levels s 0) (s + 1) (length levels - (s + 1)) same)
 
--- the characters at consecutive positions
+-- mapping consecutive positions is mapping a part of the list
 map_places : (f : ℕ → ℕ) (xs : List ℕ) (s n : ℕ) → s + n ≤ length xs → map (λ i. f (get_or xs i 0)) (range_with_len s n) ≡ map f (take n (drop s xs))
 map_places f xs s zero within = refl
 map_places f xs s (suc n) within =
@@ -613,7 +613,7 @@ module _ (t : Tables) (levels line : List ℕ) where
       ∙ ap (λ (n : ℕ). reverse (map turned_char (range_with_len s n))) (sym len_is)
       ∙ ap reverse (map_places (mirrored t 1) line s len within))
 
--- both
+-- the characters of a run, as they are shown
 pub run_chars : (t : Tables) (levels line : List ℕ) (s len m : ℕ) (part : List ℕ) → m ≡ len → len ≡ level_run_len levels s → s + len ≤ length line
     → part ≡ (if is_odd (get_or levels s 0) then reverse (map (mirrored t 1) (take m (drop s line))) else take m (drop s line))
     → part ≡ map (char_at t levels line) (run_shown levels s)
@@ -635,7 +635,7 @@ front_shorter levels runs k =
       length-append (flat_map (run_shown levels) (take k runs)) (flat_map (run_shown levels) (drop k runs)),
     )
 
--- the characters of the first k runs are written
+-- the characters of the first k runs have been written
 pub record RunsWritten (t : Tables) (levels line runs chars : List ℕ) (k at : ℕ) : Type 0 where
   pub sizes : length chars ≡ length (flat_map (run_shown levels) runs)
   pub below : k ≤ length runs
@@ -690,9 +690,9 @@ RunsWritten-end t levels line runs chars k at w past =
     let at_is : at ≡ length chars = w.place ∙ ap (λ (xs : List ℕ). length (flat_map (run_shown levels) xs)) whole ∙ sym w.sizes in
     sym (take_all at chars (omega arith)) ∙ w.done ∙ ap (λ (xs : List ℕ). visual_chars t levels line (flat_map (run_shown levels) xs)) whole
 
--- ---- the highest level and the lowest odd one, run by run
+-- ---- the highest level and the lowest odd level, found run by run
 
--- the level of a run's positions
+-- all positions of a run have its level
 same_at : (levels : List ℕ) (level s count j : ℕ) → j < same_len levels level s count → get_or levels (s + j) 0 ≡ level
 same_at levels level s zero j inside = absurd (omega arith)
 same_at levels level s (suc count) j inside =
@@ -730,7 +730,7 @@ lowered_again lowest level =
           ap (λ (o : Option ℕ). lowered o level) (sym once)
     ]
 
--- some characters of one level
+-- the state of the scan of levels after several characters at one level
 Extremes-same : (levels : List ℕ) (start level top : ℕ) (lowest : Option ℕ) (n : ℕ) → Extremes levels start top lowest → start + suc n ≤ length levels
     → ((j : ℕ) → j < suc n → get_or levels (start + j) 0 ≡ level) → Extremes levels (start + suc n) (max top level) (lowered lowest level)
 Extremes-same levels start level top lowest zero w within same =

@@ -1,4 +1,4 @@
--- A scan of a line from its end, which sets the levels that L1 resets.
+-- L1 in one scan of a line from its end.
 use Rattle.std.proofs.Common.{suc, refl, ap₂, ◌≡◌, ℕ, ◌+◌, ◌<◌, ◌≤◌, Bool, true, false, zero, ◌-◌, ◌&&◌, ◌||◌, if◌then◌else◌, List, [], ◌∷◌}
 use Rattle.std.proofs.Common.{◌++◌, length, get_or, set, take, drop, sym, ap, subst, ◌∙◌, inl, inr, arith, append_assoc}
 use Rattle.std.proofs.lemmas.Bool.{cases_Bool, cond-true, cond-false}
@@ -10,7 +10,7 @@ use Rattle.ucd.specs.Classes.{class_at}
 use Rattle.reorder.specs.NoEnds.{AreNoEnds}
 use Rattle.reorder.specs.Spaces.{ends_segment, is_blank, is_reset, line_levels}
 
--- what the scan knows at an index: the levels from there on are set, and whether a blank before it is reset
+-- the state of the scan at an index: the levels from there on are final; `resets` says whether a blank before it is reset
 pub record Walked (base : ℕ) (classes : List BidiClass) (old current : List ℕ) (resets : Bool) (at : ℕ) : Type 0 where
   pub within : at ≤ length classes
   pub blank : resets ≡ is_reset (drop at classes)
@@ -32,7 +32,7 @@ pub Walked-end : (base : ℕ) (classes : List BidiClass) (old current : List ℕ
     → at ≡ 0 → current ≡ line_levels base classes old
 Walked-end base classes old current resets at w first = w.done ∙ ap (λ n. take n old ++ line_levels base (drop n classes) (drop n old)) first
 
--- at an index, if the next one is known
+-- the step for one character
 next : (base : ℕ) (classes : List BidiClass) (old current : List ℕ) (resets after : Bool) (k : ℕ) (written : List ℕ)
     → Walked base classes old current resets (k + 1) → length classes ≡ length old
     → after ≡ (ends_segment (get_or classes k L) || (is_blank (get_or classes k L) && resets))
@@ -86,7 +86,7 @@ passed_over base classes old current n (suc d) w sizes passed =
     (no_reset (ends_segment class) (is_blank class) (passed (n + d) (omega arith) (omega arith))) refl)
     sizes (λ k from to. passed k from (omega arith))
 
--- if no character is reset up to a separator
+-- the step over a range without separators in which no character is reset
 pub Walked-skip : (classes : List BidiClass) (base : ℕ) (old current : List ℕ) (resets : Bool) (at n : ℕ) → Walked base classes old current resets at → length classes ≡ length old
     → n ≤ at → (resets ≡ true → n ≡ at) → AreNoEnds classes n at → Walked base classes old current resets n
 Walked-skip classes base old current true at n w sizes within stays passed = subst (λ (k : ℕ). Walked base classes old current true k) (sym (stays refl)) w
@@ -109,7 +109,7 @@ Walked-next classes base old current resets after at k class written w e sizes r
     next base classes old current resets after k written (subst (λ (n : ℕ). Walked base classes old current resets n) (sym e) w)
     sizes (found ∙ ap (λ b. ends_segment b || (is_blank b && resets)) here) is
 
--- L1 changes nothing where all levels are 0 and the paragraph level is
+-- L1 changes nothing if all levels and the paragraph level are 0
 pub line_of_zeros : (classes : List BidiClass) (levels : List ℕ) → length classes ≡ length levels → ((k : ℕ) → get_or levels k 0 ≡ 0) → line_levels 0 classes levels ≡ levels
 line_of_zeros [] [] sizes none = refl
 line_of_zeros [] (level ∷ levels) sizes none = absurd (omega (arith, sizes))

@@ -13,7 +13,7 @@ use Rattle.reorder.proofs.GroupLemmas.{mark_stands, reversed}
 use Rattle.reorder.proofs.InverseLemmas.{permuted_places, ArePlaces}
 use Rattle.reorder.proofs.OrderLemmas.{length-order, order_of_permutes, with_next_permutes}
 
--- ---- a list can be done in two parts if the first one ends with an item that fails
+-- ---- a list can be reversed in two parts if the first one ends with an item that fails the test
 
 abbrev EndsFailing : (ℕ → Bool) → List ℕ → Type 0
 EndsFailing test [] = ⊤
@@ -65,7 +65,7 @@ module _ (classes : List BidiClass) (levels : List ℕ) (base n : ℕ) (is : IsG
   level_at : (k : ℕ) → k ≤ n → is_odd (get_or levels (base + k) 0) ≡ true
   level_at k h = ap is_odd (is.same k h) ∙ is.odd
 
-  -- the marks have a base
+  -- each character of a group but the last precedes a mark of the group
   precedes : (k : ℕ) → k < n → precedes_mark classes levels (base + k) ≡ true
   precedes k h =
       let next : suc (base + k) ≡ base + (k + 1) = omega arith in
@@ -90,7 +90,7 @@ module _ (classes : List BidiClass) (levels : List ℕ) (base n : ℕ) (is : IsG
       and_from (precedes_mark classes levels (base + suc k)) (plain || has_base classes levels (base + suc k)) (precedes (suc k) h)
       (or_right plain (has_base classes levels (base + suc k)) before)
 
-  -- the base has none
+  -- the base of a group has no base itself
   base_free : (b : ℕ) → b ≡ base → has_base classes levels b ≡ false
   base_free zero e = refl
   base_free (suc i) e =
@@ -107,11 +107,11 @@ module _ (classes : List BidiClass) (levels : List ℕ) (base n : ℕ) (is : IsG
         absurd (both_ways (is_odd (get_or levels (base + n) 0)) (ap is_odd none) (level_at n (omega arith)))
   ]
 
-  -- where the last mark is
+  -- the visual position of the last mark of the group, without L3
   start : ℕ
   start = (are.covers (base + n) in_line).0
 
-  -- from there on the others follow, the last one first
+  -- from there on, the marks follow in reverse order, and then the base
   follows : (k : ℕ) → k ≤ n → (start + k < length levels) × (get_or (order_of levels) (start + k) 0 ≡ base + (n - k))
   unfolding start
   follows zero h =
@@ -127,7 +127,7 @@ module _ (classes : List BidiClass) (levels : List ℕ) (base n : ℕ) (is : IsG
       let place : start + suc k ≡ suc (start + k) = omega arith in
       (omega (arith, beside.0), ap (λ m. get_or (order_of levels) m 0) place ∙ beside.1)
 
-  -- left of it there is no mark with a base
+  -- the character to the left of the last mark is not a mark with a base
   front_free : (at z : ℕ) → suc at ≡ start → get_or (order_of levels) at 0 ≡ z → has_base classes levels z ≡ false
   front_free at zero e here = refl
   front_free at (suc i) e here =
@@ -168,7 +168,7 @@ module _ (classes : List BidiClass) (levels : List ℕ) (base n : ℕ) (is : IsG
   back_len : n < length (drop start (order_of levels))
   back_len = omega (arith, length-drop start (order_of levels), are.sizes, (follows n (omega arith)).0)
 
-  -- the whole list, in three parts
+  -- the visual order is split in three: the characters before the group, the group, and those after it
   three : reverse_with_next (has_base classes levels) [] (order_of levels)
       ≡ reverse_with_next (has_base classes levels) [] (take start (order_of levels))
       ++ (reverse (take (suc n) (drop start (order_of levels))) ++ reverse_with_next (has_base classes levels) [] (drop (suc n) (drop start (order_of levels))))
@@ -212,14 +212,14 @@ together classes levels base n is = record {
   read = read_at classes levels base n is;
 }
 
--- ---- what is in no group
+-- ---- characters in no group
 
 first_stays : (test : ℕ → Bool) (xs : List ℕ) → test (get_or xs 0 0) ≡ false → get_or (reverse_with_next test [] xs) 0 0 ≡ get_or xs 0 0
 first_stays test [] fails = refl
 first_stays test (x ∷ xs) fails =
     ap (λ (zs : List ℕ). get_or zs 0 0) (cond-false (test x) (reverse_with_next test (x ∷ []) xs) (x ∷ reverse_with_next test [] xs) fails)
 
--- left of such a character there is no mark with a base
+-- the character to the left of one that is in no group is not a mark with a base
 before_alone : (classes : List BidiClass) (levels : List ℕ) (k z : ℕ) → suc k < length levels → IsAlone classes levels (get_or (order_of levels) (suc k) 0)
     → get_or (order_of levels) k 0 ≡ z → has_base classes levels z ≡ false
 before_alone classes levels k zero within alone here = refl

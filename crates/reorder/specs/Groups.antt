@@ -1,10 +1,10 @@
--- A base with its marks, their positions in visual order, and what the scan of a line finds of them.
+-- A base and its marks: their positions in visual order, and how a scan finds them.
 use Rattle.std.specs.Prelude.{◌≡◌, ◌≢◌, ℕ, suc, ◌+◌, ◌-◌, ◌<◌, ◌≤◌, ◌==◌, Bool, true, false, ◌&&◌, List, length, slice_index}
 use Rattle.ucd.specs.declared.bidi_class.BidiClass.{BidiClass}
 use Rattle.reorder.specs.Order.{has_base, is_mark_at, is_odd, vtol_of}
 
 module _ (classes : List BidiClass) (levels : List ℕ) where
-  -- a character at an odd level that is no mark, and all n marks after it at this level
+  -- a base, which is no mark and at an odd level, with the n marks after it at the same level
   pub record IsGroup (base n : ℕ) : Type 0 where
     pub plain : is_mark_at classes base ≡ false
     pub odd : is_odd (slice_index levels base) ≡ true
@@ -12,7 +12,7 @@ module _ (classes : List BidiClass) (levels : List ℕ) where
     pub same : (k : ℕ) → k ≤ n → slice_index levels (base + k) ≡ slice_index levels base
     pub whole : is_mark_at classes (base + n + 1) ≡ true → slice_index levels (base + n + 1) ≢ slice_index levels base
 
-  -- they are adjacent: by L2 from the last mark to the base, with the option from the base to the last mark
+  -- the base and its marks are adjacent: in reverse logical order by L2, and in logical order with L3
   pub record StandsTogether (base n : ℕ) : Type 0 where
     pub at : ℕ
     pub within : at + n < length levels
@@ -24,7 +24,7 @@ module _ (classes : List BidiClass) (levels : List ℕ) where
     pub no_base : has_base classes levels place ≡ false
     pub no_marks : has_base classes levels (suc place) ≡ false
 
-  -- a mark, and the character before it, both at the same odd level
+  -- the position `place` has a mark, `next` has the character before it, and both are at the same odd level
   abbrev pub is_bound : ℕ → ℕ → Bool
   is_bound place next =
       (next + 1 == place) && (is_mark_at classes place && (is_odd (slice_index levels next) && (slice_index levels place == slice_index levels next)))

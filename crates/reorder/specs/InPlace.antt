@@ -1,9 +1,9 @@
--- Items that L2 moves within their array. Only the code uses these definitions.
+-- Items that L2 moves within an array. Only the code uses these definitions.
 use Rattle.std.specs.Prelude.{◌≡◌, ℕ, ◌-◌, Bool, List, [], ◌∷◌, ◌++◌, ◌⊎◌, map, nat_le, if◌then◌else◌}
 use Rattle.ucd.specs.declared.bidi_class.BidiClass.{BidiClass}
 use Rattle.reorder.specs.Groups.{IsAlone, IsGroup}
 
--- an array with each maximal interval of items whose flag is set reversed; `run` is the current interval, reversed
+-- an array with each maximal interval of flagged items reversed; `run` is the current interval, already reversed
 abbrev pub reverse_flagged : List Bool → List ℕ → List ℕ → List ℕ
 reverse_flagged [] run items = run
 reverse_flagged (flag ∷ flags) run [] = run

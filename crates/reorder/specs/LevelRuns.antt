@@ -1,4 +1,4 @@
--- The level runs of a line, each named by its start. Only the code uses these definitions.
+-- The level runs of a line, each represented by its start. Only the code uses these definitions.
 use Rattle.std.specs.Prelude.{ℕ, zero, suc, ◌+◌, ◌-◌, ◌==◌, List, length, reverse, slice_index, Option, Some, None, if◌then◌else◌}
 use Rattle.std.specs.List.{range_with_len}
 use Rattle.reorder.specs.Order.{highest, is_odd, lowest_odd, reversed_from}
@@ -13,14 +13,14 @@ module _ (levels : List ℕ) where
   abbrev pub level_run_len : ℕ → ℕ
   level_run_len s = suc (same_len (slice_index levels s) (s + 1) (length levels - (s + 1)))
 
-  -- its logical positions, in logical order and in visual order
+  -- the logical positions of the run that starts at s, in logical order and in visual order
   abbrev pub run_at : ℕ → List ℕ
   run_at s = range_with_len s (level_run_len s)
 
   abbrev pub run_shown : ℕ → List ℕ
   run_shown s = if is_odd (slice_index levels s) then reverse (run_at s) else run_at s
 
-  -- a list with its intervals reversed for each level, as in L2
+  -- the list with its intervals reversed for each level, as in L2
   abbrev pub turned_by : List ℕ → Option ℕ → List ℕ
   turned_by items None = items
   turned_by items (Some low) = reversed_from levels low (suc (highest levels) - low) items

@@ -1,4 +1,4 @@
--- The visual order of a line's characters (UAX #9, L2 and, as an option, L3), by their levels after L1.
+-- The visual order of a line's characters (UAX #9, L2 and, as an option, L3), from their levels after L1.
 use Rattle.std.specs.Prelude.{◌≡◌, ℕ, zero, suc, ◌-◌, ◌%◌, ◌<◌, nat_le, ◌==◌, max, Bool, false, ◌&&◌, ◌||◌, not, List, [], ◌∷◌, ◌++◌, length, map, fold, slice_index, Option, Some, None, if◌then◌else◌}
 use Rattle.std.specs.List.{list_any, position_or_len, range_with_len}
 use Rattle.ucd.specs.declared.bidi_class.BidiClass.{BidiClass}
@@ -22,7 +22,7 @@ module _ (levels : List ℕ) where
   abbrev pub highest : ℕ
   highest = fold max 0 levels
 
-  -- the lowest odd level of a character
+  -- whether an odd level is that of a character, and the lowest such level
   abbrev pub has_odd : ℕ → Bool
   has_odd level = is_odd level && list_any (λ other. other == level) levels
 
@@ -39,7 +39,7 @@ module _ (levels : List ℕ) where
   abbrev pub places : List ℕ
   places = range_with_len 0 (length levels)
 
-  -- reversed for each level from the highest down to the lowest odd one, if there is one
+  -- the list with its intervals reversed for each level from the highest down to the lowest odd one, if there is one
   abbrev pub order_by : Option ℕ → List ℕ
   order_by None = places
   order_by (Some low) = reversed_from low (suc highest - low) places
@@ -54,11 +54,11 @@ abbrev pub reverse_with_next : (ℕ → Bool) → List ℕ → List ℕ → List
 reverse_with_next test run [] = run
 reverse_with_next test run (i ∷ items) = if test i then reverse_with_next test (i ∷ run) items else i ∷ (run ++ reverse_with_next test [] items)
 
--- by the classes of the tables
+-- whether a character is a mark, by its class in the tables
 abbrev pub is_mark_at : List BidiClass → ℕ → Bool
 is_mark_at classes i = is_mark (class_at classes i)
 
--- and by the levels of the shown part
+-- the classes of a line, and the levels of its shown part
 module _ (classes : List BidiClass) (levels : List ℕ) where
   -- the next character is a mark, and both are at the same odd level
   abbrev pub precedes_mark : ℕ → Bool
@@ -69,8 +69,8 @@ module _ (classes : List BidiClass) (levels : List ℕ) where
   has_base zero = false
   has_base (suc i) = precedes_mark i && (not (is_mark_at classes i) || has_base i)
 
--- The logical position of each visual position. In L2's order, marks with a base are to its left, the last one first.
--- With the option this is reversed.
+-- The logical position of each visual position. By L2, marks with a base are to the left of the base, the last one
+-- first. With `reordernsm`, they are to its right, in logical order (L3).
 unfoldable pub vtol_of : Bool → List BidiClass → List ℕ → List ℕ
 vtol_of reordernsm classes levels = if reordernsm then reverse_with_next (has_base classes levels) [] (order_of levels) else order_of levels
 

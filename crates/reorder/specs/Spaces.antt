@@ -1,4 +1,4 @@
--- The levels of a line after L1 (UAX #9, section 3.4), by the classes of the tables.
+-- The levels of a line after L1 (UAX #9, section 3.4), from the classes of the tables.
 use Rattle.std.specs.Prelude.{ℕ, Bool, true, false, ◌&&◌, ◌||◌, List, [], ◌∷◌, if◌then◌else◌}
 use Rattle.ucd.specs.declared.bidi_class.BidiClass.{BidiClass}
 use Rattle.ucd.specs.declared.bidi_class.BidiClass.TheVariants.{B, S, WS}
@@ -16,8 +16,8 @@ abbrev pub is_blank : BidiClass → Bool
 is_blank WS = true
 is_blank class = is_initiator class || is_pdi class || is_removed class
 
--- The first character gets the paragraph level if it is a separator. A blank gets it if only blanks are between it and
--- the next separator or the end of the line.
+-- Whether the first character is reset to the paragraph level: a separator always is; a blank is if only blanks are
+-- between it and the next separator or the end of the line.
 abbrev pub is_reset : List BidiClass → Bool
 is_reset [] = true
 is_reset (class ∷ classes) = ends_segment class || (is_blank class && is_reset classes)

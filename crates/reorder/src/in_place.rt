@@ -81,7 +81,7 @@ fn is_mark(class: BidiClass) -> bool
     matches!(class, BidiClass::NSM)
 }
 
-// Whether the line has a mark.
+// Whether the line contains a mark.
 fn has_mark<C: Classes>(line: &C) -> bool
     ensures { result ≡ list_any is_mark (C.all line.now) }
 {

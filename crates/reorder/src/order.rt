@@ -45,15 +45,14 @@ pub fn maps_are_inverse()
         (vtol_of reordernsm classes levels) (ltov_of reordernsm classes levels) }
 {}
 
-/// States, as a theorem, that a base at an odd level and its marks are adjacent: in logical order with the
-/// option, in reverse order without it. Costs nothing at run time.
+/// States, as a theorem, that a base at an odd level and its marks are adjacent: in logical order with L3, in
+/// reverse order without it. Costs nothing at run time.
 pub fn groups_stand_together()
     ensures { (classes : List BidiClass) (levels : List ℕ) (base n : ℕ)
         → IsGroup classes levels base n → StandsTogether classes levels base n }
 {}
 
-/// States, as a theorem, that all other characters are where they are without the option. Costs nothing at
-/// run time.
+/// States, as a theorem, that L3 does not move any other character. Costs nothing at run time.
 pub fn others_stay()
     ensures { (classes : List BidiClass) (levels : List ℕ) (k : ℕ) → k < length levels
         → IsAlone classes levels (slice_index (vtol_of false classes levels) k)
@@ -215,8 +214,8 @@ fn reverse_groups<C: Classes>(line: &C, levels: &[u8], vtol: &mut [u32])
     }
 }
 
-// Reverses the group at the front of a list, if there is one. Returns how many positions are done: up to a
-// base, or up to a mark without a base.
+// Reverses the group at the front of a list, if there is one. Returns the number of positions that are then
+// final: up to a base, or up to a mark without a base.
 fn reverse_group<C: Classes>(line: &C, levels: &[u8], items: &mut [u32]) -> usize
     requires line { length levels.now ≤ length (C.all line.now) }
     requires items { (start : ℕ) × (items.old ≡ drop start (order_of levels.now)) }
@@ -262,7 +261,7 @@ fn is_bound<C: Classes>(line: &C, levels: &[u8], place: u32, next: u32) -> bool
         && levels[at] == levels[before]
 }
 
-// Whether a character is a mark by the tables.
+// Whether a character is a mark, by its class in the tables.
 fn is_mark_at<C: Classes>(line: &C, place: u32) -> bool
     requires { place < length (C.all line.now) }
     ensures { result ≡ is_mark_at (C.all line.now) place }
@@ -291,7 +290,7 @@ fn reverse_levels(levels: &[u8], top: u8, low: Option<u8>, items: &mut [u32])
     }
 }
 
-// Returns the lowest odd level of one more character.
+// Returns the lowest odd level so far, with `level` included.
 fn lower_odd(lowest: Option<u8>, level: u8) -> Option<u8>
     ensures { result ≡ (if is_odd level then Some (min (unwrap_or lowest level) level) else lowest) }
 {

@@ -57,7 +57,7 @@ fn separator_end<C: Classes>(line: &C, end: usize) -> usize
     at
 }
 
-// Whether there is a separator in a range. It has no early exit, which is faster.
+// Whether there is a separator in a range. Reads all of it, which is faster than leaving the loop early.
 fn has_separator<C: Classes>(line: &C, start: usize, end: usize) -> bool
     requires { end ≤ length (C.all line.now) }
     ensures { result ≡ false → AreNoEnds (C.all line.now) start end }
@@ -75,7 +75,7 @@ fn ends_segment(class: BidiClass) -> bool
     matches!(class, BidiClass::S | BidiClass::B)
 }
 
-// Whether a character is reset: a separator is, and a blank is if the next character is or there is none.
+// Whether a character is reset: a separator is, and a blank is if the next character is or there is no next one.
 fn is_reset(class: BidiClass, after: bool) -> bool
     ensures { result ≡ (ends_segment class || (is_blank class && after)) }
 {

@@ -27,7 +27,7 @@ loop-at-preserved g c =
 pub returns : goal.returns
 returns g c = Walked-end _ _ _ _ _ _ c.loop-at.invariant (omega arith)
 
--- no other takes it
+-- no other character is reset
 pub returns-then-end-eq0 : goal.returns-then-end-eq0
 returns-then-end-eq0 g c =
     Walked-end _ _ _ _ _ _

@@ -5,7 +5,7 @@ use Rattle.ucd.specs.Classes.{class_at}
 use Rattle.reorder.specs.Spaces.{ends_segment}
 use Rattle.reorder.proofs.spaces.separator_end.Goals as goal
 
--- none of those tested together
+-- none of the characters that are tested together is a separator
 pub loop-at-preserved : goal.loop-at-preserved
 loop-at-preserved g c =
     let at = c.loop-at.at in
