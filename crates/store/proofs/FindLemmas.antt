@@ -1,11 +1,11 @@
--- What a search in a part of a list finds in the whole.
+-- A search in a subtree finds the same item as a search in the whole list.
 use Rattle.std.proofs.Common.{◌≡◌, ℕ, ◌+◌, ◌<◌, List, ◌∷◌, ◌++◌, length, sum_by, arith, length-append, append_assoc, sym, ap, ◌∙◌}
 use Rattle.std.proofs.lemmas.List.Sums.{sum_by-append, sum_by-cons}
 use Rattle.store.specs.Finding.{Finds}
 use Rattle.store.specs.declared.found.Found.{Found}
 
 module _ {P : Type 0} (size chars lines : P → ℕ) (l : List P) (x : P) (r : List P) where
-  -- in the items before one
+  -- a result in the items before x is a result in the whole list
   pub found_before : (n : ℕ) (f g : Found) → g.index ≡ f.index → g.rest ≡ f.rest → g.chars_before ≡ f.chars_before → g.lines_before ≡ f.lines_before
       → Finds size chars lines l n f → Finds size chars lines (l ++ x ∷ r) n g
   found_before n f g index_is rest_is chars_is lines_is found = record {
@@ -20,7 +20,7 @@ module _ {P : Type 0} (size chars lines : P → ℕ) (l : List P) (x : P) (r : L
     lines_before = lines_is ∙ found.lines_before;
   }
 
-  -- that item
+  -- the result is x if the number is inside x
   pub at_item : (n : ℕ) (g : Found) → g.index ≡ length l → sum_by size l + g.rest ≡ n → g.rest < size x → g.chars_before ≡ sum_by chars l → g.lines_before ≡ sum_by lines l
       → Finds size chars lines (l ++ x ∷ r) n g
   at_item n g index_is rest_is within_is chars_is lines_is = record {
@@ -35,7 +35,7 @@ module _ {P : Type 0} (size chars lines : P → ℕ) (l : List P) (x : P) (r : L
     lines_before = lines_is;
   }
 
-  -- in the items after it
+  -- a result in the items after x is a result in the whole list
   pub found_after : (n k : ℕ) (f g : Found) → g.index ≡ length l + 1 + f.index → g.rest ≡ f.rest → sum_by size l + size x + k ≡ n
       → g.chars_before ≡ sum_by chars l + chars x + f.chars_before → g.lines_before ≡ sum_by lines l + lines x + f.lines_before → Finds size chars lines r k f → Finds size chars lines (l ++ x ∷ r) n g
   found_after n k f g index_is rest_is sum_is chars_is lines_is found = record {

@@ -1,10 +1,10 @@
--- What the sums of a list are for its parts.
+-- If the sums of a list fit a usize, so do those of its parts.
 use Rattle.std.proofs.Common.{ℕ, ◌≤◌, List, ◌++◌, ◌∷◌, length, take, drop, sum_by, arith, length-append, append_assoc, subst, sym, length-take, length-drop}
 use Rattle.std.proofs.lemmas.List.Sums.{sum_by-append, sum_by-cons, sum_by-take-drop}
 use Rattle.store.specs.Subtrees.{Fits}
 
 module _ {P : Type 0} (chars lines : P → ℕ) where
-  -- fewer items fit too
+  -- a list with no more items, characters and lines than one that fits, fits too
   pub fits_less : (xs ys : List P) → length ys ≤ length xs → sum_by chars ys ≤ sum_by chars xs → sum_by lines ys ≤ sum_by lines xs
       → Fits chars lines xs → Fits chars lines ys
   fits_less xs ys n c l f = record {
@@ -13,7 +13,7 @@ module _ {P : Type 0} (chars lines : P → ℕ) where
     lines_fit = omega (arith, f.lines_fit);
   }
 
-  -- the front and the back of a list
+  -- the front of a list that fits, fits, and so does its back
   pub fits_front : (xs ys : List P) → Fits chars lines (xs ++ ys) → Fits chars lines xs
   fits_front xs ys f =
       fits_less (xs ++ ys) xs (omega (arith, length-append xs ys)) (omega (arith, sum_by-append chars xs ys)) (omega (arith, sum_by-append lines xs ys)) f
@@ -30,7 +30,7 @@ module _ {P : Type 0} (chars lines : P → ℕ) where
       (omega (arith, sum_by-append lines xs (x ∷ ys), sum_by-cons lines x ys))
       f
 
-  -- without some of the first items
+  -- a list that fits, fits without some of its first items
   pub fits_after : (xs ys : List P) (n : ℕ) → Fits chars lines (xs ++ ys) → Fits chars lines (drop n xs ++ ys)
   fits_after xs ys n f =
       fits_less (xs ++ ys) (drop n xs ++ ys)
@@ -39,7 +39,7 @@ module _ {P : Type 0} (chars lines : P → ℕ) where
       (omega (arith, sum_by-append lines xs ys, sum_by-append lines (drop n xs) ys, sum_by-take-drop lines xs n))
       f
 
-  -- without some of the last items
+  -- a list that fits, fits without some of its last items
   pub fits_before : (xs ys : List P) (n : ℕ) → Fits chars lines (xs ++ ys) → Fits chars lines (xs ++ take n ys)
   fits_before xs ys n f =
       fits_less (xs ++ ys) (xs ++ take n ys)
@@ -48,7 +48,7 @@ module _ {P : Type 0} (chars lines : P → ℕ) where
       (omega (arith, sum_by-append lines xs ys, sum_by-append lines xs (take n ys), sum_by-take-drop lines ys n))
       f
 
-  -- the parts of a list into which others were put
+  -- the parts of a list in which a range was replaced fit
   pub record FitSpliced (front new back : List P) : Type 0 where
     pub new_fits : Fits chars lines new
     pub front_fits : Fits chars lines (front ++ new)

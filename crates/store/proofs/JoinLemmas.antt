@@ -1,17 +1,17 @@
--- The items of trees that are joined and rotated, and that the sums of the parts fit.
+-- Joining and rotating trees keeps their items in order, and the sums of all subtrees fit.
 use Rattle.std.proofs.Common.{◌≡◌, ℕ, List, ◌∷◌, ◌++◌, ap, sym, ◌∙◌, subst, append_assoc}
 use Rattle.store.specs.Subtrees.{Fits}
 use Rattle.store.specs.Trees.{Tree, Fork, in_order}
 use Rattle.store.proofs.FitsLemmas.{fits_front, fits_rest}
 
--- the items around the root of an inner tree
+-- the items of a tree, written around the root of an inner subtree
 pub lifted : {P : Type 0} (l r : List P) (x y m : P) (inner first second : Tree P) → inner ≡ Fork first m second
     → (l ++ x ∷ in_order inner) ++ y ∷ r ≡ (l ++ x ∷ in_order first) ++ m ∷ (in_order second ++ y ∷ r)
 lifted l r x y m inner first second e =
     ap (λ t. (l ++ x ∷ in_order t) ++ y ∷ r) e ∙ simp append_assoc
 
 module _ {P : Type 0} (chars lines : P → ℕ) where
-  -- a list around one of its items
+  -- the items before and after x fit, and so do all together
   pub record FitAround (front : List P) (x : P) (back : List P) : Type 0 where
     pub front_fits : Fits chars lines front
     pub back_fits : Fits chars lines back
@@ -24,20 +24,20 @@ module _ {P : Type 0} (chars lines : P → ℕ) where
     all_fit = f;
   }
 
-  -- around the root of an inner tree
+  -- the items around the root of an inner subtree fit
   pub fit_lifted : (l r : List P) (x y m : P) (inner first second : Tree P) → inner ≡ Fork first m second
       → Fits chars lines ((l ++ x ∷ in_order inner) ++ y ∷ r) → FitAround (l ++ x ∷ in_order first) m (in_order second ++ y ∷ r)
   fit_lifted l r x y m inner first second e f =
       fit_around (l ++ x ∷ in_order first) (in_order second ++ y ∷ r) m (subst (Fits chars lines) (lifted l r x y m inner first second e) f)
 
-  -- around the root of a tree before
+  -- the items around the root of the left tree fit
   pub fit_before : (r : List P) (y m : P) (left outer inner : Tree P) → left ≡ Fork outer m inner → Fits chars lines (in_order left ++ y ∷ r)
       → FitAround (in_order outer) m (in_order inner ++ y ∷ r)
   fit_before r y m left outer inner e f =
       fit_around (in_order outer) (in_order inner ++ y ∷ r) m
       (subst (Fits chars lines) (ap (λ t. in_order t ++ y ∷ r) e ∙ append_assoc (in_order outer) (m ∷ in_order inner) (y ∷ r)) f)
 
-  -- around the root of a tree after
+  -- the items around the root of the right tree fit
   pub fit_after : (l : List P) (x m : P) (right inner outer : Tree P) → right ≡ Fork inner m outer → Fits chars lines (l ++ x ∷ in_order right)
       → FitAround (l ++ x ∷ in_order inner) m (in_order outer)
   fit_after l x m right inner outer e f =

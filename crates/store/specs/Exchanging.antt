@@ -1,4 +1,4 @@
--- The results of exchanging items with parts pairwise in order, and how a count of the work rises.
+-- Exchanging items with parts pairwise in order, and counting the work.
 use Rattle.std.specs.Prelude.{ℕ, ◌+◌, ◌-◌, ◌^◌, List, map, max, min, sum_by}
 use Rattle.std.specs.List.{zip}
 
@@ -9,6 +9,6 @@ pairwise f items parts = map (λ p. f p.0 p.1) (zip items parts)
 abbrev pub total_cost : {P Part : Type 0} → (P → Part → ℕ) → List P → List Part → ℕ
 total_cost cost items parts = sum_by (λ n. n) (pairwise cost items parts)
 
--- a count after n more, up to the greatest number of 64 bits, from which on it stays
+-- the count after n more units of work; it stops at 2^64 - 1
 abbrev pub raised : ℕ → ℕ → ℕ
 raised count n = max count (min (count + n) (2 ^ 64 - 1))

@@ -1,16 +1,15 @@
--- What a search in a list of items finds: the item that has a character or a line.
+-- The result of a search in a list of items: the item that has a character or a line.
 use Rattle.std.specs.Prelude.{◌≡◌, ℕ, ◌+◌, ◌<◌, List, ◌∷◌, ◌++◌, length, sum_by}
 use Rattle.store.specs.declared.found.Found.{Found}
 use Rattle.store.specs.declared.found.Unit.{Unit as Counted}
 use Rattle.store.specs.declared.found.Unit.TheVariants.{Char, Line}
 
--- how many of the counted things an item has
+-- the number of characters or of lines of an item
 abbrev pub measure : {P : Type 0} → (P → ℕ) → (P → ℕ) → Counted → P → ℕ
 measure chars lines Char = chars
 measure chars lines Line = lines
 
--- Number n of what an item has `size` of, counted through all items in order from 0, is number `rest` of the item at
--- `index`.
+-- The character or line with number n, counted through all items from 0, is number `rest` of the item at `index`.
 pub record Finds {P : Type 0} (size chars lines : P → ℕ) (items : List P) (n : ℕ) (found : Found) : Type 0 where
   pub before : List P
   pub item : P

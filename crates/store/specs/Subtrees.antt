@@ -1,4 +1,4 @@
--- The model of the nodes of a tree store, and their invariant.
+-- The trees that the nodes of a tree store represent, and their invariant.
 use Rattle.std.specs.Prelude.{◌≡◌, ℕ, ◌<◌, ◌^◌, List, length, sum_by, Option, Some, None, Box}
 use Rattle.std.specs.declared.alloc.Global.{Global}
 use Rattle.store.specs.Trees.{Tree, Empty, Fork, in_order, height, IsBalanced}
@@ -18,7 +18,7 @@ module _ {P : Type 0} where
   tree_of None = Empty
   tree_of (Some b) = tree_of_node b.value
 
--- A node has the height of its tree, the number of its items, and their sums. The tree is balanced.
+-- A node stores the height of its tree, the number of its items, and their sums. The tree is balanced.
 pub record IsSummed {P : Type 0} (chars lines : P → ℕ) (n : Node P) : Type 0 where
   pub height_is : n.height ≡ height (tree_of_node n)
   pub count_is : n.count ≡ length (in_order (tree_of_node n))

@@ -1,4 +1,4 @@
--- Binary trees of items, when one is balanced, and how few nodes a balanced one of a height has.
+-- Binary trees of items, balanced trees, and the least number of nodes of a balanced tree of a height.
 use Rattle.std.specs.Prelude.{◌≡◌, ℕ, zero, suc, ◌+◌, ◌-◌, ◌≤◌, nat_lt, max, List, [], ◌∷◌, ◌++◌, length, Option, Some, None, refl, if◌then◌else◌}
 use Rattle.std.proofs.Common.{ap, ◌∙◌}
 use Rattle.std.specs.Coded.{Coded, code_by, coded_list, coded_option}
@@ -18,7 +18,7 @@ module _ {A : Type 0} where
   height Empty = 0
   height (Fork l x r) = max (height l) (height r) + 1
 
-  -- the heights of two subtrees differ by at most 1, everywhere
+  -- in each node, the heights of the two subtrees differ by at most 1
   abbrev pub IsBalanced : Tree A → Type 0
   IsBalanced Empty = Unit {0}
   IsBalanced (Fork l x r) = IsBalanced l × IsBalanced r × (height l ≤ height r + 1) × (height r ≤ height l + 1)

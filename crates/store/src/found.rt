@@ -11,15 +11,15 @@ pub struct Found {
     pub index: usize,
     /// The index of the character or line in the item, from 0.
     pub rest: usize,
-    /// How many characters the items before it have.
+    /// The number of characters of the items before it.
     pub chars_before: usize,
-    /// How many lines the items before it have.
+    /// The number of lines of the items before it.
     pub lines_before: usize,
-    /// How many items the search looked at.
+    /// The number of items that the search looked at.
     pub visits: usize,
 }
 
-// What a search counts.
+// Whether a search counts characters or lines.
 #[derive(Clone, Copy)]
 pub(crate) enum Unit {
     Char,
@@ -27,7 +27,7 @@ pub(crate) enum Unit {
 }
 
 impl Unit {
-    /// How many of the counted things an item has.
+    /// The number of characters or of lines of an item.
     pub(crate) fn size_of<P: Measured>(self, item: &P) -> usize
         ensures { result ≡ measure P.chars P.lines self item.now }
     {

@@ -59,7 +59,8 @@ fn balance<P: Measured>(left: Subtree<P>, node: DetachedNode<P>, right: Subtree<
     node.over(left, right)
 }
 
-// Joins them if the left tree is higher by 2: one rotation, or two if its inner side is the higher one.
+// Joins two trees, of which the left one is higher by 2: one rotation, or two if its inner side is the higher
+// one.
 fn lean_left<P: Measured>(left: Subtree<P>, node: DetachedNode<P>, right: Subtree<P>) -> Subtree<P>
     requires fits { Fits P.chars P.lines (in_order left ++ node ∷ in_order right) }
     requires two_higher { height left ≡ height right + 2 }
@@ -76,7 +77,7 @@ fn lean_left<P: Measured>(left: Subtree<P>, node: DetachedNode<P>, right: Subtre
     lift(outer, top, inner, node, right)
 }
 
-// Joins them if the right tree is higher by 2.
+// Joins two trees, of which the right one is higher by 2.
 fn lean_right<P: Measured>(left: Subtree<P>, node: DetachedNode<P>, right: Subtree<P>) -> Subtree<P>
     requires fits { Fits P.chars P.lines (in_order left ++ node ∷ in_order right) }
     requires two_higher { height right ≡ height left + 2 }

@@ -17,7 +17,7 @@ pub trait Measured {
 
 /// An item that exchanges a part of itself.
 pub trait Exchange: Measured {
-    /// What is put in, and what comes out.
+    /// The type of the parts that are exchanged.
     type Part;
 
     // Whether a part may be put in.
@@ -41,11 +41,11 @@ pub trait Exchange: Measured {
 
 /// Exchanges parts of items. It may count its work.
 pub trait Exchanger<P: Measured> {
-    /// What is put in, and what comes out.
+    /// The type of the parts that are exchanged.
     type Part;
 
-    // What decides which parts fit and what the result is. It stays the same while the exchanger counts its
-    // work.
+    // The facts that decide which parts fit, and the result of an exchange. They stay the same while the
+    // exchanger counts its work.
     ghost Kind: { Type 0 };
 
     ghost kind: { Self → Kind };
@@ -58,7 +58,7 @@ pub trait Exchanger<P: Measured> {
 
     ghost handed_out: { Kind → P → Self.Part → Self.Part };
 
-    // How much it has worked, up to the greatest `u64`, and how much an exchange adds to that.
+    // The work counted so far, up to the greatest `u64`, and the cost of an exchange.
     ghost worked: { Self → ℕ };
 
     ghost cost: { P → Self.Part → ℕ };

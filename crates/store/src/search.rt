@@ -42,7 +42,7 @@ impl<P: Measured> Subtree<P> {
         node.right.list_into(list);
     }
 
-    /// Finds the item that has number `n` of the counted things.
+    /// Finds the item that has the character or line with number `n`.
     pub(crate) fn find(&self, unit: Unit, n: usize) -> Found
         requires { n < sum_by (measure P.chars P.lines unit) (in_order self.now) }
         ensures found { Finds (measure P.chars P.lines unit) P.chars P.lines (in_order self.now) n result }

@@ -119,7 +119,7 @@ impl<P: Measured> Subtree<P> {
         }
     }
 
-    /// The number of lines of all items, of one more, and of another tree.
+    /// The number of lines of all items, of one more item, and of those of another tree.
     pub(crate) fn lines_with(&self, item: &P, right: &Subtree<P>) -> usize
         requires { sum_by P.lines (in_order self.now ++ item.now ∷ in_order right.now) < 2 ^ 64 }
         ensures { result ≡ sum_by P.lines (in_order self.now ++ item.now ∷ in_order right.now) }
@@ -127,7 +127,7 @@ impl<P: Measured> Subtree<P> {
         self.lines() + item.lines() + right.lines()
     }
 
-    /// How many of the counted things all items have.
+    /// The number of characters or of lines of all items.
     pub(crate) fn total(&self, unit: Unit) -> usize
         ensures { result ≡ sum_by (measure P.chars P.lines unit) (in_order self.now) }
     {

@@ -80,7 +80,7 @@ fn hang<P: Measured>(alloc: Global, items: &mut Vec<P>) -> Result<Vec<DetachedNo
     Ok(nodes)
 }
 
-// Takes items out of their nodes again, from the last one on, into a list that has the capacity for them.
+// Moves items out of their nodes, from the last one on, into a list that has the capacity for them.
 fn take_down<P: Measured>(nodes: Vec<DetachedNode<P>>, items: &mut Vec<P>)
     requires { length items.old.items + length nodes.items ≤ vec_capacity items.old }
     ensures { items.new.items ≡ items.old.items ++ reverse nodes.items }

@@ -61,7 +61,7 @@ fn sums<P: Measured>(items: &[P]) -> (usize, usize)
     (chars, lines)
 }
 
-// Walks to the item that has number `n` of the counted things.
+// Finds the item that has the character or line with number `n`, by a walk over the items.
 fn find<P: Measured>(items: &[P], unit: Unit, n: usize) -> Found
     requires within { n < sum_by (measure P.chars P.lines unit) items.now }
     requires chars_fit { sum_by P.chars items.now < 2 ^ 64 }
