@@ -3,8 +3,8 @@ use Rattle.std.specs.Prelude.{◌≡◌, ℕ, ◌+◌, ◌-◌, ◌^◌, ◌<◌
 use Rattle.std.specs.Io.KnownBytes.{Keeps, Appends, Consumes, IsAtEnd}
 
 -- The state of a source or sink. `bytes` are those that a source still has or a sink holds, if it reports them.
--- `passed` counts the bytes that passed in all. `failures` counts failed calls, and stays at the greatest number of 64
--- bits once there. `failed_at` is `passed` at the last failure.
+-- `passed` counts all bytes that passed. `failures` counts failed calls, up to 2^64 - 1. `failed_at` is `passed` at the
+-- last failure.
 pub record Device : Type 0 where
   pub bytes : Option (List ℕ)
   pub passed : ℕ
@@ -41,7 +41,7 @@ pub record Gives (old new : Device) (n : ℕ) (buffer : List ℕ) : Type 0 where
 abbrev pub Reads : {E : Type 0} → Device → Device → Result ℕ E → List ℕ → Type 0
 Reads old new result buffer = MatchResult result (λ n. Gives old new n buffer) (λ _. Fails old new)
 
--- a write took bytes from the front
+-- a write took the first n of the given bytes
 pub record Takes (old new : Device) (n : ℕ) (given : List ℕ) : Type 0 where
   pub bytes : Appends old.bytes new.bytes (take n given)
   pub passes : Passes old new n
@@ -50,8 +50,8 @@ abbrev pub Writes : {E : Type 0} → Device → Device → Result ℕ E → List
 Writes old new result given =
     MatchResult result (λ n. MatchBool (n == 0) (Fails old new) (Takes old new n given)) (λ _. Fails old new)
 
--- Between two states a call failed, and no bytes passed after it. So the count of failures rose, or is at the greatest
--- number.
+-- A call failed between two states, and no bytes passed after it: the count of failures rose, or is already at its
+-- maximum.
 pub record FailedLast (old new : Device) : Type 0 where
   pub failures : new.failures ≡ min (old.failures + 1) greatest
   pub last : new.failed_at ≡ new.passed
@@ -61,13 +61,13 @@ pub record Took (old new : Device) (given : List ℕ) : Type 0 where
   pub bytes : Appends old.bytes new.bytes given
   pub passed : new.passed ≡ old.passed + length given
 
--- all of the bytes were taken, or the sink failed after n of them
+-- all of the bytes were taken, or the sink failed after a number of them
 abbrev pub Wrote : List ℕ → Device → Device → Type 0
 Wrote given old new = Took old new given × (new.failures ≡ old.failures)
 
 abbrev pub StoppedAt : ℕ → List ℕ → Device → Device → Type 0
 StoppedAt n given old new = (n < length given) × Took old new (take n given) × FailedLast old new
 
--- bytes pass only up to the greatest count
+-- if bytes passed, their count is at most the greatest
 abbrev pub StaysCounted : Device → Device → Type 0
 StaysCounted old new = old.passed < new.passed → new.passed ≤ greatest

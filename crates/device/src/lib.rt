@@ -51,7 +51,7 @@ pub trait Sink {
         ensures writes { Writes (state self.old) (state self.new) result bytes.now };
 }
 
-// How many of `len` bytes may still pass, so that their count fits.
+// Returns how many of `len` bytes can still pass without exceeding the maximum count.
 fn countable(passed: u64, len: usize) -> usize
     ensures { result ≡ min len (2 ^ 64 - 1 - passed) }
 {
