@@ -1,4 +1,4 @@
--- Characters that are taken from the front of a text.
+-- Moving characters from the front of a text to a list.
 use Rattle.std.proofs.Common.{◌≡◌, ◌∙◌, ℕ, List, [], ◌∷◌, ◌++◌, length, sym, ap}
 use Rattle.std.specs.Prelude.{IsUtf8}
 use Rattle.std.specs.Str.{chars}

@@ -1,4 +1,4 @@
--- Bytes that are UTF-8 up to an index, and what may follow them.
+-- The longest UTF-8 prefix of some bytes, and the bytes that can follow it.
 use Rattle.std.proofs.Common.{◌≡◌, ◌⊎◌, Bool, if◌then◌else◌, inl, inr, ⊎_elim, ℕ, zero, suc, ◌+◌, ◌-◌, ◌*◌, ◌<◌, ◌≤◌, true, false, List, [], ◌∷◌, ◌++◌, length, take, drop, Some, None, refl, sym, subst, ap, ◌∙◌, arith, true≢false}
 use Rattle.std.proofs.lemmas.Bool.{cases_Bool, cases_lt, cond-true, cond-false, and_parts}
 use Rattle.std.proofs.lemmas.Bool.Decides.{nat_tests}
@@ -34,7 +34,7 @@ longest_front bs (suc m) =
     ))
     (cases_Bool (is_utf8 (take (suc m) bs)))
 
--- bytes are UTF-8, or they stop being it at `utf8_valid_len`
+-- bytes are UTF-8, or they are UTF-8 up to `utf8_valid_len` and no further
 pub utf8_or_not : (bs : List ℕ) → IsUtf8 bs ⊎ IsValidUpTo bs (utf8_valid_len bs)
 unfolding utf8_valid_len
 utf8_or_not bs =
@@ -53,7 +53,7 @@ utf8_or_not bs =
     (λ (whole : length bs ≤ n). inl (subst IsUtf8 (take_all n bs whole) front.0))
     (cases_lt n (length bs))
 
--- the front is UTF-8
+-- the prefix of length `utf8_valid_len` is UTF-8
 pub utf8_front : (bs : List ℕ) → IsUtf8 (take (utf8_valid_len bs) bs)
 utf8_front bs = ⊎_elim
     (λ u. subst IsUtf8 (sym (take_all (utf8_valid_len bs) bs (omega (arith, utf8_valid_len-IsUtf8 bs u)))) u)
@@ -67,7 +67,7 @@ after (c ∷ cs) es b all is =
     let both = and_parts _ _ (ap scalars (sym later.1) ∙ all) in
     after cs later.0 b both.1 later.2
 
--- what stands after UTF-8 in UTF-8
+-- if a text begins with UTF-8, the rest of it is UTF-8
 pub IsUtf8-after : (a b : List ℕ) → IsUtf8 (a ++ b) → IsUtf8 a → IsUtf8 b
 IsUtf8-after a b all front = after front.0 all.0 b all.1.0 (all.1.1 ∙ ap (λ t. t ++ b) (sym front.1.1))
 
@@ -84,7 +84,7 @@ valid_after a b v u valid = record {
       valid.longest (m - length a) (omega arith) (IsUtf8-after a (take (m - length a) b) (subst IsUtf8 (take_after a b m (omega arith)) all) u);
 }
 
--- how far bytes are UTF-8 that begin with UTF-8
+-- bytes after UTF-8 add their own valid length to that of the UTF-8
 pub utf8_valid_len-after : (a b : List ℕ) → IsUtf8 a → utf8_valid_len (a ++ b) ≡ length a + utf8_valid_len b
 utf8_valid_len-after a b u = ⊎_elim
     (λ v.
@@ -94,7 +94,7 @@ utf8_valid_len-after a b u = ⊎_elim
     (λ valid. utf8_valid_len-IsValidUpTo (a ++ b) (length a + utf8_valid_len b) (valid_after a b (utf8_valid_len b) u valid))
     (utf8_or_not b)
 
--- and what stands after
+-- the bytes after the valid prefix do not depend on UTF-8 before it
 pub drop-valid-after : (a b : List ℕ) → IsUtf8 a → drop (utf8_valid_len (a ++ b)) (a ++ b) ≡ drop (utf8_valid_len b) b
 drop-valid-after a b u = ap (λ n. drop n (a ++ b)) (utf8_valid_len-after a b u) ∙ drop-append-add a b (utf8_valid_len b)
 
@@ -104,7 +104,7 @@ take-valid-after a b u = ap (λ n. take n (a ++ b)) (utf8_valid_len-after a b u)
 pub is_bad-after : (a b : List ℕ) → IsUtf8 a → is_bad (a ++ b) ≡ is_bad b
 is_bad-after a b u = ap (λ t. is_some (utf8_error_len t)) (drop-valid-after a b u)
 
--- bytes that are UTF-8 throughout
+-- the valid prefix of a text is the whole text
 pub whole_text : (bytes : List ℕ) → IsUtf8 bytes → take (utf8_valid_len bytes) bytes ≡ bytes
 whole_text bytes u = take_all (utf8_valid_len bytes) bytes (omega (arith, utf8_valid_len-IsUtf8 bytes u))
 
@@ -123,7 +123,7 @@ whole_good bytes u =
     let none : drop (utf8_valid_len bytes) bytes ≡ [] = drop_all (utf8_valid_len bytes) bytes (omega (arith, utf8_valid_len-IsUtf8 bytes u)) in
     sym (ap (λ t. is_some (utf8_error_len t)) none ∙ ap is_some utf8_error_len-nil)
 
--- text, and after it the beginning of a character
+-- `front` is the valid prefix of the bytes, and the bytes after it are empty or the beginning of a character
 pub record IsTextUpTo (bytes front : List ℕ) : Type 0 where
   pub text : front ≡ take (utf8_valid_len bytes) bytes
   pub good : false ≡ is_bad bytes
@@ -166,7 +166,7 @@ error_three a b d low high second third =
     ∙ ap (λ (t : Bool). if t then error_len_after_two (a ∷ b ∷ d ∷ []) else Some 1) second
     ∙ ap (λ (t : Bool). if t then None else Some 2) third_is
 
--- the second byte of a character of three or four
+-- the second byte of a character of three or four bytes is in the range that its first byte allows
 second_of_3 : (c a b d : ℕ) → Scalar c → 2048 ≤ c → 224 ≤ a → a < 240 → Follows b → Follows d → c + 925824 ≡ a * 4096 + b * 64 + d → is_in_range (second_byte_min a) (second_byte_max a) b ≡ true
 second_of_3 c a b d valid least low high f g is = go (cases_lt 224 a) (cases_lt a 237) (cases_lt 237 a) valid
   where
@@ -207,7 +207,7 @@ second_of_4 c a b d e valid least low f g h is = go (cases_lt 240 a) (cases_lt a
 encode_filled : (c : ℕ) → 0 < length (encode c)
 encode_filled c = omega (arith, length-encode c, (len_utf8_bounds c).0)
 
--- no shorter encoding would do
+-- the length of an encoding is the least that its code point allows
 past_one : (c : ℕ) → 1 < length (encode c) → 128 ≤ c
 past_one c h = ⊎_elim (λ l. absurd (omega (arith, ap length (one c l)))) (λ l. l) (cases_lt c 128)
 
@@ -217,7 +217,7 @@ past_two c h = ⊎_elim (λ l. absurd (omega (arith, ap length (two c (past_one 
 past_three : (c : ℕ) → 3 < length (encode c) → 65536 ≤ c
 past_three c h = ⊎_elim (λ l. absurd (omega (arith, ap length (three c (past_two c (omega arith)) l)))) (λ l. l) (cases_lt c 65536)
 
--- a beginning of a character is no fault
+-- the beginning of a character is not an error
 beginning_of : (c n : ℕ) → Scalar c → Shape c → n < length (encode c) → utf8_error_len (take n (encode c)) ≡ None
 beginning_of c zero valid s less = utf8_error_len-nil
 beginning_of c (suc n) valid (of1 l e) less = absurd (omega (arith, ap length e))
@@ -239,7 +239,7 @@ beginning_of c (suc (suc (suc zero))) valid (of4 a b d x l u f g h is e) less =
     ap (λ t. utf8_error_len (take 3 t)) e ∙ error_three a b d (omega arith) both.0 both.1 g
 beginning_of c (suc (suc (suc (suc n)))) valid (of4 a b d x l u f g h is e) less = absurd (omega (arith, ap length e))
 
--- a character that bytes begin with, whatever stands after: they are a beginning of it, or begin with it
+-- bytes with an error and no valid prefix cannot begin with a character, or be the beginning of one, whatever follows
 char_before : (x more r : List ℕ) (c : ℕ) → scalar c ≡ true → x ++ more ≡ encode c ++ r → utf8_valid_len x ≡ 0 → is_some (utf8_error_len x) ≡ true → ⊥
 char_before x more r c s is none fault = go (cases_lt (length x) (length (encode c)))
   where
@@ -258,7 +258,7 @@ char_before x more r c s is none fault = go (cases_lt (length x) (length (encode
         let len = utf8_valid_len-after (encode c) (drop n x) (IsUtf8-encode c s) in
         omega (arith, none, ap utf8_valid_len x_is, len, encode_filled c)
 
--- bytes that begin no character begin none, whatever stands after them
+-- bytes with an error and no valid prefix have none, whatever follows them
 pub bad_stays : (x more : List ℕ) → utf8_valid_len x ≡ 0 → is_some (utf8_error_len x) ≡ true → utf8_valid_len (x ++ more) ≡ 0
 bad_stays x more none fault = go (utf8_valid_len (x ++ more)) refl (utf8_front (x ++ more))
   where

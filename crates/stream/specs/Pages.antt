@@ -1,9 +1,9 @@
--- A page as a sink.
+-- A page of bytes as a sink.
 use Rattle.std.specs.Prelude.{Some, length}
 use Rattle.device.specs.Device.{Device}
 use Rattle.stream.specs.declared.page.Page.{Page}
 
--- its state is its bytes, all of which were written
+-- the state of a page as a sink: its bytes, all of which were written to it
 abbrev pub page_state : Page → Device
 page_state page = record {
   bytes = Some page.bytes.items;

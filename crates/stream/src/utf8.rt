@@ -59,8 +59,8 @@ fn push_some<'a>(text: &'a str, characters: &mut Vec<char>) -> &'a str
     }
 }
 
-// Adds the first character of a text, and those after it while their first byte is between two others. A loop
-// for each number of bytes has fewer steps, and its end is predicted better.
+// Adds the first character of a text, and those after it while their first byte is in a range. A loop for
+// each length in bytes has fewer steps, and its end is predicted better.
 #[inline(always)]
 fn push_row<'a>(text: &'a str, low: u8, high: u8, characters: &mut Vec<char>) -> &'a str
     requires some { 0 < length text.now }
@@ -111,7 +111,7 @@ pub fn front(bytes: &[u8]) -> (&str, bool)
     }
 }
 
-// The same, for any bytes.
+// Returns the longest UTF-8 prefix likewise, for bytes that may end anywhere.
 fn checked(bytes: &[u8]) -> (&str, bool)
     ensures text { result.0.now ≡ take (utf8_valid_len bytes.now) bytes.now }
     ensures bad { result.1 ≡ is_bad bytes.now }
