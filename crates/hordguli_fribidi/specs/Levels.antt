@@ -1,4 +1,4 @@
--- The levels of a paragraph, from the numbers of its types and brackets.
+-- The levels of a paragraph, from FriBidi's numbers of its types and brackets.
 use Rattle.std.specs.Prelude.{◌≡◌, ℕ, suc, ◌==◌, List, length, map, replicate, Option, Some, None, if◌then◌else◌}
 use Rattle.bidi.specs.Base.{base_level_of, first_strong_level}
 use Rattle.bidi.specs.Levels.{paragraph_levels}
@@ -6,21 +6,21 @@ use Rattle.reorder.specs.Order.{highest}
 use Rattle.reorder.specs.Spaces.{line_levels}
 use Rattle.hordguli_fribidi.specs.Types.{base_of, bracket_by, class_of, direction_of}
 
--- the numbers of brackets: one for each type, or none at all
+-- the bracket numbers: one for each type, or all 0 if the lengths differ
 abbrev pub brackets_of : ℕ → List ℕ → List ℕ
 brackets_of len brackets = if length brackets == len then brackets else replicate len 0
 
--- the base level of a paragraph
+-- the base level of a paragraph, from its types and the requested direction
 abbrev pub base_in : List ℕ → ℕ → ℕ
 base_in types asked = base_level_of (map class_of types) (base_of asked)
 
--- its levels before L1 (X1 to I2)
+-- the levels of a paragraph before L1 (X1 to I2)
 unfoldable pub levels_before : List ℕ → List ℕ → ℕ → List ℕ
 levels_before types brackets asked =
     paragraph_levels bracket_by (brackets_of (length types) brackets) (map class_of types) (base_in types asked)
 
--- the result is the greatest level plus one; the direction is that of the base level, whatever was requested; L1 is
--- that of one line
+-- `answer` is the greatest level before L1 plus one. `direction` is that of the base level, whatever was requested.
+-- The levels are those after L1, with the paragraph as one line.
 pub record AreLevels (types brackets : List ℕ) (asked answer direction : ℕ) (levels : List ℕ) : Type 0 where
   pub answer_is : answer ≡ suc (highest (levels_before types brackets asked))
   pub direction_is : direction ≡ direction_of (base_in types asked)

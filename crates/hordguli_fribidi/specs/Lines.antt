@@ -5,20 +5,20 @@ use Rattle.reorder.specs.Order.{highest, vtol_of}
 use Rattle.reorder.specs.Spaces.{line_levels}
 use Rattle.hordguli_fribidi.specs.Types.{class_of}
 
--- whether flags ask for marks after their bases (FRIBIDI_FLAG_REORDER_NSM)
+-- whether the flags request L3 (FRIBIDI_FLAG_REORDER_NSM)
 abbrev pub asks_marks : ℕ → Bool
 asks_marks flags = flags / 2 % 2 == 1
 
--- an array whose items from `off` on are in another order
+-- an array whose items from `off` on are in visual order
 abbrev pub reordered : ℕ → List ℕ → List ℕ → List ℕ
 reordered off vtol old = take off old ++ map (slice_index (drop off old)) vtol
 
--- the same for an array that may be missing
+-- an array likewise, if its length is that of the line's end; otherwise it is unchanged
 abbrev pub reordered_if : ℕ → ℕ → List ℕ → List ℕ → List ℕ
 reordered_if len off vtol old = if length old == len then reordered off vtol old else old
 
--- L1 with the level of the direction, then L2, and L3 if the flags ask for it; the result is the line's greatest level
--- plus one
+-- The line after L1 at the level of the direction, L2, and L3 if the flags request it. The result is the line's greatest
+-- level plus one.
 module _ (flags : ℕ) (types : List ℕ) (off direction : ℕ) (old : List ℕ) where
   abbrev pub line_after : List ℕ
   line_after = line_levels (direction % 2) (map class_of (drop off types)) (drop off old)

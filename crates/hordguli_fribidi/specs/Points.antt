@@ -1,9 +1,9 @@
--- The tables of single characters: page numbers, pages with an entry for each of 256 code points, and the values of the
--- entries.
+-- The tables of single characters: an index of pages, pages with an entry for each of 256 code points, and the values
+-- of the entries.
 use Rattle.std.specs.Prelude.{ℕ, ◌+◌, ◌*◌, ◌/◌, ◌%◌, ◌==◌, ◌&&◌, List, length, map, slice_index, slice_index_or, if◌then◌else◌}
 use Rattle.std.specs.List.{range_with_len}
 
--- The entry of a code point. Page 0 is that of all code points past the last number.
+-- The entry of a code point. All code points past the end of the index are in page 0.
 abbrev pub entry_at : List ℕ → List ℕ → ℕ → ℕ
 entry_at index pages c = slice_index_or pages (slice_index_or index (c / 256) 0 * 256 + c % 256) 0
 
@@ -11,11 +11,11 @@ entry_at index pages c = slice_index_or pages (slice_index_or index (c / 256) 0 
 abbrev pub type_at : List ℕ → List ℕ → ℕ → ℕ
 type_at index pages c = entry_at index pages c
 
--- the value of the entry of a code point in a list, its mirror or its bracket: 0 for most
+-- the mirror or bracket of a code point: the value that its entry refers to, 0 for most
 abbrev pub number_at : List ℕ → List ℕ → List ℕ → ℕ → ℕ
 number_at index pages numbers c = slice_index_or numbers (entry_at index pages c) 0
 
--- the bracket of a character: none unless its type is ON
+-- the bracket of a code point: 0 unless its type is ON
 abbrev pub bracket_at : List ℕ → List ℕ → List ℕ → ℕ → ℕ → ℕ
 bracket_at index pages numbers c type = if type == 64 then number_at index pages numbers c else 0
 

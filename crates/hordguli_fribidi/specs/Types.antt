@@ -7,7 +7,7 @@ use Rattle.ucd.specs.declared.bracket.Bracket.{Bracket}
 use Rattle.bidi.specs.declared.base.Base.{Base}
 use Rattle.bidi.specs.declared.base.Base.TheVariants.{Rtl, Ltr, WeakRtl, WeakLtr}
 
--- the number of each class
+-- FriBidi's number of each class
 abbrev pub type_of : BidiClass → ℕ
 type_of L = 272
 type_of R = 273
@@ -33,33 +33,33 @@ type_of RLI = 32833
 type_of FSI = 33587264
 type_of PDI = 32864
 
--- the classes, by their numbers in the tables of single characters
+-- the classes in the order of their indices in the tables of single characters
 abbrev pub classes : List BidiClass
 classes = L ∷ R ∷ AL ∷ EN ∷ ES ∷ ET ∷ AN ∷ CS ∷ NSM ∷ BN ∷ B ∷ S ∷ WS ∷ ON ∷ LRE ∷ LRO ∷ RLE ∷ RLO ∷ PDF ∷ LRI ∷ RLI ∷ FSI ∷ PDI ∷ []
 
--- the numbers that have names: those of the classes, of the two weak directions, and of FriBidi's sentinel
+-- the numbers that have names: those of the classes, of WLTR and WRTL, and of FriBidi's sentinel
 abbrev pub named : List ℕ
 named = map type_of classes ++ 32 ∷ 33 ∷ 128 ∷ []
 
--- the index of a number among them, or 26
+-- the index of a number in that list, or 26
 unfoldable pub name_index : ℕ → ℕ
 name_index number = position_or_len (λ other. other == number) named
 
--- the class of a number, ON if it is no class's number
+-- the class with a number, or ON if no class has it
 unfoldable pub class_of : ℕ → BidiClass
 class_of number = slice_index_or classes (position_or_len (λ other. other == number) (map type_of classes)) ON
 
--- the base direction that a number stands for: LTR, RTL, WRTL, and all others as ON, which is weak with left-to-right
--- as default
+-- The base direction of a number: LTR, RTL or WRTL. All other numbers count as ON, which is a weak direction with
+-- left-to-right as default.
 abbrev pub base_of : ℕ → Base
 base_of number =
     if number == 272 then Ltr else (if number == 273 then Rtl else (if number == 33 then WeakRtl else WeakLtr))
 
--- the direction of a level, and the level of a direction, by its lowest bit
+-- the direction of a level; the level of a direction is its lowest bit
 abbrev pub direction_of : ℕ → ℕ
 direction_of level = if level == 0 then 272 else 273
 
--- a bracket by its number: that of its pair, plus 2 ^ 31 for an opening one; 0 is none
+-- the bracket with a number: the code point of its pair, plus 2 ^ 31 for an opening one; 0 is no bracket
 abbrev pub bracket_by : ℕ → Option Bracket
 bracket_by number =
     if number == 0 then None

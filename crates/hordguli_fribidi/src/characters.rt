@@ -22,7 +22,7 @@ pub extern "C" fn hordguli_fribidi_core_type(
     }
 }
 
-// The type of a number that has a page.
+// The type of a code point whose page is in the index.
 fn type_on_page(c: u32, index: &[u8; 4352], pages: &[u32; 65_536]) -> u32
     requires { c < 1_114_112 }
     ensures { result ≡ type_at index.now pages.now c }
@@ -30,14 +30,14 @@ fn type_on_page(c: u32, index: &[u8; 4352], pages: &[u32; 65_536]) -> u32
     type_in(pages, index[c as usize / 256], c)
 }
 
-// The type, by the number of the page.
+// The type of a code point, from the number of its page.
 fn type_in(pages: &[u32; 65_536], page: u8, c: u32) -> u32
     ensures { result ≡ slice_index_or pages.now (page * 256 + c % 256) 0 }
 {
     pages[page as usize * 256 + c as usize % 256]
 }
 
-// The type of a number that has no page.
+// The type of a code point past the end of the index.
 #[cold]
 #[inline(never)]
 fn type_past(c: u32, pages: &[u32; 65_536]) -> u32
@@ -61,7 +61,7 @@ pub extern "C" fn hordguli_fribidi_core_types(
     }
 }
 
-// Writes four at a time, as long as each of them has a page.
+// Writes four types at a time, as long as the pages of all four are in the index.
 fn put_types(index: &[u8; 4352], pages: &[u32; 65_536], characters: &[u32], types: &mut [u32])
     requires { length types.old ≡ length characters.now }
     ensures { types.new ≡ map (type_at index.now pages.now) characters.now }
@@ -82,7 +82,7 @@ fn put_types(index: &[u8; 4352], pages: &[u32; 65_536], characters: &[u32], type
     put_each_type(index, pages, &characters[at..], &mut types[at..]);
 }
 
-// Writes one at a time.
+// Writes the types one at a time.
 fn put_each_type(index: &[u8; 4352], pages: &[u32; 65_536], characters: &[u32], types: &mut [u32])
     requires { length types.old ≡ length characters.now }
     ensures { types.new ≡ map (type_at index.now pages.now) characters.now }
@@ -92,7 +92,7 @@ fn put_each_type(index: &[u8; 4352], pages: &[u32; 65_536], characters: &[u32], 
     }
 }
 
-/// Returns the value of a code point in a list, its bracket or its mirror; 0 for most.
+/// Returns the mirror or bracket of a code point; 0 for most.
 #[unsafe(no_mangle)]
 pub extern "C" fn hordguli_fribidi_core_number(
     c: u32,
@@ -114,7 +114,7 @@ pub extern "C" fn hordguli_fribidi_core_number(
     number_by_parts(c, index, pages, numbers)
 }
 
-// The same for any number, any page and any entry.
+// Returns the mirror or bracket of any code point, with a check of each index.
 #[cold]
 #[inline(never)]
 fn number_by_parts(c: u32, index: &[u8; 4352], pages: &[u16; 4096], numbers: &[u32; 512]) -> u32
