@@ -40,7 +40,7 @@ fn levels_of(alloc: Global, level: u8, types: &[BidiClass]) -> Result<Vec<u8>, A
         .collect(alloc)
 }
 
-// The direction of a level, which is also the type on both sides of a list that is one sequence.
+// The direction of a level. In a list that is a single isolating run sequence, it is also sos and eos.
 fn direction(level: u8) -> BidiClass {
     if level % 2 == 1 {
         BidiClass::R

@@ -13,8 +13,8 @@ use breaks::Mark;
 use std::alloc::AllocError;
 use ucd::{LineClass, Tables};
 
-/// Replaces the contents of a list by the mark of the position after each character of a text. Another list
-/// is for the classes of the bases.
+/// Replaces the contents of `marks` with the mark of the position after each character of a text. Uses
+/// `classes` for the classes of the bases.
 pub fn reference_marks(
     tables: &Tables,
     text: &[char],

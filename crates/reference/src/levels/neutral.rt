@@ -3,7 +3,7 @@ use crate::levels::weak::type_or;
 use ucd::BidiClass;
 
 /// N1 and N2: neutrals get the direction of both their sides, or else the embedding direction, which is also
-/// the type on both sides of the sequence.
+/// sos and eos.
 pub fn resolve_neutral(types: &mut [BidiClass], side: BidiClass) {
     let mut before = side;
     // The nearest index after this one whose type is not neutral. It stays until it is passed.
@@ -45,7 +45,7 @@ fn after_neutrals(types: &[BidiClass], from: usize) -> usize {
     types.len()
 }
 
-// The direction of what is between two types that are not neutral.
+// The direction of neutrals between two types that are not neutral.
 fn between(side: BidiClass, before: BidiClass, after: BidiClass) -> BidiClass {
     match (before, after) {
         (BidiClass::L, BidiClass::L) => BidiClass::L,

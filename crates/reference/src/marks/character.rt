@@ -1,7 +1,7 @@
-//! What line breaking needs of a character (UAX #14, LB1, LB9 and LB10).
+//! The properties of a character that line breaking needs (UAX #14, LB1, LB9 and LB10).
 use ucd::{LineClass, Tables};
 
-/// What the rules need of a character. The class is the one that LB1 gives.
+/// The properties of a character that the rules need. The class is the one that LB1 gives.
 #[derive(Clone, Copy, Debug)]
 pub struct Character {
     pub class: LineClass,

@@ -3,7 +3,8 @@
 use crate::marks::classes::{CL, CP, HY, IS, NU, OP, PO, PR, SY, has};
 use ucd::LineClass;
 
-// How far a list of classes has come in `(PR | PO)? (OP | HY)? NU (NU | SY | IS)* (CL | CP)? (PR | PO)?`.
+// The part of `(PR | PO)? (OP | HY)? NU (NU | SY | IS)* (CL | CP)? (PR | PO)?` that a list of classes has
+// reached.
 #[derive(Clone, Copy)]
 enum Place {
     Start,
@@ -14,7 +15,7 @@ enum Place {
     End,
 }
 
-/// Whether some of the bases before an index and some from it on are a number together.
+/// Whether some bases directly before an index and some from it on form a number.
 pub fn is_in_number(classes: &[LineClass], place: usize) -> bool {
     for start in 0..place {
         if begins_number(classes, start, place) {
@@ -24,7 +25,7 @@ pub fn is_in_number(classes: &[LineClass], place: usize) -> bool {
     false
 }
 
-// Whether a number that begins at a base goes on past another base.
+// Whether a number that begins at a base continues past another base.
 fn begins_number(classes: &[LineClass], start: usize, place: usize) -> bool {
     let mut at = Place::Start;
     for i in start..classes.len() {

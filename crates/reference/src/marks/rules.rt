@@ -32,9 +32,9 @@ pub enum Left {
 #[derive(Clone, Copy)]
 pub enum Right {
     Any,
-    /// It has one of the classes.
+    /// The base has one of the classes.
     Is(Classes),
-    /// It has one of the classes, and is not wide.
+    /// The base has one of the classes, and is not wide.
     IsNarrow(Classes),
 }
 
@@ -84,8 +84,7 @@ fn first_mark(rules: &[Rule], before: &Before, after: &Character) -> Option<Mark
     None
 }
 
-/// The form of LB25: a rule on two bases, or that no line ends inside a number, and whether the position is
-/// inside one.
+/// The form of LB25: a rule on two bases, or a rule on whole numbers with whether the position is inside one.
 #[derive(Clone, Copy)]
 pub enum Numbers {
     Pairs,
