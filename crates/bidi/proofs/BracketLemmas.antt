@@ -1,4 +1,4 @@
--- The pass of N0: the indices that a set bracket changes, the strong types inside a pair, and what earlier pairs changed.
+-- The pass of N0: the indices that a set bracket changes, the strong types inside a pair, and the changes so far.
 use Rattle.std.proofs.Common.{◌≡◌, ℕ, zero, suc, ◌+◌, ◌-◌, ◌<◌, ◌≤◌, ◌==◌, ◌⊎◌, nat_lt, Bool, true, false, ◌&&◌, not, if◌then◌else◌, List, [], ◌∷◌, length, get_or, set, take, drop, map, fold, reverse, slice_range, slice_index, Option, Some, None, refl, sym, ap, subst, ◌∙◌, inl, inr, arith, length-drop}
 use Rattle.std.specs.List.{list_any, list_all, range_with_len}
 use Rattle.std.proofs.lemmas.Bool.{cond-true, cond-false, cases_Bool, cases_eq, cases_lt, cases_order, eq-eqb, ne_eqb, lt-ltb, le-ltb, both_ways, or_left, or_right, or_from, or_cases, and_parts, and_from, and_left}
@@ -199,7 +199,7 @@ stands_is left types place closer next within after passed stops =
           ∙ sym (range_any_none (is_toward left) types (place + 1) closer ON within (λ m above below. passed m (omega arith) (omega arith) below))
     ]
 
--- the next strong type of the old types is that of the current ones if none between has changed
+-- if no type inside a pair has changed, a search in the types before N0 finds the strong types inside it
 pub stands_as_before : (left : Bool) (types before : List BidiClass) (place closer old from next : ℕ) → closer < length types → length before ≡ length types
     → IsClear left before place old → ((m : ℕ) → place < m → m < closer → class_at types m ≡ class_at before m)
     → from ≤ next → place < from → ((m : ℕ) → place < m → m < from → m < old)
@@ -214,7 +214,7 @@ stands_as_before left types before place closer old from next within sizes clear
     ])
     (λ inside. ap (is_toward left) (kept next (omega arith) inside) ∙ stops inside)
 
--- an index that an earlier pair has set: it follows a bracket of that pair, with only marks between, none of them now ON
+-- an index that an earlier pair may have set: from a bracket of that pair up to the index, no type is ON now
 pub record Touched (closers : List ℕ) (current : List BidiClass) (k q : ℕ) : Type 0 where
   pub opener : ℕ
   pub place : ℕ
@@ -336,8 +336,8 @@ take-set_pair marks types a b (Some d) front within sizes =
     take-set_with marks d (set_with marks d types a) b a front (omega arith) (omega arith) ∙ take-set_with marks d types a a (omega arith) within sizes
 take-set_pair marks types a b None front within sizes = refl
 
--- The state of the pass over the indices of openers: the pairs from k on turn the current types into the result of N0, and
--- the strong type carried along is the nearest one before k.
+-- The state of the pass over the indices of openers. Resolving the pairs from k on in the current types gives the
+-- result of N0. The strong type carried along is the nearest one before k.
 pub record Resolved (embedding sos : BidiClass) (explicit : List BidiClass) (closers : List ℕ) (old current : List BidiClass) (k : ℕ) : Type 0 where
   pub changed : Changed closers old current k
   pub so_far : fold (λ types a. pair_step embedding sos (map is_mark explicit) types a (closer_in closers a)) current (range_with_len k (length old - k))

@@ -101,7 +101,7 @@ module _ (is_cut : ℕ → ℕ → Bool) where
       ∙ join xs at.0 at.1 rest [] (ap (paragraphs is_cut) (sym at.4) ∙ whole ∙ ap (λ p. p ∷ []) at.4) (subst (λ (t : List ℕ). paragraphs is_cut t ≡ t ∷ []) at.2 uncut)
       ∙ ap (λ p. p ∷ []) (sym at.3)
 
-  -- the same statement, if the characters before `seen` have no boundary
+  -- the characters before `seen`, if they have no boundary, are one paragraph
   uncut_up_to : (text : List ℕ) (seen n : ℕ) → suc n ≡ min (length text) seen - 1 → SplitsAt is_cut (take seen text) None → paragraphs is_cut (take (suc n + 1) text) ≡ take (suc n + 1) text ∷ []
   uncut_up_to text seen n is uncut = go (cases_lt seen (length text))
     where

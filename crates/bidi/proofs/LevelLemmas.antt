@@ -29,8 +29,8 @@ module _ (bracket_of : ℕ → Option Bracket) (base : ℕ) (characters : List �
   abbrev pub write : List ℕ → List ℕ → List ℕ
   write done sequence = put done sequence (levels_in bracket_of base characters classes levels types sequence)
 
-  -- The state of the pass over the runs at the start of one. `flags` says at which indices an earlier run continues.
-  -- Writing the levels of the sequences that begin here or later completes `done`.
+  -- The state of the pass over the runs at the start of one. `flags` marks the indices at which an earlier run
+  -- continues. Writing the levels of the sequences that begin here or later completes `done`.
   pub record Resolves (start : ℕ) (flags : List Bool) (done : List ℕ) : Type 0 where
     pub earlier : List (List ℕ)
     pub edge : 0 < start → start < length levels → slice_index levels (start - 1) ≢ slice_index levels start
@@ -50,7 +50,8 @@ module _ (bracket_of : ℕ → Option Bracket) (base : ℕ) (characters : List �
         ap (λ n. fold write levels (sequences_from classes [] (paragraphs (changes levels) (range_with_len 0 n)))) size;
   }
 
-  -- the step for a run: its sequence is written unless an earlier run continues in it; the run that continues it is flagged
+  -- the step for a run: its sequence is written unless an earlier run continues in it; a run that continues it is
+  -- flagged
   pub Resolves-next : (sizes : length classes ≡ length levels) (start end : ℕ) (flags after : List Bool) (done next : List ℕ) → IsRunEnd levels start end → (now : Resolves start flags done)
       → next ≡ (if get_or flags start false then done else write done (sequence_at classes levels start)) → length after ≡ length levels
       → ((j : ℕ) → j < length levels → (0 < j → slice_index levels (j - 1) ≢ slice_index levels j) → get_or after j false ≡ ((match_at classes (end - 1) == j) || get_or flags j false))

@@ -89,7 +89,7 @@ AreBeforeIsolate-more front entries status h other = record {
       (or_from status.is_isolate false other refl);
 }
 
--- closing the innermost isolate removes the innermost opener if that is an isolate, and else closes an isolate outside it
+-- closing an isolate removes the innermost opener if that is an isolate, and else closes an isolate outside it
 close_isolate-here : (opener : BidiClass) (outer : List BidiClass) → is_initiator opener ≡ true → close_isolate (opener ∷ outer) ≡ outer
 close_isolate-here opener outer isolate =
     ap (λ (x : Bool). cond (x || list_any is_initiator outer) (drop (cond (not x) (1 + prefix_len (λ o. not (is_initiator o)) outer) 0 + 1) (opener ∷ outer)) (opener ∷ outer)) isolate

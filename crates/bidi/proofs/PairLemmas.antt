@@ -415,7 +415,8 @@ module _ (bracket_of : ℕ → Option Bracket) (characters : List ℕ) (types : 
             rw (v.2, w.2) (now.apart a b v.0 w.0 lt v.1 w.1);
       }
 
-  -- the state of the pass: the openers on the list are the live ones in order, and the closers are those of the pairs so far
+  -- the state of the pass: the openers on the list are the live ones, in order; the closers are those of the pairs
+  -- so far
   pub record Walks (k : ℕ) (openers : List Opener) (closers : List ℕ) : Type 0 where
     pub held : map (λ (o : Opener). o.place) openers ≡ lives (live (before k)) k
     pub fit : (m : ℕ) → m < length openers → (c : ℕ) → is_pair_of (bracket_of (get_or characters (place_of openers m) 0)) c ≡ (canonical (pair_of openers m) == canonical c)

@@ -2,7 +2,7 @@
 use Rattle.std.specs.Prelude.{Bool, List, [], ◌∷◌, if◌then◌else◌}
 
 module _ {T : Type 0} where
-  -- the list that a rule makes: the rule gets the items before an item, the nearest first, the item, and the items after it
+  -- the list that a rule makes from the items before an item, the nearest first, the item, and the items after it
   abbrev pub each_by : (List T → T → List T → T) → List T → List T → List T
   each_by rule before [] = []
   each_by rule before (item ∷ after) = rule before item after ∷ each_by rule (item ∷ before) after

@@ -22,8 +22,8 @@ pub record AreLevelsSoFar (level : ℕ) (sos eos : BidiClass) (types : List Bidi
   pub order : start ≤ at
   pub whole : take start levels ++ levels_after level eos (at - start) before (drop at types) ≡ levels_after level eos 0 sos types
 
--- the levels of a run of equal types: if the levels of the neutrals before it have been written, so have those of the
--- run, for any such neutrals
+-- the levels of a run of equal types: if the levels of all neutrals before the run have been written, so have its
+-- own
 abbrev pub PutsRow : ℕ → List BidiClass → List ℕ → ℕ → BidiClass → List ℕ → ℕ → Type 0
 PutsRow level types levels at class put next =
     (sos eos before : BidiClass) (old : List ℕ) (start : ℕ) → AreLevelsSoFar level sos eos types old before start at → length levels ≡ length old

@@ -1,5 +1,5 @@
--- The state of the single pass for the weak rules: the types that wait for what follows them, and the types that W1 to
--- W3 and W7 look back at.
+-- The state of the single pass for the weak rules: the types that wait for later ones, and the earlier types that
+-- W1 to W3 and W7 need.
 use Rattle.std.specs.Prelude.{◌≡◌, ℕ, ◌+◌, ◌-◌, ◌≤◌, Bool, true, false, ◌&&◌, not, List, [], ◌∷◌, ◌++◌, length, map, take, drop, replicate, if◌then◌else◌}
 use Rattle.ucd.specs.declared.bidi_class.BidiClass.{BidiClass}
 use Rattle.ucd.specs.declared.bidi_class.BidiClass.TheVariants.{L, EN, ES, ET, AN, CS, NSM, ON}
@@ -9,7 +9,7 @@ use Rattle.ucd.specs.Classes.{is_strong}
 use Rattle.ucd.specs.Classes.{is_mark}
 use Rattle.bidi.specs.Weak.{mark_after, is_number, is_arabic, is_left, w3_type}
 
--- the list that a rule makes if it looks back only at the nearest item that passes a test, which is `before` at the start
+-- the list that a rule makes if it looks back only at the nearest item that passes a test, `before` at the start
 abbrev pub carry : {T : Type 0} → (T → T → List T → T) → (T → Bool) → T → List T → List T
 carry rule test before [] = []
 carry rule test before (item ∷ after) = rule before item after ∷ carry rule test (if test item then item else before) after

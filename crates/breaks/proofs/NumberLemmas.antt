@@ -1,4 +1,4 @@
--- A position is inside a number if and only if the bases before and after it match at one of four places of the expression.
+-- A position is inside a number if and only if the bases around it match at one of four places of the expression.
 use Rattle.std.proofs.Common.{◌≡◌, Bool, true, false, ◌&&◌, ◌||◌, List, [], ◌∷◌, ◌++◌, map, reverse, refl, sym, ap, ◌∙◌}
 use Rattle.std.specs.List.{list_any}
 use Rattle.std.proofs.lemmas.List.{append_assoc}

@@ -233,7 +233,7 @@ second_joined : (c : Character) (bases : List Base) → second_is_digit (joined 
 second_joined c [] = refl
 second_joined c (b ∷ bases) = refl
 
--- the second base is NU if and only if NU follows the characters that join the first one, if any can join it
+-- if characters can join the first base, the second base is NU exactly if `is_before_digit` holds for the rest
 second_is : (c : Character) (text : List Character) → is_one_of unattached c.class ≡ false → second_is_digit (bases_of (c ∷ text)) ≡ is_before_digit text
 second_is c [] free = refl
 second_is c (d ∷ text) free =

@@ -141,7 +141,7 @@ other_class symbol c below shows begins =
     ap (λ d. is_one_of (CM ∷ ZWJ ∷ []) d.class) (sym shows) ∙ not_is _ (sym (is_not_attached symbol below) ∙ begins)
 
 module _ {X : Type 0} (read : X → Character) (rest : List X) where
-  -- NU follows the characters from i on if it follows those from i + 1 on, if the one at i joins the base before
+  -- if the character at i joins the base before it, whether NU is the next base is the same from i + 1 on
   pub looks_on : (i : ℕ) (x : X) (symbol : ℕ) → i < length rest → x ≡ get_or rest i x → symbol < SYMBOL_COUNT
       → shown symbol ≡ told (read x) → ATTACHED ≤ symbol → is_before_digit (map read (drop i rest))
       ≡ is_before_digit (map read (drop (i + 1) rest))

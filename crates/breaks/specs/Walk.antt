@@ -1,6 +1,6 @@
--- The state of the single pass over the characters: what it needs of the bases before a position. A state stands for
--- some bases if the rules cannot distinguish them from those of `bases_at`. Only the code depends on states: `marks`
--- ensures that its marks are those of Marks.antt.
+-- The state of the single pass over the characters: the part of the bases before a position that the rules need. A
+-- state belongs to all bases that the rules cannot distinguish from its example bases (`bases_at`). Only the code
+-- depends on states: `marks` ensures that its marks are those of Marks.antt.
 use Rattle.std.specs.Prelude.{◌≡◌, ℕ, ◌*◌, ◌<◌, Bool, true, false, ◌||◌, ◌&&◌, ◌==◌, ◌++◌, List, [], ◌∷◌, map, MatchBool, get_or, if◌then◌else◌}
 use Rattle.ucd.specs.declared.line_class.LineClass.{LineClass}
 use Rattle.ucd.specs.declared.line_class.LineClass.TheVariants as class
@@ -136,8 +136,8 @@ carried bases =
     ∷ is_spaced (class.CL ∷ class.CP ∷ []) bases ∷ is_spaced (class.B2 ∷ []) bases
     ∷ ends_in_odd_run bases ∷ ends_in_digits bases ∷ []
 
--- The state belongs to bases, the nearest one first, which is the last one so far and may still grow. Its row is that of
--- a state whose example bases give and carry the same results. The two bits describe the last base.
+-- The state belongs to the bases `last` and `others`, the nearest first; a character may still join `last`. Its row is
+-- that of a state whose example bases give and carry the same results. Its two bits describe `last`.
 pub record Stands (whole_numbers : Bool) (walk : Walk) (last : Base) (others : List Base) : Type 0 where
   pub state : ℕ
   pub below : state < STATE_COUNT

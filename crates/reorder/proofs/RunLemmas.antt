@@ -272,7 +272,7 @@ module _ (levels : List ℕ) where
         | inr even ↦ even
       ]
 
-  -- from the highest level down to the lowest odd one, a run is reversed an odd number of times only if its level is odd
+  -- from the highest level down to the lowest odd one, a run is reversed an odd number of times if its level is odd
   odd_turned : (low s : ℕ) → lowest_odd levels ≡ Some low → is_odd (suc (get_or levels s 0) - low) ≡ is_odd (get_or levels s 0)
   odd_turned low s is =
       let level : ℕ = get_or levels s 0 in

@@ -10,7 +10,7 @@ use Rattle.ucd.specs.Classes.{class_at}
 use Rattle.reorder.specs.NoEnds.{AreNoEnds}
 use Rattle.reorder.specs.Spaces.{ends_segment, is_blank, is_reset, line_levels}
 
--- the state of the scan at an index: the levels from there on are final; `resets` says whether a blank before it is reset
+-- the state of the scan at an index: the levels from there on are final; `resets` is whether a blank before it is reset
 pub record Walked (base : ℕ) (classes : List BidiClass) (old current : List ℕ) (resets : Bool) (at : ℕ) : Type 0 where
   pub within : at ≤ length classes
   pub blank : resets ≡ is_reset (drop at classes)

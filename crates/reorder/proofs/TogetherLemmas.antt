@@ -111,7 +111,7 @@ module _ (classes : List BidiClass) (levels : List ℕ) (base n : ℕ) (is : IsG
   start : ℕ
   start = (are.covers (base + n) in_line).0
 
-  -- from there on, the marks follow in reverse order, and then the base
+  -- after the last mark of a group, its other marks follow in reverse order, and then its base
   follows : (k : ℕ) → k ≤ n → (start + k < length levels) × (get_or (order_of levels) (start + k) 0 ≡ base + (n - k))
   unfolding start
   follows zero h =

@@ -215,7 +215,7 @@ holds_file form lines k es held all = record {
   values = λ c is. held.values c is ∙ ap (λ ls. value_in form ls c) (take_all k lines all);
 }
 
--- after the first line of the remaining text: the lines that are left, the entries if it is added, the fault if it is not
+-- after the first line of the remaining text: the lines left, the entries if it is added, the fault if it is not
 module _ {V : Type 0} (form : Form V) (file : List ℕ) (k : ℕ) (es : List (Entry V)) (text front : List ℕ)
     (rest : Option (List ℕ)) (held : HoldsLines form (lines_of file) k es) (left : drop k (lines_of file)
     ≡ lines_of text) (parts : lines_of text ≡ parts_of 10 front rest) where

@@ -1,4 +1,4 @@
--- What the paged tables return for each code point, and the contents that they model.
+-- The properties that paged tables return for each code point, and the contents that they model.
 use Rattle.std.proofs.Common.{◌≡◌, ℕ, zero, suc, ◌<◌, ◌≤◌, ◌&&◌, Bool, true, false, List, [], ◌∷◌, ◌++◌, Option, Some, None, is_some, unwrap_or, refl, sym, ◌∙◌, ap, inl, inr, arith, if◌then◌else◌}
 use Rattle.std.specs.Char.{IsScalar}
 use Rattle.std.specs.BTreeMap.{BTreeMap, get}

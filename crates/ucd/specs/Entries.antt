@@ -32,7 +32,7 @@ module _ {V : Type 0} where
   abbrev pub AddsBoth : List (Entry V) → List (Entry V) → Entry V → Entry V → Type 0
   AddsBoth old new one other = (mid : List (Entry V)) × AddsEntry old mid one × AddsEntry mid new other
 
-  -- the same as `AddsEntry`, for scalar values only
+  -- an entry is added as in `AddsEntry`, for scalar values only
   pub record AddsCharacters (old new : List (Entry V)) (e : Entry V) : Type 0 where
     pub free : (c : ℕ) → IsScalar c → IsTrue (covers e c) → value_at old c ≡ None
     pub values : (c : ℕ) → IsScalar c → value_at new c ≡ (if covers e c then Some e.value else value_at old c)
