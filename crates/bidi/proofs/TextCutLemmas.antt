@@ -233,7 +233,7 @@ module _ (is_cut : ℕ → ℕ → Bool) where
             ∙ ap₂ (λ x y. x ∷ paragraphs is_cut y) (sym (ap chars front_is ∙ front_chars)) (sym (ap chars back_is ∙ more_chars));
       }
 
-  -- a text after characters that are held back
+  -- ---- a text after held characters
 
   -- there is no boundary between the held characters and the first character of the text
   uncut_first : (held cs : List ℕ) (last : Option ℕ) → last ≡ slice_get held (length held - 1) → SplitsAt is_cut held None

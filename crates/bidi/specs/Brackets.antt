@@ -32,7 +32,7 @@ abbrev pub is_pair_of : Option Bracket → ℕ → Bool
 is_pair_of (Some bracket) c = canonical bracket.pair == canonical c
 is_pair_of None c = false
 
--- the greatest number below one that passes a test
+-- the greatest number below a bound that passes a test
 abbrev pub greatest : (ℕ → Bool) → ℕ → Option ℕ
 greatest test zero = None
 greatest test (suc k) = if test k then Some k else greatest test k

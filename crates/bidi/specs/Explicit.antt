@@ -19,7 +19,7 @@ abbrev pub directed_at : List BidiClass → ℕ → BidiClass → BidiClass
 directed_at classes k FSI = if unwrap_or (first_strong_level (span_of classes k)) 0 == 1 then RLI else LRI
 directed_at classes k class = class
 
--- the classes of a paragraph, each FSI as the initiator that it acts as
+-- the classes of a paragraph, with each FSI replaced by the initiator that it acts as
 abbrev pub directed : List BidiClass → List BidiClass
 directed classes = map (λ k. directed_at classes k (class_at classes k)) (range_with_len 0 (length classes))
 

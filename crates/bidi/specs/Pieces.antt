@@ -19,7 +19,7 @@ module _ (is_cut : ℕ → ℕ → Bool) where
   ArePieces (piece ∷ []) = IsPiece piece
   ArePieces (piece ∷ next ∷ pieces) = IsPiece piece × IsCutBetween piece next × ArePieces (next ∷ pieces)
 
--- the paragraphs of each text are such parts, and such parts are the paragraphs of their concatenation
+-- the paragraphs of each text are valid parts of it, and valid parts are the paragraphs of their concatenation
 pub record ParagraphsArePieces : Type 0 where
   pub pieces : (is_cut : ℕ → ℕ → Bool) (text : List ℕ) → ArePieces is_cut (paragraphs is_cut text)
   pub whole : (is_cut : ℕ → ℕ → Bool) (text : List ℕ) → concat (paragraphs is_cut text) ≡ text

@@ -12,7 +12,7 @@ pub record IsStayed (classes : List BidiClass) (base : ℕ) (left : Stayed) : Ty
   pub levels_are : left.levels.items ≡ map (level_at base classes) (stayed classes)
   pub types_are : left.types.items ≡ map (type_at base classes) (stayed classes)
 
--- each kept character has all three, and no explicit level is above 125
+-- each kept character has a class, a level and a type, and no level is above 125
 pub record HasAll (left : Stayed) : Type 0 where
   pub classes : length left.classes.items ≡ length left.levels.items
   pub types : length left.types.items ≡ length left.levels.items

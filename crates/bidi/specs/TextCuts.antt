@@ -8,7 +8,7 @@ use Rattle.bidi.specs.Cuts.{SplitsAt, paragraphs}
 abbrev pub may_lead : ℕ → ℕ → ℕ → Bool
 may_lead a b c = nat_lt a 32 || ((a == 194 && b == 133) || (a == 226 && (b == 128 && c == 169)))
 
--- whether such a character may begin at index k
+-- whether a character of class B in Unicode's files may begin at index k of some bytes
 abbrev pub leads_at : List ℕ → ℕ → Bool
 leads_at bytes k = may_lead (slice_index bytes k) (slice_index bytes (k + 1)) (slice_index bytes (k + 2))
 

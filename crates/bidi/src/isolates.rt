@@ -84,8 +84,8 @@ fn close(found: &mut [usize], pending: &mut Vec<usize>, at: usize)
     }
 }
 
-/// Writes the classes of a paragraph, each FSI as the initiator that it acts as (X5c). Returns true if it
-/// found the matches for that; they are also those of the new classes.
+/// Writes the classes of a paragraph, with each FSI replaced by LRI or RLI (X5c). Returns whether `isolates`
+/// has the matches of the initiators, which are the same before and after.
 pub(crate) fn direct(
     classes: &[BidiClass],
     isolates: &mut Isolates,

@@ -93,7 +93,7 @@ fn is_neutral(class: BidiClass) -> bool
     )
 }
 
-// The direction of what is between two types that are not neutral.
+// The direction of the neutrals between two types that are not neutral.
 fn between(embedding: BidiClass, before: BidiClass, after: BidiClass) -> BidiClass
     ensures { result ≡ between embedding before after }
 {

@@ -115,7 +115,7 @@ fn is_weak(class: BidiClass) -> bool
     )
 }
 
-// W1: NSM gets the type of what is before it.
+// W1: NSM gets the type of the character before it.
 fn mark_type(before: BidiClass, class: BidiClass) -> BidiClass
     ensures { result ≡ mark_type before class }
 {

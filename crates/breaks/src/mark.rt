@@ -95,7 +95,7 @@ fn mark_all<C: Characters>(
     marks[last] = Mark::Must;
 }
 
-// The mark before a character, by its outcome and, if that waits, by the characters after it.
+// The mark before a character, from its outcome and, if that waits, from the characters after it.
 fn mark_before<C: Characters>(
     characters: C,
     after: usize,
