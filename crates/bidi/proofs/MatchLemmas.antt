@@ -70,7 +70,7 @@ Opens-start classes = record {
   passed = λ i h. absurd (omega arith);
 }
 
--- an initiator is pushed
+-- the step for an initiator: it is pushed on the stack
 pub Opens-up : (classes : List BidiClass) (k : ℕ) (stack found : List ℕ) → k < length classes → is_initiator (class_at classes k) ≡ true
     → Opens classes k stack found → Opens classes (k + 1) (stack ++ k ∷ []) found
 Opens-up classes k stack found within opens now =
@@ -177,7 +177,7 @@ Opens-down classes k stack found within opens shuts some now =
       ];
     }
 
--- any other character changes nothing
+-- the step for a character that is neither an initiator nor a PDI: the stack and the matches stay the same
 pub Opens-flat : (classes : List BidiClass) (k : ℕ) (stack found : List ℕ) → k < length classes → is_initiator (class_at classes k) ≡ false → is_pdi (class_at classes k) ≡ false
     → Opens classes k stack found → Opens classes (k + 1) stack found
 Opens-flat classes k stack found within opens shuts now =

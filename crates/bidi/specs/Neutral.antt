@@ -17,7 +17,7 @@ is_neutral FSI = true
 is_neutral PDI = true
 is_neutral type = false
 
--- N1: whether a type is a side of direction L; numbers are sides of direction R
+-- N1: whether two sides have the same direction, and the direction of a side; `true` is L, and numbers count as R
 abbrev pub agree : Bool → Bool → Bool
 agree true other = other
 agree false other = not other
