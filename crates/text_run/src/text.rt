@@ -36,7 +36,7 @@ struct Held {
     // The last chunk. Its first `waiting` bytes are the beginning of a character.
     chunk: Vec<u8>,
     waiting: usize,
-    // The number of bytes decoded before these.
+    // The number of bytes decoded before the waiting ones.
     decoded: u64,
     // The characters after the last paragraph boundary.
     text: Vec<char>,
