@@ -156,7 +156,7 @@ pub fn push_text(
     push_ended(alloc, page, engine, width, print, held, text)
 }
 
-// The same, with capacity for all characters if nothing is printed.
+// Does the work of `push_text`. If nothing is printed, `held` already has capacity for all characters.
 fn push_ended(
     alloc: Global,
     page: &mut Page,
