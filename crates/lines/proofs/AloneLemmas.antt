@@ -96,7 +96,7 @@ alone_is_apart c =
     (either _ _ (is_apart c ≡ true) (apart_in 1569 41 c arabic)
     (either _ _ (is_apart c ≡ true) (apart_in 8232 6 c embeddings) (apart_in 8294 3 c isolates)))))
 
--- no pair rule joins two characters that stand apart, and no other rule applies to them
+-- no pair rule joins two of these characters, and no other rule applies to them
 by_pair : (g h : GraphemeClusterBreak) → stands_apart g ≡ true → stands_apart h ≡ true → unwrap_or (break_by_pair true g h) true ≡ true
 by_pair Control Control one other = refl
 by_pair Control Lf one other = refl

@@ -29,7 +29,7 @@ last_within (a ∷ text) short =
 pub not_none : (text : List ℕ) → 0 < length text → (length text == 0) ≡ false
 not_none text some = grind (arith, nat_tests)
 
--- if the valid front of some bytes is not empty, it has characters
+-- a valid UTF-8 prefix that is not empty has characters
 pub front_some : (bytes : List ℕ) → 0 < utf8_valid_len bytes → 0 < length (front_of bytes)
 front_some bytes some = go (front_of bytes) refl
   where
@@ -42,7 +42,7 @@ front_some bytes some = go (front_of bytes) refl
         absurd (omega (arith, some, length-take-le (utf8_valid_len bytes) bytes (utf8_valid_len_le bytes), ap length (sym encoded ∙ ap encode_utf8_all none)))
     go (c ∷ cs) is = omega (arith, ap length is)
 
--- if k < n, and k + 1 < n if `bad`, a paragraph is left after k paragraphs and the one that invalid bytes follow
+-- k is below n, and so is k + 1 if `bad`
 pub left_by : (k n : ℕ) (bad : Bool) → k < n → (bad ≡ true → k + 1 < n) → (if bad then k + 1 else k) < n
 left_by k n true less more = more refl
 left_by k n false less more = less

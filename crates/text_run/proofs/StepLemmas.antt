@@ -98,7 +98,7 @@ module _ (rules : Rules) (width : ℕ) (print : Print) (reader_old writer_old : 
         (at_most_none print engine_old) at_most (omega (arith, few)),
   )
 
-  -- what was counted so far, and the number of characters of the valid front
+  -- the counters so far, and the number of characters in the valid UTF-8 prefix of the bytes so far
   module _ (held : Held) (s : Stands rules width print reader_old writer_old engine_old reader writer engine held) where
     counted_now : PrintsAtMost (length (concat s.is_at.sent)) print engine_old engine
     counted_now = at_most_printed print engine_old engine (length (concat s.is_at.sent)) s.fits s.counts
@@ -432,7 +432,7 @@ module _ (rules : Rules) (width : ℕ) (print : Print) (reader_old writer_old : 
     room_is : vec_len held_read.chunk ≡ CHUNK
     room_is = read.room ∙ s.room
 
-    -- what follows from the bound on the counters alone
+    -- the bound on the counters, whatever was found in the chunk
     module _ (engine_new : Engine) (at_most : PrintsAtMost (length (held_read.text.items ++ front_of bytes_read)) print engine engine_new) where
       has_read_more : HasRead reader_old reader_new (s.is_at.decoded ++ bytes_read)
       has_read_more = subst (λ (t : List ℕ). HasRead reader_old reader_new (t ++ bytes_read)) next_is.2 (next_is.0.read, next_is.0.passed)
@@ -491,7 +491,7 @@ module _ (rules : Rules) (width : ℕ) (print : Print) (reader_old writer_old : 
     abbrev left : List ℕ
     left = drop (utf8_valid_len bytes_read) bytes_read
 
-    -- the bytes after the valid front have no valid front
+    -- the bytes after the valid UTF-8 prefix do not start with a character
     left_none : utf8_valid_len left ≡ 0
     left_none =
         let v = utf8_valid_len bytes_read in
@@ -499,7 +499,7 @@ module _ (rules : Rules) (width : ℕ) (print : Print) (reader_old writer_old : 
         let whole = ap utf8_valid_len (take-append-drop v bytes_read) in
         omega (arith, parts, whole, length-take-le v bytes_read (utf8_valid_len_le bytes_read))
 
-    -- the state after the valid front is decoded and the lines of some paragraphs are gathered
+    -- the state after the valid UTF-8 prefix is decoded and the lines of some paragraphs are gathered
     decoded_is : (pars : List (List ℕ)) (text_new lines_new : List ℕ) → IsFront (cut_by rules) pars (held.text.items ++ front_of bytes_read) text_new → lines_new ≡ page rules width print pars
         → (next : IsAt rules width print reader_old reader_new writer_old writer left text_new lines_new)
         × (length next.decoded ≡ length s.is_at.decoded + utf8_valid_len bytes_read) × (next.sent ≡ s.is_at.sent) × (next.gathered ≡ pars)
@@ -535,7 +535,7 @@ module _ (rules : Rules) (width : ℕ) (print : Print) (reader_old writer_old : 
     no_lines : held_read.page.bytes.items ≡ []
     no_lines = ap (λ (h : Held). h.page.bytes.items) same ∙ s.lines
 
-    -- the bytes after the valid front are invalid, so that the run ends with `NotUtf8`
+    -- the bytes after the valid UTF-8 prefix are invalid, so that the run ends with `NotUtf8`
     ends_bad : (writer_new : Device) (text_new : List ℕ)
         (at : IsAt rules width print reader_old reader_new writer_old writer_new left text_new []) → at.gathered ≡ []
         → (place : ℕ) → length at.decoded ≡ place

@@ -76,8 +76,8 @@ pub record IsRead (n : ℕ) (old new : Held) (reader_old reader_new : Device) : 
   pub room : vec_len new.chunk ≡ vec_len old.chunk
   pub same : new ≡ record old { chunk = new.chunk }
 
--- The valid front of the bytes was decoded, and the lines of the paragraphs that have ended were appended to the page.
--- The bytes after the front wait. If they are invalid, the fault is `NotUtf8`.
+-- The valid UTF-8 prefix of the bytes was decoded, and the lines of the paragraphs that have ended were appended to the
+-- page. The bytes after this prefix wait. If they are invalid, the fault is `NotUtf8`.
 pub record Gathers (rules : Rules) (width : ℕ) (print : Print) (bytes : List ℕ) (old new : Held) (engine_old engine_new : Engine) (fault : Option RunFault) : Type 0 where
   pub pushed : Pushed rules width print (old.text.items ++ front_of bytes) new.text.items old.page.bytes.items new.page.bytes.items engine_old engine_new
   pub fault_is : fault ≡ (if is_bad bytes then Some (f.NotUtf8 new.decoded) else None)

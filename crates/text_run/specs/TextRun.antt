@@ -48,7 +48,7 @@ written_of pars is_whole =
 abbrev pub ending_of : List (List ℕ) → Option RunFault → Option RunFault
 ending_of pars wrong = if are_within pars then wrong else Some fault.ParagraphTooLong
 
--- the paragraphs of the valid front of an input
+-- the paragraphs of the valid UTF-8 prefix of an input
 abbrev pub front_paragraphs : Rules → List ℕ → List (List ℕ)
 front_paragraphs rules bytes = paragraphs (cut_by rules) (front_of bytes)
 

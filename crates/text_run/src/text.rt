@@ -88,8 +88,8 @@ impl Held {
     // Decodes the waiting bytes and `len` more, and adds to the page the lines of the paragraphs known to end
     // then. Returns what is wrong with the text, if anything.
     //
-    // Allocates only if a character is decoded and no paragraph is too long. If bytes are bad, it allocates
-    // only if a paragraph ends before them.
+    // Allocates only if a character is decoded and no paragraph is too long. If bytes are not UTF-8, it
+    // allocates only if a paragraph ends before them.
     fn gather(
         &mut self,
         alloc: Global,
