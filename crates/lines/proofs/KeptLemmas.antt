@@ -44,7 +44,7 @@ module _ (levels ltov vtol chars : List ℕ) where
   line_at (s ∷ starts) (part ∷ shown) zero d e within = refl
   line_at (s ∷ starts) (part ∷ shown) (suc k) d e within = line_at starts shown k d (omega (arith, e)) (omega (arith, within))
 
-  -- if the number of lines is not 1, there is not one line that fits
+  -- unless there is exactly one line, `is_line_within` is false
   pub not_one : (width : ℕ) (starts : List ℕ) (shown : List Shown) → length shown ≡ length starts → (length shown ≡ 1 → ⊥)
       → false ≡ is_line_within width (lines_by levels ltov vtol chars starts shown)
   not_one width [] shown e other = refl

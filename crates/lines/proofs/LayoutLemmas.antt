@@ -11,7 +11,7 @@ pub same_layout : (rules : Rules) (width : ℕ) (text seen : List ℕ) (base : �
     → record { text = text; base = base; levels = levels; marks = marks; lines = lines } ≡ layout_of rules width text
 same_layout rules width text seen base levels marks lines e b l m s = rw (b, l, m, s, e) refl
 
--- the fresh layout of a paragraph is laid out by rules that are equal, and so are its lines
+-- if the rules are equal, the fresh layout of a paragraph is laid out, and its lines are lines of its text
 pub laid_out_by : (rules same : Rules) (width : ℕ) (text : List ℕ) (laid : Layout) → same ≡ rules → IsParagraph rules text → laid ≡ layout_of rules width text → IsLaidOut same laid
 laid_out_by rules same width text laid e paragraph is =
     rw (e, is) (record { width = width; paragraph = paragraph; from_scratch = refl })

@@ -84,7 +84,7 @@ IsWholeLayout-same old new width kept same whole = record {
   filled = whole.filled;
 }
 
--- an edit is refused, and the engine is unchanged
+-- an edit fails and leaves the engine unchanged
 pub LaysOutAtMost-none : (n : ℕ) (engine : Engine) → LaysOutAtMost n engine engine
 LaysOutAtMost-none n engine = record {
   analysed = record { least = omega arith; most = omega arith };

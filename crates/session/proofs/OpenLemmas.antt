@@ -21,7 +21,7 @@ use Rattle.session.specs.declared.edits.TheConstants.{TEXT_LIMIT}
 pub positive : (n : ℕ) → (n ≡ 0 → ⊥) → 0 < n
 positive n some = omega (arith, some)
 
--- a store whose whole content was inserted
+-- inserting items into an empty store gives these items
 pub splice_all : {A : Type 0} (new : List A) → splice [] 0 0 new ≡ new
 splice_all new = append-nil new
 

@@ -123,8 +123,8 @@ abbrev pub PrintsNoMore : Print → Device → Device → Engine → Engine → 
 PrintsNoMore print reader_old reader_new engine_old engine_new =
     (bytes : List ℕ) × HasRead reader_old reader_new bytes × PrintsAtMost (length (front_of bytes)) print engine_old engine_new
 
--- After a failed write, all paragraphs of what was read were printed, or all but the last if the source had more. The
--- sink failed in their lines, after n bytes.
+-- After a failed write, all paragraphs of what was read but the last were printed; or all were, and the source had no
+-- more bytes. The sink failed in their lines, after n bytes.
 abbrev pub HasStopped : Rules → ℕ → Print → Device → Device → Device → Device → Engine → Engine → ℕ → Type 0
 HasStopped rules width print reader_old reader_new writer_old writer_new engine_old engine_new n =
     (bytes : List ℕ) × HasRead reader_old reader_new bytes
@@ -138,8 +138,8 @@ HasStopped rules width print reader_old reader_new writer_old writer_new engine_
 abbrev pub read_ahead : ℕ
 read_ahead = 4 * (PARAGRAPH_LIMIT + 1) + CHUNK
 
--- If a run ended with a fault, it has written the lines of the first k paragraphs of the input, and n bytes of the next
--- paragraph's lines. It has read at most `read_ahead` bytes after these k paragraphs.
+-- After a fault, the lines of the first k paragraphs of the input were written, and n bytes of the next one's. At most
+-- `read_ahead` bytes after these k paragraphs were read.
 abbrev pub ReadsAhead : Rules → ℕ → Print → Device → Device → Device → Device → Type 0
 ReadsAhead rules width print reader_old reader_new writer_old writer_new =
     (ending : Ending) × (bytes : List ℕ) × Gave reader_old reader_new ending bytes
