@@ -65,7 +65,7 @@
  *   - Use a handle in one call at a time, even if the calls only read. A call moves the object out of its handle and
  *     back, which the proof of the library depends on. This is why handles are not `const`.
  *   - Different handles may be used in different threads at the same time. Sessions and tables share only memory that
- *     is never written, and a count of its owners, which is atomic.
+ *     is never written, and an atomic reference count.
  *   - Several threads may use the same tables if their calls are serialized, by a lock or by creating or joining a
  *     thread.
  *   - Use and close a session in the thread that opened it. Nothing in a session is known to depend on the thread, but

@@ -1,6 +1,6 @@
 #!/bin/sh
 # Installs this folder: install.sh PREFIX. Removes what it has installed: install.sh --uninstall PREFIX.
-# Checks the files by SHA256SUMS before it installs them. PREFIX/share/hordguli/installed lists the installed files and new folders.
+# Checks the files against SHA256SUMS before installing them. PREFIX/share/hordguli/installed lists the installed files and new folders.
 set -eu
 LC_ALL=C
 export LC_ALL

@@ -296,7 +296,7 @@ static void places(void) {
     HOLDS(caret.line == 0 && caret.column == 6 && caret.level == 1 && caret.zero == 0);
     OK(hordguli_caret_at(&session, 18, &caret));
     HOLDS(caret.line == 2 && caret.column == 3 && caret.level == 0);
-    OK(hordguli_hit_at(&session, 0, 4, &hit)); /* the third of them */
+    OK(hordguli_hit_at(&session, 0, 4, &hit)); /* the third of these letters */
     HOLDS(hit.pos == 6 && hit.trailing == 0 && hit.zero == 0);
     OK(hordguli_hit_at(&session, 0, 99, &hit));
     HOLDS(hit.pos == 4 && hit.trailing == 0);

@@ -446,7 +446,7 @@ struct call {
     const char *name;
     hordguli_status (*make)(const arguments *a);
     const char *errors; /* as in the header */
-    const char *order;  /* the same with what else the header says about their order, or NULL */
+    const char *order;  /* the errors, with what else the header says about their order, or NULL */
     const char *never;  /* pairs that cannot apply at the same time, or NULL */
     const way *ways[4];
     size_t out_size;       /* of the output parameter */

@@ -6,7 +6,8 @@
  * - LATER: an FSI whose isolate has no strong type takes its direction from a later isolate of its depth.
  * - DEEP: an isolate that overflows counts as a depth of its own, and an overflow before it does not prevent an isolate.
  * - CONTEXT: the strong type before a pair of brackets is sought beyond the level run too.
- * - MERGED: a neutral right after a mark of a neutral joins it: it is no bracket, and takes the direction of a bracket before it.
+ * - MERGED: a neutral directly after a neutral's marks is merged with that neutral. It does not count as a bracket, and takes the
+ *   direction of a bracket before it.
  * - BARE: an unmatched PDI keeps its type under an override.
  *
  * A list has no separator except at its end. */

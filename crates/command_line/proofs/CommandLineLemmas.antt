@@ -1,4 +1,4 @@
--- What a parse of the command line gives: what it requires, and what has a default.
+-- What a parse of the command line gives for arguments that are required or have a default.
 use Rattle.std.proofs.Common.{◌≡◌, ◌∙◌, ◌<◌, ◌≤◌, ap, ap₂, arith, drop, codes, false, inl, inr, is_some, length, List, [], ◌∷◌, map, ℕ, zero, suc, None, Some, refl, subst, sym, true}
 use Rattle.std.specs.List.{list_all, list_any, slice_index_or}
 use Rattle.std.specs.Prelude.{pos}
@@ -35,7 +35,7 @@ pub program_is_free : is_simple_and_free program ≡ true
 unfolding program
 program_is_free = refl
 
--- only the first of the rules has its id
+-- if no later rule has the id of the first one, only the first has it
 only_first : (id : Text) (x d : Rule) (xs : List Rule) → list_any (λ r. bytes_eq r.id id) xs ≡ false
     → (j : ℕ) → j < length (x ∷ xs) → bytes_eq (slice_index_or (x ∷ xs) j d).id id ≡ true → j ≡ 0
 only_first id x d xs none zero lt same = refl
@@ -43,7 +43,7 @@ only_first id x d xs none (suc j) lt same =
     let any = list_any_at (λ r. bytes_eq r.id id) xs j d (omega arith) same in
     cc
 
--- and only the second
+-- if no other rule has the id of the second one, only the second has it
 only_second : (id : Text) (x y d : Rule) (xs : List Rule) → bytes_eq x.id id ≡ false → list_any (λ r. bytes_eq r.id id) xs ≡ false
     → (j : ℕ) → j < length (x ∷ y ∷ xs) → bytes_eq (slice_index_or (x ∷ y ∷ xs) j d).id id ≡ true → j ≡ 1
 only_second id x y d xs other none zero lt same = cc
@@ -51,7 +51,7 @@ only_second id x y d xs other none (suc j) lt same =
     let first = only_first id y d xs none j (omega arith) same in
     omega (arith, first)
 
--- the width's value, as the matches' rows have it
+-- a value of the width that its parser accepts is a number of columns
 width_of : (f : Found) (a : Arg) → a.id.now ≡ codes "width" → HasValue a (Signed (pos 1) (pos 65535)) f → HasWidth (rows_of f)
 width_of f a id value =
     let number = number_in value.text 1 65535 (omega arith) value.accepted in
@@ -110,7 +110,7 @@ module _ (c : Command) (same : app_of c ≡ program) where
         ]) in
         rw (← first_value-rows (found_of m) (codes "ucd")) (rw id at has)
 
-    -- the width's text, which may be the default
+    -- the matches have a valid width, which may be the default
     width_valued : (d : Arg) → HasWidth (rows_of (found_of m))
     unfolding program
     width_valued d =
@@ -138,14 +138,14 @@ some_arg : (xs : List Arg) → 0 < length xs → Arg
 some_arg [] lt = absurd (omega arith)
 some_arg (x ∷ xs) lt = x
 
--- what is required or has a default is there
+-- required arguments, and those with a default, are present
 pub required_there : (c : Command) (m : ArgMatches) → app_of c ≡ program → IsParsedFrom c m
     → (is_some (first_of (codes "ucd") (rows_of (found_of m))) ≡ true) × HasWidth (rows_of (found_of m))
 required_there c m same parsed =
     let d = some_arg (args_of c) (omega (arith, count c same)) in
     (ucd_valued c same m parsed d, width_valued c same m parsed d)
 
--- an argument more is a rule more
+-- adding an argument to a command adds its rule
 pub with_arg : (old new : Command) (a : Arg) (app : App) (r : Rule) → app_of old ≡ app → rule_of a ≡ r → a.global ≡ false → AddsArg old a new
     → app_of new ≡ with_rule app r
 with_arg old new a app r same rule local added = added.shape local ∙ ap₂ with_rule same rule

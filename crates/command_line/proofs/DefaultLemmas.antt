@@ -1,4 +1,4 @@
--- What a parse gives of an argument that has a default, and of a number in a range.
+-- What a parse gives for an argument that has a default, and for a number in a range.
 use Rattle.std.proofs.Common.{◌≡◌, ◌∙◌, ◌<◌, ◌≤◌, ◌==◌, ◌^◌, ap, ℕ, Result, Ok, Err, zero, suc, Bool, true, false, List, [], ◌∷◌, length, drop, cond, is_some, Option, Some, None, refl, sym, subst, inl, inr, arith}
 use Rattle.std.specs.Prelude.{find, option_map, slice_get, unwrap_or, pos}
 use Rattle.std.specs.Borrow.{Bor}
@@ -22,7 +22,7 @@ use Rattle.clap.specs.declared.parser.matches.Found.{Found}
 use Rattle.clap.specs.declared.parser.matches.MatchedArg.{MatchedArg}
 use Rattle.clap.proofs.CallerLemmas.{default_present, entry_by_id, same_rules_by_id}
 
--- an entry with an id is found by it
+-- if an entry has an id, `find` finds one
 has_entry : (xs : List Entry) (id : Text) (i : ℕ) → i < length xs → ((d : Entry) → bytes_eq (slice_index_or xs i d).0.now id ≡ true)
     → is_some (option_map (λ e. e.1) (find (λ e. bytes_eq e.0.now id) xs)) ≡ true
 has_entry [] id i lt is = absurd (omega arith)
@@ -37,13 +37,14 @@ has_entry (x ∷ xs) id i lt is = go (bytes_eq x.0.now id) refl i lt is (λ k lo
         cc
     go false other (suc k) low at rec = rw other (rec k (omega arith) at)
 
--- the first of some values, as it is and as it is read
+-- the first of some values, its parsed form, and a fact that holds for all of them
 head_value : (P : Bor Text → Type 0) (how : Reading) (vs : List (Bor Text)) → All P vs → 0 < length vs
     → (v : Bor Text) × (option_map (λ s. s.now) (slice_get vs 0) ≡ Some v.now) × (option_map (λ s. read_as how s.now) (slice_get vs 0) ≡ Some (read_as how v.now)) × P v
 head_value P how [] all some = absurd (omega arith)
 head_value P how (v ∷ vs) all some = (v, refl, refl, All-get_or P (v ∷ vs) 0 v (omega arith) all)
 
--- An argument of the caller's that takes a value and has a default has a first value, which passed its parser and is read as that says.
+-- An argument that takes a value and has a default has a first value. Its parser accepts that value and gives its
+-- parsed form.
 pub record HasValue (a : Arg) (q : ValueParser) (f : Found) : Type 0 where
   pub text : Text
   pub first : first_value f a.id.now ≡ Some text
@@ -61,7 +62,7 @@ module _ (old : Command) (m : ArgMatches) (p : IsParsedFrom old m) (plain : IsPl
   abbrev pub arg : Arg
   arg = slice_index_or (args_of old) k d
 
-  -- an argument of the built command with this id goes by the same rules
+  -- an argument of the built command with this id has the same rules
   same_rules : (j : ℕ) (x : Arg) → j < length (args_of p.built) → slice_index_or (args_of p.built) j x ≡ x → bytes_eq x.id.now arg.id.now ≡ true → SameRules arg x
   same_rules = same_rules_by_id old m p k d lt unique own
 
@@ -79,7 +80,7 @@ module _ (old : Command) (m : ArgMatches) (p : IsParsedFrom old m) (plain : IsPl
       let same = same_rules any.0 any.1 any.2 any.3 any.4.0 in
       sym any.4.1 ∙ ap reading_of (parser_is any.1 same)
 
-  -- what the entry of its id holds
+  -- what the entry with the argument's id contains
   module _ (x : MatchedArg) (found : matched_of (found_of m) arg.id.now ≡ Some x) (e : Entry) (same_x : e.1 ≡ x) (key : e.0.now ≡ arg.id.now)
       (pass : EntryPasses p.built e) where
     no_groups : groups_of p.built ≡ []
@@ -150,7 +151,7 @@ module _ (old : Command) (m : ArgMatches) (p : IsParsedFrom old m) (plain : IsPl
           let entry = entry_by_id (EntryPasses p.built) (found_of m).entries.items arg.id.now x parsed.values found in
           entry_value x found entry.0 entry.1 ((bytes_eq-Decides entry.0.0.now arg.id.now).0 entry.2) entry.3
 
--- a text of a number that is not below 1 has no minus
+-- the text of a number that is at least 1 has no minus sign
 no_minus : (t : Text) (low high : ℕ) → 1 ≤ low → IsSignedIn (pos low) (pos high) t → starts_with_minus t ≡ false
 no_minus t low high some inside = go (starts_with_minus t) refl
   where
@@ -186,7 +187,7 @@ number_in t low high some inside =
       whole = without_minus-cond t ∙ rw plain refl;
     }
 
--- such a text is read as that number, by a type that holds all numbers of the range
+-- the text of a number in a range is parsed as that number, if the type has all numbers of the range
 pub number_read : (E : Type 0) (G : Text → Result ℕ E → Type 0) (bits high : ℕ) (t : Text) (r : Option ℕ)
     → ReadsOne G t r → ((u : Text) (x : Result ℕ E) → G u x → ParsesUnsigned bits 10 u x) → high < 2 ^ bits
     → IsNumeral 10 (without_leading_plus t) → digits_value 10 (without_leading_plus t) ≤ high

@@ -1,4 +1,4 @@
--- The arguments as `clap` knows them, and the settings that they ask for.
+-- The arguments as `clap` knows them, and the settings that they give.
 use Rattle.std.specs.Prelude.{◌≡◌, ◌≤◌, ◌==◌, ◌||◌, not, ℕ, pos, Bool, true, false, List, [], ◌∷◌, ◌++◌, length, map, fold, codes, Option, Some, None, is_some, option_map, unwrap_or}
 use Rattle.std.specs.Str.Parse.{IsNumeral, digits_value, without_leading_plus}
 use Rattle.bidi.specs.declared.base.Base.{Base}
@@ -20,7 +20,7 @@ flag_rule name = record (new_rule name) { long = Some name; action = Some SetTru
 abbrev pub ucd_rule : Rule
 ucd_rule = record (new_rule (codes "ucd")) { long = Some (codes "ucd"); value_names = 1; required = true; action = Some Set }
 
--- a number of columns from 1 to 65,535; the default is 80
+-- the option `width`: a number of columns from 1 to 65,535; the default is 80
 abbrev pub width_rule : Rule
 width_rule = record (new_rule (codes "width")) {
   long = Some (codes "width");
@@ -30,15 +30,15 @@ width_rule = record (new_rule (codes "width")) {
   defaults = codes "80" ∷ [];
 }
 
--- an edit script
+-- the option `script`: the file of an edit script
 abbrev pub script_rule : Rule
 script_rule = record (new_rule (codes "script")) { long = Some (codes "script"); value_names = 1; action = Some Set }
 
--- queries in the script
+-- the option `queries`: the script may contain queries
 abbrev pub queries_rule : Rule
 queries_rule = flag_rule (codes "queries")
 
--- any number of texts
+-- any number of text files
 abbrev pub files_rule : Rule
 files_rule = record (new_rule (codes "files")) { value_names = 1; action = Some Append }
 
@@ -56,7 +56,7 @@ print_rules =
     codes "nopad" ∷ codes "nomirror" ∷ codes "novisual" ∷ codes "basedir" ∷ codes "ltov" ∷ codes "vtol" ∷ codes "levels" ∷ []
     )
 
--- the command line: the arguments after the program's name, with these options and texts; there is a version to print
+-- the command line: these options, any number of texts, and `--version`
 abbrev pub start : App
 start = on_top (λ s. record s { no_binary_name = true; has_version = true }) (new_app (codes "fribidi"))
 
@@ -97,7 +97,7 @@ queries_fit rows = fits_queries (is_given (codes "queries") rows) (is_some (firs
 abbrev pub number_of : Text → ℕ
 number_of text = digits_value 10 (without_leading_plus text)
 
--- the settings are what the matches of the arguments hold, and no fault applies
+-- The settings have the values of the matched arguments, and the arguments have no fault.
 pub record AreSettings (words : List Text) (settings : Settings) : Type 0 where
   pub taken : fault_of program words ≡ []
   pub ucd : first_of (codes "ucd") (matches_of program words) ≡ Some settings.ucd.now
@@ -120,24 +120,23 @@ pub record AreSettings (words : List Text) (settings : Settings) : Type 0 where
   pub one : script_fits (matches_of program words) ≡ true
   pub asked : queries_fit (matches_of program words) ≡ true
 
--- the width's text, which is a number of columns that is allowed
+-- the text of the width is a number from 1 to 65,535
 pub record HasWidth (rows : List Row) : Type 0 where
   pub text : Text
   pub first : first_of (codes "width") rows ≡ Some text
   pub one : one_of (codes "width") rows ≡ Some text
   pub allowed : IsNumeral 10 (without_leading_plus text) × (1 ≤ number_of text) × (number_of text ≤ 65535)
 
--- the matches are those of arguments to which no fault applies, so those that are required or have a default are
--- present
+-- The matches are those of arguments without a fault. So each argument that is required or has a default is present.
 pub record AreMatches (words : List Text) (matches : ArgMatches) : Type 0 where
   pub taken : fault_of program words ≡ []
   pub rows : rows_of (found_of matches) ≡ matches_of program words
   pub ucd : is_some (first_of (codes "ucd") (rows_of (found_of matches))) ≡ true
   pub width : HasWidth (rows_of (found_of matches))
 
--- `clap` refuses the arguments with this kind of error. Or it accepts them, and one of these applies, tested in this
--- order. More than one base direction is set; a script has another number of texts than one; there are queries without
--- a script.
+-- `clap` refuses the arguments with this kind of error. Or it accepts them, and one of these faults applies, tested in
+-- this order. More than one base direction is set. A script has no text, or more than one. There are queries without a
+-- script.
 abbrev pub IsLineFault : List Text → LineFault → Type 0
 IsLineFault words (Words error) = IsAmong (kind_of error) (fault_of program words)
 IsLineFault words Directions = (fault_of program words ≡ []) × (base_of (matches_of program words) ≡ None)
@@ -148,7 +147,7 @@ IsLineFault words Queries =
     × (queries_fit (matches_of program words) ≡ false)
 IsLineFault words NoMemory = Unit {0}
 
--- an allocation failure hides no fault of arguments that `clap` accepts
+-- an allocation failure is reported only if the accepted arguments have no other fault
 abbrev pub HidesNothing : List Row → LineFault → Type 0
 HidesNothing rows NoMemory = (is_some (base_of rows) ≡ true) × (script_fits rows ≡ true) × (queries_fit rows ≡ true)
 HidesNothing rows fault = Unit {0}

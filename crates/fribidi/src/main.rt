@@ -25,8 +25,8 @@ fn main(rt: HostRuntime) -> ExitCode {
         return ExitCode::SUCCESS;
     };
     let reported = report(&rt, &fault);
-    // If help or the version cannot be written, that is an error. After any other message, only the status is
-    // left.
+    // Failing to write help or the version is an error. If another message cannot be written, only the exit
+    // status reports its fault.
     if reported.is_err() && fault.status() == 0 {
         let _ = eprintln!(&rt; "fribidi: cannot write help");
         return ExitCode::FAILURE;

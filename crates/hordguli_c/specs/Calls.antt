@@ -1,31 +1,29 @@
--- How a call changes a handle and an output parameter.
---
--- The statuses of a call are a chain. Each definition checks one condition, and returns its status or passes
--- on to the next.
+-- How a call changes a handle and an output parameter. The conditions of a call are checked one after another. Each
+-- definition checks one condition: if it does not hold, the call returns a status, and otherwise the next one is
+-- checked.
 use Rattle.std.specs.Prelude.{◌≡◌, ℕ, ◌⊎◌, List, Option, Some, None, IsUtf8, chars}
 use Rattle.hordguli_c.specs.declared.status.Status.{Status}
 use Rattle.hordguli_c.specs.declared.status.Status.TheVariants as is
 
--- if a condition holds, the chain goes on; if not, the call returns a status and changes nothing
+-- If a condition holds, the next one is checked. If not, the call returns a status and changes nothing.
 abbrev pub Given : Type 0 → Status → Status → Type 0 → Type 0 → Type 0
 Given holds refused status unchanged rest = ((¬ holds) × (status ≡ refused) × unchanged) ⊎ (holds × rest)
 
--- the end of the chain of a call that allocates on a condition: it succeeds, or allocation fails and nothing
--- changes
+-- The last condition of a call that may allocate: the call succeeds, or an allocation fails and nothing changes.
 abbrev pub OrNoMemory : Type 0 → Status → Type 0 → Type 0 → Type 0
 OrNoMemory allocates status unchanged done = done ⊎ ((status ≡ is.NoMemory) × allocates × unchanged)
 
--- a query on what a handle holds, with one output parameter; on a closed handle nothing is written
+-- a query about the object of a handle, with one output parameter; for a closed handle nothing is written
 abbrev pub Asks : {A O : Type 0} → (Status → A → O → O → Type 0) → Status → Option A → O → O → Type 0
 Asks says status None old new = (status ≡ is.Closed) × (new ≡ old)
 Asks says status (Some held) old new = says status held old new
 
--- the same with options, which may have an unknown bit
+-- a query with options, which fails if an option bit is unknown
 abbrev pub AsksBy : {P A O : Type 0} → (P → Status → A → O → O → Type 0) → Option P → Status → Option A → O → O → Type 0
 AsksBy says None status held old new = (status ≡ is.UnknownOption) × (new ≡ old)
 AsksBy says (Some options) status held old new = Asks (says options) status held old new
 
--- a call that may change what a handle holds: an open handle stays open, and a closed one closed
+-- a call that may change the object of a handle: an open handle stays open, and a closed one closed
 abbrev pub Changes : {A O : Type 0} → (Status → A → A → O → O → Type 0) → Status → Option A → Option A → O → O → Type 0
 Changes does status None after old new = (status ≡ is.Closed) × (after ≡ None) × (new ≡ old)
 Changes does status (Some before) None old new = ⊥

@@ -9,7 +9,7 @@ use Rattle.hordguli_c.specs.declared.edit_calls.DamageOut.{DamageOut}
 use Rattle.hordguli_c.specs.declared.status.Status.{Status}
 use Rattle.hordguli_c.specs.declared.status.Status.TheVariants as is
 
--- the status of each fault
+-- the status of each fault of an edit
 abbrev pub edit_status : EditFault → Status
 edit_status faults.OutOfRange = is.OutOfRange
 edit_status faults.WidthOutOfRange = is.WidthOutOfRange
@@ -27,8 +27,8 @@ damage_out damage = record {
   new_paragraphs = damage.new_pars;
 }
 
--- An edit is made, and its damage is stored. Or it is refused, and nothing is stored. Allocation fails only
--- for some texts.
+-- An edit is executed, and its damage is stored. Or it fails, and nothing is stored. It fails with `NoMemory` only if
+-- `may_want` holds.
 abbrev pub Tries : (SessionState → SessionState → Damage → Type 0) → (SessionState → SessionState → EditFault → Type 0) → Type 0
     → Status → SessionState → SessionState → DamageOut → DamageOut → Type 0
 Tries makes refuses may_want status before after old new =

@@ -1,9 +1,9 @@
--- The values of what a handle returned, if it returned something.
+-- The object of a handle, if it is open.
 use Rattle.std.specs.Prelude.{Option, Some, None}
 use Rattle.std.specs.Global.{Global, Box}
 use Rattle.hordguli_c.specs.declared.raw_box.RawBox.{RawBox}
 
--- any `Global`: the right to free a block is the same of each
+-- any `Global`: each has the same right to free a block
 abbrev pub the_global : Global
 the_global = record { memory = record { seal = tt } }
 

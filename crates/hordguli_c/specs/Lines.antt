@@ -1,4 +1,4 @@
--- What is stored of a line and of a paragraph: numbers, and lists in arrays, each of which may not be wanted.
+-- What is stored for a line and for a paragraph: numbers, and lists in arrays, each of which is optional.
 use Rattle.std.specs.Prelude.{◌≡◌, ℕ, ◌&&◌, Bool, List, length, map, slice_index, Option, Some, None, MatchBool}
 use Rattle.lines.specs.Columns.{padding_of}
 use Rattle.lines.specs.Layouts.{Layout}
@@ -13,7 +13,7 @@ use Rattle.hordguli_c.specs.declared.layout_calls.ParagraphOut.{ParagraphOut}
 use Rattle.hordguli_c.specs.declared.status.Status.{Status}
 use Rattle.hordguli_c.specs.declared.status.Status.TheVariants as is
 
--- information about a line that starts at a position, in a session of a width
+-- the information about a line that starts at `start`, in a session with this width
 abbrev pub line_out : ℕ → ℕ → Visual → LineOut
 line_out width start line = record {
   start = start;
@@ -36,7 +36,7 @@ pub record LineArrays : Type 0 where
   pub vtol : List ℕ
   pub columns : List ℕ
 
--- the arrays with what is wanted of a line, and whether it fits in them
+-- the arrays with the requested lists of a line, and whether these fit
 abbrev pub line_put : ℕ → Visual → LineArrays → LineArrays
 line_put wanted line arrays = record {
   characters = put_if (has_bit wanted 1) line.chars arrays.characters;
@@ -54,12 +54,12 @@ line_fits wanted line arrays =
     && has_room (has_bit wanted 8) (length line.vtol) (length arrays.vtol)
     && has_room (has_bit wanted 16) (length line.vtol) (length arrays.columns)
 
--- the arrays are written if the elements fit in all that are wanted, and otherwise none is
+-- the requested arrays are written if all lists fit, and otherwise none is written
 abbrev pub PutsLine : ℕ → Visual → Status → LineArrays → LineArrays → Type 0
 PutsLine wanted line status old new =
     MatchBool (line_fits wanted line old) ((status ≡ is.Ok) × (new ≡ line_put wanted line old)) ((status ≡ is.NoRoom) × (new ≡ old))
 
--- the start of a line and the line itself are stored together, or there is no such line
+-- the information about a line and its lists are stored, or there is no such line
 abbrev pub ShowsLine : ℕ → ℕ → Option ℕ → Option Visual → Status → LineOut × LineArrays → LineOut × LineArrays → Type 0
 ShowsLine wanted width (Some start) (Some line) status old new = (new.0 ≡ line_out width start line) × PutsLine wanted line status old.1 new.1
 ShowsLine wanted width start line status old new = (status ≡ is.OutOfRange) × (new ≡ old)

@@ -19,19 +19,20 @@ pub record IsFresh (tables : Tables) (options : Options) (engine : Engine) : Typ
   pub filled : filled_of engine ≡ 0
   pub written : written_of engine ≡ 0
 
--- with a fresh engine, a session is opened on a text at a width
+-- a session was opened on a text at a width, with a new engine
 pub record IsOpened (tables : Tables) (options : Options) (text : List ℕ) (width : ℕ) (state : SessionState) : Type 0 where
   pub engine : Engine
   pub fresh : IsFresh tables options engine
   pub opens : Opens engine text width state
 
--- or it is refused for the first reason that applies, and for failed allocation only if none applies
+-- a session is not opened: for the first reason that applies, or with `NoMemory` if none applies
 pub record IsRefused (tables : Tables) (options : Options) (text : List ℕ) (width : ℕ) (status : Status) : Type 0 where
   pub fault : EditFault
   pub reason : IsAnswerFor (opening_refusal (cut_by (record { tables = tables; options = options })) text width) fault
   pub status_is : status ≡ edit_status fault
 
--- Tables with more owners than can be counted are refused before the text is looked at.
+-- Opens a session on tables. If they have too many owners, fails with `NoMemory` before the limits of the text are
+-- checked.
 abbrev pub OpensOn : Options → List ℕ → ℕ → Status → Option Tables → Option SessionState → Option SessionState → Type 0
 OpensOn options text width status tables (Some state) after = (status ≡ is.AlreadyOpen) × (after ≡ Some state)
 OpensOn options text width status None None after = (status ≡ is.Closed) × (after ≡ None)

@@ -13,15 +13,15 @@ abbrev pub base_of : ℕ → Base
 base_of bits =
     if bits % 4 == 0 then WeakLtr else if bits % 4 == 1 then WeakRtl else if bits % 4 == 2 then Ltr else Rtl
 
--- the base direction, if no other bit is set
+-- the base direction, or `None` if another bit is set
 abbrev pub direction_of : ℕ → Option Base
 direction_of bits = if nat_lt bits 4 then Some (base_of bits) else None
 
--- whether breaks inside numbers are disabled, if no other bit is set
+-- whether breaks inside numbers are disabled, or `None` if another bit is set
 abbrev pub tailoring_of : ℕ → Option Bool
 tailoring_of bits = if bits == 0 then Some false else if bits == 16 then Some true else None
 
--- the options of a session
+-- the options of a session, or `None` if an unknown bit is set
 abbrev pub options_of : ℕ → Option Options
 options_of bits =
     if nat_lt bits 32 then Some (record {
@@ -31,7 +31,7 @@ options_of bits =
       whole_numbers = has_bit bits 16;
     }) else None
 
--- what is printed of a line
+-- what is printed of a line, or `None` if an unknown bit is set
 abbrev pub print_of : ℕ → Option Print
 print_of bits =
     if nat_lt bits 128 then Some (record {

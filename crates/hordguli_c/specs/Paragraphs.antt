@@ -19,7 +19,7 @@ mark_number Never = 0
 mark_number May = 1
 mark_number Must = 2
 
--- why numbers are not accepted as characters
+-- why numbers are not accepted as characters: one is not a scalar value, or an allocation failed
 abbrev pub CharactersNot : List ℕ → Status → Type 0
 CharactersNot numbers status =
     ((¬ All IsScalar numbers) × (status ≡ is.NotACharacter))
@@ -31,7 +31,7 @@ OfCharacters characters status unchanged done =
     Given (All IsScalar characters) is.NotACharacter status unchanged
     (OrNoMemory (0 < length characters) status unchanged done)
 
--- the array gets a number for each of the characters, if they fit
+-- one number for each character is stored, if they fit in the array
 abbrev pub PutsEach : (List ℕ → List ℕ) → List ℕ → Status → List ℕ → List ℕ → Type 0
 PutsEach numbers characters status old new =
     Given (length characters ≤ length old) is.NoRoom status (new ≡ old)

@@ -1,5 +1,4 @@
--- What a handle of a session owns: nothing if it is null, and otherwise the block that holds a session of
--- this value.
+-- What a handle of a session owns: nothing if it is null, and otherwise the block of a session with this value.
 use Rattle.std.specs.Prelude.{◌≡◌, Option, Some, None}
 use base.Fml.{Fml, ftrue, fex}
 use denote.RattleType.{RattleType}
@@ -14,14 +13,14 @@ use Rattle.store.specs.contracts.tree_store.TreeStoreParagraphStore.TheImpl as s
 use Rattle.session.specs.Sessions.{SessionState}
 use Rattle.hordguli_c.specs.Held.{the_global}
 
--- what a contract sees of a session
+-- the value of a session in contracts
 abbrev pub Value : Type 0
 Value = SessionState
 
 abbrev pub object_row : RattleType
 object_row = session.the_row (store.the_row kept.the_row measured.ghosts) (store_impl.ghosts kept.the_row measured.ghosts store_impl.no_dict)
 
--- what is at a handle's pointer
+-- what the pointer of a handle owns
 abbrev pub object_at : Ptr → Option Value → Fml
 object_at p None = fex (p ≡ null_ptr) (λ _. ftrue)
 object_at p (Some x) = box_owns (ghosts.dealloc_token the_global) object_row p x

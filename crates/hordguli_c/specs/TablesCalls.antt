@@ -1,4 +1,4 @@
--- How the functions on handles of tables change these.
+-- How the functions on handles of tables change these handles.
 use Rattle.std.specs.Prelude.{◌≡◌, ℕ, ◌-◌, ◌⊎◌, Option, Some, None}
 use Rattle.ucd.specs.Tables.{AreTablesOf, IsFaultOf}
 use Rattle.ucd.specs.declared.fault.Cause.{Cause}
@@ -19,22 +19,22 @@ cause_number cause.Value = 5
 cause_number cause.NamedBefore = 6
 cause_number cause.Memory = 7
 
--- files are counted from 0, and lines from 1
+-- a fault as it is stored: files are counted from 0, and lines from 1
 abbrev pub fault_out : TableFault → TableFaultOut
 fault_out fault = record { file = fault.file - 1; line = fault.line; cause = cause_number fault.cause }
 
--- failed allocation has a status of its own; any other fault is stored
+-- a failed allocation returns `NoMemory` and stores nothing; any other fault is stored
 abbrev pub TellsFault : Cause → TableFault → Status → TableFaultOut → TableFaultOut → Type 0
 TellsFault cause.Memory fault status old new = (status ≡ is.NoMemory) × (new ≡ old)
 TellsFault why fault status old new = (status ≡ is.TableFault) × (new ≡ fault_out fault)
 
--- the handle holds the tables of the files, or an allocation failed, or the files are refused
+-- the handle has the tables of the files, or an allocation failed, or the files have a fault
 abbrev pub Reads : UcdFiles → Status → Option Tables → TableFaultOut → TableFaultOut → Type 0
 Reads files status (Some tables) old new = (status ≡ is.Ok) × AreTablesOf files tables × (new ≡ old)
 Reads files status None old new =
     ((status ≡ is.NoMemory) × (new ≡ old)) ⊎ ((fault : TableFault) × IsFaultOf files fault × TellsFault fault.cause fault status old new)
 
--- an open handle is unchanged
+-- reads tables into a closed handle; an open one is unchanged
 abbrev pub ReadsTables : UcdFiles → Status → Option Tables → Option Tables → TableFaultOut → TableFaultOut → Type 0
 ReadsTables files status None after old new = Reads files status after old new
 ReadsTables files status (Some tables) after old new = (status ≡ is.AlreadyOpen) × (after ≡ Some tables) × (new ≡ old)

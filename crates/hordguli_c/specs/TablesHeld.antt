@@ -1,5 +1,4 @@
--- What a handle of tables owns: nothing if it is null, and otherwise the block that holds tables of this
--- value.
+-- What a handle of tables owns: nothing if it is null, and otherwise the block of tables with this value.
 use Rattle.std.specs.Prelude.{◌≡◌, Option, Some, None}
 use base.Fml.{Fml, ftrue, fex}
 use denote.RattleType.{RattleType}
@@ -10,14 +9,14 @@ use Rattle.ucd.specs.contracts.tables.Tables as tables
 use Rattle.ucd.specs.declared.tables.Tables.{Tables}
 use Rattle.hordguli_c.specs.Held.{the_global}
 
--- what a contract sees of tables
+-- the value of tables in contracts
 abbrev pub Value : Type 0
 Value = Tables
 
 abbrev pub object_row : RattleType
 object_row = tables.the_row
 
--- what is at a handle's pointer
+-- what the pointer of a handle owns
 abbrev pub object_at : Ptr → Option Value → Fml
 object_at p None = fex (p ≡ null_ptr) (λ _. ftrue)
 object_at p (Some x) = box_owns (ghosts.dealloc_token the_global) object_row p x

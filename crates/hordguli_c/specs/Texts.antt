@@ -1,4 +1,4 @@
--- What is stored as bytes.
+-- Text that is stored as bytes.
 use Rattle.std.specs.Prelude.{◌≡◌, ℕ, ◌+◌, ◌<◌, ◌≤◌, ◌⊎◌, List, Some, length}
 use Rattle.device.specs.Device.{Device}
 use Rattle.lines.specs.declared.print.Print.{Print}
@@ -13,29 +13,28 @@ use Rattle.hordguli_c.specs.Calls.{Given, OrNoMemory}
 use Rattle.hordguli_c.specs.declared.status.Status.{Status}
 use Rattle.hordguli_c.specs.declared.status.Status.TheVariants as is
 
--- bytes are copied to an array if they fit, and otherwise none is; their number is stored in both cases
+-- bytes are copied to an array if all of them fit; their number is stored in any case
 abbrev pub PutsBytes : List ℕ → Status → List ℕ × ℕ → List ℕ × ℕ → Type 0
 PutsBytes bytes status old new =
     ((status ≡ is.Ok) × (length bytes ≤ length old.0) × (new ≡ (put bytes old.0, length bytes)))
     ⊎ ((status ≡ is.NoRoom) × (length old.0 < length bytes) × (new ≡ (old.0, length bytes)))
 
--- The bytes of a range of a number of items. They are gathered before they are copied, so an allocation may
--- fail before their number is known.
+-- Stores the bytes of a range of items. They are collected before they are copied, so an allocation may fail before
+-- their number is known.
 abbrev pub PutsRange : ℕ → ℕ → ℕ → List ℕ → Status → List ℕ × ℕ → List ℕ × ℕ → Type 0
 PutsRange size first count bytes status old new =
     Given (first + count ≤ size) is.OutOfRange status (new ≡ old)
     (OrNoMemory (0 < length bytes) status (new ≡ old) (PutsBytes bytes status old new))
 
--- why a range is not gathered: it reaches past the end, or an allocation failed before all bytes were
--- gathered
+-- why the bytes of a range are not collected: the range is past the end, or an allocation failed
 abbrev pub RangeNot : ℕ → ℕ → ℕ → List ℕ → RangeFault → Type 0
 RangeNot size first count bytes OutOfRange = size < first + count
 RangeNot size first count bytes (Write fault) = (first + count ≤ size) × (0 < length bytes)
 
--- lines as they are printed
+-- stores the bytes of lines, as they are printed
 abbrev pub PutsLines : ℕ → ℕ → Print → Status → SessionState → List ℕ × ℕ → List ℕ × ℕ → Type 0
 PutsLines first count print status state = PutsRange (length (lines_in state.kept)) first count (lines_page state first count print) status
 
--- characters as UTF-8
+-- stores characters as UTF-8
 abbrev pub PutsText : ℕ → ℕ → Status → SessionState → List ℕ × ℕ → List ℕ × ℕ → Type 0
 PutsText pos count status state = PutsRange (length (text_at state)) pos count (utf8_part state.kept pos count) status

@@ -56,7 +56,7 @@ isolates : all_from is_apart 8294 4 ≡ true
 unfolding grapheme_cluster_break value_in grapheme_cluster_break_rows indic_conjunct_break indic_conjunct_break_rows
 isolates = refl
 
--- a test of all from a number on
+-- a test that holds for a range of numbers holds for each of them
 one_of : (test : ℕ → Bool) (first n c : ℕ) → all_from test first n ≡ true → first ≤ c → c < first + n → test c ≡ true
 one_of test first zero c all from to = absurd (omega (arith, from, to))
 one_of test first (suc n) c all from to =
@@ -96,7 +96,7 @@ alone_is_apart c =
     (either _ _ (is_apart c ≡ true) (apart_in 1569 41 c arabic)
     (either _ _ (is_apart c ≡ true) (apart_in 8232 6 c embeddings) (apart_in 8294 3 c isolates)))))
 
--- no rule on pairs joins two of them, and no other rule concerns them
+-- no pair rule joins two of these characters, and no other rule applies to them
 by_pair : (g h : GraphemeClusterBreak) → stands_apart g ≡ true → stands_apart h ≡ true → unwrap_or (break_by_pair true g h) true ≡ true
 by_pair Control Control one other = refl
 by_pair Control Lf one other = refl
@@ -149,7 +149,7 @@ ends_apart before (c ∷ d ∷ text) all =
     let next = and_parts (is_alone d) (list_all is_alone text) parts.1 in
     rw (breaks_between c d before text (alone_is_apart c parts.0) (alone_is_apart d next.0)) (ap (λ ends. true ∷ ends) (ends_apart (c ∷ before) (d ∷ text) parts.1))
 
--- a cluster ends after each character of such a text
+-- a cluster ends after each character of a text of such characters
 pub ends_alone : (text : List ℕ) → list_all is_alone text ≡ true → replicate (length text) true ≡ cluster_ends text
 unfolding cluster_ends
 ends_alone text all = splat_is_map text (length text) true refl ∙ sym (ends_apart [] text all)

@@ -1,4 +1,4 @@
--- Filling and showing read nothing of the ends of clusters, except where no break opportunity fits.
+-- Filling and showing lines do not depend on cluster ends, except where no break opportunity fits.
 use Rattle.std.proofs.Common.{◌≡◌, ℕ, zero, suc, ◌+◌, ◌-◌, ◌<◌, ◌≤◌, nat_le, Bool, true, false, ◌&&◌, List, [], ◌∷◌, ◌++◌}
 use Rattle.std.proofs.Common.{length, map, take, drop, reverse, set, get_or, Some, unwrap_or, slice_range, refl, sym, ap, ap₂, ◌∙◌, arith}
 use Rattle.std.proofs.Math.Seq.{set-append_seam, get_or-append_seam}
@@ -63,7 +63,7 @@ shown_length_bare xs = ap length (shown_bare xs) ∙ length-map (shown xs) bare
 range_bare : (xs : List CharInfo) (s e : ℕ) → slice_range (map bare xs) s e ≡ map bare (slice_range xs s e)
 range_bare xs s e = ap (take (e - s)) (drop-map bare s xs) ∙ take-map bare (e - s) (drop s xs)
 
--- ---- tests that agree
+-- ---- tests that agree find the same number
 
 greatest_same : (p q : ℕ → Bool) (n : ℕ) → ((k : ℕ) → p k ≡ q k) → greatest p n ≡ greatest q n
 greatest_same p q zero same = refl
@@ -97,7 +97,7 @@ same_stop xs ys alike = sym (stop_bare xs) ∙ ap stop alike ∙ stop_bare ys
 pub same_break : (width : ℕ) (xs ys : List CharInfo) → AreAlike xs ys → by_break width xs ≡ by_break width ys
 same_break width xs ys alike = sym (break_bare width xs) ∙ ap (by_break width) alike ∙ break_bare width ys
 
--- a line that ends at a break
+-- the length of a line that ends at a mandatory break, or at a break opportunity, does not depend on cluster ends
 pub line_by_stop : (width k : ℕ) (rest known : List CharInfo) → AreAlike rest known → k ≡ stop rest → k + 1 ≡ line_len true width known
 line_by_stop width k rest known alike is = rw (is, same_stop rest known alike) (omega arith)
 
@@ -151,7 +151,7 @@ length_with [] ends size = refl
 length_with (x ∷ xs) [] size = absurd (omega (arith, size))
 length_with (x ∷ xs) (e ∷ ends) size = ap suc (length_with xs ends (omega (arith, size)))
 
--- one more item gets its cluster end
+-- if the first k items have their cluster ends, and item k gets its own, the first k + 1 items have theirs
 pub with_more : (old current : List CharInfo) (ends : List Bool) (k : ℕ) (e : Bool) → k < length old → length ends ≡ length old → e ≡ get_or ends k e
     → current ≡ with_ends (take k old) (take k ends) ++ drop k old
     → set current k (record (place_at current k) { ends_cluster = e }) ≡ with_ends (take (k + 1) old) (take (k + 1) ends) ++ drop (k + 1) old
@@ -210,7 +210,7 @@ parts_bare n xs (s ∷ t ∷ starts) = ap₂ (λ (p : Shown) (ps : List Shown). 
 pub same_shown : (n : ℕ) (xs ys : List CharInfo) (starts : List ℕ) → AreAlike xs ys → shown_from n xs starts ≡ shown_from n ys starts
 same_shown n xs ys starts alike = sym (parts_bare n xs starts) ∙ ap (λ zs. shown_from n zs starts) alike ∙ parts_bare n ys starts
 
--- the first k items are written, and with those that are left they make up the whole
+-- the first k items are written; followed by the items of the remaining characters, they are those of the whole text
 pub record PlacesPut (t : Tables) (text : List ℕ) (marks : List Mark) (current : List CharInfo) (k : ℕ) : Type 0 where
   pub sizes : length current ≡ length text
   pub within : k ≤ length text

@@ -1,4 +1,4 @@
--- The ends of a text's clusters, in order, are the ends by the rules.
+-- The clusters that a text is split into end where the rules of UAX #29 say.
 use Rattle.std.proofs.Common.{◌≡◌, ℕ, suc, ◌-◌, Bool, true, false, ◌&&◌, cond, List, [], ◌∷◌, ◌++◌, map, length, replicate, refl, sym, ap, ap₂, ◌∙◌, append-nil, arith}
 use Rattle.std.proofs.Math.Utf8.{scalars}
 use Rattle.std.proofs.lemmas.Bool.{and_parts}
@@ -11,11 +11,11 @@ use Rattle.unicode_segmentation.specs.Grapheme.{graphemes, is_grapheme_break}
 use Rattle.unicode_segmentation.specs.Segments.{Rule, cut, prepend, segments}
 use Rattle.lines.specs.Clusters.{cluster_ends, ends_after, ends_of}
 
--- the ends of a cluster, of its characters
+-- the ends of one cluster, given its characters
 abbrev ends_of_piece : List ℕ → List Bool
 ends_of_piece piece = replicate (length piece - 1) false ++ true ∷ []
 
--- a character before pieces: one of its own, or the front of the first
+-- puts a character before pieces: as a piece of its own, or as the first character of the first piece
 abbrev attach : Bool → ℕ → List (List ℕ) → List (List ℕ)
 attach is_break c pieces = cond is_break ((c ∷ []) ∷ pieces) (prepend (c ∷ []) pieces)
 
@@ -24,13 +24,13 @@ attach_begins true c pieces = ([], pieces, refl)
 attach_begins false c [] = ([], [], refl)
 attach_begins false c (p ∷ ps) = (p, ps, refl)
 
--- the first part starts with the first character
+-- the first piece starts with the first character
 cut_begins : (rule : Rule) (before : List ℕ) (c : ℕ) (cs after : List ℕ)
     → (p : List ℕ) × (ps : List (List ℕ)) × (cut rule before (c ∷ cs) after ≡ (c ∷ p) ∷ ps)
 unfolding cut
 cut_begins rule before c cs after = attach_begins (rule (c ∷ before) (cs ++ after)) c (cut rule (c ∷ before) cs after)
 
--- one more character in front has an end after it if it is a part of its own
+-- a character that is put before pieces has a cluster end after it if it is a piece of its own
 ends_attach : (b : Bool) (c d : ℕ) (p : List ℕ) (ps : List (List ℕ))
     → flat_map ends_of_piece (attach b c ((d ∷ p) ∷ ps)) ≡ b ∷ flat_map ends_of_piece ((d ∷ p) ∷ ps)
 ends_attach true c d p ps = refl
@@ -49,7 +49,7 @@ ends_of_cut before (c ∷ (d ∷ cs)) =
     ap (λ rest. flat_map ends_of_piece (attach b c rest)) inner.2 ∙ ends_attach b c d inner.0 inner.1
     ∙ ap₂ ◌∷◌ (ap (rule (c ∷ before)) (append-nil (d ∷ cs))) (ap (flat_map ends_of_piece) (sym inner.2) ∙ ends_of_cut (c ∷ before) (d ∷ cs))
 
--- the pieces make up the characters
+-- the concatenated pieces are the characters
 concat_attach : (b : Bool) (c : ℕ) (pieces : List (List ℕ)) → concat (attach b c pieces) ≡ c ∷ concat pieces
 concat_attach true c pieces = refl
 concat_attach false c [] = refl
@@ -61,7 +61,7 @@ concat_cut rule before [] after = refl
 concat_cut rule before (c ∷ cs) after =
     concat_attach (rule (c ∷ before) (cs ++ after)) c (cut rule (c ∷ before) cs after) ∙ ap (λ t. c ∷ t) (concat_cut rule (c ∷ before) cs after)
 
--- so each is of characters, whose bytes spell them again
+-- the ends of pieces that consist of scalar values can be computed from their UTF-8 bytes
 scalars_parts : (xs ys : List ℕ) → scalars (xs ++ ys) ≡ true → (scalars xs ≡ true) × (scalars ys ≡ true)
 scalars_parts [] ys h = (refl, h)
 scalars_parts (x ∷ xs) ys h =
@@ -82,7 +82,7 @@ ends_of_graphemes bs u =
     let all : scalars (concat (cut rule [] (chars bs) [])) ≡ true = ap scalars (concat_cut rule [] (chars bs) []) ∙ scalars-chars bs u in
     ends_of_bytes _ all ∙ ends_of_cut [] (chars bs)
 
--- characters, and what their bytes spell
+-- the UTF-8 bytes of characters decode to these characters
 bytes_of_each : (cs : List ℕ) → flat_map encode_utf8 cs ≡ encode_utf8_all cs
 bytes_of_each [] = refl
 bytes_of_each (c ∷ cs) = ap (◌++◌ (encode_utf8 c)) (bytes_of_each cs)
@@ -93,7 +93,7 @@ spelled char items text bytes same e u =
     let all = flat_map-map encode_utf8 char items in
     sym (chars_from_encodes text bytes u (sym (e ∙ sym all ∙ ap (flat_map encode_utf8) same ∙ bytes_of_each text)))
 
--- each character has an end, or none, after it
+-- `cluster_ends` has one item per character
 length_ends_after : (before text : List ℕ) → length (ends_after before text) ≡ length text
 length_ends_after before [] = refl
 length_ends_after before (c ∷ text) = ap suc (length_ends_after (c ∷ before) text)
@@ -102,7 +102,7 @@ pub length-cluster_ends : (text : List ℕ) → length (cluster_ends text) ≡ l
 unfolding cluster_ends
 length-cluster_ends text = length_ends_after [] text
 
--- a text without characters has no ends
+-- an empty text has no cluster ends
 pub no_ends : (text : List ℕ) → length text ≡ 0 → cluster_ends text ≡ []
 no_ends text none = empty (cluster_ends text) (length-cluster_ends text ∙ none)
   where

@@ -1,4 +1,4 @@
--- The columns of ASCII's printable characters.
+-- Each printable ASCII character has one column.
 use Rattle.std.proofs.Common.{◌≡◌, ℕ, ◌<◌, ◌≤◌, Option, Some, None, false, nat_le, nat_lt, unwrap_or, if◌then◌else◌, sym, ap, ◌∙◌}
 use Rattle.std.proofs.lemmas.Bool.{cond-true, le-leb, lt-ltb}
 use Rattle.unicode_width.specs.Width.{alone, char_width}

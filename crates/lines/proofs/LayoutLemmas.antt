@@ -11,7 +11,7 @@ pub same_layout : (rules : Rules) (width : ℕ) (text seen : List ℕ) (base : �
     → record { text = text; base = base; levels = levels; marks = marks; lines = lines } ≡ layout_of rules width text
 same_layout rules width text seen base levels marks lines e b l m s = rw (b, l, m, s, e) refl
 
--- the layout of a paragraph is laid out, under the rules that stay
+-- if the rules are equal, the fresh layout of a paragraph is laid out, and its lines are lines of its text
 pub laid_out_by : (rules same : Rules) (width : ℕ) (text : List ℕ) (laid : Layout) → same ≡ rules → IsParagraph rules text → laid ≡ layout_of rules width text → IsLaidOut same laid
 laid_out_by rules same width text laid e paragraph is =
     rw (e, is) (record { width = width; paragraph = paragraph; from_scratch = refl })
@@ -24,12 +24,12 @@ pub all_lines_by : {E : Type 0} (rules same : Rules) (width : ℕ) (text : List 
 all_lines_by rules same width text (Ok fill) e is = lines_by rules same width text fill e is
 all_lines_by rules same width text (Err error) e is = tt
 
--- lines of a length
+-- equal lines and lengths make equal `Filled` values
 pub filled_as : (lines seen : List Line) (len size : ℕ) → lines ≡ seen → len ≡ size
     → let here : Filled = record { lines = lines; len = len } in here ≡ record { lines = seen; len = size }
 filled_as lines seen len size e f = rw (e, f) refl
 
--- what an exchange leaves
+-- the lines that an exchange takes out of a layout
 abbrev left_of : Layout → Filled
 left_of l = record { lines = l.lines; len = length l.text }
 
@@ -52,7 +52,7 @@ pub exchanged_by : (old new : Layout) (fill_old fill_new : Filled) → new ≡ r
     → fill_new ≡ record { lines = old.lines; len = length old.text } → Exchanges old new fill_old fill_new
 exchanged_by old new fill_old fill_new put taken = rw (put, taken) (exchanged old fill_old)
 
--- what is written over the lines by extents at a width
+-- a layout that is reflowed by its extents at a width is its fresh layout at that width
 pub reflowed_by : (rules : Rules) (width : ℕ) (old : Layout) (extents : LineExtents) → IsLaidOut rules old → extents ≡ extents_of rules width old.text
     → reflowed rules old extents ≡ layout_of rules width old.text
 reflowed_by rules width old extents laid is =

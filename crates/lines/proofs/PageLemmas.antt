@@ -12,33 +12,33 @@ use Rattle.lines.specs.Pages.{layout_bytes, lines_bytes}
 use Rattle.lines.specs.Visual.{Line, Visual, visual_of}
 use Rattle.lines.specs.declared.print.Print.{Print}
 
--- the k-th line with its number
+-- item k of numbered lines is the k-th line, with the number k
 line_with : (lines : List Line) (k : ℕ) (line : Line) → k < length lines → slice_get lines k ≡ Some line → get_or (enumerate_from 0 lines) k (0, line) ≡ (k, line)
 line_with lines k line within got =
     let place : 0 + k ≡ k = omega arith in
     let there : get_or lines k line ≡ line = get_or_from_slice_get lines k line line got in
     get_or-enumerate_from 0 lines k (0, line) within ∙ rw (place, there) refl
 
--- an item of a list whose items are numbered
+-- item i of a list that is mapped with numbers from k on has the number k + i
 slice_get_numbered : {A B : Type 0} (f : ℕ → A → B) (k : ℕ) (xs : List A) (i : ℕ) → slice_get (map (λ nth. f nth.0 nth.1) (enumerate_from k xs)) i ≡ option_map (f (k + i)) (slice_get xs i)
 slice_get_numbered f k [] i = refl
 slice_get_numbered f k (x ∷ xs) zero = let same : k ≡ k + 0 = omega arith in ap (λ n. Some (f n x)) same
 slice_get_numbered f k (x ∷ xs) (suc i) = let same : k + 1 + i ≡ k + suc i = omega arith in slice_get_numbered f (k + 1) xs i ∙ ap (λ n. option_map (f n) (slice_get xs i)) same
 
--- the n-th line as it is shown
+-- the n-th visual line of a layout
 pub visual_at : (layout : Layout) (n : ℕ) → option_map (visual_of layout.base layout.text layout.lines n) (slice_get layout.lines n) ≡ slice_get (visuals layout) n
 visual_at layout n =
     let same : n ≡ 0 + n = omega arith in
     ap (λ k. option_map (visual_of layout.base layout.text layout.lines k) (slice_get layout.lines n)) same
     ∙ sym (slice_get_numbered (visual_of layout.base layout.text layout.lines) 0 layout.lines n)
 
--- the bytes of a paragraph are those of its lines as they are shown
+-- the bytes of a layout are those of its visual lines
 pub layout_by_lines : (width : ℕ) (print : Print) (layout : Layout) → layout_bytes width print layout ≡ flat_map (line_bytes width print) (visuals layout)
 layout_by_lines width print layout =
     sym (flat_map-map (line_bytes width print) (λ (nth : ℕ × Line). visual_of layout.base layout.text layout.lines nth.0 nth.1) (enumerate_from 0 layout.lines))
 
 module _ (width : ℕ) (print : Print) (base : ℕ) (text : List ℕ) where
-  -- of some lines the bytes of one, with its number
+  -- the bytes of one of these lines, given with its number
   abbrev pub bytes_at : List Line → ℕ × Line → List ℕ
   bytes_at lines nth = line_bytes width print (visual_of base text lines nth.0 nth.1)
 
@@ -63,7 +63,7 @@ module _ (width : ℕ) (print : Print) (base : ℕ) (text : List ℕ) where
   piece_of lines k line within got =
       get_or-map (bytes_at lines) (enumerate_from 0 lines) k (0, line) [] (rw (length-enumerate_from 0 lines) within) ∙ ap (bytes_at lines) (line_with lines k line within got)
 
-  -- those of the k-th
+  -- the bytes of the k-th line
   pub piece_at : (lines : List Line) (k : ℕ) (visual : Visual) → k < length lines → Some visual ≡ option_map (visual_of base text lines k) (slice_get lines k)
       → line_bytes width print visual ≡ get_or (pieces lines) k []
   piece_at lines k visual within shown = go (slice_get lines k) refl
@@ -77,6 +77,6 @@ module _ (width : ℕ) (print : Print) (base : ℕ) (text : List ℕ) where
           let is : visual ≡ visual_of base text lines k line = cc in
           ap (line_bytes width print) is ∙ sym (piece_of lines k line within got)
 
-  -- all of them
+  -- the bytes of all lines
   pub pieces_all : (lines : List Line) (k : ℕ) → length lines ≤ k → concat (take k (pieces lines)) ≡ lines_bytes width print base text lines
   pieces_all lines k past = ap concat (take_all k (pieces lines) (rw (length-pieces lines) past)) ∙ pieces_whole lines

@@ -79,7 +79,7 @@ shown_at n infos (s ∷ []) (suc k) d h = absurd (omega (arith, h))
 shown_at n infos (s ∷ t ∷ starts) zero d h = refl
 shown_at n infos (s ∷ t ∷ starts) (suc k) d h = shown_at n infos (t ∷ starts) k d (omega (arith, h))
 
--- of one line more
+-- how much is shown of the first k lines, and of one more
 pub shown_more : (n : ℕ) (infos : List CharInfo) (starts : List ℕ) (k e : ℕ) (part : Shown) (parts more : List Shown) → k < length starts → e ≡ end_of n starts k
     → part.len ≡ length (shown (slice_range infos (get_or starts k 0) e)) → part.columns ≡ columns (shown (slice_range infos (get_or starts k 0) e))
     → parts ≡ take k (shown_from n infos starts) → more ≡ parts ++ part ∷ [] → more ≡ take (k + 1) (shown_from n infos starts)
@@ -91,12 +91,12 @@ shown_more n infos starts k e part parts more below e_is len columns_are so_far 
     is ∙ ap (λ (ps : List Shown). ps ++ part ∷ []) so_far ∙ ap (λ (p : Shown). take k (shown_from n infos starts) ++ p ∷ []) (sym item)
     ∙ sym (take_more (shown_from n infos starts) k part here)
 
--- of a text that has as many characters, and of starts that are the same
+-- the same, for an equal text length and equal starts
 pub taken_shown : (n m : ℕ) (infos : List CharInfo) (starts seen : List ℕ) {parts : List Shown} → n ≡ m → seen ≡ starts → parts ≡ shown_from m infos seen
     → parts ≡ shown_from n infos starts
 taken_shown n m infos starts seen e same is = is ∙ ap₂ (λ (j : ℕ) (ss : List ℕ). shown_from j infos ss) (sym e) same
 
--- no more than there is
+-- a line shows no more characters than it has
 shown_most : (infos : List CharInfo) (s e : ℕ) → (shown_between infos s e).len ≤ e - s
 shown_most infos s e =
     let piece : List CharInfo = slice_range infos s e in
@@ -114,7 +114,7 @@ shown_within n infos starts parts k e part d are below e_is is this =
     let len : part.len ≡ (shown_between infos (get_or starts k 0) (end_of n starts k)).len = ap (λ (p : Shown). p.len) here in
     omega (arith, e_is, len, w.0, shown_most infos (get_or starts k 0) (end_of n starts k))
 
--- ---- parts of a list, after a write to a part
+-- ---- ranges of a list after a write to one range
 
 kept : (a k : ℕ) (xs ys : List ℕ) (i m : ℕ) → m ≤ a → a ≤ length xs → slice_range (put_mid a k xs ys) i m ≡ slice_range xs i m
 kept a k xs ys i m below within =
@@ -133,7 +133,7 @@ length_range xs s e order within = length-take-le (e - s) (drop s xs) (omega (ar
 
 -- ---- one line more
 
--- what is kept while the lines are written: the levels from the next line on are the old ones
+-- the state after k lines were written; the levels from the next line on are still those of `old`
 pub record Showing (tables : Tables) (options : Options) (base : ℕ) (text old : List ℕ) (starts : List ℕ) (k : ℕ) (parts : List Shown)
     (levels ltov vtol chars : List ℕ) : Type 0 where
   pub so_far : AreShown tables options base text old starts k parts levels ltov vtol chars
@@ -163,7 +163,7 @@ same_line : (s c c2 : ℕ) (l t v h l2 t2 v2 h2 : List ℕ) → c ≡ c2 → l �
 same_line s c c2 l t v h l2 t2 v2 h2 a b d e f = rw (a, b, d, e, f) refl
 
 module _ (tables : Tables) (options : Options) (base : ℕ) (text old : List ℕ) where
-  -- a line that ends at or before the start of what is written
+  -- a line that ends at or before the start of a write is unchanged
   placed_still : (s e a k : ℕ) (part : Shown) (levels ltov vtol chars l t v h : List ℕ) → IsPlaced tables options base text old s e part levels ltov vtol chars
       → e ≤ a → a ≤ length levels → a ≤ length ltov → a ≤ length vtol → a ≤ length chars
       → IsPlaced tables options base text old s e part (put_mid a k levels l) (put_mid a k ltov t) (put_mid a k vtol v) (put_mid a k chars h)
@@ -178,7 +178,7 @@ module _ (tables : Tables) (options : Options) (base : ℕ) (text old : List ℕ
         vtol_within = subst (λ (xs : List ℕ). AreWithin part.len xs) (sym same_vtol) is.vtol_within;
       }
 
-  -- the line that is written
+  -- the written line is in the lists
   placed_now : (s e : ℕ) (part : Shown) (levels ltov vtol chars l t v h : List ℕ)
       → IsShown tables options base (slice_range text s e) (slice_range levels s e) part l t v h
       → s < e → e ≤ length text → length levels ≡ length text → length ltov ≡ length text → length vtol ≡ length text → length chars ≡ length text
@@ -206,7 +206,7 @@ module _ (tables : Tables) (options : Options) (base : ℕ) (text old : List ℕ
         vtol_within = subst (λ (xs : List ℕ). AreWithin n xs) (sym vtol_here) is.vtol_within;
       }
 
-  -- and all lines with it
+  -- after the k-th line is written, the first k + 1 lines are in the lists
   pub show_more : (starts : List ℕ) (k e : ℕ) (part : Shown) (parts : List Shown) (levels ltov vtol chars l t v h : List ℕ)
       → AreStarts (length text) starts → k < length starts → e ≡ end_of (length text) starts k
       → Showing tables options base text old starts k parts levels ltov vtol chars
@@ -248,7 +248,7 @@ module _ (tables : Tables) (options : Options) (base : ℕ) (text old : List ℕ
             ∙ drop_later s (get_or starts (k + 1) 0) levels old (omega (arith, next, some)) (kept_so.rest below);
       }
 
--- what is shown of lists that are the same
+-- the same lines are shown for equal levels, starts and shown parts
 pub shown_as : (tables : Tables) (options : Options) (base : ℕ) (text old seen starts seen_starts : List ℕ) (parts seen_parts : List Shown) {levels ltov vtol chars : List ℕ}
     → seen ≡ old → seen_starts ≡ starts → seen_parts ≡ parts
     → AreShown tables options base text seen seen_starts (length seen_starts) seen_parts levels ltov vtol chars
@@ -273,7 +273,7 @@ line_at levels ltov vtol chars (s ∷ starts) [] j d h below = absurd (omega (ar
 line_at levels ltov vtol chars (s ∷ starts) (p ∷ parts) zero d h below = refl
 line_at levels ltov vtol chars (s ∷ starts) (p ∷ parts) (suc j) d h below = line_at levels ltov vtol chars starts parts j d (omega (arith, h)) (omega (arith, below))
 
--- what holds of each line holds of all
+-- what holds for each line holds for all lines
 all_lines : (P : Line → Type 0) (levels ltov vtol chars starts : List ℕ) (parts : List Shown) → length parts ≡ length starts
     → ((j : ℕ) → j < length starts → P (line_in levels ltov vtol chars (get_or starts j 0) (get_or parts j nothing_shown)))
     → All P (lines_by levels ltov vtol chars starts parts)
@@ -282,7 +282,7 @@ all_lines P levels ltov vtol chars starts parts h each = λ j d below.
     subst P (line_at levels ltov vtol chars starts parts j d h within) (each j within)
 
 module _ (tables : Tables) (options : Options) (base : ℕ) (text old : List ℕ) where
-  -- lines that are equal one by one
+  -- lists of lines are equal if their lines are equal one by one
   lines_are : (infos : List CharInfo) (levels ltov vtol chars starts : List ℕ)
       → ((j : ℕ) → j < length starts
       → line_in levels ltov vtol chars (get_or starts j 0) (get_or (shown_from (length text) infos starts) j nothing_shown)
@@ -301,7 +301,7 @@ module _ (tables : Tables) (options : Options) (base : ℕ) (text old : List ℕ
       ∙ lines_are infos levels ltov vtol chars starts
       (λ j below. (subst (λ (ps : List Shown). AreShown tables options base text old starts (length starts) ps levels ltov vtol chars) e each j below).line_is)
 
-  -- the part of a line within the lists has the length of the line
+  -- the levels of a shown part are as many as its characters
   length_part : (levels : List ℕ) (part : Shown) (s e : ℕ) → e ≤ length levels → s + part.len ≤ e → length (slice_range levels s (s + part.len)) ≡ part.len
   length_part levels part s e within below =
       length_range levels s (s + part.len) (omega arith) (omega (arith, within, below)) ∙ omega arith

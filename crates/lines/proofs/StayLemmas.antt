@@ -26,7 +26,7 @@ use Rattle.lines.proofs.SkippedLemmas.{length-infos, some_text}
 
 -- ---- where the first line ends
 
--- what a stricter test finds is not earlier
+-- the least number that passes a stricter test is no smaller
 least_low : (p q : ℕ → Bool) (low count d : ℕ) → low + count ≡ suc d → ((m : ℕ) → q m ≡ true → p m ≡ true)
     → unwrap_or (least p low count) d ≤ unwrap_or (least q low count) d
 least_low p q low zero d e stricter = omega arith
@@ -64,7 +64,7 @@ either_low (Some k) b first last one two three = one k refl
 either_low None (Some k) first last one two three = two k refl
 either_low None None first last one two three = three
 
--- no line goes on after a position at which it must end
+-- a line ends at the latest at the first position at which it must end
 end_low : (width : ℕ) (rest : List CharInfo) → 0 < length rest → line_end width rest ≤ stop rest
 end_low width rest some =
     either_low (by_break width rest) (by_cluster width rest) (first_end rest) (stop rest)
@@ -75,7 +75,7 @@ end_low width rest some =
 may_at : (mark : Mark) → mark ≡ Must → is_break mark ≡ true
 may_at mark e = ap is_break e
 
--- a line that may take all characters, and fits, does
+-- if a line fits, and must end only after its last character, it has all characters
 end_whole : (width : ℕ) (rest : List CharInfo) (last : ℕ) → length rest ≡ suc last → (place_at rest last).mark ≡ Must → columns (shown rest) ≤ width → stop rest ≡ last
     → line_end width rest ≡ last
 end_whole width rest last size ends fit stops =
@@ -98,7 +98,7 @@ all_left nobreak width place (suc left) [] within = refl
 all_left nobreak width place zero (p ∷ rest) within = absurd (omega (arith, within))
 all_left nobreak width place (suc left) (p ∷ rest) within = all_left nobreak width (suc place) left rest (omega (arith, within))
 
--- the first line takes all characters at another width, if it does at one
+-- if the first line has all characters at one width, it has them at each width that it fits
 whole_again : (nobreak : Bool) (old width : ℕ) (p : CharInfo) (rest : List CharInfo) → (place_at (p ∷ rest) (length rest)).mark ≡ Must → columns (shown (p ∷ rest)) ≤ width
     → length rest ≤ line_len nobreak old (p ∷ rest) - 1 → length rest ≤ line_len nobreak width (p ∷ rest) - 1
 whole_again true old width p rest ends fit was = was

@@ -20,7 +20,7 @@ use Rattle.lines.specs.declared.options.Options.{Options}
 use Rattle.lines.specs.declared.char_info.CharInfo.{CharInfo}
 use Rattle.bidi.specs.Levels.{levels_of}
 
--- numbers from `low` on and below n, each above the one before
+-- strictly rising numbers from `low` on and below n
 abbrev Rise : ℕ → ℕ → List ℕ → Type 0
 Rise low n [] = ⊤
 Rise low n (x ∷ xs) = (low ≤ x) × (x < n) × Rise (suc x) n xs
@@ -33,7 +33,7 @@ rise_to : (low n m : ℕ) (xs : List ℕ) → n ≤ m → Rise low n xs → Rise
 rise_to low n m [] below rise = tt
 rise_to low n m (x ∷ xs) below rise = (rise.0, omega (arith, below, rise.1), rise_to (suc x) n m xs below rise.2)
 
--- lines start so
+-- line starts rise strictly
 starts_rise : (nobreak : Bool) (width place left n : ℕ) (rest : List CharInfo) → place + length rest ≡ n → Rise (place + left) n (starts nobreak width place left rest)
 starts_rise nobreak width place zero n [] e = tt
 starts_rise nobreak width place (suc left) n [] e = tt
@@ -46,7 +46,7 @@ starts_rise nobreak width place zero n (p ∷ rest) e = (
 starts_rise nobreak width place (suc left) n (p ∷ rest) e =
     rise_from (place + suc left) (suc place + left) n (starts nobreak width (suc place) left rest) (omega arith) (starts_rise nobreak width (suc place) left n rest (omega (arith, e)))
 
--- there are at most as many items as characters
+-- there are at most as many `CharInfo`s as characters
 length-infos : (t : Tables) (text : List ℕ) (marks : List Mark) (clusters : List Bool) → length (infos t text marks clusters) ≤ length text
 length-infos t [] marks clusters = omega arith
 length-infos t (c ∷ text) [] clusters = omega arith
@@ -56,7 +56,7 @@ length-infos t (c ∷ text) (mark ∷ marks) (ends ∷ clusters) = omega (arith,
 length-take-most : {X : Type 0} (n : ℕ) (xs : List X) → length (take n xs) ≤ n
 length-take-most n xs = omega (arith, length-take n xs)
 
--- what is shown between two positions is no longer than the text between them
+-- the shown part of a line is no longer than the line
 levels_most : (tables : Tables) (options : Options) (base : ℕ) (text levels : List ℕ) (ps : List CharInfo) (s e : ℕ) → length (line_between tables options base text levels ps s e).levels ≤ e - s
 levels_most tables options base text levels ps s e =
     let span : List CharInfo = slice_range ps s e in
@@ -86,7 +86,7 @@ lines_within rules width text =
     (rise_to 0 (length ps) (length text) (line_starts_of rules.options.nobreak width ps) (length-infos rules.tables text (marks_of rules.tables rules.options.whole_numbers text) (cluster_ends text))
     (starts_rise rules.options.nobreak width 0 0 (length ps) ps (omega arith)))
 
--- numbers that rise so are starts
+-- strictly rising numbers below n are line starts
 rise_below : (low n : ℕ) (xs : List ℕ) (k : ℕ) → Rise low n xs → k < length xs → slice_index xs k < n
 rise_below low n [] k rise below = absurd (omega (arith, below))
 rise_below low n (x ∷ xs) zero rise below = rise.1
@@ -100,7 +100,7 @@ rise_rising low n (x ∷ y ∷ xs) (suc k) rise below =
     let e : suc (k + 1) ≡ suc k + 1 = omega arith in
     subst (λ j. slice_index (y ∷ xs) k < slice_index (x ∷ y ∷ xs) j) e (rise_rising (suc x) n (y ∷ xs) k rise.2 (omega (arith, below)))
 
--- so are those of a paragraph at a width
+-- the line starts of a paragraph at a width are in order and inside it
 pub starts_within : (rules : Rules) (width : ℕ) (text : List ℕ) → AreStarts (length text) (extents_of rules width text).starts
 unfolding line_starts_of infos_of
 starts_within rules width text =

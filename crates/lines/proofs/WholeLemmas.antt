@@ -33,9 +33,9 @@ use Rattle.lines.proofs.ClusterLemmas.{length-cluster_ends}
 use Rattle.lines.proofs.FillingLemmas.{stop_at, stop_none}
 use Rattle.lines.proofs.SkippedLemmas.{length-infos}
 
--- ---- rules that give no mandatory break
+-- ---- rules that require no mandatory break
 
--- each has another mark, or does not apply
+-- each rule has a mark other than `Must`, or does not apply
 Quiet : List Rule → List Base → List Base → Type 0
 Quiet [] before after = Unit {0}
 Quiet (rule ∷ rules) before after = ((is_must rule.mark ≡ false) ⊎ (rule.holds before after ≡ false)) × Quiet rules before after
@@ -63,7 +63,7 @@ tame_quiet (rule ∷ rules) before after is =
     let both = and_parts (not (is_must rule.mark)) (tame rules) is in
     (inl (not-true (is_must rule.mark) both.0), tame_quiet rules before after both.1)
 
--- a base after which no rule requires an end, except at the end of the paragraph
+-- a base after which no rule requires a line to end, except at the end of the paragraph
 abbrev ends_no_line : Base → Type 0
 ends_no_line b = (is_one_of (BK ∷ []) (base_class_of b) ≡ false) × (is_one_of (CR ∷ LF ∷ NL ∷ []) (base_class_of b) ≡ false)
 
@@ -96,9 +96,9 @@ quiet_rules false before after b a ends = (
   ),
 )
 
--- ---- the marks of such bases
+-- ---- the marks of bases after which a line need not end
 
--- none but the last is mandatory
+-- no mark but the last is mandatory
 pub Tame : List Mark → Type 0
 Tame [] = Unit {0}
 Tame (m ∷ []) = Unit {0}
@@ -129,7 +129,7 @@ tame_marks whole_numbers before (b ∷ a ∷ bases) quiet =
     (quiet_mark (rules whole_numbers) (b ∷ before) (a ∷ bases) (quiet_rules whole_numbers before bases b a quiet.0))
     (tame_marks whole_numbers (b ∷ before) (a ∷ bases) quiet.1))
 
--- ---- the bases of such characters
+-- ---- the bases of characters after which a line need not end
 
 abbrev ends_none : Character → Type 0
 ends_none c = (is_one_of (BK ∷ []) (base_class c.class) ≡ false) × (is_one_of (CR ∷ LF ∷ NL ∷ []) (base_class c.class) ≡ false)
@@ -183,7 +183,7 @@ quiet_marks : (t : Tables) (whole_numbers : Bool) (text : List ℕ) → IsWhole 
 unfolding marks_of
 quiet_marks t whole_numbers text is = tame_marks whole_numbers [] (bases_of (map (character t) text)) (bases_quiet (map (character t) text) (whole_quiet t text is))
 
--- ---- items with such marks
+-- ---- `CharInfo`s of which only the last has a mandatory break
 
 tame_infos : (t : Tables) (text : List ℕ) (marks : List Mark) (ends : List Bool) (j : ℕ) → Tame marks → j + 1 < length (infos t text marks ends)
     → must_end (infos t text marks ends) j ≡ false
@@ -227,7 +227,7 @@ one_start width (p ∷ rest) some fails =
     let last = stop_last (p ∷ rest) some fails in
     ap (λ (ss : List ℕ). 0 ∷ ss) (passed true width 1 (suc (stop (p ∷ rest)) - 1) rest (omega (arith, last)))
 
--- ---- what is printed of such a paragraph, if its characters are not
+-- ---- the printed bytes of such a paragraph if its visual line is not printed
 
 whole_range : {X : Type 0} (xs : List X) (n : ℕ) → n ≡ length xs → slice_range xs 0 n ≡ xs
 whole_range xs n e = take_all (n - 0) xs (omega arith)
@@ -293,7 +293,7 @@ whole_bytes t options base width print text levels len off nobreak some sizes ma
     ∙ sym (append-nil (line_bytes width print (visual_of base text (line ∷ []) 0 line)))
     ∙ ap (λ (ss : List ℕ). lines_bytes width print base text (lines_from t options base text levels all ss)) (sym starts_are)
 
--- what the tables say of a character
+-- the k-th looked-up properties are those of the k-th character
 pub looked_up : (t : Tables) (text : List ℕ) (properties : List Properties) (k : ℕ) (p : Properties) → properties ≡ map (properties_of t) text → k < length text
     → p ≡ get_or properties k p → p ≡ properties_of t (get_or text k 0)
 looked_up t text properties k p are below is =

@@ -30,39 +30,39 @@ all_lines : line_bytes 80 all hebrew ≡ codes "12 " ++ (0xD7 ∷ 0x90 ∷ []) +
 unfolding encode_utf8 digits
 all_lines = refl
 
--- one column is left
+-- a line of 4 columns at width 5 is padded with one space
 padded : line_bytes 5 plain hebrew ≡ codes " 12 " ++ (0xD7 ∷ 0x90 ∷ 10 ∷ [])
 unfolding encode_utf8
 padded = refl
 
--- none is left
+-- a line wider than the width is not padded
 too_narrow : line_bytes 3 plain hebrew ≡ codes "12 " ++ (0xD7 ∷ 0x90 ∷ 10 ∷ [])
 unfolding encode_utf8
 too_narrow = refl
 
--- no padding from left to right, and another direction
+-- a line of a left-to-right paragraph is not padded, and its direction is `LTR`
 left_to_right : line_bytes 80 (record all { nopad = false }) (record hebrew { base = 0 })
     ≡ codes "12 " ++ (0xD7 ∷ 0x90 ∷ []) ++ codes "\nLTR\n3 2 0 1\n2 3 1 0\n1 1 2 2\n"
 unfolding encode_utf8 digits
 left_to_right = refl
 
--- the direction on the first line only
+-- the direction is printed for the first line only
 later : line_bytes 80 (record plain { novisual = true; basedir = true; vtol = true }) (record hebrew { is_first = false }) ≡ codes "2 3 1 0\n"
 unfolding digits
 later = refl
 
--- an empty shown part
+-- a line with an empty shown part
 abbrev blank : Visual
 blank = record { is_first = true; base = 0; len = 0; text = []; columns = 0; levels = []; ltov = []; vtol = []; chars = [] }
 
 empty_lines : line_bytes 80 (record all { basedir = false }) blank ≡ codes "\n\n\n\n"
 empty_lines = refl
 
--- and in a right-to-left paragraph
+-- an empty line of a right-to-left paragraph is padded to the width
 blank_padded : line_bytes 2 plain (record blank { base = 1 }) ≡ codes "  \n"
 blank_padded = refl
 
--- brackets, mirrored and as they are, both in visual order
+-- brackets in visual order, mirrored and unmirrored
 abbrev brackets : Visual
 brackets = record {
   is_first = true;
@@ -84,7 +84,7 @@ not_mirrored : line_bytes 1 (record plain { nomirror = true }) brackets ≡ 41 �
 unfolding encode_utf8
 not_mirrored = refl
 
--- a number of two digits, and nothing else
+-- only levels are printed, one of two and one of three digits
 long_number : line_bytes 80 (record plain { novisual = true; levels = true }) (record blank { levels = 10 ∷ 0 ∷ 125 ∷ [] }) ≡ codes "10 0 125\n"
 unfolding digits
 long_number = refl

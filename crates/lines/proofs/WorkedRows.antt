@@ -7,7 +7,7 @@ use Rattle.lines.specs.declared.bytes.TheConstants.{CHARACTERS_AT_ONCE, ROW_BYTE
 use Rattle.lines.specs.declared.engine.TheConstants.{PARAGRAPH_LIMIT}
 use Rattle.lines.specs.declared.char_info.CharInfo.{CharInfo}
 
--- a letter, a space, and a letter at the end of the paragraph
+-- a letter, a space, a space before a break opportunity, and the last letter of a paragraph
 abbrev letter : CharInfo
 letter = record { columns = 1; is_trailing = false; mark = Never; ends_cluster = true }
 
@@ -46,7 +46,7 @@ one : starts 1 words ≡ 0 ∷ 1 ∷ 3 ∷ 4 ∷ 6 ∷ 7 ∷ []
 unfolding line_starts_of
 one = refl
 
--- nothing is shown of the first line
+-- a first line of spaces shows nothing
 front : starts 1 (space ∷ space ∷ last_space ∷ last ∷ []) ≡ 0 ∷ 3 ∷ []
 unfolding line_starts_of
 front = refl
@@ -54,12 +54,12 @@ front = refl
 nothing_shown : shown (space ∷ space ∷ last_space ∷ []) ≡ []
 nothing_shown = refl
 
--- `a`, a space with a mark on it, and `b`: the line may end inside a cluster
+-- `a`, a space with a combining mark, and `b`: the line may end inside a cluster
 inside : starts 1 (letter ∷ record last_space { ends_cluster = false } ∷ record letter { columns = 0 } ∷ last ∷ []) ≡ 0 ∷ 2 ∷ []
 unfolding line_starts_of
 inside = refl
 
--- a line ends where it must, at any width
+-- a line ends at a mandatory break at any width
 ends : starts 80 (letter ∷ record space { mark = Must } ∷ last ∷ []) ≡ 0 ∷ 2 ∷ []
 unfolding line_starts_of
 ends = refl
@@ -76,7 +76,7 @@ too_wide : starts 1 (wide ∷ record wide { mark = Must } ∷ []) ≡ 0 ∷ 1 �
 unfolding line_starts_of
 too_wide = refl
 
--- a count stays at the greatest number
+-- a work counter is capped at 2^64−1
 count_stays : counted (2 ^ 64 - 3) 7 ≡ 2 ^ 64 - 1
 count_stays = refl
 
@@ -84,7 +84,7 @@ count_stays = refl
 paragraph_limit : PARAGRAPH_LIMIT ≡ 1048576
 paragraph_limit = refl
 
--- the size of a buffer on the stack
+-- the sizes of the buffers on the stack
 row_room : ROW_BYTES_AT_ONCE ≡ 512
 row_room = refl
 

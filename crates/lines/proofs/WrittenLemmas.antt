@@ -26,7 +26,7 @@ use Rattle.lines.specs.declared.print.Print.{Print}
 use Rattle.lines.proofs.PageLemmas.{piece_at, pieces}
 use Rattle.lines.proofs.ShowLemmas.{length_range}
 
--- the front of a list, once it is written
+-- the first n items of a list whose first n items were written, or are 0
 pub front_is : (n : ℕ) (new rest : List ℕ) → length new ≡ n → take n (new ++ rest) ≡ new
 front_is n new rest size = ap (λ (m : ℕ). take m (new ++ rest)) (sym size) ∙ take-append_seam new rest
 
@@ -42,7 +42,7 @@ length-line_levels base (class ∷ classes) [] same = refl
 length-line_levels base (class ∷ classes) (level ∷ levels) same = ap suc (length-line_levels base classes levels (omega (arith, same)))
 
 module _ (tables : Tables) (options : Options) (base : ℕ) where
-  -- a line by what is found of it
+  -- the visual line of a shown part, with its levels, its position maps and its characters
   pub is_part : (is_first : Bool) (line : List ℕ) (columns : ℕ) (levels ltov vtol chars : List ℕ) (classes : List BidiClass)
       → classes ≡ map (class_of tables) line → ltov ≡ ltov_of options.reordernsm classes levels → vtol ≡ vtol_of options.reordernsm classes levels
       → chars ≡ visual_chars tables levels (take (length levels) line) (vtol_of options.reordernsm classes levels)
@@ -60,7 +60,7 @@ module _ (tables : Tables) (options : Options) (base : ℕ) where
   is_part is_first line columns levels ltov vtol chars classes e t v c = rw (t, v, c, e) refl
 
   module _ (text old : List ℕ) where
-    -- the k-th line
+    -- the k-th line has the k-th start and the k-th shown part
     line_at : (starts : List ℕ) (parts : List Shown) (k : ℕ) → length parts ≡ length starts → k < length starts
         → slice_get (lines_shown tables options base text old starts parts) k
         ≡ Some (line_showing tables options base text old (get_or parts k nothing_shown) (get_or starts k 0) (end_of (length text) starts k))
@@ -78,7 +78,7 @@ module _ (tables : Tables) (options : Options) (base : ℕ) where
     length-lines_shown (s ∷ []) (part ∷ parts) same = refl
     length-lines_shown (s ∷ t ∷ starts) (part ∷ parts) same = ap suc (length-lines_shown (t ∷ starts) parts (omega (arith, same)))
 
-    -- how much is shown of each line, by its `CharInfo`s
+    -- with the shown parts that the `CharInfo`s give, the lines are those of the paragraph
     pub shown_lines : (infos : List CharInfo) (starts : List ℕ)
         → lines_shown tables options base text old starts (shown_from (length text) infos starts) ≡ lines_from tables options base text old infos starts
     shown_lines infos [] = refl
@@ -124,7 +124,7 @@ module _ (tables : Tables) (options : Options) (base : ℕ) where
         ∙ piece_at width print base text lines k (visual_of base text lines k (line_showing tables options base text old part s e))
         (omega (arith, below, length-lines_shown starts parts same)) (sym (ap (option_map (visual_of base text lines k)) got))
 
--- the bytes of the paragraph are those of its lines, by what is found of it
+-- the bytes of a paragraph are those of its lines, given its base level, levels and line starts
 pub page_is : (rules : Rules) (width : ℕ) (print : Print) (text : List ℕ) (base : ℕ) (levels starts : List ℕ) → base ≡ base_of rules text
     → levels ≡ levels_of rules.tables text rules.options.base
     → starts ≡ line_starts_of rules.options.nobreak width (infos_of rules.tables rules.options.whole_numbers text)

@@ -10,9 +10,9 @@ use Rattle.lines.specs.declared.options.Options.{Options}
 use Rattle.lines.specs.declared.fill.Shown.{Shown}
 use Rattle.lines.specs.declared.print.Print.{Print}
 
--- a line of a paragraph, and its visual line
+-- one line of a paragraph
 module _ (tables : Tables) (options : Options) (base : ℕ) (is_first : Bool) (line : List ℕ) where
-  -- by the levels of its shown part after L1
+  -- the visual line, given the columns of its shown part and its levels after L1
   abbrev pub visual_part : ℕ → List ℕ → Visual
   visual_part columns levels =
       let classes = map (class_of tables) line in
@@ -29,10 +29,10 @@ module _ (tables : Tables) (options : Options) (base : ℕ) (is_first : Bool) (l
         chars = visual_chars tables levels (take (length levels) line) vtol;
       }
 
-  -- by the levels of the whole line before L1
+  -- the visual line, given its shown part and the levels of the whole line before L1
   abbrev pub visual_shown : List ℕ → Shown → Visual
   visual_shown old part = visual_part part.columns (take part.len (line_levels base (map (class_of tables) line) old))
 
--- whether position maps are printed, or unmirrored characters, which are found by these maps
+-- whether position maps are computed: they are printed, or characters are printed unmirrored, which are found by a map
 abbrev pub asks_places : Print → Bool
 asks_places print = print.ltov || (print.vtol || (not print.novisual && print.nomirror))

@@ -3,15 +3,15 @@
 use Rattle.std.specs.Prelude.{◌≡◌, Bool, false, List, [], ◌∷◌, map}
 use Rattle.lines.specs.declared.char_info.CharInfo.{CharInfo}
 
--- one without its cluster end
+-- a `CharInfo` without its cluster end
 abbrev pub bare : CharInfo → CharInfo
 bare p = record p { ends_cluster = false }
 
--- lists that differ in their cluster ends alone
+-- lists that differ in their cluster ends only
 abbrev pub AreAlike : List CharInfo → List CharInfo → Type 0
 AreAlike xs ys = map bare xs ≡ map bare ys
 
--- a list with these cluster ends
+-- a list whose cluster ends are replaced by the given ones
 abbrev pub with_ends : List CharInfo → List Bool → List CharInfo
 with_ends (p ∷ infos) (ends ∷ clusters) = record p { ends_cluster = ends } ∷ with_ends infos clusters
 with_ends infos clusters = []

@@ -6,11 +6,11 @@ use Rattle.reorder.specs.Order.{is_odd}
 use Rattle.lines.specs.Visual.{Visual}
 use Rattle.lines.specs.declared.print.Print.{Print}
 
--- the base direction, by the base level
+-- the line that names the base direction: RTL if the base level is odd, LTR otherwise
 abbrev pub direction_line : ℕ → List ℕ
 direction_line base = if is_odd base then codes "RTL\n" else codes "LTR\n"
 
--- decimal numbers, with one space between them
+-- a line of decimal numbers, separated by single spaces
 abbrev pub numbers_line : List ℕ → List ℕ
 numbers_line numbers = join_with_byte 32 (map decimal numbers) ++ codes "\n"
 

@@ -19,7 +19,7 @@ columns_of c = unwrap_or (char_width false c) 0
 abbrev pub is_trailing_in : Tables → ℕ → Bool
 is_trailing_in t c = is_one_of (SP ∷ BK ∷ CR ∷ LF ∷ NL ∷ []) (resolved (line_class_of t c) (is_mark_in t c))
 
--- a character, with the mark after it, and whether a grapheme cluster ends after it
+-- what filling needs of a character, given the mark after it and whether a grapheme cluster ends after it
 abbrev pub info : Tables → ℕ → Mark → Bool → CharInfo
 info t c mark ends_cluster =
     record { columns = columns_of c; is_trailing = is_trailing_in t c; mark = mark; ends_cluster = ends_cluster }

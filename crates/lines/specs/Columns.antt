@@ -13,7 +13,7 @@ unmirrored line = map (slice_index line.text) line.vtol
 abbrev pub columns_at : Visual → ℕ → ℕ
 columns_at line place = if nat_lt place (length line.vtol) then columns_of (slice_index line.text (slice_index line.vtol place)) else 0
 
--- the columns left of a visual position
+-- the columns to the left of a visual position
 abbrev pub columns_left : Visual → ℕ → ℕ
 columns_left line place = sum_by columns_of (take place (unmirrored line))
 

@@ -9,7 +9,7 @@ pub record LaysOutAll (n : ℕ) (old new : Counts) : Type 0 where
   pub filled : new.filled ≡ counted old.filled n
   pub written : new.written ≡ counted old.written n
 
--- as far as allocations succeeded
+-- at most n characters were analysed, filled and written, because an allocation failed
 pub record LaysOutSome (n : ℕ) (old new : Counts) : Type 0 where
   pub analysed : RisesBy n old.analysed new.analysed
   pub filled : RisesBy n old.filled new.filled

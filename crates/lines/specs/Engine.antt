@@ -21,7 +21,7 @@ written_of engine = engine.written
 abbrev pub SameRules : Engine → Engine → Type 0
 SameRules old new = rules_of new ≡ rules_of old
 
--- a count after n more, which stops at 2^64−1
+-- a count after n more, capped at 2^64−1
 abbrev pub counted : ℕ → ℕ → ℕ
 counted count n = min (count + n) (2 ^ 64 - 1)
 

@@ -17,33 +17,33 @@ shown_between infos s e =
     let part = shown (slice_range infos s e) in
     record { len = length part; columns = columns part }
 
--- each line ends where the next one starts, the last one at the end of the paragraph of n characters
+-- the shown parts of the lines that start at these positions; each ends where the next one starts, the last one at n
 abbrev pub shown_from : ℕ → List CharInfo → List ℕ → List Shown
 shown_from n infos [] = []
 shown_from n infos (s ∷ []) = shown_between infos s n ∷ []
 shown_from n infos (s ∷ t ∷ starts) = shown_between infos s t ∷ shown_from n infos (t ∷ starts)
 
--- of a paragraph at a width
+-- the extents of a paragraph's lines at a width
 abbrev pub extents_of : Rules → ℕ → List ℕ → LineExtents
 extents_of rules width text =
     let infos = infos_of rules.tables rules.options.whole_numbers text in
     let starts = line_starts_of rules.options.nobreak width infos in
     record { starts = starts; shown = shown_from (length text) infos starts }
 
--- of given lines
+-- the shown part of a line, and the extents of given lines
 abbrev pub shown_in : Line → Shown
 shown_in line = record { len = length line.levels; columns = line.columns }
 
 abbrev pub extents_in : List Line → LineExtents
 extents_in lines = record { starts = map start_of lines; shown = map shown_in lines }
 
--- a paragraph with the lines that start at these extents
+-- a layout whose lines are replaced by the lines with these extents
 abbrev pub reflowed : Rules → Layout → LineExtents → Layout
 reflowed rules l extents =
     let infos = infos_of rules.tables rules.options.whole_numbers l.text in
     record l { lines = lines_from rules.tables rules.options l.base l.text l.levels infos extents.starts }
 
--- scratch space: its capacity in characters, and of how many characters the lines were written with it
+-- scratch space: its capacity in characters, and for how many characters lines were written with it
 pub record ScratchState : Type 0 where
   pub len : ℕ
   pub written : ℕ

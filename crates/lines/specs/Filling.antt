@@ -27,7 +27,7 @@ abbrev pub is_break : Mark → Bool
 is_break Never = false
 is_break mark = true
 
--- the character at an index, and `nothing` past the end
+-- the character at an index, or `nothing` past the end
 abbrev pub nothing : CharInfo
 nothing = record { columns = 0; is_trailing = false; mark = Never; ends_cluster = false }
 
@@ -51,7 +51,7 @@ module _ (rest : List CharInfo) where
   abbrev pub cluster_ends_at : ℕ → Bool
   cluster_ends_at k = (place_at rest k).ends_cluster
 
-  -- the first position at which a line must end; the end of the paragraph is one
+  -- the first position at which a line must end, at the latest the end of the paragraph
   abbrev pub stop : ℕ
   stop = unwrap_or (least must_end 0 (length rest)) (length rest - 1)
 
@@ -63,9 +63,9 @@ module _ (rest : List CharInfo) where
 abbrev pub fits_to : ℕ → List CharInfo → ℕ → Bool
 fits_to width rest k = fits width (take (suc k) rest)
 
--- The line ends at the greatest position, up to the first at which it must end, at which it may end and up to which it
--- fits. If there is none, it ends at the greatest such position at which a cluster ends. If there is none either, it
--- ends at the first position at which it may end or a cluster ends.
+-- A line ends at its last break opportunity up to which it fits, but not after its first mandatory break. If there is
+-- none, it ends at its last cluster end up to which it fits. If there is none either, it ends at its first break
+-- opportunity or cluster end.
 abbrev pub by_break : ℕ → List CharInfo → Option ℕ
 by_break width rest = greatest (λ k. may_end rest k && fits_to width rest k) (suc (stop rest))
 
@@ -79,7 +79,7 @@ line_end width rest = unwrap_or (or_else (by_break width rest) (by_cluster width
 abbrev pub line_len : Bool → ℕ → List CharInfo → ℕ
 line_len nobreak width rest = suc (if nobreak then stop rest else line_end width rest)
 
--- where lines start, from a position on; the first `left` of the remaining characters belong to an earlier line
+-- the starts of the lines from a position on; the first `left` of the remaining characters belong to an earlier line
 abbrev pub starts : Bool → ℕ → ℕ → ℕ → List CharInfo → List ℕ
 starts nobreak width place left [] = []
 starts nobreak width place zero (p ∷ rest) = place ∷ starts nobreak width (suc place) (line_len nobreak width (p ∷ rest) - 1) rest

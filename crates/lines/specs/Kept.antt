@@ -5,7 +5,7 @@ use Rattle.ucd.specs.Within.{AreWithin}
 use Rattle.lines.specs.Visual.{Line}
 use Rattle.lines.specs.declared.fill.Shown.{Shown}
 
--- the lines, by where they start and how much of each is shown
+-- the stored lines, given where they start and how much of each is shown
 module _ (levels ltov vtol chars : List ℕ) where
   abbrev pub line_in : ℕ → Shown → Line
   line_in s shown = record {
@@ -33,7 +33,7 @@ pub record IsSound (starts : List ℕ) (shown : List Shown) (levels ltov vtol ch
   pub places : All (λ line. AreWithin (length line.levels) line.vtol) (lines_in starts shown levels ltov vtol chars)
   pub within : (k : ℕ) → k < length starts → slice_index starts k + (slice_index_or shown k (record { len = 0; columns = 0 })).len ≤ length levels
 
--- each line starts before the next one, and before the end
+-- each line starts before the next one, and before the end at n
 pub record AreStarts (n : ℕ) (starts : List ℕ) : Type 0 where
   pub below : (k : ℕ) → k < length starts → slice_index starts k < n
   pub rising : (k : ℕ) → k + 1 < length starts → slice_index starts k < slice_index starts (k + 1)

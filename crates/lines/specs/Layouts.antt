@@ -45,11 +45,11 @@ layout_of rules width text = record {
   lines = lines_of rules width text;
 }
 
--- its visual lines
+-- the visual lines of a layout
 abbrev pub visuals : Layout → List Visual
 visuals layout = map (λ nth. visual_of layout.base layout.text layout.lines nth.0 nth.1) (enumerate_from 0 layout.lines)
 
--- lines, with the length of their paragraph
+-- lines, and the length of their paragraph
 pub record Filled : Type 0 where
   pub lines : List Line
   pub len : ℕ
@@ -69,7 +69,7 @@ abbrev pub is_line_within : ℕ → List Line → Bool
 is_line_within width (line ∷ []) = nat_le line.columns width
 is_line_within width lines = false
 
--- where paragraph boundaries are
+-- whether there is a paragraph boundary between two adjacent characters
 abbrev pub cut_by : Rules → ℕ → ℕ → Bool
 cut_by rules = cut (class_of rules.tables)
 
@@ -78,7 +78,7 @@ pub record IsParagraph (rules : Rules) (text : List ℕ) : Type 0 where
   pub whole : paragraphs (cut_by rules) text ≡ text ∷ []
   pub within : length text ≤ PARAGRAPH_LIMIT
 
--- a layout is the fresh layout of its text, which is one paragraph, at some width
+-- a layout is the fresh layout, at some width, of a text that is one paragraph
 pub record IsLaidOut (rules : Rules) (layout : Layout) : Type 0 where
   pub width : ℕ
   pub paragraph : IsParagraph rules layout.text
@@ -89,7 +89,7 @@ pub record AreLinesOf (rules : Rules) (text : List ℕ) (fill : Filled) : Type 0
   pub width : ℕ
   pub from_scratch : fill ≡ fill_of rules width text
 
--- A paragraph's lines are exchanged for others. It is then laid out at the width of those.
+-- A layout and a fill exchange their lines, and with them the widths at which they are laid out.
 pub record Exchanges (old new : Layout) (fill_old fill_new : Filled) : Type 0 where
   pub put : new ≡ record old { lines = fill_old.lines }
   pub taken : fill_new ≡ record { lines = old.lines; len = length old.text }
@@ -97,7 +97,8 @@ pub record Exchanges (old new : Layout) (fill_old fill_new : Filled) : Type 0 wh
       → (new ≡ layout_of rules other old.text) × (fill_new ≡ fill_of rules width old.text)
   pub stay : (rules : Rules) → IsLaidOut rules old → AreLinesOf rules old.text fill_old → IsLaidOut rules new × AreLinesOf rules new.text fill_new
 
--- What an engine shows: its rules, and how many characters it analysed, filled into lines, and wrote the lines of.
+-- The visible state of an engine: its rules, and how many characters it analysed, filled into lines, and wrote the
+-- lines of.
 pub record EngineState : Type 0 where
   pub rules : Rules
   pub analysed : ℕ

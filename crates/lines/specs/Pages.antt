@@ -21,6 +21,6 @@ module _ (rules : Rules) (width : ℕ) (print : Print) where
   abbrev pub paragraph_bytes : List ℕ → List ℕ
   paragraph_bytes text = layout_bytes width print (layout_of rules width text)
 
-  -- of several paragraphs, in order
+  -- the bytes of several paragraphs, in order
   abbrev pub page : List (List ℕ) → List ℕ
   page pars = flat_map paragraph_bytes pars

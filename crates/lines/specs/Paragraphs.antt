@@ -21,7 +21,7 @@ use Rattle.lines.specs.declared.paragraph.Text.{Text}
 abbrev pub rules_in : LentRules → Rules
 rules_in rules = record { tables = rules.tables.now; options = rules.options }
 
--- the properties are those of the characters
+-- the properties of a text are those of its characters
 abbrev pub IsLookedUp : Text → Type 0
 IsLookedUp text = text.properties.now ≡ map (properties_of text.rules.tables.now) text.characters.now
 
@@ -33,12 +33,12 @@ pub record IsResolved (text : Text) (levels : List ℕ) : Type 0 where
   pub levels_are : levels ≡ levels_of text.rules.tables.now text.characters.now text.rules.options.base
   pub len : length levels ≡ length text.characters.now
 
--- with its break marks
+-- a paragraph with its base level, its levels before L1 and its break marks
 pub record IsPrepared (paragraph : Paragraph) : Type 0 where
   pub text : IsResolved paragraph.text paragraph.levels.now
   pub marks : paragraph.marks.now ≡ marks_of paragraph.text.rules.tables.now paragraph.text.rules.options.whole_numbers paragraph.text.characters.now
 
--- its lines at a width, by the levels of its characters before L1
+-- the lines of a text at a width, given the levels of its characters before L1
 abbrev pub lines_at : Text → List ℕ → ℕ → List Line
 lines_at text levels width =
     let tables = text.rules.tables.now in
@@ -46,17 +46,17 @@ lines_at text levels width =
     let infos = infos_of tables options.whole_numbers text.characters.now in
     lines_from tables options text.base text.characters.now levels infos (line_starts_of options.nobreak width infos)
 
--- the visual line, by the levels of the shown part after L1
+-- the visual line of a logical line, given the levels of its shown part after L1
 abbrev pub shown_by : LogicalLine → List ℕ → Visual
 shown_by line levels =
     visual_part line.text.rules.tables.now line.text.rules.options line.text.base line.is_first line.text.characters.now line.shown.columns levels
 
--- these levels
+-- the levels after L1 of a line's shown part
 abbrev pub shown_levels : LogicalLine → List ℕ
 shown_levels line =
     take line.shown.len (line_levels line.text.base (map (class_of line.text.rules.tables.now) line.text.characters.now) line.levels.now)
 
--- the visual line
+-- the visual line of a logical line
 abbrev pub shown_of : LogicalLine → Visual
 shown_of line = shown_by line (shown_levels line)
 

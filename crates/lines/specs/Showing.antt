@@ -1,4 +1,4 @@
--- What is written for the lines of a paragraph, each at the indices of its characters.
+-- What the buffers hold for the lines of a paragraph, each line at the indices of its characters.
 use Rattle.std.specs.Prelude.{◌≡◌, ℕ, ◌+◌, ◌<◌, ◌≤◌, List, [], ◌∷◌, length, map, take, slice_index, slice_index_or, slice_range}
 use Rattle.ucd.specs.Tables.{class_of}
 use Rattle.ucd.specs.declared.tables.Tables.{Tables}
@@ -11,7 +11,7 @@ use Rattle.lines.specs.Visual.{Line, end_of}
 use Rattle.lines.specs.declared.options.Options.{Options}
 use Rattle.lines.specs.declared.fill.Shown.{Shown}
 
--- what is written for one line, of which `part` is shown
+-- what is written for one line, of which `part` is shown, given its levels before L1 in `old`
 pub record IsShown (tables : Tables) (options : Options) (base : ℕ) (line old : List ℕ) (part : Shown) (levels ltov vtol chars : List ℕ) : Type 0 where
   pub within : part.len ≤ length line
   pub levels_are : take part.len levels ≡ take part.len (line_levels base (map (class_of tables) line) old)
@@ -48,13 +48,13 @@ module _ (tables : Tables) (options : Options) (base : ℕ) (text levels : List 
   lines_shown (s ∷ t ∷ starts) (part ∷ parts) = line_showing part s t ∷ lines_shown (t ∷ starts) parts
   lines_shown starts parts = []
 
--- the lists have the shown part of a line
+-- from s on, the lists hold the shown part of the line from s to e
 pub record IsPlaced (tables : Tables) (options : Options) (base : ℕ) (text old : List ℕ) (s e : ℕ) (part : Shown) (levels ltov vtol chars : List ℕ) : Type 0 where
   pub line_is : line_in levels ltov vtol chars s part ≡ line_showing tables options base text old part s e
   pub within : s + part.len ≤ e
   pub vtol_within : AreWithin part.len (slice_range vtol s (s + part.len))
 
--- the lists have those of the first k lines
+-- the lists hold the shown parts of the first k lines
 abbrev pub AreShown : Tables → Options → ℕ → List ℕ → List ℕ → List ℕ → ℕ → List Shown → List ℕ → List ℕ → List ℕ → List ℕ → Type 0
 AreShown tables options base text old starts k parts levels ltov vtol chars =
     (j : ℕ) → j < k

@@ -4,14 +4,14 @@ use Rattle.lines.specs.Filling.{columns, shown}
 use Rattle.lines.specs.declared.filling.Sums.{Sums}
 use Rattle.lines.specs.declared.char_info.CharInfo.{CharInfo}
 
--- the sums with one more character
+-- the sums after one more character
 abbrev pub sums_after : Sums → CharInfo → Sums
 sums_after sums p = record {
   columns = sums.columns + p.columns;
   shown = if p.is_trailing then sums.shown else sums.columns + p.columns;
 }
 
--- the columns of a part of a line, and those of its shown part
+-- the sums are the columns of a part of a line, and those of its shown part
 pub record AreSumsOf (piece : List CharInfo) (sums : Sums) : Type 0 where
   pub columns_are : sums.columns ≡ columns piece
   pub shown_are : sums.shown ≡ columns (shown piece)

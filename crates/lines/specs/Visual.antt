@@ -9,9 +9,9 @@ use Rattle.reorder.specs.Spaces.{line_levels}
 use Rattle.lines.specs.declared.options.Options.{Options}
 use Rattle.lines.specs.declared.char_info.CharInfo.{CharInfo}
 
--- A line of a paragraph, by where it starts. Its other fields are those of its shown part: the columns, the levels
--- after L1 in logical order, and the visual position of each logical one. Then the logical position of each visual one,
--- and the characters in visual order, mirrored. Positions count from the start of the line.
+-- A line of a paragraph: where it starts, and its shown part. `levels` are the levels after L1 in logical order, `ltov`
+-- and `vtol` the position maps. `chars` are the characters in visual order, mirrored. Positions count from the start of
+-- the line.
 pub record Line : Type 0 where
   pub start : ℕ
   pub columns : ℕ
@@ -20,7 +20,7 @@ pub record Line : Type 0 where
   pub vtol : List ℕ
   pub chars : List ℕ
 
--- a paragraph of which all is known but its lines
+-- the lines of a paragraph, given its base level, its levels before L1, and what filling needs of its characters
 module _ (tables : Tables) (options : Options) (base : ℕ) (text levels : List ℕ) (infos : List CharInfo) where
   -- L1 is applied to the whole line from s to e; L2, L3 and L4 to its shown part
   abbrev pub line_between : ℕ → ℕ → Line
@@ -39,7 +39,8 @@ module _ (tables : Tables) (options : Options) (base : ℕ) (text levels : List 
         chars = visual_chars tables part_levels (take (length part) line) vtol;
       }
 
-  -- each line ends where the next one starts, the last one at the end of the paragraph
+  -- the lines that start at these positions; each ends where the next one starts, the last one at the end of the
+  -- paragraph
   abbrev pub lines_from : List ℕ → List Line
   lines_from [] = []
   lines_from (s ∷ []) = line_between s (length text) ∷ []
@@ -52,8 +53,8 @@ end_of n (s ∷ []) k = n
 end_of n (s ∷ t ∷ starts) zero = t
 end_of n (s ∷ t ∷ starts) (suc k) = end_of n (t ∷ starts) k
 
--- A line with what it has of its paragraph: whether it is the first, the base level, and its length with its tail. The
--- text has the characters of its shown part in logical order.
+-- A visual line: whether it is the first of its paragraph, the base level, the length including the tail, and the shown
+-- part. `text` has the shown characters in logical order.
 pub record Visual : Type 0 where
   pub is_first : Bool
   pub base : ℕ
@@ -65,7 +66,7 @@ pub record Visual : Type 0 where
   pub vtol : List ℕ
   pub chars : List ℕ
 
--- the n-th line of a paragraph with these lines
+-- the visual line of the n-th line of a paragraph
 abbrev pub visual_of : ℕ → List ℕ → List Line → ℕ → Line → Visual
 visual_of base text lines n line = record {
   is_first = n == 0;

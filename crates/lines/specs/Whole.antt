@@ -12,11 +12,11 @@ use Rattle.lines.specs.CharInfos.{is_trailing_in}
 abbrev pub ends_line : LineClass → Bool
 ends_line class = is_one_of (BK ∷ []) (base_class class) || is_one_of (CR ∷ LF ∷ NL ∷ []) (base_class class)
 
--- no character but the last is one of these
+-- a line need not end after any character but the last
 abbrev pub IsWhole : Tables → List ℕ → Type 0
 IsWhole t text = (j : ℕ) → j + 1 < length text → ends_line (character t (slice_index text j)).class ≡ false
 
--- the length without the tail
+-- `len` is the length of a text without its tail
 pub record IsShownLen (t : Tables) (text : List ℕ) (len : ℕ) : Type 0 where
   pub within : len ≤ length text
   pub tail : (k : ℕ) → len ≤ k → k < length text → is_trailing_in t (slice_index text k) ≡ true

@@ -1,13 +1,13 @@
--- Writing a part of some bytes after an earlier part, with one count for all of them.
+-- Parts that are written one after another, with one byte count for all of them.
 use Rattle.std.specs.Prelude.{◌≡◌, ℕ, ◌+◌, ◌-◌, ◌≤◌, List, length}
 use Rattle.device.specs.Device.{Device, Wrote, StoppedAt}
 
--- the part was written after `before` bytes, which makes n
+-- the part was written after `before` bytes, so that n bytes are written in all
 pub record PassedOn (part : List ℕ) (before : ℕ) (old new : Device) (n : ℕ) : Type 0 where
   pub count : n ≡ before + length part
   pub wrote : Wrote part old new
 
--- the sink failed within the part, after `written` bytes of all
+-- the sink failed within the part, after `written` bytes in all
 pub record StoppedIn (part : List ℕ) (before : ℕ) (old new : Device) (written : ℕ) : Type 0 where
   pub after : before ≤ written
   pub stopped : StoppedAt (written - before) part old new

@@ -329,7 +329,7 @@ fn padding(line: &VisualLine<'_>, width: u16, print: &Print) -> usize
     }
 }
 
-// Writes the base direction of a paragraph, on its first line.
+// Writes the paragraph's base direction, if `line` is its first line and `print.basedir` is set.
 pub(crate) fn write_direction<W: Sink>(
     writer: &mut W,
     before: u64,

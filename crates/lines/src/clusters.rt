@@ -38,7 +38,7 @@ pub fn mark_clusters(alloc: Global, text: &[char], infos: &mut [CharInfo]) -> Re
     Ok(())
 }
 
-// Whether no rule joins any of these characters to another.
+// Whether no cluster rule joins any character of a text to another.
 fn are_alone(text: &[char]) -> bool
     ensures { result ≡ list_all is_alone text.now }
 {

@@ -216,7 +216,7 @@ impl Sums {
     }
 }
 
-// Returns `k` if it passes, else the number that passed before.
+// Returns `k` if `passes`, else `before`.
 fn later(before: Option<usize>, k: usize, passes: bool) -> Option<usize>
     ensures { result ≡ if passes then Some k else before }
 {

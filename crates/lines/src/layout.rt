@@ -104,7 +104,7 @@ pub(crate) fn fill_lines(
     fill_lines_by(alloc, paragraph, infos, width, lines, filled, written)
 }
 
-// The same, with `infos` that need not have the ends of clusters.
+// Replaces the contents of `lines` with the lines of a paragraph. `infos` need not have the ends of clusters.
 fn fill_lines_by(
     alloc: Global,
     paragraph: &Paragraph<'_>,

@@ -105,7 +105,7 @@ fn is_one_line(form: &Form<'_>, text: &Text<'_>) -> bool
     is_whole(text)
 }
 
-// Writes the line of such a paragraph.
+// Writes a paragraph that is one line, whose characters are not printed.
 fn write_one_line<W: Sink>(
     writer: &mut W,
     form: &Form<'_>,

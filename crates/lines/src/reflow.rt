@@ -55,7 +55,7 @@ impl ReflowScratch {
         })
     }
 
-    /// Frees it, and returns the count of the characters whose lines were written.
+    /// Frees the scratch space, and returns the count of the characters whose lines were written.
     pub(crate) fn end(self) -> Count
         ensures { result ≡ self.written }
     {

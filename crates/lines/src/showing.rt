@@ -100,7 +100,7 @@ fn make_numbers(list: &mut Vec<u32>, len: usize) -> Result<(), AllocError>
     list.resize(len, 0)
 }
 
-// The same for a list of characters.
+// Sets the length of a list of characters. Its old items remain: each item is written before it is read.
 fn make_characters(list: &mut Vec<char>, len: usize) -> Result<(), AllocError>
     ensures { OnOk result (length list.new.items ≡ len) }
 {

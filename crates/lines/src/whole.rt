@@ -66,8 +66,8 @@ fn shown_len(text: &Text<'_>) -> usize
     len
 }
 
-/// Writes such a paragraph, by its levels before L1, and returns the number of bytes. Uses the front of the
-/// buffers. Counts the characters.
+/// Writes a paragraph of one line, by its levels before L1, and returns the number of bytes. Uses the front
+/// of the buffers. Counts the characters.
 pub(crate) fn write_whole<W: Sink>(
     writer: &mut W,
     form: &Form<'_>,

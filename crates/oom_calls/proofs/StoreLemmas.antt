@@ -1,4 +1,4 @@
--- Sums of items of one character and one line each.
+-- If each item counts 1, the sum of a list is at most its length.
 use Rattle.std.proofs.Common.{ℕ, ◌+◌, ◌≤◌, List, [], ◌∷◌, ◌++◌, length, take, drop, sum_by, arith, length-append, length-take, length-drop}
 use Rattle.std.specs.List.{splice}
 use Rattle.std.proofs.lemmas.List.Sums.{sum_by-cons}

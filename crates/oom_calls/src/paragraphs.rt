@@ -38,7 +38,7 @@ fn characters(alloc: Global) -> Result<Vec<char>, Wrong> {
     }
 }
 
-// Lays out the text. A failed call must return it; then tries again.
+// Lays out the text. If that fails, checks the text that is returned and tries again.
 fn lay_out(alloc: Global, engine: &mut Engine) -> Result<Laid, Wrong>
     ensures { IfOk result (IsLaidOut (rules_of engine.new)) }
 {

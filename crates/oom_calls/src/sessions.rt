@@ -89,7 +89,7 @@ pub fn try_calls<S: ParagraphStore<Kept> + Drop>(alloc: Global) -> Result<(), Wr
     answer
 }
 
-// Drops a session. Only this function does, as `let_go` for an engine.
+// Drops a session. Only this function does, as only `let_go` drops an engine.
 fn close<S: ParagraphStore<Kept> + Drop>(_session: Session<S>) {}
 
 // Each function here owns at most one session, since all that is dropped where a call may fail makes the
@@ -249,7 +249,7 @@ fn is_same_page<S: ParagraphStore<Kept>>(left: &Session<S>, right: &Session<S>) 
     left_result && right_result && left_page.bytes() == right_page.bytes()
 }
 
-// Whether everything was printed.
+// Prints a session, and returns whether everything was written.
 fn print<S: ParagraphStore<Kept>>(session: &Session<S>, page: &mut Printed) -> bool {
     session
         .print(&mut ToWrite::new(Writer { page }), &ALL)

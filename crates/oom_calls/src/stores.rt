@@ -94,7 +94,8 @@ fn replace_twice<S: ParagraphStore<Item>>(
     }
 }
 
-// Tries again. First checks that the new items were returned in order, and the store is unchanged.
+// Replaces items again after a failure. First checks that the new items were returned in order, and that the
+// store is unchanged.
 fn replace_again<S: ParagraphStore<Item>>(
     store: &mut S,
     replacement: &Replacement,

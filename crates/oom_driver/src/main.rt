@@ -38,7 +38,7 @@ fn execute(rt: &HostRuntime, text: &str, script: &str) -> ExitCode {
     ExitCode::from(fault.status())
 }
 
-// What is tried.
+// The calls that are made.
 #[derive(Clone, Copy)]
 enum Trial {
     Tables,

@@ -23,7 +23,7 @@ chars_of l = length l.text
 abbrev pub lines_of : Layout → ℕ
 lines_of l = length l.lines
 
--- how many characters and lines there are
+-- the number of characters and of lines of a text, and where paragraphs start, as sums
 pub length-text : (kept : List Layout) → length (text_of kept) ≡ sum_by chars_of kept
 length-text [] = refl
 length-text (l ∷ kept) = length-append l.text (text_of kept) ∙ ap (λ n. length l.text + n) (length-text kept) ∙ sym (sum_by-cons chars_of l kept)
@@ -45,7 +45,7 @@ pub text_read : (kept : List Layout) (i : ℕ) (read : Option Layout) → read �
 text_read kept i read e =
     sym (unwrap_or-slice_get (pars_of kept) i []) ∙ ap (λ o. unwrap_or o []) (slice_get-map (λ l. l.text) kept i) ∙ ap (λ o. unwrap_or (option_map (λ l. l.text) o) []) (sym e)
 
--- the item that a search found
+-- what a search found is the item at its index
 slice_get_at : {A : Type 0} (before : List A) (x : A) (after : List A) → slice_get (before ++ x ∷ after) (length before) ≡ Some x
 slice_get_at [] x after = refl
 slice_get_at (y ∷ before) x after = slice_get_at before x after
@@ -124,7 +124,7 @@ IsBackEdge-end kept to count chars lines count-is chars-is lines-is at_end =
       after = λ more. absurd (omega arith);
     }
 
--- the sums of a store fit
+-- positions inside the text, and the sums up to the paragraph after them, are within the sums of the store
 pub pos_within : (kept : List Layout) (pos : ℕ) → pos ≤ length (text_of kept) → (pos ≡ 0 → ⊥) → pos - 1 < sum_by chars_of kept
 pos_within kept pos within some = omega (arith, length-text kept, some)
 

@@ -30,7 +30,7 @@ use Rattle.session.proofs.RegionParts.{touched_by, front_of, back_of, AreTouched
 use Rattle.session.proofs.RefusalLemmas.{allowed-within_limit, text_refusal-short, refusal-inside}
 use Rattle.session.specs.declared.edits.TheConstants.{TEXT_LIMIT}
 
--- a list whose middle is replaced
+-- replacing the middle of a list satisfies `Replaces`
 drop_two : {A : Type 0} (left mid right : List A) (n m : ℕ) → n ≡ length left → m ≡ length mid → drop (n + m) (left ++ (mid ++ right)) ≡ right
 drop_two left mid right n m n-is m-is =
     ap (drop (n + m)) (sym (append_assoc left mid right)) ∙ drop_at (left ++ mid) right (n + m) (length-append left mid ∙ omega (arith, n-is, m-is))
@@ -47,7 +47,7 @@ Replaces-middle left mid right new old after first count many old-is after-is fi
 take_both : {A : Type 0} (xs : List A) (from to : ℕ) → from ≤ to → take to xs ≡ take from xs ++ slice_range xs from to
 take_both xs from to order = let n : to ≡ from + (to - from) = omega arith in ap (λ m. take m xs) n ∙ take-both from (to - from) xs
 
--- layouts and the text that they make
+-- the paragraphs and the text of fresh layouts are those that were laid out
 pub pars-layouts : (rules : Rules) (width : ℕ) (pars : List (List ℕ)) → pars_of (map (layout_of rules width) pars) ≡ pars
 pars-layouts rules width [] = refl
 pars-layouts rules width (p ∷ pars) = ap (λ ps. p ∷ ps) (pars-layouts rules width pars)
@@ -55,7 +55,7 @@ pars-layouts rules width (p ∷ pars) = ap (λ ps. p ∷ ps) (pars-layouts rules
 pub text-layouts : ParagraphsArePieces → (rules : Rules) (width : ℕ) (text : List ℕ) → text_of (layouts_of rules width text) ≡ text
 text-layouts law rules width text = ap concat (pars-layouts rules width (paragraphs (cut_by rules) text)) ∙ law.whole (cut_by rules) text
 
--- lines are no more than characters
+-- a text has at most as many lines as characters
 abbrev pub LinesAreFew : Type 0
 LinesAreFew = (rules : Rules) (width : ℕ) (text : List ℕ) → length (lines_of rules width text) ≤ length text
 
@@ -74,7 +74,7 @@ module _ (law : ParagraphsArePieces) (few : LinesAreFew) (rules : Rules) (width 
       let most : sum_by line_number kept ≤ sum_by chars_of kept = subst (λ ks. sum_by line_number ks ≤ sum_by chars_of ks) (sym laid) (few_of few rules width (paragraphs (cut_by rules) text)) in
       omega (arith, chars-laid)
 
--- an engine with the same rules
+-- a whole layout stays one for an engine with the same rules
 pub IsWholeLayout-same : (old new : Engine) (width : ℕ) (kept : List Layout) → SameRules old new
     → IsWholeLayout (record { engine = old; width = width; kept = kept })
     → IsWholeLayout (record { engine = new; width = width; kept = kept })
@@ -84,7 +84,7 @@ IsWholeLayout-same old new width kept same whole = record {
   filled = whole.filled;
 }
 
--- a refusal, with the engine as it was
+-- an edit fails and leaves the engine unchanged
 pub LaysOutAtMost-none : (n : ℕ) (engine : Engine) → LaysOutAtMost n engine engine
 LaysOutAtMost-none n engine = record {
   analysed = record { least = omega arith; most = omega arith };
@@ -108,12 +108,12 @@ pub refusal-past : (is_cut : ℕ → ℕ → Bool) (text : List ℕ) (edit : Rep
 refusal-past is_cut text edit past =
     cond-true (nat_lt (length text) (edit.pos + edit.count)) (Some OutOfRange) (text_refusal is_cut (replaced text edit)) (lt-ltb (length text) (edit.pos + edit.count) past)
 
--- what a call says of its outcome
+-- a clause about success holds if there is no error
 pub at_ok : {X E Q : Type 0} (r : Result X E) → is_err r ≡ false → OnOk r Q → Q
 at_ok (Ok x) e h = h
 at_ok (Err e') e h = absurd (cc e)
 
--- the sums of lines, if new paragraphs replace those between two edges
+-- the line sums of a store in which new paragraphs replace those between two edges
 pub record AreSums (front back : Edge) (new : List Layout) (total total_2 : ℕ) : Type 0 where
   pub order : front.lines ≤ back.lines
   pub within : back.lines - front.lines ≤ total
@@ -167,7 +167,7 @@ module _ (law : ParagraphsArePieces) (few : LinesAreFew) (engine : Engine) (widt
   pub length-region : length region ≡ fresh (pars_of kept) edit
   length-region = ap length (sym region_is) ∙ spliced.size
 
-  -- what is kept afterwards
+  -- after the edit, the store has the fresh layouts of the new text
   pub kept-after : splice kept front.index back.index (layouts_of rules width region) ≡ layouts_of rules width (replaced (text_of kept) edit)
   kept-after =
       let one = layout_of rules width in
@@ -183,7 +183,7 @@ module _ (law : ParagraphsArePieces) (few : LinesAreFew) (engine : Engine) (widt
       ∙ ap (λ t. map one (take front.index pars ++ (paragraphs (cut_by rules) t ++ drop back.index pars))) (sym region_is)
       ∙ ap (map one) (sym spliced.pieces)
 
-  -- why it is refused, if the text is not too long
+  -- if the new text is not too long, an edit is refused only for a too long paragraph of the edited region
   pub refusal-by_region : length (text_of kept) - count + length piece ≤ TEXT_LIMIT → refusal (cut_by rules) (text_of kept) edit ≡ paragraphs_refusal (cut_by rules) region
   refusal-by_region short =
       let text = replaced (text_of kept) edit in
@@ -204,7 +204,7 @@ module _ (law : ParagraphsArePieces) (few : LinesAreFew) (engine : Engine) (widt
     counts = subst (λ n. IsCountedFor fault (LaysOutAtMost n) engine new_engine) length-region counts;
   }
 
-  -- the new paragraphs replace the touched ones
+  -- if new layouts replace those of the touched paragraphs, the session has the fresh layouts of the new text
   module _ (new : List Layout) (laid : new ≡ layouts_of rules width region) (short : length (text_of kept) - count + length piece ≤ TEXT_LIMIT) where
     abbrev pub after : List Layout
     after = splice kept front.index back.index new
@@ -272,7 +272,7 @@ module _ (law : ParagraphsArePieces) (few : LinesAreFew) (engine : Engine) (widt
           counts = subst (λ n. LaysOutAtMost n engine new_engine) length-region counts;
         }
 
--- the end of an edit, by the outcome of its last call
+-- the outcome of an edit follows from that of its last call
 pub ends_ok : (P : List Layout → Damage → Type 0) (r : Result Damage EditFault) (now made : List Layout) (d : Damage) → OnOk r (now ≡ made) → IfOk r (λ damage. damage ≡ d) → P made d → IfOk r (P now)
 ends_ok P (Ok x) now made d h e p = subst (λ ks. P ks x) (sym h) (subst (P made) (sym e) p)
 ends_ok P (Err x) now made d h e p = tt

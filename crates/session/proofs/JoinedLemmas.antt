@@ -19,7 +19,7 @@ module _ (is_cut : ℕ → ℕ → Bool) where
       → scan.is_long ≡ not (is_within_limit is_cut (front ++ (piece ++ back)))
   long_of_parts front piece back scan known = known.is_long ∙ ap (λ text. not (is_within_limit is_cut text)) (append_assoc front piece back)
 
-  -- the text between two boundaries is one paragraph
+  -- a text between two adjacent paragraph boundaries is one paragraph
   pub first_piece : (piece : List ℕ) (pieces : List (List ℕ)) → ArePieces is_cut (piece ∷ pieces) → ArePieces is_cut (piece ∷ [])
   first_piece piece [] h = h
   first_piece piece (next ∷ pieces) h = h.0
@@ -29,7 +29,7 @@ module _ (is_cut : ℕ → ℕ → Bool) where
       let one : ArePieces is_cut (first ∷ []) = first_piece first pieces (subst (ArePieces is_cut) e (law.pieces is_cut text)) in
       ap (paragraphs is_cut) (sym (append-nil first)) ∙ law.only is_cut (first ∷ []) one
 
-  -- the first paragraph is not too long, and nor are the others
+  -- if no paragraph is too long, neither the first one nor any of the others is
   pub within_parts : (text first : List ℕ) (pieces : List (List ℕ)) → paragraphs is_cut text ≡ first ∷ pieces
       → is_within_limit is_cut text ≡ true → (length first ≤ PARAGRAPH_LIMIT) × (are_within pieces ≡ true)
   within_parts text first pieces e within =
@@ -52,7 +52,7 @@ module _ (law : ParagraphsArePieces) (rules : Rules) (text : List ℕ) (within :
     within = (within_parts (cut_by rules) text text [] (split some) within).0;
   }
 
--- the layouts so far with one more
+-- the layouts so far, with one more, followed by those of the remaining text, are the layouts of the whole text
 pub layouts_more : (rules : Rules) (width : ℕ) (text rest first after : List ℕ) (kept more : List Layout) (one : Layout) → paragraphs (cut_by rules) rest ≡ first ∷ paragraphs (cut_by rules) after
     → one ≡ layout_of rules width first → more ≡ kept ++ one ∷ [] → kept ++ layouts_of rules width rest
     ≡ layouts_of rules width text → more ++ layouts_of rules width after ≡ layouts_of rules width text
@@ -72,7 +72,7 @@ pub layouts_none : (rules : Rules) (width : ℕ) (text rest : List ℕ) (kept : 
     ++ layouts_of rules width rest ≡ layouts_of rules width text → kept ≡ layouts_of rules width text
 layouts_none rules width text rest kept none so_far = sym (append-nil kept) ∙ ap (λ r. kept ++ layouts_of rules width r) (sym none) ∙ so_far
 
--- what the test for an empty list implies
+-- a list has items exactly if the test for an empty list fails
 pub some_left : (xs : List ℕ) (b : Bool) → b ≡ (length xs == 0) → b ≡ false → 0 < length xs
 some_left [] b e t = absurd (both_ways b t e)
 some_left (x ∷ xs) b e t = omega arith
@@ -80,7 +80,7 @@ some_left (x ∷ xs) b e t = omega arith
 pub none_left : (xs : List ℕ) (b : Bool) → b ≡ (length xs == 0) → b ≡ true → xs ≡ []
 none_left xs b e t = nil_from_length xs (eqb-true (length xs) 0 (sym e ∙ t))
 
--- a text that has bytes has characters
+-- a UTF-8 text has characters exactly if it has bytes
 some_spelled : (bytes cs : List ℕ) → scalars cs ≡ true → encodes cs ≡ bytes → 0 < length bytes → 0 < length (chars bytes)
 some_spelled bytes [] s e some = absurd (omega (arith, some, ap length e))
 some_spelled bytes (c ∷ cs) s e some = omega (arith, ap length (ap chars (sym e) ∙ chars-encodes (c ∷ cs) s))

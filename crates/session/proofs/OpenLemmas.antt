@@ -21,7 +21,7 @@ use Rattle.session.specs.declared.edits.TheConstants.{TEXT_LIMIT}
 pub positive : (n : ℕ) → (n ≡ 0 → ⊥) → 0 < n
 positive n some = omega (arith, some)
 
--- a store of nothing but new paragraphs
+-- inserting items into an empty store gives these items
 pub splice_all : {A : Type 0} (new : List A) → splice [] 0 0 new ≡ new
 splice_all new = append-nil new
 
@@ -72,7 +72,7 @@ module _ (engine : Engine) (whole : List ℕ) (width : ℕ) (some : width ≡ 0 
             counts = counts;
           }
 
--- the sums fit
+-- the sums of a newly opened session are below 2^64
 module _ (law : ParagraphsArePieces) (few : LinesAreFew) (engine : Engine) (whole : List ℕ) (width : ℕ)
     (new : List Layout) (laid : new ≡ layouts_of (rules_of engine) width whole) (short : length whole ≤ TEXT_LIMIT)
   where

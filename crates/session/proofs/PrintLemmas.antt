@@ -36,7 +36,7 @@ module _ (width : ℕ) (print : Print) where
   pub pieces_all : (kept : List Layout) (k : ℕ) → length kept ≤ k → concat (take k (pieces kept)) ≡ flat_map (layout_bytes width print) kept
   pieces_all kept k past = ap concat (take_all k (pieces kept) (rw (length-map kept (layout_bytes width print)) past)) ∙ pieces_whole kept
 
-  -- those of one that was read
+  -- the bytes of a paragraph that was read
   module _ (kept : List Layout) (k : ℕ) (l : Layout) (read : Some l ≡ slice_get kept k) where
     pub piece_within : k < length (pieces kept)
     piece_within = rw (length-map kept (layout_bytes width print)) (slice_get_within kept k l (sym read))
@@ -45,13 +45,13 @@ module _ (width : ℕ) (print : Print) where
     piece_read =
         sym (get_or-map (layout_bytes width print) kept k l [] (slice_get_within kept k l (sym read)) ∙ ap (layout_bytes width print) (get_or_from_slice_get kept k l l (sym read)))
 
--- what is kept makes the page of the text
+-- the bytes of the kept layouts are the page of the text
 pub page_of_kept : (state : SessionState) (print : Print) → IsWholeLayout state → flat_map (layout_bytes state.width print) state.kept ≡ page_at state print
 page_of_kept state print whole =
     ap (flat_map (layout_bytes state.width print)) whole.kept
     ∙ flat_map-map (layout_bytes state.width print) (layout_of (rules_of state.engine) state.width) (paragraphs (cuts_at state) (text_at state))
 
--- what is kept is printed line by line
+-- the page of a text is the bytes of its visual lines, in order
 abbrev pub LinesArePrinted : Type 0
 LinesArePrinted = (width : ℕ) (print : Print) (layout : Layout) → layout_bytes width print layout ≡ flat_map (line_bytes width print) (visuals layout)
 
@@ -63,9 +63,9 @@ by_lines law width print (l ∷ kept) =
 pub page_by_lines : LinesArePrinted → (state : SessionState) (print : Print) → IsWholeLayout state → page_at state print ≡ flat_map (line_bytes state.width print) (lines_in state.kept)
 page_by_lines law state print whole = sym (page_of_kept state print whole) ∙ by_lines law state.width print state.kept
 
--- ---- some lines of all
+-- ---- a range of lines
 
--- a line of a range of lines
+-- line n of a range that starts at `from` is line from + n
 part_get : {A : Type 0} (xs : List A) (from count n : ℕ) → n < count → slice_get (take count (drop from xs)) n ≡ slice_get xs (from + n)
 part_get [] zero zero n below = absurd (omega (arith, below))
 part_get [] zero (suc count) n below = refl
@@ -102,7 +102,7 @@ module _ (width : ℕ) (print : Print) where
 pub part_few : {A : Type 0} (xs : List A) (from count : ℕ) → length (take count (drop from xs)) ≤ count
 part_few xs from count = omega (arith, length-take count (drop from xs))
 
--- ---- lines of one paragraph after another
+-- ---- the lines of one paragraph, and those of the paragraphs after it
 
 pub lines_there : (kept : List Layout) (i : ℕ) (l : Layout) → Some l ≡ slice_get kept i → lines_in (drop i kept) ≡ visuals l ++ lines_in (drop (i + 1) kept)
 lines_there [] i l read = absurd (cc read)
@@ -118,7 +118,7 @@ lines_begin kept first found f =
     ap (λ ks. drop found.rest (lines_in ks)) there
     ∙ sym (ap₂ (λ (n : ℕ) (vs : List Visual). drop n vs) (sym place) whole ∙ drop-append-add (lines_in f.before) (lines_in (f.item ∷ f.after)) found.rest)
 
--- what is wanted of a list and of one after it
+-- the items of a range that spans a list and the list after it
 pub wanted_parts : {A : Type 0} (xs ys : List A) (from left part : ℕ) → from ≤ length xs → part ≡ min left (length xs - from)
     → take left (drop from (xs ++ ys)) ≡ take part (drop from xs) ++ take (left - part) ys
 wanted_parts xs ys from left part within part-is =
@@ -137,7 +137,7 @@ wanted_parts xs ys from left part within part-is =
           ∙ ap (λ n. take n (drop from xs)) all ∙ sym (append-nil (take part (drop from xs))) ∙ ap (λ n. take part (drop from xs) ++ take n ys) (sym none)
     ]
 
--- the front of what is wanted, with the lines of one more paragraph
+-- the lines written so far, with those of one more paragraph, and the rest of the range, are the whole range
 pub front_more : (kept : List Layout) (i from left part : ℕ) (l : Layout) → Some l ≡ slice_get kept i → from ≤ length l.lines → part ≡ min left (length l.lines - from)
     → (front whole : List Visual) → front ++ take left (drop from (lines_in (drop i kept))) ≡ whole
     → (front ++ take part (drop from (visuals l))) ++ take (left - part) (lines_in (drop (i + 1) kept)) ≡ whole
@@ -149,13 +149,13 @@ front_more kept i from left part l read within part-is front whole so_far =
     ∙ wanted_parts (visuals l) rest from left part (omega (arith, within, length-visuals l)) (part-is ∙ ap (λ n. min left (n - from)) (sym (length-visuals l)))))
     ∙ so_far
 
--- all lines are the page
+-- the bytes of all lines are the page
 pub lines_page_all : (state : SessionState) (print : Print) (count : ℕ) → count ≡ length (lines_in state.kept) → page_at state print ≡ flat_map (line_bytes state.width print) (lines_in state.kept)
     → lines_page state 0 count print ≡ page_at state print
 lines_page_all state print count is law =
     ap (flat_map (line_bytes state.width print)) (take_all (0 + count - 0) (lines_in state.kept) (omega (arith, is))) ∙ sym law
 
--- the sink's fault
+-- after a `Write` fault, the sink failed
 pub fault_of_sink : (state : SessionState) (first count : ℕ) (untouched : Type 0) (stopped : ℕ → Type 0) (fault : RangeFault) (of_sink : WriteFault) → fault ≡ Write of_sink
     → PrintsNot state first count untouched stopped fault → stopped of_sink.written
 fault_of_sink state first count untouched stopped fault of_sink is h = (subst (PrintsNot state first count untouched stopped) is h).1

@@ -48,9 +48,9 @@ pub same_none : {A B : Type 0} (f : A → B) (o : Option A) → is_none o ≡ is
 same_none f None = refl
 same_none f (Some x) = refl
 
--- ---- a part after the ones that were read
+-- ---- one more part of a range, after those that were read
 
--- a front of a front is a front
+-- a prefix of a prefix of a list is a prefix of the list
 front_is : {A : Type 0} (a b : ℕ) (zs : List A) → take a (take b zs) ≡ take (length (take a (take b zs))) zs
 front_is zero b zs = refl
 front_is (suc a) zero zs = refl
@@ -78,11 +78,11 @@ module _ (kept : List Layout) (pos at stop : ℕ) (begun : pos ≤ at) (more : a
       ∙ ap (λ cs. take (at - pos) (drop pos (text_of kept)) ++ cs)
       (ap (take (length part)) (drop-drop (at - pos) pos (text_of kept) ∙ ap (λ n. drop n (text_of kept)) place) ∙ sym part_front)
 
--- no part is missing if the text has the whole range
+-- there is a part if the range is inside the text
 pub part_there : (kept : List Layout) (at count : ℕ) → at + count ≤ length (text_of kept) → None ≡ text_part kept at count → ⊥
 part_there kept at count within none = let wrong = none ∙ part_within kept at count within in cc wrong
 
--- what was read up to a position is a prefix of the whole
+-- a range is what was read up to a position, followed by the rest
 pub all_parts : (kept : List Layout) (pos at stop : ℕ) → pos ≤ at → at ≤ stop
     → slice_range (text_of kept) pos stop ≡ slice_range (text_of kept) pos at ++ take (stop - at) (drop at (text_of kept))
 all_parts kept pos at stop begun more =
@@ -92,7 +92,7 @@ all_parts kept pos at stop begun more =
     ∙ ap (λ cs. take (at - pos) (drop pos (text_of kept)) ++ cs)
     (ap (take (stop - at)) (drop-drop (at - pos) pos (text_of kept) ∙ ap (λ n. drop n (text_of kept)) place))
 
--- the bytes of a paragraph's part that is not too long fit
+-- the UTF-8 length of a range: none past the end, and otherwise the number of its bytes
 pub len_past : (kept : List Layout) (pos count : ℕ) → length (text_of kept) < pos + count → utf8_len kept pos count ≡ None
 len_past kept pos count past = cond-true (nat_lt (length (text_of kept)) (pos + count)) None _ (lt-ltb (length (text_of kept)) (pos + count) past)
 

@@ -30,7 +30,7 @@ module _ (is_cut : ℕ → ℕ → Bool) where
   refusal-inside text edit within =
       cond-false (nat_lt (length text) (edit.pos + edit.count)) (Some OutOfRange) (text_refusal is_cut (replaced text edit)) (le-ltb (length text) (edit.pos + edit.count) within)
 
--- what holds of an edit that lies inside the text
+-- an edit inside the text is refused if the new text is too long
 pub refusal-too_long : (is_cut : ℕ → ℕ → Bool) (text piece : List ℕ) (pos count : ℕ) → pos + count ≤ length text → TEXT_LIMIT < length text - count + length piece
     → refusal is_cut text (replacing pos count piece) ≡ Some TextTooLong
 refusal-too_long is_cut text piece pos count within long =

@@ -13,7 +13,7 @@ use Rattle.session.specs.declared.edge.Edge.{Edge}
 use Rattle.session.proofs.ReplacementLemmas.{region_of}
 use Rattle.session.proofs.TouchedLemmas.{start_of-more, start_of-le, start_of-end, AreTouched-from_walks}
 
--- the start of a paragraph after others
+-- the start of a later paragraph is that of an earlier one, plus the characters between them
 pub take-both : {A : Type 0} (m n : ℕ) (xs : List A) → take (m + n) xs ≡ take m xs ++ take n (drop m xs)
 take-both zero n xs = rw zero-add refl
 take-both (suc m) n [] = rw suc-add (sym (take_all n [] (omega arith)))
@@ -28,7 +28,7 @@ drop_after : (left rest : List ℕ) (n : ℕ) → drop (length left + n) (left +
 drop_after left rest n = sym (drop-drop n (length left) (left ++ rest)) ∙ ap (drop n) (drop_at left rest (length left) refl)
 
 module _ (pars : List (List ℕ)) (first last pos to : ℕ) (some : first < last) (within : last ≤ length pars) where
-  -- the first of the paragraphs, before the others
+  -- a prefix of these paragraphs that ends in the first one is a prefix of the first one
   first_is : slice_range pars first last ≡ get_or pars first [] ∷ take (last - first - 1) (drop (first + 1) pars)
   first_is =
       let n : last - first ≡ suc (last - first - 1) = omega arith in
@@ -41,7 +41,7 @@ module _ (pars : List (List ℕ)) (first last pos to : ℕ) (some : first < last
       let size = start_of-more pars first [] (omega arith) in
       ap (λ ps. take (pos - start_of pars first) (concat ps)) first_is ∙ take-append-le (pos - start_of pars first) p (concat others) (omega arith)
 
-  -- the last one, after the others
+  -- a rest of these paragraphs that starts in the last one is a rest of the last one
   last_is : slice_range pars first last ≡ take (last - first - 1) (drop first pars) ++ get_or pars (last - 1) [] ∷ []
   last_is =
       let i = last - first - 1 in
@@ -66,7 +66,7 @@ module _ (pars : List (List ℕ)) (first last pos to : ℕ) (some : first < last
       let left : to - start_of pars (last - 1) ≡ length q - (start_of pars last - to) = omega arith in
       ap₂ drop from whole ∙ drop_after (concat others) q (to - start_of pars (last - 1)) ∙ ap (λ n. drop n q) left
 
--- if there are no paragraphs
+-- without paragraphs, prefix and rest are empty
 no_slice : (pars : List (List ℕ)) (first last : ℕ) → length pars ≡ 0 → concat (slice_range pars first last) ≡ []
 no_slice pars first last none =
     let nothing : drop first pars ≡ [] = drop_all first pars (omega arith) in
@@ -83,7 +83,7 @@ no_back pars first last n m k none =
 abbrev pub touched_by : Edge → Edge → Span
 touched_by front back = record { first = front.index; end = back.index; start = front.chars; stop = back.chars }
 
--- what the first touched paragraph has before a position, and what the last one has after another
+-- the text of the first touched paragraph before a position, and that of the last one after another position
 abbrev pub front_of : List (List ℕ) → Edge → ℕ → List ℕ
 front_of pars front pos = take (pos - front.chars) (get_or pars front.index [])
 
@@ -94,7 +94,7 @@ module _ (kept : List Layout) (pos to : ℕ) (front back : Edge) (order : pos �
   pars_number : length (pars_of kept) ≡ length kept
   pars_number = length-map kept (λ l. l.text)
 
-  -- an edge before all paragraphs is at 0
+  -- the front edge is at or before the edited range, the back edge at or after it
   front_low : front.chars ≤ pos
   front_low = elim (cases_eq front.index 0) [
     | inl e ↦ let start : front.chars ≡ 0 = f.edge_is.chars ∙ ap (start_of (pars_of kept)) e in omega arith
@@ -107,7 +107,7 @@ module _ (kept : List Layout) (pos to : ℕ) (front back : Edge) (order : pos �
     | inr all ↦ omega (arith, b.edge_is.chars, start_of-end (pars_of kept) back.index (omega (arith, pars_number)))
   ]
 
-  -- some paragraph is touched, unless there is none
+  -- an edit touches a paragraph, unless there is none
   some_or_none : (front.index < back.index) ⊎ (length (pars_of kept) ≡ 0)
   some_or_none = elim (cases_lt front.index back.index) [
     | inl some ↦ inl some
@@ -136,7 +136,7 @@ module _ (kept : List Layout) (pos to : ℕ) (front back : Edge) (order : pos �
       AreTouched-from_walks (pars_of kept) pos to front.index back.index front.chars back.chars order within f.edge_is.chars b.edge_is.chars edges_rise
       (omega (arith, b.edge_is.within, pars_number)) f.before (λ some. f.after (omega (arith, pars_number))) (λ i above below. b.before i below) (λ more. b.after (omega (arith, pars_number)))
 
-  -- the new text of the touched paragraphs
+  -- the new text of the touched paragraphs has three parts: the front, the inserted text and the rest
   pub region_parts : (piece : List ℕ) → region_of (pars_of kept) (touched_by front back) pos to piece ≡ front_of (pars_of kept) front pos ++ (piece ++ back_of (pars_of kept) back to)
   region_parts piece =
       let pars = pars_of kept in

@@ -1,5 +1,4 @@
--- The paragraphs of a text after an edit: the paragraphs of their new text replace the touched ones, and all others
--- stay.
+-- The paragraphs of a text after an edit: those of the edited region replace the touched ones, and all others stay.
 use Rattle.std.proofs.Common.{◌≡◌, ℕ, ◌+◌, ◌-◌, ◌≤◌, Bool, true, List, ◌++◌, length, take, drop, sym, ap, subst, ◌∙◌, arith}
 use Rattle.std.specs.List.{concat, slice_range}
 use Rattle.std.proofs.lemmas.List.{length-append, take-append-drop}

@@ -18,7 +18,7 @@ use Rattle.session.specs.declared.edits.Edit.{Edit}
 use Rattle.session.specs.declared.edits.EditFault.{EditFault}
 use Rattle.session.specs.declared.edits.EditFault.TheVariants.{OutOfRange, WidthOutOfRange, TextTooLong, ParagraphTooLong, NoMemory}
 
--- the state is a choice: the new one if there is no reason to refuse
+-- the state after an edit is the new one if there is no reason to refuse, and the old one otherwise
 choice-accepted : {A : Type 0} (reason : Option EditFault) (new old : A) → reason ≡ None → (if is_none reason then new else old) ≡ new
 choice-accepted reason new old e = cond-true (is_none reason) new old (ap is_none e)
 
@@ -29,7 +29,7 @@ choice-refused reason new old TextTooLong e other = cond-false (is_none reason) 
 choice-refused reason new old ParagraphTooLong e other = cond-false (is_none reason) new old (ap is_none e)
 choice-refused reason new old NoMemory e other = absurd (other refl)
 
--- an edit that was made or refused
+-- an edit was executed or refused, and the state is that after it
 pub record HasMoved (after : Held) (old new : SessionState) : Type 0 where
   pub held : held_at new ≡ after
   pub laid_out : IsWholeLayout new
@@ -68,7 +68,7 @@ refilled_to width old new (Err fault) m r other = record {
   rules = r.rules;
 }
 
--- one for which there was no memory
+-- an edit failed because an allocation failed: it is not refused, and changed neither the text nor the width
 pub record HasStayed (reason : Option EditFault) (old new : SessionState) : Type 0 where
   pub moved : HasMoved (held_at old) old new
   pub accepted : reason ≡ None
@@ -90,7 +90,7 @@ stays reason bound old new (Err TextTooLong) r e = absurd (cc e)
 stays reason bound old new (Err ParagraphTooLong) r e = absurd (cc e)
 stays reason bound old new (Err NoMemory) r e = record { moved = has_stayed reason bound old new NoMemory r; accepted = r.answer }
 
--- how much one edit worked: nothing if it was refused
+-- how much one edit worked: nothing if it was refused, and at most n and m characters otherwise
 pub record Works (reason : Option EditFault) (n m : ℕ) (old new : Engine) : Type 0 where
   pub analysed : RisesBy (if is_none reason then n else 0) (analysed_of old) (analysed_of new)
   pub filled : RisesBy (if is_none reason then m else 0) (filled_of old) (filled_of new)
@@ -147,7 +147,7 @@ edit_works edit old new (Err fault) whole m r =
     (subst (λ ps. IsCountedFor fault (LaysOutAtMost (fresh ps edit)) old.engine new.engine) (pars-kept old whole) r.counts)
     (λ e counts. works-laid_out reason n old.engine new.engine e counts)
 
--- what rises by exactly so much rises by at most that
+-- a count that rises by exactly n rises by at most n
 RisesBy-exact : (n most old new : ℕ) → new ≡ counted old n → RisesBy most old new → RisesBy n old new
 RisesBy-exact n most old new exact r = record { least = r.least; most = omega (arith, exact) }
 
@@ -174,7 +174,7 @@ pub width_works : (width : ℕ) (old new : SessionState) (result : Result Damage
 width_works width old new result whole m r =
     subst (λ kept. Works (width_refusal width) 0 (changed width kept) old.engine new.engine) whole.kept (width_counted width old new result m r)
 
--- the state after n edits from the start
+-- the state after the first n edits
 pub record HasRun (start : SessionState) (edits : List Edit) (n : ℕ) (now : SessionState) : Type 0 where
   pub held : held_at now ≡ after_all (cuts_at start) (held_at start) (take n edits)
   pub laid_out : IsWholeLayout now
@@ -185,7 +185,7 @@ after_all-push : (is_cut : ℕ → ℕ → Bool) (held : Held) (edits : List Edi
 after_all-push is_cut held [] edit = refl
 after_all-push is_cut held (first ∷ edits) edit = after_all-push is_cut (after_one is_cut held first) edits edit
 
--- an edit does the same if boundaries and text are those of the start
+-- the work of a list of edits with one more is their work, plus that of the last edit
 work_of-push : (rules : Rules) (work : Held → Edit → ℕ) (held : Held) (edits : List Edit) (edit : Edit)
     → work_of_all rules work held (edits ++ edit ∷ []) ≡ work_of_all rules work held edits + work_of rules work (after_all (cut_by rules) held edits) edit
 work_of-push rules work held [] edit = omega arith
@@ -229,7 +229,7 @@ next_works start old new edits n d edit within read run works =
       written = RisesBy-more _ _ _ _ _ _ run.works.written works.written (sum_is filled_by);
     }
 
--- the edit at which a run ended
+-- a run that ends at edit n stops there
 pub HasRun-stops : (start old new : SessionState) (edits : List Edit) (n : ℕ) (d edit : Edit) → n < length edits → get_or edits n d ≡ edit → HasRun start edits n old
     → TakesMemory (rules_of old.engine) (held_at old) edit
     → HasStayed (edit_refusal (rules_of old.engine) (held_at old) edit) old new
@@ -270,7 +270,7 @@ HasRun-next start old new edits n d edit within read run step works =
 pub HasRun-rules : (start old new : SessionState) (edits : List Edit) (n : ℕ) (reason : Option EditFault) → HasRun start edits n old → HasStayed reason old new → SameRules start.engine new.engine
 HasRun-rules start old new edits n reason run stayed = stayed.moved.rules ∙ run.rules
 
--- what the test for an allocation failure implies
+-- the test for `NoMemory` succeeds exactly if the result is `Err(NoMemory)`
 module _ (same_damage : Damage → Damage → Bool) (same_fault : EditFault → EditFault → Bool) where
   pub lacks_memory : same_fault OutOfRange NoMemory ≡ false → same_fault WidthOutOfRange NoMemory ≡ false → same_fault TextTooLong NoMemory ≡ false → same_fault ParagraphTooLong NoMemory ≡ false
       → (result : Result Damage EditFault) → result_eq same_damage same_fault result (Err NoMemory) ≡ true → result ≡ Err NoMemory

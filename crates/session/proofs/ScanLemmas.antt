@@ -1,4 +1,4 @@
--- The paragraphs of a text with one more character, and what a scan knows of them.
+-- The paragraphs of a text with one more character, and the state of a scan after that character.
 use Rattle.std.proofs.Common.{◌≡◌, ℕ, ◌+◌, ◌-◌, ◌<◌, ◌≤◌, min, nat_le, Bool, true, false, not, ◌&&◌, List, [], ◌∷◌, ◌++◌, length, get_or, Option, Some, None, MatchOption, refl, sym, ap, subst, ◌∙◌, arith, sub-one, if◌then◌else◌}
 use Rattle.std.specs.List.{onto_first, slice_get}
 use Rattle.std.proofs.lemmas.Bool.{le-leb, lt-leb, leb-true, and_right}
@@ -84,7 +84,7 @@ module _ (is_cut : ℕ → ℕ → Bool) where
       ∙ ap (λ (ps : List (List ℕ)). push starts c (if is_cut a b then (a ∷ []) ∷ ps else onto_first a ps)) (sym some.2)
       ∙ ap (λ (o : Option ℕ). push (starts_piece is_cut o c) c (paragraphs is_cut (a ∷ b ∷ text))) (sym (slice_get_last-cons a b text))
 
--- what is appended changes the last part
+-- an appended character changes only the last part, or starts a new one
 last_of-cons-push : (starts : Bool) (c : ℕ) (p q : List ℕ) (ps : List (List ℕ)) → last_of (p ∷ push starts c (q ∷ ps)) ≡ last_of (push starts c (q ∷ ps))
 unfolding last_of push
 last_of-cons-push true c p q [] = refl
@@ -117,7 +117,7 @@ and_assoc false b c = refl
 shorter_within : (p : List ℕ) (c : ℕ) → nat_le (length (p ++ c ∷ [])) PARAGRAPH_LIMIT ≡ true → nat_le (length p) PARAGRAPH_LIMIT ≡ true
 shorter_within p c h = le-leb (length p) PARAGRAPH_LIMIT (omega (arith, length_push p c, leb-true (length (p ++ c ∷ [])) PARAGRAPH_LIMIT h))
 
--- none is too long if none was and the last one is not
+-- after one more character, no part is too long if none was before and the last one is not
 are_within-push : (starts : Bool) (c : ℕ) (ps : List (List ℕ)) → are_within (push starts c ps) ≡ (are_within ps && nat_le (length (last_of (push starts c ps))) PARAGRAPH_LIMIT)
 unfolding last_of push
 are_within-push starts c [] = refl
@@ -137,7 +137,7 @@ slice_get-push text c =
     let at_end : length (text ++ c ∷ []) - 1 ≡ length text = omega (arith, length_push text c) in
     rw at_end (sym (slice_get-get_or (text ++ c ∷ []) (length text) c (omega (arith, length_push text c)) ∙ ap (λ x. Some x) (get_or_push text c c (length text) refl)))
 
--- the length of the last paragraph, if it goes on, and with one more character
+-- the length of the last paragraph before one more character, 0 if a new paragraph starts, and after it
 len_before : (starts : Bool) (m n : ℕ) → n ≡ min m PARAGRAPH_LIMIT → (if starts then 0 else n) ≡ min (if starts then 0 else m) PARAGRAPH_LIMIT
 len_before true m n h = refl
 len_before false m n h = h
@@ -169,7 +169,7 @@ module _ (is_cut : ℕ → ℕ → Bool) (text : List ℕ) (c : ℕ) where
     length_got : length (get_or (paragraphs is_cut (text ++ c ∷ [])) (length (paragraphs is_cut (text ++ c ∷ [])) - 1) []) ≡ before + 1
     length_got = ap length (get_or-last (paragraphs is_cut (text ++ c ∷ []))) ∙ length_last
 
-    -- one more character, with which the last paragraph is within the limit, or past it
+    -- the scan after one more character, if the last paragraph is then within the limit, and if it is past it
     pub scanned_within : (len : ℕ) (is_long : Bool) → n < PARAGRAPH_LIMIT → len ≡ n + 1 → is_long ≡ scan.is_long
         → HasScanned is_cut (text ++ c ∷ []) (record { last = Some c; len = len; is_long = is_long })
     scanned_within len is_long short len-is is_long-is = record {
@@ -187,7 +187,7 @@ module _ (is_cut : ℕ → ℕ → Bool) (text : List ℕ) (c : ℕ) where
           is_long-is ∙ ap not (sym (within_more ∙ ap (λ b. are_within (paragraphs is_cut text) && b) e ∙ and_right (are_within (paragraphs is_cut text)) false refl)));
     }
 
--- what was scanned, combined in another way
+-- a scan of a text is a scan of an equal text
 pub scanned_push : (is_cut : ℕ → ℕ → Bool) (text part more : List ℕ) (c : ℕ) (scan : Scan) → more ≡ part ++ c ∷ []
     → HasScanned is_cut (text ++ part ++ c ∷ []) scan → HasScanned is_cut (text ++ more) scan
 scanned_push is_cut text part more c scan more-is known =

@@ -1,4 +1,4 @@
--- Where paragraphs start, and which of them an edit touches: an interval, which two scans find.
+-- Where paragraphs start, and which ones an edit touches. These are adjacent, and two searches find them.
 use Rattle.std.proofs.Common.{◌≡◌, ℕ, zero, suc, ◌+◌, ◌-◌, ◌<◌, ◌≤◌, max, Bool, true, false, cond, List, [], ◌∷◌, ◌++◌, length, take, get_or, Some, unwrap_or, count_by, nat_le, sym, ap, ◌∙◌, inl, inr, arith}
 use Rattle.std.specs.List.{concat, range_with_len}
 use Rattle.std.proofs.lemmas.List.{append-nil, length-append, take_more, take_all}
@@ -10,7 +10,7 @@ use Rattle.session.specs.Edits.{Replacement}
 use Rattle.session.specs.Touched.{AreTouched, region_edit}
 use Rattle.session.specs.Touched.{start_of, is_touched, first_touched, touched_count}
 
--- the first number of a range that passes
+-- `least` finds the first number of a range that passes
 least_found : (p : ℕ → Bool) (low count k : ℕ) → low ≤ k → k < low + count → p k ≡ true → ((m : ℕ) → low ≤ m → m < k → p m ≡ false) → least p low count ≡ Some k
 least_found p low zero k from to here before = absurd (omega arith)
 least_found p low (suc count) k from to here before =
@@ -20,7 +20,7 @@ least_found p low (suc count) k from to here before =
           ∙ least_found p (suc low) count k (omega arith) (omega arith) here (λ m above below. before m (omega arith) below)
     ]
 
--- how many numbers of a range pass, where those of an interval do
+-- if the numbers that pass are those of an interval, their count is its length inside the range
 count_of_interval : (p : ℕ → Bool) (low count first end : ℕ) → first ≤ end → end ≤ low + count
     → ((k : ℕ) → low ≤ k → first ≤ k → k < end → p k ≡ true) → ((k : ℕ) → low ≤ k → k < first → p k ≡ false) → ((k : ℕ) → low ≤ k → end ≤ k → k < low + count → p k ≡ false)
     → count_by p (range_with_len low count) ≡ end - max first low
@@ -39,7 +39,7 @@ count_of_interval p low (suc count) first end order within inside before after =
       ]
     ]
 
--- a paragraph ends where the next starts
+-- paragraph i ends where paragraph i + 1 starts
 pub start_of-more : (pars : List (List ℕ)) (i : ℕ) (d : List ℕ) → i < length pars → start_of pars (i + 1) ≡ start_of pars i + length (get_or pars i d)
 start_of-more pars i d within =
     let e : concat (take (i + 1) pars) ≡ concat (take i pars) ++ get_or pars i d =
@@ -61,7 +61,7 @@ start_of-le-length pars i =
     let last = start_of-le pars i (i + length pars) (omega arith) in
     let all = start_of-end pars (i + length pars) (omega arith) in omega arith
 
--- what two searches find
+-- the paragraphs between those that two searches find are the touched ones
 pub AreTouched-from_walks : (pars : List (List ℕ)) (pos end first last start stop : ℕ) → pos ≤ end → end ≤ length (concat pars)
     → start ≡ start_of pars first → stop ≡ start_of pars last → first ≤ last → last ≤ length pars
     → (0 < first → start < pos) → (first < length pars → pos ≤ start_of pars (first + 1))

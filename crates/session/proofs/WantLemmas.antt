@@ -1,4 +1,4 @@
--- An allocation can fail only if there is a text.
+-- An edit can fail with `NoMemory` only if the text or the inserted text is not empty.
 use Rattle.std.proofs.Common.{◌≡◌, ℕ, ◌+◌, ◌-◌, ◌<◌, ◌≤◌, List, [], ◌++◌, length, take, drop, get_or, ap, ◌∙◌, inl, inr, Result, Ok, Err, arith}
 use Rattle.std.specs.Result.{OnErr}
 use Rattle.std.proofs.Math.Seq.{take-nil}
@@ -10,7 +10,7 @@ use Rattle.lines.specs.declared.engine.Engine.{Engine}
 use Rattle.session.specs.Kept.{pars_of, text_of, layouts_of}
 use Rattle.session.specs.Sessions.{IsWholeLayout}
 
--- what always holds, holds after an error; what holds after an error, holds if there is one
+-- a fact holds after an error; and what holds after an error holds if the result is one
 pub on_err : {A E P : Type 0} (r : Result A E) → P → OnErr r P
 on_err (Ok x) p = tt
 on_err (Err e) p = p
@@ -19,14 +19,14 @@ pub of_err : {A E P : Type 0} (r : Result A E) (e : E) → OnErr r P → r ≡ E
 of_err (Ok x) e p is = absurd (cc is)
 of_err (Err x) e p is = p
 
--- a text without characters has no paragraphs
+-- an empty text has no paragraphs
 pub none_kept : (engine : Engine) (width : ℕ) (kept : List Layout) → IsWholeLayout (record { engine = engine; width = width; kept = kept }) → length (text_of kept) ≡ 0 → kept ≡ []
 none_kept engine width kept whole none = whole.kept ∙ ap (layouts_of (rules_of engine) width) (nil_from_length (text_of kept) none)
 
 pub none_laid : (rules : Rules) (width : ℕ) (text : List ℕ) (kept : List Layout) → kept ≡ layouts_of rules width text → length text ≡ 0 → length kept ≡ 0
 none_laid rules width text kept laid none = ap length (laid ∙ ap (layouts_of rules width) (nil_from_length text none))
 
--- parts of a paragraph's text, empty if there is no paragraph
+-- without paragraphs, a prefix and a rest of a paragraph's text are empty
 no_part : (kept : List Layout) (i p : ℕ) → kept ≡ [] → length (take p (get_or (pars_of kept) i [])) ≡ 0
 no_part kept i p none = ap (λ (ks : List Layout). length (take p (get_or (pars_of ks) i []))) none ∙ ap length (take-nil p)
 
@@ -48,14 +48,14 @@ module _ (engine : Engine) (width : ℕ) (kept : List Layout) (whole : IsWholeLa
         length-append piece back,
       )
 
-  -- if parts of it and an inserted text are laid out, one of them is not empty
+  -- if text was laid out, the old text or the inserted text is not empty
   pub some_joined : 0 < length (front ++ (piece ++ back)) → 0 < length (text_of kept) + length piece
   some_joined some = elim (cases_lt 0 (length (text_of kept) + length piece)) [
     | inl more ↦ more
     | inr nothing ↦ absurd (omega (arith, some, none_joined nothing))
   ]
 
-  -- and if paragraphs are replaced
+  -- if paragraphs were replaced, the old text or the inserted text is not empty
   pub some_put : (rules : Rules) (first last : ℕ) (new : List Layout) → last ≤ length kept → new ≡ layouts_of rules width (front ++ (piece ++ back))
       → 0 < last - first + length new → 0 < length (text_of kept) + length piece
   some_put rules first last new within laid some = elim (cases_lt 0 (length (text_of kept) + length piece)) [

@@ -13,7 +13,7 @@ use Rattle.session.specs.declared.edits.Edit.TheVariants.{Delete, SetWidth}
 abbrev three : List (List ℕ)
 three = (97 ∷ 98 ∷ 10 ∷ []) ∷ (99 ∷ 100 ∷ 10 ∷ []) ∷ (101 ∷ 102 ∷ []) ∷ []
 
--- a letter between two paragraphs touches both, one inside a paragraph that alone
+-- an insertion between two paragraphs touches both, one inside a paragraph only that one
 between-two : (first_touched three (insertion 3 (120 ∷ [])) ≡ 0) × (touched_count three (insertion 3 (120 ∷ [])) ≡ 2) × (fresh three (insertion 3 (120 ∷ [])) ≡ 7)
 between-two = (refl, refl, refl)
 
@@ -23,11 +23,11 @@ inside-one = (refl, refl, refl)
 over-three : (first_touched three (deletion 2 4) ≡ 0) × (touched_count three (deletion 2 4) ≡ 3) × (fresh three (deletion 2 4) ≡ 4)
 over-three = (refl, refl, refl)
 
--- in an empty text nothing is touched
+-- an edit of an empty text touches nothing
 in-nothing : (first_touched [] (insertion 0 (120 ∷ [])) ≡ 0) × (touched_count [] (insertion 0 (120 ∷ [])) ≡ 0) × (fresh [] (insertion 0 (120 ∷ [])) ≡ 1)
 in-nothing = (refl, refl, refl)
 
--- the same three, the second in two lines: a width of 2 columns leaves the others as they are, and one of 1 none
+-- three paragraphs, the second in two lines: at width 2, only its characters are filled again; at width 1, all are
 abbrev line_of : ℕ → ℕ → Line
 line_of start columns = record { start = start; columns = columns; levels = []; ltov = []; vtol = []; chars = [] }
 
@@ -43,7 +43,7 @@ three_laid =
 changed-of-three : (changed 2 three_laid ≡ 3) × (changed 1 three_laid ≡ 8) × (changed 2 [] ≡ 0)
 changed-of-three = (refl, refl, refl)
 
--- edits that are refused change nothing
+-- refused edits change nothing
 abbrev after_newline : ℕ → ℕ → Bool
 after_newline before after = before == 10
 
@@ -53,6 +53,6 @@ four_edits = SetWidth 0 ∷ SetWidth 5 ∷ Delete 2 2 ∷ Delete 0 1 ∷ []
 after-four : after_all after_newline (record { text = 97 ∷ 10 ∷ 98 ∷ []; width = 80 }) four_edits ≡ record { text = 10 ∷ 98 ∷ []; width = 5 }
 after-four = refl
 
--- the limit of a text
+-- the maximum length of a text
 text_limit : TEXT_LIMIT ≡ 16777216
 text_limit = refl

@@ -9,27 +9,27 @@ use Rattle.session.specs.Places.{place_at}
 use Rattle.session.specs.declared.carets.Caret.{Caret}
 use Rattle.session.specs.declared.places.Place.{Place}
 
--- the end of a line's shown part in the base direction
+-- the caret at the end of a line's shown part, in the base direction
 abbrev pub line_end : ℕ → Visual → Caret
 line_end n line = record { line = n; column = if is_odd line.base then 0 else line.columns; level = line.base }
 
--- a character's leading edge: the left one if its level is even, the right one if it is odd
+-- the column of a character's leading edge: the left edge if its level is even, the right one if it is odd
 abbrev pub leading_edge : Visual → ℕ → ℕ
 leading_edge line k =
     columns_left line (if is_odd (slice_index line.levels k) then slice_index line.ltov k + 1 else slice_index line.ltov k)
 
--- before the character at a place of a line; at the line's end if the character is not shown
+-- the caret before the character at a place of a line, or at the line's end if that character is not shown
 abbrev pub caret_in : Visual → Place → Caret
 caret_in line place =
     if nat_lt place.offset (length line.levels)
     then record { line = place.line; column = leading_edge line place.offset; level = slice_index line.levels place.offset }
     else line_end place.line line
 
--- on a line, or at column 0 of the line after the last, where an empty paragraph would begin
+-- the caret at a place of a line, or at column 0 of the line after the last, where an empty paragraph would begin
 abbrev pub caret_on : Rules → Option Visual → Place → Caret
 caret_on rules (Some line) place = caret_in line place
 caret_on rules None place = record { line = place.line; column = 0; level = base_of rules [] }
 
--- before the character at a position, or at the end of the text; none past the end
+-- the caret before the character at a position, or at the end of the text; none past the end
 abbrev pub caret_at : Rules → List Layout → ℕ → Option Caret
 caret_at rules kept pos = option_map (λ place. caret_on rules (slice_get (lines_in kept) place.line) place) (place_at rules kept pos)

@@ -12,7 +12,7 @@ use Rattle.session.specs.declared.clusters.Cluster.{Cluster}
 abbrev pub ends_at : List Bool → ℕ → Bool
 ends_at ends k = slice_index_or ends k false
 
--- the index after the given one, or another index if there is none
+-- the index after the given one, or `other` if there is none
 abbrev pub after : Option ℕ → ℕ → ℕ
 after (Some k) other = k + 1
 after None other = other
@@ -24,14 +24,14 @@ cluster_begin ends k = after (greatest (ends_at ends) k) 0
 abbrev pub cluster_end : List Bool → ℕ → ℕ
 cluster_end ends k = after (least (ends_at ends) k (length ends - k)) (length ends)
 
--- in a paragraph that starts at a position
+-- the cluster of the character at `pos`, in a paragraph that starts at `start`
 abbrev pub cluster_in : ℕ → List ℕ → ℕ → Cluster
 cluster_in start text pos = record {
   start = start + cluster_begin (cluster_ends text) (pos - start);
   end = start + cluster_end (cluster_ends text) (pos - start);
 }
 
--- in the last paragraph that starts at or before the position; none past the last character
+-- the cluster of the character at a position of a text; none past the last character
 abbrev pub cluster_at : List Layout → ℕ → Option Cluster
 cluster_at kept pos =
     let i = count_to pos (paragraph_starts kept) - 1 in

@@ -58,7 +58,7 @@ pub record Held : Type 0 where
   pub text : List ℕ
   pub width : ℕ
 
--- why a width is refused
+-- why a width is refused: it is 0
 abbrev pub width_refusal : ℕ → Option EditFault
 width_refusal width = if width == 0 then Some WidthOutOfRange else None
 
@@ -74,7 +74,7 @@ after_one is_cut held (Insert pos text) = record { text = after_edit is_cut held
 after_one is_cut held (Delete pos count) = record { text = after_edit is_cut held.text (deletion pos count); width = held.width }
 after_one is_cut held (SetWidth width) = record { text = held.text; width = after_width held.width width }
 
--- after a list of edits
+-- the text and the width after a list of edits
 abbrev pub after_all : (ℕ → ℕ → Bool) → Held → List Edit → Held
 after_all is_cut held [] = held
 after_all is_cut held (edit ∷ edits) = after_all is_cut (after_one is_cut held edit) edits

@@ -12,8 +12,9 @@ use Rattle.session.specs.declared.hits.Hit.{Hit}
 abbrev pub rightmost : Visual → Option ℕ
 rightmost line = covering line (columns_left line (length line.vtol) - 1)
 
--- In a line that starts at a position: the character that includes the column. Right of the line, its rightmost
--- character of nonzero width; the hit is trailing if its level is even. In a line of width 0, the start of the line.
+-- The hit at a column of a line that starts at `start`. Right of the line, it is the line's rightmost character of
+-- nonzero width, and trailing if the level of that character is even. In a line of width 0, it is the start of the
+-- line.
 abbrev pub hit_by : ℕ → Visual → Option ℕ → Option ℕ → Hit
 hit_by start line (Some place) last = record { pos = start + slice_index line.vtol place; trailing = false }
 hit_by start line None (Some place) = record {
@@ -25,7 +26,7 @@ hit_by start line None None = record { pos = start; trailing = false }
 abbrev pub hit_in : ℕ → Visual → ℕ → Hit
 hit_in start line column = hit_by start line (covering line column) (rightmost line)
 
--- if there is such a line
+-- the hit at a column of a line, if the line exists
 abbrev pub hit_of : Option ℕ → Option Visual → ℕ → Option Hit
 hit_of (Some start) (Some line) column = Some (hit_in start line column)
 hit_of start line column = None

@@ -10,7 +10,7 @@ use Rattle.lines.specs.Visual.{Visual}
 abbrev pub IsCutAt : (ℕ → ℕ → Bool) → List ℕ → List ℕ → Type 0
 IsCutAt is_cut before after = 0 < length before → 0 < length after → is_cut (slice_index before (length before - 1)) (slice_index after 0) ≡ true
 
--- the paragraphs of layouts, the text that they make up, and their visual lines
+-- the paragraphs of layouts, the whole text, and its visual lines
 abbrev pub pars_of : List Layout → List (List ℕ)
 pars_of kept = map (λ l. l.text) kept
 
@@ -28,7 +28,7 @@ layouts_of rules width text = map (layout_of rules width) (paragraphs (cut_by ru
 abbrev pub changed_in : ℕ → Layout → ℕ
 changed_in width kept = if is_line_within width kept.lines then 0 else length kept.text
 
--- of all paragraphs
+-- how many characters of a text a width change fills again
 abbrev pub changed : ℕ → List Layout → ℕ
 changed width kept = sum_by (changed_in width) kept
 
@@ -37,13 +37,13 @@ pub record Writer : Type 0 where
   pub rules : Rules
   pub capacity : ℕ
 
--- with the count of characters whose lines were written
+-- a `Writer`, and the count of characters whose lines were written with it
 pub record ReflowState : Type 0 where
   pub by : Writer
   pub written : ℕ
 
--- A layout with its lines written again by their extents, if there are any; and the extents that are returned for them.
--- The characters are unchanged.
+-- A layout whose lines are written again by the given extents, if there are any. The extents of its old lines are
+-- returned.
 abbrev pub put_into : Writer → Layout → Option LineExtents → Layout
 put_into writer kept None = kept
 put_into writer kept (Some extents) = reflowed writer.rules kept extents
@@ -52,7 +52,7 @@ abbrev pub taken_from : Layout → Option LineExtents → Option LineExtents
 taken_from kept None = None
 taken_from kept (Some extents) = Some (extents_in kept.lines)
 
--- of how many characters the lines are then written
+-- the number of characters whose lines are written by the given extents
 abbrev pub written_for : Layout → Option LineExtents → ℕ
 written_for kept None = 0
 written_for kept (Some extents) = length kept.text
@@ -61,13 +61,13 @@ pub chars_stay : (writer : Writer) (kept : Layout) (part : Option LineExtents) �
 chars_stay writer kept None = refl
 chars_stay writer kept (Some extents) = refl
 
--- the extents are those of a layout at some width, and the scratch space is large enough for it
+-- the extents are those of the laid-out text at some width, and the scratch space is large enough for it
 pub record CanBePut (writer : Writer) (kept : Layout) (extents : LineExtents) : Type 0 where
   pub laid_out : IsLaidOut writer.rules kept
   pub at_width : (width : ℕ) × (extents ≡ extents_of writer.rules width kept.text)
   pub capacity : length kept.text ≤ writer.capacity
 
--- the lines that a layout has with these extents are those of its text at a width; there are none if its line fits
+-- the extents are those of the paragraph at a width; there are none if it has one line that fits, which then stays
 abbrev pub BringsTo : Rules → ℕ → Layout → Option LineExtents → Type 0
 BringsTo rules width kept None = (is_line_within width kept.lines ≡ true) × (kept.lines ≡ lines_of rules width kept.text)
 BringsTo rules width kept (Some extents) = (is_line_within width kept.lines ≡ false) × (extents ≡ extents_of rules width kept.text)

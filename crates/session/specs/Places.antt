@@ -14,7 +14,7 @@ abbrev pub paragraphs_from : ℕ → List Layout → List ℕ
 paragraphs_from place [] = []
 paragraphs_from place (l ∷ kept) = place ∷ paragraphs_from (place + length l.text) kept
 
--- of a text
+-- the starts of the lines, and of the paragraphs, of a text
 abbrev pub line_starts : List Layout → List ℕ
 line_starts kept = lines_from 0 kept
 
@@ -25,7 +25,7 @@ paragraph_starts kept = paragraphs_from 0 kept
 abbrev pub count_to : ℕ → List ℕ → ℕ
 count_to pos starts = count_by (λ start. nat_le start pos) starts
 
--- the last paragraph and the last line that start at or before a position, and its offset in the line
+-- the last paragraph and the last line that start at or before a position, and the offset of the position in that line
 abbrev pub place_in : List Layout → ℕ → Place
 place_in kept pos = record {
   paragraph = count_to pos (paragraph_starts kept) - 1;
@@ -37,14 +37,15 @@ place_in kept pos = record {
 abbrev pub next_place : List Layout → Place
 next_place kept = record { paragraph = length kept; line = length (lines_in kept); offset = 0 }
 
--- whether a new paragraph would start at the end of a text: it is empty, or its last character, twice, has a paragraph boundary between
+-- Whether a new paragraph would start at the end of a text. It would if the text is empty, or if there is a paragraph
+-- boundary between its last character and a copy of it.
 abbrev pub is_closed : Rules → List ℕ → Bool
 is_closed rules text =
     let last = slice_index text (length text - 1) in
     length text == 0 || cut_by rules last last
 
--- The place of a position of the text. The end of the text is after its last character, or where the next paragraph
--- would start.
+-- The place of a position of a text. The end of the text is after its last character, or where the next paragraph would
+-- start.
 abbrev pub place_at : Rules → List Layout → ℕ → Option Place
 place_at rules kept pos =
     if nat_lt (length (text_of kept)) pos then None

@@ -12,7 +12,7 @@ use Rattle.session.specs.declared.printing.RangeFault.TheVariants.{OutOfRange, W
 abbrev pub lines_page : SessionState → ℕ → ℕ → Print → List ℕ
 lines_page state first count print = flat_map (line_bytes state.width print) (slice_range (lines_in state.kept) first (first + count))
 
--- there are these lines
+-- the text has `count` lines from `first` on
 abbrev pub HasLines : SessionState → ℕ → ℕ → Type 0
 HasLines state first count = first + count ≤ length (lines_in state.kept)
 

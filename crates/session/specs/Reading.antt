@@ -6,7 +6,7 @@ use Rattle.session.specs.Kept.{pars_of, text_of}
 use Rattle.session.specs.Places.{count_to, paragraph_starts}
 use Rattle.session.specs.Touched.{start_of}
 
--- the end of the paragraph of the character at a position
+-- the end of the paragraph that contains a position
 abbrev pub paragraph_end : List Layout → ℕ → ℕ
 paragraph_end kept pos = start_of (pars_of kept) (count_to pos (paragraph_starts kept))
 
@@ -16,10 +16,10 @@ text_part kept pos count =
     if nat_lt (length (text_of kept)) (pos + count) then None
     else Some (take count (slice_range (text_of kept) pos (paragraph_end kept pos)))
 
--- a range as UTF-8
+-- a range of the text as UTF-8
 abbrev pub utf8_part : List Layout → ℕ → ℕ → List ℕ
 utf8_part kept pos count = encode_utf8_all (slice_range (text_of kept) pos (pos + count))
 
--- its length in UTF-8; none if the range is past the end
+-- the length in bytes of a range as UTF-8; none if the range is past the end
 abbrev pub utf8_len : List Layout → ℕ → ℕ → Option ℕ
 utf8_len kept pos count = if nat_lt (length (text_of kept)) (pos + count) then None else Some (length (utf8_part kept pos count))

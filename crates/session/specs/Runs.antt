@@ -1,4 +1,4 @@
--- Where a list of edits stops after an allocation failure, and how much it works.
+-- Where a list of edits stops after an allocation failure, and how much work the edits do at most.
 use Rattle.std.specs.Prelude.{◌≡◌, ℕ, ◌+◌, ◌<◌, List, [], ◌∷◌, ◌++◌, length, Option, None, is_none, if◌then◌else◌}
 use Rattle.std.specs.Str.{chars}
 use Rattle.bidi.specs.Cuts.{paragraphs}
@@ -30,11 +30,11 @@ module _ (rules : Rules) where
   filled_by held (Delete pos count) = fresh (paragraphs (cut_by rules) held.text) (deletion pos count)
   filled_by held (SetWidth width) = changed width (layouts_of rules held.width held.text)
 
-  -- a refused edit does no work
+  -- how much an edit works; a refused edit does no work
   abbrev pub work_of : (Held → Edit → ℕ) → Held → Edit → ℕ
   work_of work held edit = if is_none (edit_refusal held edit) then work held edit else 0
 
-  -- the edits of a list in order
+  -- how much the edits of a list work, in order
   abbrev pub work_of_all : (Held → Edit → ℕ) → Held → List Edit → ℕ
   work_of_all work held [] = 0
   work_of_all work held (edit ∷ edits) = work_of work held edit + work_of_all work (after_one (cut_by rules) held edit) edits
@@ -44,13 +44,14 @@ module _ (rules : Rules) where
     pub filled : RisesBy (work_of_all filled_by start edits) (filled_of old) (filled_of new)
     pub written : RisesBy (work_of_all filled_by start edits) (written_of old) (written_of new)
 
-  -- an edit may allocate: the text or what it inserts is not empty
+  -- an edit may allocate: the text, or the text that it inserts, is not empty
   abbrev pub TakesMemory : Held → Edit → Type 0
   TakesMemory held (Insert pos text) = 0 < length held.text + length (chars text.now)
   TakesMemory held (Delete pos count) = 0 < length held.text
   TakesMemory held (SetWidth width) = 0 < length held.text
 
-  -- All edits before one were executed or refused. This one is not refused and may allocate; it may have done its work.
+  -- The run stopped at `edit`, after the edits of `front`. That edit is not refused and may allocate. The counters may
+  -- include its work.
   pub record StopsAt (start : Held) (edits : List Edit) (now : Held) (old new : Engine) : Type 0 where
     pub front : List Edit
     pub edit : Edit

@@ -1,4 +1,4 @@
--- What a session shows, and what its calls do.
+-- The visible state of a session, and what its calls do.
 use Rattle.std.specs.Prelude.{◌≡◌, ℕ, ◌<◌, ◌==◌, Bool, List, length, Option, Some, None, if◌then◌else◌}
 use Rattle.bidi.specs.Cuts.{paragraphs}
 use Rattle.lines.specs.Engine.{rules_of, SameRules, LaysOutAtMost, Fills, FillsAtMost, FindsExtentsAtMost}
@@ -14,7 +14,7 @@ use Rattle.session.specs.declared.edits.Damage.{Damage}
 use Rattle.session.specs.declared.edits.EditFault.{EditFault}
 use Rattle.session.specs.declared.edits.EditFault.TheVariants.{WidthOutOfRange, NoMemory}
 
--- what a session has: its engine, its width, and the layout of each paragraph
+-- the state of a session: its engine, its width, and the layout of each paragraph
 pub record SessionState : Type 0 where
   pub engine : Engine
   pub width : ℕ
@@ -30,7 +30,7 @@ cuts_at state = cut_by (rules_of state.engine)
 abbrev pub held_at : SessionState → Held
 held_at state = record { text = text_at state; width = state.width }
 
--- what is printed of a fresh layout of the whole text
+-- the bytes of a fresh layout of the whole text
 abbrev pub page_at : SessionState → Print → List ℕ
 page_at state print = page (rules_of state.engine) state.width print (paragraphs (cuts_at state) (text_at state))
 
@@ -40,7 +40,7 @@ pub record IsWholeLayout (state : SessionState) : Type 0 where
   pub allowed : text_refusal (cuts_at state) (text_at state) ≡ None
   pub filled : 0 < state.width
 
--- why a text and a width are refused
+-- why a session is not opened on a text at a width
 abbrev pub opening_refusal : (ℕ → ℕ → Bool) → List ℕ → ℕ → Option EditFault
 opening_refusal is_cut text width = if width == 0 then Some WidthOutOfRange else text_refusal is_cut text
 
@@ -49,7 +49,7 @@ abbrev pub IsAnswerFor : Option EditFault → EditFault → Type 0
 IsAnswerFor reason NoMemory = reason ≡ None
 IsAnswerFor reason fault = reason ≡ Some fault
 
--- after a refusal the engine is unchanged; after `NoMemory` it has worked within a bound
+-- after a refusal the engine is unchanged; after `NoMemory` its work is within a bound
 abbrev pub IsCountedFor : EditFault → (Engine → Engine → Type 0) → Engine → Engine → Type 0
 IsCountedFor NoMemory bound old new = bound old new
 IsCountedFor fault bound old new = new ≡ old
@@ -63,7 +63,7 @@ pub record Opens (engine : Engine) (whole : List ℕ) (width : ℕ) (state : Ses
   pub rules : SameRules engine state.engine
   pub counts : LaysOutAtMost (length whole) engine state.engine
 
--- opening fails, and the engine is returned
+-- opening fails, and returns the engine and the fault
 pub record OpensNot (engine : Engine) (whole : List ℕ) (width : ℕ) (back : Engine × EditFault) : Type 0 where
   pub reason : IsAnswerFor (opening_refusal (cut_by (rules_of engine)) whole width) back.1
   pub rules : SameRules engine back.0
@@ -90,7 +90,7 @@ pub record SetsWidth (width : ℕ) (old new : SessionState) (answer : Damage) : 
   pub counts : FillsAtMost (length (text_at old)) old.engine new.engine
   pub exact : Fills (changed width old.kept) old.engine new.engine
 
--- an edit fails, and all but the counters is unchanged; so are they, unless the error is `NoMemory`
+-- a failed edit changes nothing but the counters, and these only after `NoMemory`
 pub record Stays (reason : Option EditFault) (bound : Engine → Engine → Type 0) (old new : SessionState) (fault : EditFault) : Type 0 where
   pub answer : IsAnswerFor reason fault
   pub kept : new.kept ≡ old.kept

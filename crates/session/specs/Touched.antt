@@ -1,4 +1,4 @@
--- Which paragraphs an edit touches, where they are, and how much there is to analyse.
+-- Which paragraphs an edit touches, where they are, and how many characters it analyses.
 use Rattle.std.specs.Prelude.{◌≡◌, ℕ, ◌+◌, ◌-◌, ◌<◌, ◌≤◌, nat_le, Bool, ◌&&◌, List, [], length, take, count_by, unwrap_or}
 use Rattle.std.specs.List.{concat, range_with_len, slice_range}
 use Rattle.ucd.specs.Least.{least}
@@ -35,8 +35,8 @@ pub record Span : Type 0 where
   pub start : ℕ
   pub stop : ℕ
 
--- the paragraphs that an edit of the characters from `pos` to `end` touches; beside an untouched paragraph, one of
--- their characters is outside the edited range
+-- The paragraphs that an edit of the characters from `pos` to `end` touches. If another paragraph precedes or follows
+-- them, a touched character on that side is outside the edited range.
 pub record AreTouched (pars : List (List ℕ)) (pos end : ℕ) (touched : Span) : Type 0 where
   pub first : touched.first ≡ first_touched pars (region_edit pos end [])
   pub count : touched.end ≡ touched.first + touched_count pars (region_edit pos end [])

@@ -33,7 +33,7 @@ fn begin(ends: &[bool], k: usize) -> usize
     0
 }
 
-// Returns where it ends.
+// Returns where the cluster of a character ends. `ends` says after which characters a cluster ends.
 fn end_of(ends: &[bool], k: usize) -> usize
     requires { k < length ends.now }
     ensures value { result ≡ cluster_end ends.now k }
@@ -59,7 +59,7 @@ pub fn cluster_of<S: ParagraphStore<Kept>>(
     ensures ok { IfOk result (λ cluster. cluster ≡ cluster_at (S.items store.now) pos) }
     ensures memory { OnErr result (pos < length (text_of (S.items store.now))) }
 {
-    // Its contract bounds the number of characters.
+    // The contract of `total_chars` bounds the number of characters.
     let len = store.total_chars();
     if pos >= len {
         return Ok(None);

@@ -39,7 +39,7 @@ pub fn back_edge<S: ParagraphStore<Kept>>(store: &S, to: usize) -> Edge
     requires { to ≤ length (text_of (S.items store.now)) }
     ensures { IsBackEdge (S.items store.now) to result }
 {
-    // Their contracts bound the sums.
+    // The contracts of these calls bound the sums.
     let (count, chars, lines) = (store.count(), store.total_chars(), store.total_lines());
     if to == chars {
         return Edge {

@@ -66,7 +66,7 @@ fn place_in<S: ParagraphStore<Kept>>(store: &S, pos: usize) -> Place
     requires lined { All IsLined (S.items store.now) }
     ensures { result ≡ place_in (S.items store.now) pos }
 {
-    // Its contract bounds the number of lines.
+    // The contract of `total_lines` bounds the number of lines.
     let _lines = store.total_lines();
     let found = store.find_char(pos);
     match store.get(found.index) {

@@ -44,7 +44,7 @@ fn write_part<W: Sink>(
         (W.state writer.old) (W.state writer.new) fault.written) }
     ensures counted { IfOk result (λ n. n ≤ (W.state writer.new).passed) }
 {
-    // Its contract bounds the number of lines.
+    // The contract of `line_count` bounds the number of lines.
     let _lines = laid.line_count();
     let mut written = before;
     for n in 0..count {

@@ -87,7 +87,7 @@ pub fn write_text<S: ParagraphStore<Kept>, W: Sink>(
         (W.state writer.old) (W.state writer.new) fault.written) }
     ensures counted { IfOk result (λ n. n ≤ (W.state writer.new).passed) }
 {
-    // Its contract bounds the number of characters.
+    // The contract of `total_chars` bounds the number of characters.
     let _chars = store.total_chars();
     let end = pos + count;
     let (mut at, mut written) = (pos, before);

@@ -35,7 +35,7 @@ fn find_one(
     ensures exact { OnOk result (FindsExtents (changed_in width laid.now) engine.old engine.new) }
     ensures counts { FindsExtentsAtMost (changed_in width laid.now) engine.old engine.new }
 {
-    // Its contract bounds the count.
+    // The contract of `filled` bounds the count.
     let _filled = engine.filled();
     if laid.keeps_lines(width) {
         return Ok(None);
@@ -43,7 +43,7 @@ fn find_one(
     Ok(Some(engine.extents(alloc, laid, width)?))
 }
 
-// The same for each of several paragraphs.
+// Returns the extents of each paragraph's lines at another width, or `None` if its lines stay.
 fn find_each(
     alloc: Global,
     engine: &mut Engine,
@@ -61,7 +61,7 @@ fn find_each(
     ensures counts { FindsExtentsAtMost (changed width (map (λ kept. kept.now) list.now))
         engine.old engine.new }
 {
-    // Its contract bounds the count.
+    // The contract of `filled` bounds the count.
     let _filled = engine.filled();
     let mut parts = Vec::with_capacity(alloc, list.len())?;
     for kept in list {
@@ -111,7 +111,7 @@ fn find_all<S: ParagraphStore<Kept>>(
         engine.old engine.new) }
     ensures counts { FindsExtentsAtMost (changed width (S.items store.now)) engine.old engine.new }
 {
-    // By this theorem, each paragraph is one.
+    // By this theorem, the text of each layout is one paragraph.
     paragraphs_are_pieces();
     let list = store.list(alloc)?;
     let parts = find_each(alloc, engine, &list, width)?;

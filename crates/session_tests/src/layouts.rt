@@ -76,7 +76,7 @@ static STARTS: [(&str, u16, &[u32]); 13] = [
     ("ab cd\u{2028}e", 1, &[0, 1, 3, 4, 6]),
 ];
 
-// The same if lines end at mandatory breaks only.
+// A paragraph, a width, and where its lines start if they end at mandatory breaks only.
 static STARTS_AT_MANDATORY_BREAKS: [(&str, u16, &[u32]); 5] = [
     ("abcdefgh", 3, &[0]),
     ("ab cd ef", 1, &[0]),
@@ -114,7 +114,8 @@ fn all_start(
     Ok(all_right)
 }
 
-// The same, with an engine that has the option `nobreak` or not.
+// Whether the lines of each paragraph start at the listed positions, with an engine that has the option
+// `nobreak` or not.
 fn all_start_by(alloc: Global, nobreak: bool, rows: &[(&str, u16, &[u32])]) -> Result<bool, Fail> {
     let mut engine = engine(alloc, nobreak)?;
     let result = all_start(alloc, &mut engine, rows);
@@ -212,7 +213,7 @@ fn lines_at_another_width_are_exchanged_and_exchanged_back(rt: HostRuntime) -> R
     Ok(())
 }
 
-// Finds the extents of its lines.
+// Finds the extents of a paragraph's lines at another width, and tries again after an allocation failure.
 fn extents(alloc: Global, engine: &mut Engine, laid: &Laid, width: u16) -> Result<Extents, Fail>
     requires laid { IsLaidOut (rules_of engine.old) laid.now }
     requires width { 0 < width }
@@ -236,7 +237,7 @@ fn scratch(alloc: Global, engine: &Engine, len: usize) -> Result<ReflowScratch, 
     }
 }
 
-// Writes its lines at another width over the old ones.
+// Writes a paragraph's lines at another width over the old ones.
 fn reflow(alloc: Global, engine: &mut Engine, laid: &mut Laid, width: u16) -> Result<(), Fail>
     requires laid { IsLaidOut (rules_of engine.old) laid.old }
     requires width { 0 < width }
@@ -284,7 +285,7 @@ fn is_of(laid: &Laid, text: &[char], base: u8) -> bool {
     laid.text() == text && laid.base() == base
 }
 
-// Whether its characters have these levels, and these marks after them.
+// Whether the characters of a paragraph have these levels, and these marks after them.
 fn has(laid: &Laid, levels: &[u8], marks: &[Mark]) -> bool {
     laid.levels() == levels && laid.marks() == marks
 }
@@ -351,7 +352,7 @@ fn is_shown(line: &VisualLine<'_>, row: &Row) -> bool {
         & (line.columns() as usize == row.chars.len())
 }
 
-// Whether these are the lines, and the only ones.
+// Whether a paragraph has exactly these lines.
 fn shows_lines(laid: &Laid, rows: &[Row]) -> bool {
     let mut all_right = laid.line(rows.len()).is_none();
     for (n, row) in rows.iter().enumerate() {

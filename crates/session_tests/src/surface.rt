@@ -56,7 +56,7 @@ fn of_laid<F: FnOnce(&lines::Laid) -> bool>(alloc: Global, check: F) -> bool
     }
 }
 
-// Whether a check holds for its line.
+// Whether a check holds for the line of that layout.
 fn of_line<F: FnOnce(&lines::VisualLine<'_>) -> bool>(alloc: Global, check: F) -> bool
     requires { F.IsAlwaysCallable check }
 {

@@ -11,7 +11,7 @@ use std::alloc::{AllocError, Global};
 use std::test::Fail;
 use ucd::{BidiClass, Properties, Tables};
 
-// One of each class that the weak and neutral rules distinguish, and two brackets.
+// A character of each class that the weak and neutral rules distinguish, and two brackets.
 const CHARACTERS: [char; 12] = [
     'a', '\u{5D0}', '\u{627}', '1', '\u{660}', '+', ',', '$', '\u{300}', '(', ')', ' ',
 ];
@@ -96,7 +96,8 @@ fn put_levels_of(
     Ok(level == base_level_of(classes, base))
 }
 
-// The same for the classes and bracket types of a text.
+// Replaces `levels` by the levels for the classes and bracket types of a text, and returns whether the base
+// level is that of `base_level_of`.
 fn put_levels_by(
     alloc: Global,
     resolver: &mut Resolver,
@@ -133,7 +134,7 @@ fn is_found_of_text(
     Ok(is_base && are_from(&levels, place, wanted))
 }
 
-// The same by its classes and bracket types.
+// Whether a resolver finds these levels of a list, from an index on, by its classes and bracket types.
 fn is_found_by(
     alloc: Global,
     resolver: &mut Resolver,
@@ -148,7 +149,8 @@ fn is_found_by(
     Ok(is_base && are_from(&levels, place, wanted))
 }
 
-// The same in both ways.
+// Whether a resolver finds these levels of a list, from an index on, both by its characters and by its
+// classes and bracket types.
 fn is_found(
     alloc: Global,
     resolver: &mut Resolver,
@@ -164,7 +166,7 @@ fn is_found(
 }
 
 // The list after a PDF that matches nothing. X9 removes the PDF, so the levels after it are those of the list
-// alone. But they are found by all rules, not by the fast path for a paragraph that is a single sequence.
+// alone. But the full rules find them, not the fast path for a paragraph that is a single sequence.
 fn after_pdf(alloc: Global, text: &[char]) -> Result<Vec<char>, AllocError> {
     let mut longer = Vec::new(alloc);
     longer.push('\u{202C}')?;
@@ -200,7 +202,8 @@ fn is_same(
     is_found_after_pdf(alloc, resolver, tables, text, base, &wanted)
 }
 
-// The same for the first `lists` lists of `len` characters.
+// Whether a resolver finds the levels of the reference implementation for the first `lists` lists of `len`
+// characters, with and without a PDF before each list.
 fn are_same(
     alloc: Global,
     resolver: &mut Resolver,
@@ -223,7 +226,7 @@ fn are_same(
 // A length, and the number of lists of that length.
 static LISTS: [(usize, usize); 4] = [(1, 12), (2, 144), (3, 1_728), (4, 20_736)];
 
-// The same for all lists of 1 to 4 characters.
+// Whether a resolver finds the levels of the reference implementation for all lists of 1 to 4 characters.
 fn all_are_same(alloc: Global, tables: &Tables) -> Result<bool, AllocError> {
     let mut resolver = Resolver::new(alloc);
     let result = all_are_same_by(alloc, &mut resolver, tables);
@@ -308,7 +311,7 @@ fn finds(
     Ok(is_base && are_digits(&levels, digits.as_bytes()))
 }
 
-// The same by the classes and bracket types of the text.
+// Whether a resolver finds these levels of a text by its classes and bracket types.
 fn finds_by(
     alloc: Global,
     resolver: &mut Resolver,
@@ -321,7 +324,7 @@ fn finds_by(
     Ok(is_base && are_digits(&levels, digits.as_bytes()))
 }
 
-// The same without a reused resolver.
+// Whether these levels of a text are found without a reused resolver.
 fn resolves_to(
     alloc: Global,
     tables: &Tables,

@@ -98,8 +98,8 @@ static NUMBERS: [(&str, &str, &str); 23] = [
     ("%(1.)$1", "××××××!", "××××××!"),
 ];
 
-// The same with a degree sign and a euro sign. A line may end after a space inside what would otherwise be a
-// number, but not after a no-break space.
+// Texts with a degree sign or a euro sign, and their marks without whole numbers, and with them. A line may
+// end after a space inside what would otherwise be a number, but not after a no-break space.
 static SIGNS: [(&str, &str, &str); 3] = [
     ("-5\u{B0}", "××!", "××!"),
     ("\u{20AC}\u{A0}30", "×××!", "×××!"),

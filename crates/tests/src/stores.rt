@@ -101,7 +101,7 @@ fn sums(items: &[Item]) -> (usize, usize)
 }
 
 #[tactic(auto, using(store::proofs::ListLemmas::sum_of_splice))]
-// Replaces items, if the range is within the store and the sums are small.
+// Replaces items. Asserts that the range is within the store and that all sums are below `LIMIT`.
 fn replace<S: ParagraphStore<Item>>(
     rt: &impl Abort,
     store: &mut S,
@@ -126,7 +126,7 @@ fn sum(parts: &[usize], more: usize) -> usize
     sum
 }
 
-// Exchanges parts, if there are as many parts as items and the new sum is small.
+// Exchanges the parts. Asserts that there is one part per item and that the new sum is below `LIMIT`.
 fn exchange_all<S: ParagraphStore<Item>>(
     rt: &impl Abort,
     store: &mut S,
@@ -137,7 +137,8 @@ fn exchange_all<S: ParagraphStore<Item>>(
     store.exchange_all_by(by, parts);
 }
 
-// Exchanges the part of each item by `Exchange`, on the same conditions.
+// Exchanges the part of each item by `Exchange`. Asserts that there is one part per item and that the new sum
+// is below `LIMIT`.
 fn exchange_lines<S: ParagraphStore<Item>>(rt: &impl Abort, store: &mut S, parts: &mut Vec<usize>) {
     assert!(rt; sum(parts, 0) < LIMIT && parts.len() == store.count());
     store.exchange_all(parts);
@@ -181,7 +182,7 @@ fn small_items(alloc: Global, count: usize) -> Result<Vec<Item>, AllocError> {
     Ok(items)
 }
 
-// Whether both find the same, apart from the visits.
+// Whether two searches find the same, apart from the visits.
 fn is_same(found: Found, other: Found) -> bool {
     Found { visits: 0, ..found } == Found { visits: 0, ..other }
 }

@@ -90,7 +90,7 @@ static ROWS: [Row; 16] = [
         [false, false, true],
         337,
     ),
-    // A line of emoji-data.txt names it, but for another property.
+    // A character that a line of emoji-data.txt names, but for another property.
     ('\u{1F1E6}', Bidi::L, Line::RI, None, None, NONE, 312),
     // A range over many pages, and the characters beside it.
     ('\u{4DFF}', Bidi::L, Line::XX, None, None, NONE, 336),

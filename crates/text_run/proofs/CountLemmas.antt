@@ -1,4 +1,4 @@
--- What an engine counts over several calls.
+-- The counters of an engine after several calls.
 use Rattle.std.proofs.Common.{◌≡◌, ℕ, ◌+◌, ◌-◌, ◌^◌, ◌≤◌, min, Bool, true, false, Some, refl, sym, ap, ◌∙◌, arith, true≢false, if◌then◌else◌}
 use Rattle.lines.specs.Engine.{analysed_of, counted, filled_of, written_of, Prints, RisesBy}
 use Rattle.lines.specs.Printing.{skips_lines}
@@ -80,7 +80,7 @@ module _ (print : Print) where
     skipped = λ skips. ((b.skipped skips).0 ∙ (a.skipped skips).0, (b.skipped skips).1 ∙ (a.skipped skips).1);
   }
 
-  -- what was printed was printed at most
+  -- if n characters were printed, at most n were
   pub at_most_printed : (old new : Engine) (n : ℕ) → Prints 0 print old old → Prints n print old new → PrintsAtMost n print old new
   at_most_printed old new n fits a = record {
     at_most = record {
@@ -94,7 +94,7 @@ module _ (print : Print) where
     );
   }
 
--- what was printed is told of a fault of the input, and of others nothing is
+-- after any fault, `HasPrinted` follows from the number of printed characters
 pub printed_as : (fault : RunFault) (n : ℕ) (print : Print) (old new : Engine) → Prints n print old new → HasPrinted (Some fault) n print old new
 printed_as f.Read n print old new counts = counts
 printed_as (f.Write m) n print old new counts = tt

@@ -8,11 +8,11 @@ Appends-refl : (known : Option (List ℕ)) → Appends known known []
 Appends-refl None = tt
 Appends-refl (Some xs) = sym (append-nil xs)
 
--- nothing was taken
+-- an unchanged sink has taken no bytes
 pub Took-nothing : (device : Device) → Took device device []
 Took-nothing device = record { bytes = Appends-refl device.bytes; passed = omega arith }
 
--- the known bytes, or none
+-- if the bytes of a source are known, `unwrap_or` returns them
 pub known-bytes : (known : Option (List ℕ)) → IfSome known (λ all. all ≡ unwrap_or known [])
 known-bytes None = tt
 known-bytes (Some all) = refl

@@ -11,7 +11,7 @@ use Rattle.text_run.specs.TextRun.{is_within}
 use Rattle.text_run.specs.Streaming.{IsFront, StartsLong}
 
 module _ (is_cut : ℕ → ℕ → Bool) where
-  -- a text without a cut that is too long for a paragraph
+  -- a text without a paragraph boundary that is longer than the limit starts with a too long paragraph
   pub long_uncut : (text : List ℕ) → SplitsAt is_cut text None → 1048576 < length text → StartsLong is_cut text
   long_uncut text uncut long =
       let n = length text - 1 in
@@ -30,7 +30,7 @@ module _ (is_cut : ℕ → ℕ → Bool) where
             grind (arith, nat_tests);
       }
 
-  -- one that is too long stays so, whatever follows
+  -- a text that starts with a too long paragraph still does if more text follows
   pub long_more : (text more : List ℕ) → StartsLong is_cut text → StartsLong is_cut (text ++ more)
   long_more text more starts = record {
     first = λ after. starts.first (more ++ after);
@@ -39,11 +39,11 @@ module _ (is_cut : ℕ → ℕ → Bool) where
     long = λ after. starts.long (more ++ after);
   }
 
-  -- nothing is before a text
+  -- no paragraphs are the first ones of a text, of which all remains
   pub front_none : (text : List ℕ) → IsFront is_cut [] text text
   front_none text = record { whole = refl; cuts = λ more. refl; within = refl; filled = λ some. some }
 
-  -- one paragraph is, where a cut ends it
+  -- the characters before the first paragraph boundary are the first paragraph
   pub front_one : (text paragraph after : List ℕ) (k : ℕ) → SplitsAt is_cut text (Some k) → k ≤ 1048576 → paragraph ≡ take k text → after ≡ drop k text → IsFront is_cut (paragraph ∷ []) text after
   front_one text paragraph after k splits short paragraph_is after_is =
       let at = front.place is_cut text k splits.1 in
@@ -60,7 +60,7 @@ module _ (is_cut : ℕ → ℕ → Bool) where
         filled = λ some. omega (arith, ap length after_is, length-drop k text, splits.1);
       }
 
-  -- the first paragraphs, and those of the rest
+  -- the first paragraphs of a text, followed by those of its rest, are first paragraphs of the text
   pub front_join : (ps qs : List (List ℕ)) (text rest last : List ℕ) → IsFront is_cut ps text rest → IsFront is_cut qs rest last → IsFront is_cut (ps ++ qs) text last
   front_join ps qs text rest last a b = record {
     whole = a.whole ∙ ap (λ t. concat ps ++ t) b.whole ∙ sym (append_assoc (concat ps) (concat qs) last) ∙ ap (λ t. t ++ last) (sym (concat-append ps qs));
@@ -69,7 +69,7 @@ module _ (is_cut : ℕ → ℕ → Bool) where
     filled = λ some. b.filled (a.filled some);
   }
 
-  -- a text that goes on
+  -- the first paragraphs of a text are those of a longer text, whose rest is longer too
   pub front_more : (ps : List (List ℕ)) (text rest more : List ℕ) → IsFront is_cut ps text rest → IsFront is_cut ps (text ++ more) (rest ++ more)
   front_more ps text rest more a = record {
     whole = ap (λ t. t ++ more) a.whole ∙ append_assoc (concat ps) rest more;

@@ -1,4 +1,4 @@
--- What is left of a text: its last paragraph, and the lines still to be written when an allocation fails.
+-- The last paragraph of a text, and the lines that are still to be written when an allocation fails.
 use Rattle.std.proofs.Common.{◌≡◌, ℕ, ◌+◌, ◌<◌, ◌≤◌, ◌==◌, ◌&&◌, Bool, true, false, List, [], ◌∷◌, length, take, encode_utf8_all, refl, sym, ap, ◌∙◌, arith, if◌then◌else◌}
 use Rattle.std.specs.Str.Lossy.{utf8_valid_len}
 use Rattle.std.proofs.lemmas.Bool.Decides.{nat_tests}
@@ -13,7 +13,7 @@ use Rattle.bidi.proofs.FrontLemmas.{first_paragraph}
 use Rattle.text_run.proofs.StreamLemmas.{short_is}
 use Rattle.stream.proofs.Utf8Lemmas.{utf8_front}
 
--- the last paragraph of a text, if there is one
+-- a text without a paragraph boundary is one paragraph, or empty
 pub last_pars : (rules : Rules) (text : List ℕ) → IsOpen (cut_by rules) text → paragraphs (cut_by rules) text ≡ (if length text == 0 then [] else text ∷ [])
 last_pars rules [] is_open = refl
 last_pars rules (a ∷ text) is_open =
@@ -29,7 +29,7 @@ last_within (a ∷ text) short =
 pub not_none : (text : List ℕ) → 0 < length text → (length text == 0) ≡ false
 not_none text some = grind (arith, nat_tests)
 
--- characters are decoded of bytes whose front isn't empty
+-- a valid UTF-8 prefix that is not empty has characters
 pub front_some : (bytes : List ℕ) → 0 < utf8_valid_len bytes → 0 < length (front_of bytes)
 front_some bytes some = go (front_of bytes) refl
   where
@@ -42,7 +42,7 @@ front_some bytes some = go (front_of bytes) refl
         absurd (omega (arith, some, length-take-le (utf8_valid_len bytes) bytes (utf8_valid_len_le bytes), ap length (sym encoded ∙ ap encode_utf8_all none)))
     go (c ∷ cs) is = omega (arith, ap length is)
 
--- the first k of n paragraphs are not all of them, nor all but the one that bad bytes follow
+-- k is below n, and so is k + 1 if `bad`
 pub left_by : (k n : ℕ) (bad : Bool) → k < n → (bad ≡ true → k + 1 < n) → (if bad then k + 1 else k) < n
 left_by k n true less more = more refl
 left_by k n false less more = less

@@ -1,5 +1,4 @@
--- Whether the first paragraph of a text without a paragraph boundary is too long, one character after
--- another.
+-- Whether the first paragraph of a text without a paragraph boundary is too long, checked character by character.
 use Rattle.std.proofs.Common.{◌≡◌, ℕ, zero, suc, get_or, ◌+◌, ◌-◌, ◌<◌, ◌≤◌, ◌&&◌, Bool, true, false, List, [], ◌∷◌, ◌++◌, length, map, map-id, take, drop, Option, Some, None, MatchOption, encode_utf8_all, refl, sym, subst, ap, ◌∙◌, arith}
 use Rattle.std.specs.Prelude.{⊤, IsUtf8}
 use Rattle.std.specs.List.{concat, slice_get}
@@ -18,7 +17,7 @@ use Rattle.text_run.proofs.StreamLemmas.{short_is}
 use Rattle.stream.proofs.Utf8Lemmas.{utf8_front}
 use lib.Utf8.{encode}
 
--- paragraphs that are few characters together
+-- if all paragraphs together are within the limit, each one is
 few_within : (ps : List (List ℕ)) → length (concat ps) ≤ 1048576 → are_within ps ≡ true
 few_within [] few = refl
 few_within (p ∷ ps) few =
@@ -28,7 +27,7 @@ few_within (p ∷ ps) few =
 pub text_within : ParagraphsArePieces → (is_cut : ℕ → ℕ → Bool) (text : List ℕ) → length text ≤ 1048576 → are_within (paragraphs is_cut text) ≡ true
 text_within law is_cut text few = few_within (paragraphs is_cut text) (omega (arith, few, ap length (law.whole is_cut text)))
 
--- characters are no more than their bytes
+-- a text has at most as many characters as bytes
 encodes_few : (cs : List ℕ) → length cs ≤ length (encode_utf8_all cs)
 encodes_few [] = omega arith
 encodes_few (c ∷ cs) = omega (arith, length-append (encode c) (encode_utf8_all cs), length-encode c, (len_utf8_bounds c).0, encodes_few cs)
@@ -43,34 +42,32 @@ front_few bytes =
 
 -- ---- characters one after another
 
--- the next of them
+-- a text is its first n characters, the character at n, and the rest
 next_of : (all : List ℕ) (n c : ℕ) → n < length all → c ≡ get_or all n c → all ≡ take n all ++ c ∷ drop (suc n) all
 next_of [] n c less is = absurd (omega arith)
 next_of (x ∷ all) zero c less is = ap (λ y. y ∷ all) (sym is)
 next_of (x ∷ all) (suc n) c less is = ap (λ t. x ∷ t) (next_of all n c (omega arith) is)
 
--- the one at hand, where some were taken
+-- a text is the characters that were read, the current one, and the rest
 pub at_hand : (all taken : List ℕ) (c : ℕ) → map (λ x. x) taken ≡ take (length taken) all → (length taken < length all)
     × (c ≡ get_or all (length taken) c) → all ≡ taken ++ c ∷ drop (suc (length taken)) all
 at_hand all taken c so_far turn =
     next_of all (length taken) c turn.0 turn.1 ∙ ap (λ t. t ++ c ∷ drop (suc (length taken)) all) (sym so_far ∙ map-id taken)
 
--- the last
-
--- characters stand in some paragraph
+-- a text with characters has a paragraph
 some_pars : (pars : List (List ℕ)) → 0 < length (concat pars) → 0 < length pars
 some_pars [] some = absurd (omega (arith, some))
 some_pars (p ∷ pars) some = omega arith
 
 module _ (is_cut : ℕ → ℕ → Bool) where
-  -- a text that has no cut, and isn't too long
+  -- the scan has read a text without a paragraph boundary that is within the limit
   pub record HasTaken (text : List ℕ) (last : Option ℕ) (len : ℕ) : Type 0 where
     pub uncut : SplitsAt is_cut text None
     pub last_is : last ≡ slice_get text (length text - 1)
     pub len_is : len ≡ length text
     pub short : len ≤ 1048576
 
-  -- one more character, after which the text isn't too long
+  -- one more character, with which the text is still within the limit
   pub take_one : (text : List ℕ) (last : Option ℕ) (len c : ℕ) → HasTaken text last len → MatchOption last ⊤ (λ a. is_cut a c ≡ false) → len < 1048576 → HasTaken (text ++ c ∷ []) (Some c) (len + 1)
   take_one text last len c taken no_cut less = record {
     uncut = uncut_more is_cut text last c (sym taken.last_is) taken.uncut no_cut;
@@ -79,14 +76,14 @@ module _ (is_cut : ℕ → ℕ → Bool) where
     short = omega (arith, less);
   }
 
-  -- with which it is
+  -- one more character, with which the first paragraph is too long
   pub one_too_many : (text more : List ℕ) (last : Option ℕ) (len c : ℕ) → HasTaken text last len → MatchOption last ⊤ (λ a. is_cut a c ≡ false) → len ≡ 1048576 → StartsLong is_cut (text ++ c ∷ more)
   one_too_many text more last len c taken no_cut full =
       subst (λ (t : List ℕ). StartsLong is_cut t) (append_assoc text (c ∷ []) more)
       (long_more is_cut (text ++ c ∷ []) more
       (long_uncut is_cut (text ++ c ∷ []) (uncut_more is_cut text last c (sym taken.last_is) taken.uncut no_cut) (omega (arith, full, taken.len_is, length-append text (c ∷ [])))))
 
-  -- which begins a paragraph
+  -- one more character, before which there is a paragraph boundary
   pub cut_before : ParagraphsArePieces → (text more : List ℕ) (last : Option ℕ) (len c a : ℕ) → HasTaken text last len
       → last ≡ Some a → is_cut a c ≡ true → length (c ∷ more) ≤ 1048576 → IsEnded is_cut (text ++ c ∷ more)
   cut_before law text more last len c a taken last_is cut few =
@@ -100,7 +97,7 @@ module _ (is_cut : ℕ → ℕ → Bool) where
         more = omega (arith, ap length split, some_pars (paragraphs is_cut (c ∷ more)) (omega (arith, ap length whole_more)));
       }
 
--- no paragraph of an open text is too long
+-- no paragraph of a text that has no boundary and is within the limit is too long
 pub open_within : (is_cut : ℕ → ℕ → Bool) (text : List ℕ) → IsOpen is_cut text → are_within (paragraphs is_cut text) ≡ true
 open_within is_cut [] is_open = refl
 open_within is_cut (a ∷ text) is_open = ap are_within (is_open.uncut (omega arith)) ∙ ap (λ (b : Bool). b && true) (short_is (a ∷ text) is_open.short)

@@ -18,7 +18,7 @@ use Rattle.text_run.specs.Streaming.{IsFront, Pushed}
 use Rattle.text_run.proofs.CountLemmas.{at_most_more, prints_more}
 use Rattle.text_run.proofs.Fronts.{front_none, front_one, front_join}
 
--- where the first of paragraphs that aren't too long ends, and the others
+-- if no paragraph is too long, the first ends within the limit, and none of the others is too long
 pub first_within : (is_cut : ℕ → ℕ → Bool) (rest : List ℕ) (k : ℕ) → are_within (paragraphs is_cut rest) ≡ true
     → SplitsAt is_cut rest (Some k) → (k ≤ 1048576) × (are_within (paragraphs is_cut (drop k rest)) ≡ true)
 first_within is_cut rest k within splits =
@@ -32,7 +32,8 @@ only_within is_cut (a ∷ rest) within splits =
     leb-true (length (a ∷ rest)) 1048576 both.0
 
 module _ (rules : Rules) (width : ℕ) (print : Print) (text : List ℕ) (before : List ℕ) (engine_old : Engine) where
-  -- the lines of the first paragraphs are on a page, there is no cut in a front of the rest, and no paragraph of it is too long
+  -- The lines of the first paragraphs are on the page. The first `seen` characters of the rest have no paragraph
+  -- boundary, and no paragraph of the rest is too long.
   pub record PushedSoFar (rest : List ℕ) (seen : ℕ) (after : List ℕ) (engine : Engine) : Type 0 where
     pub pars : List (List ℕ)
     pub front : IsFront (cut_by rules) pars text rest
@@ -75,7 +76,7 @@ module _ (rules : Rules) (width : ℕ) (print : Print) (text : List ℕ) (before
   pushed_rest rest seen after engine splits so_far =
       record { pars = so_far.pars; front = so_far.front; lines = so_far.lines; counts = so_far.counts; left = record { uncut = splits; short = only_within (cut_by rules) rest so_far.within splits } }
 
-  -- of the text no more is counted than was pushed, and the paragraph at which memory ran out
+  -- the counters rise by at most the length of the text, even if memory runs out in the next paragraph
   pub pushed_at_most : (rest : List ℕ) (seen n : ℕ) (after : List ℕ) (engine engine_new : Engine)
       → PushedSoFar rest seen after engine → PrintsAtMost n print engine engine_new → n ≤ length rest
       → PrintsAtMost (length text) print engine_old engine_new
@@ -83,7 +84,7 @@ module _ (rules : Rules) (width : ℕ) (print : Print) (text : List ℕ) (before
       at_most_more print engine_old engine engine_new (length (concat so_far.pars)) n (length text) so_far.at_most at_most
       (omega (arith, few, ap length so_far.front.whole, length-append (concat so_far.pars) rest))
 
--- a text of which a rest has a cut has one
+-- a text without a paragraph boundary has no rest with one
 pub rest_uncut : ParagraphsArePieces → (is_cut : ℕ → ℕ → Bool) (text rest : List ℕ) (pars : List (List ℕ)) (k : ℕ)
     → IsFront is_cut pars text rest → SplitsAt is_cut rest (Some k) → SplitsAt is_cut text None → ⊥
 rest_uncut law is_cut text rest pars k front splits none =

@@ -1,4 +1,4 @@
--- The start of a run, and its steps under the rules that it began with.
+-- The start of a run, and its steps by the rules with which it started.
 use Rattle.std.proofs.Common.{◌≡◌, ℕ, Bool, List, [], length, take, Option, Some, None, Result, Err, vec_len, refl, sym, subst, ap, ◌∙◌, arith}
 use Rattle.std.specs.Str.{chars}
 use Rattle.std.specs.Io.KnownBytes.{Consumes}
@@ -23,7 +23,7 @@ use Rattle.text_run.proofs.StepLemmas.{stands_by}
 use Rattle.text_run.proofs.StreamLemmas.{Stops, at_memory}
 use Rattle.stream.proofs.Utf8Lemmas.{nothing_valid, utf8_error_len-nil}
 
--- before anything is read
+-- the state of a run before anything is read
 module _ (rules : Rules) (width : ℕ) (print : Print) (reader writer : Device) (engine : Engine) where
   start_at : IsAt rules width print reader reader writer writer [] [] []
   start_at = record {
@@ -83,7 +83,7 @@ module _ (rules : Rules) (width : ℕ) (print : Print) (reader writer : Device) 
       )
       fits none text lines room (omega (arith, ap length none, waiting))
 
--- a step of a run under the rules that it began with
+-- a step of a run by the rules with which it started
 module _ (rules now : Rules) (width : ℕ) (print : Print) (reader_old writer_old : Device) (engine_old : Engine)
     (reader writer : Device) (engine : Engine) (reader_new writer_new : Device) (engine_new : Engine)
     (held held_new : Held) (kept : now ≡ rules)

@@ -1,4 +1,4 @@
--- A write that fails: the paragraphs whose lines were to be written were printed.
+-- If a write fails, the paragraphs whose lines were to be written were printed.
 use Rattle.std.proofs.Common.{◌≡◌, ◌⊎◌, inl, inr, ⊎_elim, ℕ, ◌+◌, ◌*◌, ◌<◌, ◌≤◌, ◌==◌, Bool, true, false, List, [], ◌∷◌, ◌++◌, length, take, Option, Some, None, encode_utf8_all, refl, sym, subst, ap, ◌∙◌, arith, true≢false, if◌then◌else◌}
 use Rattle.std.specs.Prelude.{is_some}
 use Rattle.std.specs.List.{concat}
@@ -23,7 +23,7 @@ use Rattle.text_run.proofs.StreamLemmas.{FailedLast-after, Took-append}
 use Rattle.stream.proofs.Utf8Lemmas.{utf8_error_len-nil}
 use lib.Utf8.{encode}
 
--- how many bytes characters take at most
+-- a character has at most 4 bytes in UTF-8
 pub encoded_len : (cs : List ℕ) → length (encode_utf8_all cs) ≤ 4 * length cs
 encoded_len [] = omega arith
 encoded_len (c ∷ cs) = omega (arith, length-append (encode c) (encode_utf8_all cs), length-encode c, (len_utf8_bounds c).1, encoded_len cs)
@@ -45,25 +45,25 @@ pub some_bad : (bytes : List ℕ) → is_some (utf8_error_len bytes) ≡ true �
 some_bad [] bad = absurd (true≢false (sym bad ∙ ap is_some utf8_error_len-nil))
 some_bad (b ∷ bytes) bad = omega arith
 
--- where two lists are none the second is
+-- if a concatenation is empty, its second list is
 pub append_end : {A : Type 0} (xs ys : List A) → xs ++ ys ≡ [] → ys ≡ []
 append_end [] ys is = is
 append_end (x ∷ xs) ys is = absurd cc
 
--- the last paragraph has all characters that are held
+-- the paragraph of a text without a boundary has all its characters
 pub last_len : (text : List ℕ) → length (concat (if length text == 0 then [] else text ∷ [])) ≡ length text
 last_len [] = refl
 last_len (a ∷ text) =
     let filled : (length (a ∷ text) == 0) ≡ false = not_none (a ∷ text) (omega arith) in
     ap (λ (b : Bool). length (concat (if b then [] else (a ∷ text) ∷ []))) filled ∙ ap length (append-nil (a ∷ text))
 
--- and there is no other
+-- a text without a boundary that is not empty is one paragraph
 pub one_par : (rules : Rules) (text : List ℕ) → IsOpen (cut_by rules) text → 0 < length text → length (paragraphs (cut_by rules) text) ≡ 1
 one_par rules text is_open some =
     ap length (last_pars rules text is_open) ∙ ap (λ (b : Bool). length (if b then [] else text ∷ [])) (not_none text some)
 
 module _ (rules : Rules) (width : ℕ) (print : Print) (reader_old writer_old : Device) (engine_old : Engine) (reader_new writer_mid writer_new : Device) (engine_new : Engine) where
-  -- the lines of some paragraphs were written, and the sink failed in those of the next ones
+  -- the lines of the first paragraphs were written, and the sink failed in the lines of the next ones
   pub stopped_in : (bytes : List ℕ) → HasRead reader_old reader_new bytes → (sent gathered others : List (List ℕ)) → front_paragraphs rules bytes ≡ (sent ++ gathered) ++ others
       → (length others ≡ 1) ⊎ ((length others ≡ 0) × IsAtEnd reader_new.bytes)
       → Wrote (page rules width print sent) writer_old writer_mid → (m n : ℕ) → StoppedAt m (page rules width print gathered) writer_mid writer_new

@@ -45,7 +45,7 @@ all_but_last ps q qs =
     let n : length (ps ++ q ∷ qs) - 1 ≡ length ps + length qs = omega (arith, length-append ps (q ∷ qs)) in
     ap (λ k. take k (ps ++ q ∷ qs)) n ∙ take-append-add ps (q ∷ qs) (length qs)
 
--- paragraphs that aren't too long, and are not the last ones, are among those that are written
+-- paragraphs within the limit, other than the last one, are written
 written_begins : (ps : List (List ℕ)) (q : List ℕ) (qs : List (List ℕ)) (whole : Bool) → are_within ps ≡ true → (more : List (List ℕ)) × (written_of (ps ++ q ∷ qs) whole ≡ ps ++ more)
 written_begins ps q qs whole all = go (are_within (ps ++ q ∷ qs)) whole refl
   where
@@ -55,7 +55,7 @@ written_begins ps q qs whole all = go (are_within (ps ++ q ∷ qs)) whole refl
     go true false is = (take (length qs) (q ∷ qs), all_but_last ps q qs)
     go false w is = (take_while is_within (q ∷ qs), take_while_more ps (q ∷ qs) all)
 
--- the last one isn't written where the text isn't whole
+-- the last paragraph is not written if the input has a fault
 written_part : (ps : List (List ℕ)) (q : List ℕ) → are_within ps ≡ true → is_within q ≡ true → written_of (ps ++ q ∷ []) false ≡ ps
 written_part ps q all short =
     let within : are_within (ps ++ q ∷ []) ≡ true = within_more ps (q ∷ []) all ∙ ap (λ (b : Bool). b && true) short in
@@ -65,7 +65,7 @@ written_part ps q all short =
 pub written_whole : (ps : List (List ℕ)) → are_within ps ≡ true → written_of ps true ≡ ps
 written_whole ps all = ap (λ (b : Bool). if b then ps else take_while is_within ps) all
 
--- one that is too long ends the lines
+-- no paragraph from the first too long one on is written
 written_long : (ps : List (List ℕ)) (q : List ℕ) (qs : List (List ℕ)) (whole : Bool) → are_within ps ≡ true → is_within q ≡ false → written_of (ps ++ q ∷ qs) whole ≡ ps
 written_long ps q qs whole all long =
     let within : are_within (ps ++ q ∷ qs) ≡ false = within_more ps (q ∷ qs) all ∙ ap (λ (b : Bool). b && are_within qs) long in
@@ -105,7 +105,7 @@ Consumes-kept (Some us) None c xs p q = absurd p
 Consumes-kept (Some us) (Some bs) None xs p q = absurd q
 Consumes-kept (Some us) (Some bs) (Some cs) xs p q = p ∙ ap (λ t. xs ++ t) (sym q)
 
--- what a source had is what it gave and what it has
+-- the bytes of a source are those that were read, followed by the remaining ones
 pub had : (a b : Option (List ℕ)) (xs : List ℕ) → Consumes a b xs → IfSome a (λ all. all ≡ xs ++ unwrap_or b [])
 had None b xs p = tt
 had (Some us) None xs p = absurd p
@@ -118,14 +118,15 @@ had_all (Some us) (Some bs) xs p done = p ∙ ap (λ t. xs ++ t) done ∙ append
 
 -- ---- the run of a text so far
 
--- the run ends with a fault, of whatever engine that has printed n characters where the fault is the input's
+-- The run ends with this fault. If it is a fault of the input, this holds for each engine that has printed n
+-- characters.
 pub record Stops (rules : Rules) (width : ℕ) (print : Print) (reader_old writer_old reader_new writer_new : Device) (fault : RunFault) (n : ℕ) : Type 0 where
   pub run : (engine_old engine_new : Engine) → HasPrinted (Some fault) n print engine_old engine_new
       → IsTextRun rules width print reader_old reader_new writer_old writer_new engine_old engine_new (Err fault)
   pub ahead : ReadsAhead rules width print reader_old reader_new writer_old writer_new
 
 module _ (rules : Rules) (width : ℕ) (print : Print) (reader_old writer_old : Device) where
-  -- the lines of these paragraphs are written, and no more was read after them than may be
+  -- the run has read at most `read_ahead` bytes after these paragraphs
   pub record IsSent (reader_new : Device) (sent : List (List ℕ)) : Type 0 where
     pub ahead : reader_new.passed ≤ reader_old.passed + length (encode_utf8_all (concat sent)) + read_ahead
 
@@ -137,7 +138,7 @@ module _ (rules : Rules) (width : ℕ) (print : Print) (reader_old writer_old : 
         omega (arith, a.ahead, ap length bytes, length-append (encode_utf8_all (concat sent)) (encode_utf8_all (concat more)));
   }
 
-  -- the first of them, and a beginning of the next one's lines
+  -- the lines of these paragraphs were written, and a prefix of the lines of the next one
   ahead_at : (reader_new writer_new : Device) (ending : Ending) (bytes : List ℕ) (sent others : List (List ℕ)) (n : ℕ)
       → Gave reader_old reader_new ending bytes → front_paragraphs rules bytes ≡ sent ++ others
       → Took writer_old writer_new (page rules width print sent ++ take n (page rules width print (take 1 others)))
@@ -159,14 +160,14 @@ module _ (rules : Rules) (width : ℕ) (print : Print) (reader_old writer_old : 
         ),
       )
 
-  -- where the lines of these paragraphs and no more are written
+  -- exactly the lines of these paragraphs were written
   ahead_done : (reader_new writer_new : Device) (ending : Ending) (bytes : List ℕ) (sent others : List (List ℕ))
       → Gave reader_old reader_new ending bytes → front_paragraphs rules bytes ≡ sent ++ others
       → Wrote (page rules width print sent) writer_old writer_new → IsSent reader_new sent → ReadsAhead rules width print reader_old reader_new writer_old writer_new
   ahead_done reader_new writer_new ending bytes sent others gave pars wrote ahead =
       ahead_at reader_new writer_new ending bytes sent others 0 gave pars (subst (Took writer_old writer_new) (sym (append-nil (page rules width print sent))) wrote.0) ahead
 
-  -- memory ran out
+  -- the run ends with `Memory`
   pub ends_memory : (reader_new writer_new : Device) (ending : Ending) (bytes : List ℕ)
       (sent others more : List (List ℕ)) → Gave reader_old reader_new ending bytes → front_paragraphs rules bytes
       ≡ sent ++ others
@@ -192,7 +193,7 @@ module _ (rules : Rules) (width : ℕ) (print : Print) (reader_old writer_old : 
     ahead = ahead_done reader_new writer_new ending bytes sent others gave pars wrote ahead;
   }
 
-  -- a beginning of the lines of some paragraphs is that of some of them and a beginning of the next one's
+  -- a prefix of the lines of some paragraphs is the lines of the first of them, and a prefix of the next one's lines
   record IsWithin (gathered : List (List ℕ)) (m : ℕ) : Type 0 where
     pub before : List (List ℕ)
     pub next : List ℕ
@@ -230,7 +231,7 @@ module _ (rules : Rules) (width : ℕ) (print : Print) (reader_old writer_old : 
   within [] m less = absurd (omega arith)
   within (p ∷ ps) m less = within_step p ps m less (λ k less_2. within ps k less_2)
 
-  -- the sink failed within the lines of some paragraphs more
+  -- the sink failed within the lines of some more paragraphs
   pub ends_write : (reader_new writer_mid writer_new : Device) (ending : Ending) (bytes : List ℕ) (sent gathered others more : List (List ℕ)) (m n : ℕ) → Gave reader_old reader_new ending bytes
       → front_paragraphs rules bytes ≡ (sent ++ gathered) ++ others
       → written_of (front_paragraphs rules bytes) (is_none (input_fault ending bytes)) ≡ (sent ++ gathered) ++ more
@@ -267,7 +268,7 @@ module _ (rules : Rules) (width : ℕ) (print : Print) (reader_old writer_old : 
             (subst (Took writer_old writer_new) took_2 took) (ahead_more reader_new sent at.before ahead);
       }
 
--- what is left of a text whose first paragraphs are known
+-- a text that has first paragraphs has a rest, and these paragraphs are written
 pub gone_on : (is_cut : ℕ → ℕ → Bool) (ps : List (List ℕ)) (text rest : List ℕ) → IsFront is_cut ps text rest → (ps ≡ []) ⊎ (0 < length rest)
 gone_on is_cut ps [] rest front = inl (none ps (front.cuts []))
   where
@@ -292,7 +293,7 @@ begins_in is_cut ps (a ∷ rest) whole all (inr some) more =
 
 module _ (rules : Rules) (width : ℕ) (print : Print) (reader_old reader_new writer_old writer_new : Device) (waiting text lines : List ℕ)
     (at : IsAt rules width print reader_old reader_new writer_old writer_new waiting text lines) where
-  -- whatever stands after the bytes that were decoded
+  -- the characters and paragraphs of the decoded bytes, followed by any bytes
   pub front_is : (after : List ℕ) → front_of (at.decoded ++ after) ≡ chars at.decoded ++ front_of after
   front_is after = ap chars (take-valid-after at.decoded after at.utf8) ∙ chars-append at.decoded (take (utf8_valid_len after) after) at.utf8
 
@@ -304,7 +305,7 @@ module _ (rules : Rules) (width : ℕ) (print : Print) (reader_old reader_new wr
       let some = begins_in (cut_by rules) (at.sent ++ at.gathered) text whole at.front.within (gone_on (cut_by rules) (at.sent ++ at.gathered) (chars at.decoded) text at.front) (front_of after) in
       (some.0, ap (λ qs. written_of qs whole) (pars_are after) ∙ some.1)
 
-  -- all that the reader has, where it told it
+  -- all remaining bytes of the source, if it is known
   abbrev pub rest_of : List ℕ
   rest_of = waiting ++ unwrap_or reader_new.bytes []
 
@@ -334,7 +335,7 @@ module _ (rules : Rules) (width : ℕ) (print : Print) (reader_old reader_new wr
       ++ rest_of) at.sent at.gathered (paragraphs (cut_by rules) (text ++ front_of rest_of)) more.0 m n gave_all
       (pars_are rest_of) more.1 at.wrote sent_ahead (subst (λ (t : List ℕ). StoppedAt m t writer_new writer_last) at.lines_are stopped) n_is printed
 
-  -- the lines are written
+  -- the state after the gathered lines are written
   pub at_written : (writer_last : Device) → Wrote lines writer_new writer_last
       → (next : IsAt rules width print reader_old reader_new writer_old writer_last waiting text []) × (next.gathered ≡ []) × (next.decoded ≡ at.decoded) × (next.sent ≡ at.sent ++ at.gathered)
   at_written writer_last wrote =
@@ -359,7 +360,7 @@ module _ (rules : Rules) (width : ℕ) (print : Print) (reader_old reader_new wr
         refl,
       )
 
-  -- where no lines wait
+  -- the state if no lines are gathered
   module _ (nothing : at.gathered ≡ []) where
     sent_is : at.sent ++ at.gathered ≡ at.sent
     sent_is = ap (λ t. at.sent ++ t) nothing ∙ append-nil at.sent
@@ -370,7 +371,7 @@ module _ (rules : Rules) (width : ℕ) (print : Print) (reader_old reader_new wr
     pub sent_within : are_within at.sent ≡ true
     sent_within = ap are_within (sym sent_is) ∙ at.front.within
 
-    -- a paragraph is too long
+    -- the run ends with `ParagraphTooLong` if the rest starts with a too long paragraph
     pub at_long : StartsLong (cut_by rules) text → Stops rules width print reader_old writer_old reader_new writer_new f.ParagraphTooLong (length (concat at.sent))
     at_long starts =
         let bytes = at.decoded ++ rest_of in
@@ -399,7 +400,7 @@ module _ (rules : Rules) (width : ℕ) (print : Print) (reader_old reader_new wr
           ahead = ahead_done rules width print reader_old writer_old reader_new writer_new AtEnd bytes at.sent (starts.first more ∷ starts.others more) gave_all pars at.wrote sent_ahead;
         }
 
-    -- the last paragraph of a text that isn't whole
+    -- a rest without a boundary is the last paragraph, which is not written if the input has a fault
     open_part : (rest : List ℕ) → IsOpen (cut_by rules) rest → (0 < length rest) ⊎ (at.sent ≡ [])
         → (written_of (at.sent ++ paragraphs (cut_by rules) rest) false ≡ at.sent)
         × (are_within (at.sent ++ paragraphs (cut_by rules) rest) ≡ true)
@@ -415,7 +416,7 @@ module _ (rules : Rules) (width : ℕ) (print : Print) (reader_old reader_new wr
     text_or_none : (0 < length text) ⊎ (at.sent ≡ [])
     text_or_none = ⊎_elim (λ none. inr (sym sent_is ∙ none)) (λ some. inl some) (gone_on (cut_by rules) (at.sent ++ at.gathered) (chars at.decoded) text at.front)
 
-    -- the fault of an input of which no more is text
+    -- the run ends with the fault of an input that has no more valid characters
     pub at_fault : (reader_last : Device) (ending : Ending) (after : List ℕ) (fault : RunFault)
         → Gave reader_old reader_last ending (at.decoded ++ after)
         → IsSent rules width print reader_old writer_old reader_last at.sent → IsOpen (cut_by rules) text

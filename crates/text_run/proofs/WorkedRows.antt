@@ -2,6 +2,6 @@
 use Rattle.std.proofs.Common.{◌≡◌, refl}
 use Rattle.stream.specs.declared.reading.TheConstants.{CHUNK}
 
--- so many bytes are asked of a source at a time
+-- the maximum number of bytes of one read
 piece_size : CHUNK ≡ 65536
 piece_size = refl

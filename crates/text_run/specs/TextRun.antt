@@ -24,22 +24,22 @@ pub data Ending : Type 0 where
   AtEnd : Ending
   AtFailure : Ending
 
--- What is wrong with an input: it is not UTF-8, or a read failed. At the end of the input, an incomplete
--- character is not UTF-8 either.
+-- The fault of an input: it is not UTF-8, or a read failed. At the end of the input, an incomplete UTF-8 sequence is
+-- `NotUtf8` too.
 abbrev pub input_fault : Ending → List ℕ → Option RunFault
 input_fault AtEnd bytes =
     if utf8_valid_len bytes == length bytes then None else Some (fault.NotUtf8 (utf8_valid_len bytes))
 input_fault AtFailure bytes = if is_bad bytes then Some (fault.NotUtf8 (utf8_valid_len bytes)) else Some fault.Read
 
--- a paragraph is not too long
+-- a paragraph is within the length limit
 abbrev pub is_within : List ℕ → Bool
 is_within paragraph = nat_le (length paragraph) PARAGRAPH_LIMIT
 
 abbrev pub are_within : List (List ℕ) → Bool
 are_within pars = list_all is_within pars
 
--- The paragraphs that are written. If one is too long, these are the paragraphs before the first such.
--- Otherwise these are all paragraphs, or all but the last if the input is not whole.
+-- The paragraphs that are written. If a paragraph is too long, these are the paragraphs before the first such one.
+-- Otherwise these are all paragraphs, or all but the last if the input has a fault.
 abbrev pub written_of : List (List ℕ) → Bool → List (List ℕ)
 written_of pars is_whole =
     if are_within pars then (if is_whole then pars else take (length pars - 1) pars) else take_while is_within pars
@@ -48,18 +48,18 @@ written_of pars is_whole =
 abbrev pub ending_of : List (List ℕ) → Option RunFault → Option RunFault
 ending_of pars wrong = if are_within pars then wrong else Some fault.ParagraphTooLong
 
--- the paragraphs of the front of an input
+-- the paragraphs of the valid UTF-8 prefix of an input
 abbrev pub front_paragraphs : Rules → List ℕ → List (List ℕ)
 front_paragraphs rules bytes = paragraphs (cut_by rules) (front_of bytes)
 
--- what a source returned between two states: all that it had, or, if it failed, the bytes read before
+-- what a source returned between two states: all its bytes, or, if it failed, the bytes that were read before
 abbrev pub Gave : Device → Device → Ending → List ℕ → Type 0
 Gave old new AtEnd bytes = IfSome old.bytes (λ all. all ≡ bytes) × (new.failures ≡ old.failures)
 Gave old new AtFailure bytes = Consumes old.bytes new.bytes bytes × (new.passed ≡ old.passed + length bytes) × FailedLast old new
 
--- How the run ended. Without a fault, or with the input's, the whole page of the written paragraphs was
--- written. After a failed write, a prefix of it was, whose length the fault holds. After a failed allocation,
--- the page of the first few of these paragraphs was.
+-- How a run ended. Without a fault, or with a fault of the input, the page of all written paragraphs was written. After
+-- a failed write, a prefix of that page was written, whose length is in the fault. After a failed allocation, the page
+-- of the first k of these paragraphs was written.
 abbrev pub EndsWith : (List (List ℕ) → List ℕ) → List (List ℕ) → Option RunFault → Device → Device → Option RunFault → Type 0
 EndsWith page_of written wrong old new (Some (fault.Write n)) = StoppedAt n (page_of written) old new
 EndsWith page_of written wrong old new (Some fault.Memory) = (k : ℕ) × Wrote (page_of (take k written)) old new
@@ -69,25 +69,24 @@ abbrev pub fault_of : Result (Unit {0}) RunFault → Option RunFault
 fault_of (Ok done) = None
 fault_of (Err wrong) = Some wrong
 
--- a run without a fault has read all
+-- a run without a fault has read the whole input
 abbrev pub HasReadAll : Option RunFault → Device → Device → List ℕ → Type 0
 HasReadAll None old new bytes = IsAtEnd new.bytes × (new.passed ≡ old.passed + length bytes)
 HasReadAll (Some wrong) old new bytes = ⊤
 
--- and has printed each of its characters once
+-- a run without a fault has printed each character once
 abbrev pub HasPrintedAll : Option RunFault → List ℕ → Print → Engine → Engine → Type 0
 HasPrintedAll None bytes print old new = Prints (length (chars bytes)) print old new
 HasPrintedAll (Some wrong) bytes print old new = ⊤
 
--- after a fault of the input, each character of the written paragraphs was printed, and no other
+-- after a fault of the input, the n characters of the written paragraphs were printed, and no others
 abbrev pub HasPrinted : Option RunFault → ℕ → Print → Engine → Engine → Type 0
 HasPrinted None n print old new = ⊤
 HasPrinted (Some (fault.Write m)) n print old new = ⊤
 HasPrinted (Some fault.Memory) n print old new = ⊤
 HasPrinted (Some wrong) n print old new = Prints n print old new
 
--- The run of a text: what the reader returned has a front, whose paragraphs are written up to the first
--- fault.
+-- The run of a text. The paragraphs in the front of what was read are written, up to the first fault.
 abbrev pub IsTextRun : Rules → ℕ → Print → Device → Device → Device → Device → Engine → Engine → Result (Unit {0}) RunFault → Type 0
 IsTextRun rules width print reader_old reader_new writer_old writer_new engine_old engine_new result =
     (ending : Ending) × (bytes : List ℕ) × Gave reader_old reader_new ending bytes
@@ -99,17 +98,17 @@ IsTextRun rules width print reader_old reader_new writer_old writer_new engine_o
     HasPrinted (fault_of result) (length (concat written)) print engine_old engine_new
     × EndsWith (page rules width print) written (ending_of pars wrong) writer_old writer_new (fault_of result))
 
--- A failed read is reported: if the result is another one, no call of the source failed.
+-- A failed read is reported: with any other result, no call of the source failed.
 abbrev pub TellsReads : {A : Type 0} → Result A RunFault → Device → Device → Type 0
 TellsReads result old new = result ≢ Err fault.Read → new.failures ≡ old.failures
 
--- what was read from a source between two states
+-- the bytes that were read from a source between two states
 abbrev pub HasRead : Device → Device → List ℕ → Type 0
 HasRead old new bytes = Consumes old.bytes new.bytes bytes × (new.passed ≡ old.passed + length bytes)
 
--- A run that ended with `Memory`. No paragraph of what was read is too long. Unless nothing was read, the
--- lines of one paragraph are still to be written; if bad bytes follow, it ends before them. If nothing is
--- printed, that paragraph is still to be counted.
+-- A run that ended with `Memory`. No paragraph of what was read is too long. Unless nothing was read, the lines of one
+-- paragraph are still to be written. If invalid UTF-8 follows, that paragraph ends before it. If nothing is printed,
+-- that paragraph is still to be counted.
 abbrev pub WantsMemory : Rules → ℕ → Print → Device → Device → Device → Device → Engine → Engine → Type 0
 WantsMemory rules width print reader_old reader_new writer_old writer_new engine_old engine_new =
     (bytes : List ℕ) × HasRead reader_old reader_new bytes
@@ -119,13 +118,13 @@ WantsMemory rules width print reader_old reader_new writer_old writer_new engine
     × (prints_some print ≡ false → Prints (length (concat (take k pars))) print engine_old engine_new)
     × (0 < length bytes → (if is_bad bytes then k + 1 else k) < length pars)))
 
--- at most the characters that were read were printed, up to the first byte that is not UTF-8
+-- at most the characters before the first byte that is not UTF-8 were printed
 abbrev pub PrintsNoMore : Print → Device → Device → Engine → Engine → Type 0
 PrintsNoMore print reader_old reader_new engine_old engine_new =
     (bytes : List ℕ) × HasRead reader_old reader_new bytes × PrintsAtMost (length (front_of bytes)) print engine_old engine_new
 
--- After a failed write, all paragraphs but the last of what was read were printed, or all if the source had
--- no more. The sink failed in their lines, after n bytes.
+-- After a failed write, all paragraphs of what was read but the last were printed; or all were, and the source had no
+-- more bytes. The sink failed in their lines, after n bytes.
 abbrev pub HasStopped : Rules → ℕ → Print → Device → Device → Device → Device → Engine → Engine → ℕ → Type 0
 HasStopped rules width print reader_old reader_new writer_old writer_new engine_old engine_new n =
     (bytes : List ℕ) × HasRead reader_old reader_new bytes
@@ -134,13 +133,13 @@ HasStopped rules width print reader_old reader_new writer_old writer_new engine_
     × StoppedAt n (page rules width print (take k pars)) writer_old writer_new
     × Prints (length (concat (take k pars))) print engine_old engine_new)
 
--- The maximum number of bytes that a run reads after the paragraphs it has written: those of one character
--- more than a paragraph may have, and one chunk.
+-- The maximum number of bytes that a run reads after the paragraphs it has written: a paragraph of the maximum length,
+-- one more character, and one chunk.
 abbrev pub read_ahead : ℕ
 read_ahead = 4 * (PARAGRAPH_LIMIT + 1) + CHUNK
 
--- If a run ended with a fault, the lines of the first k paragraphs of what the reader returned were written,
--- and n bytes of the next one's. At most `read_ahead` bytes after these k paragraphs were read.
+-- After a fault, the lines of the first k paragraphs of the input were written, and n bytes of the next one's. At most
+-- `read_ahead` bytes after these k paragraphs were read.
 abbrev pub ReadsAhead : Rules → ℕ → Print → Device → Device → Device → Device → Type 0
 ReadsAhead rules width print reader_old reader_new writer_old writer_new =
     (ending : Ending) × (bytes : List ℕ) × Gave reader_old reader_new ending bytes

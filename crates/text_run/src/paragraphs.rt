@@ -22,11 +22,11 @@ use stream::{Page, push_characters};
 // What the characters after a text mean for its first paragraph.
 #[derive(Clone, Copy, Debug, PartialEq, Eq)]
 enum Ahead {
-    // It is too long.
+    // The paragraph is too long.
     TooLong,
-    // It ends.
+    // The paragraph ends.
     Ended,
-    // It may go on.
+    // The paragraph may continue.
     Open,
 }
 
@@ -56,7 +56,7 @@ pub fn fault_ahead(
         → 1 < length (paragraphs (cut_by (rules_of engine.now)) (text.now ++ chars more.now)) }
 {
     paragraphs_are_pieces();
-    // Fast path: nearly always the bytes are good, and the two together are short.
+    // Fast path: nearly always the bytes are UTF-8, and `text` and `more` together are short.
     if !is_bad && text.len() + more.len() <= PARAGRAPH_LIMIT {
         return None;
     }
@@ -67,7 +67,7 @@ pub fn fault_ahead(
     }
 }
 
-/// Returns `NotUtf8(place)` if the bytes at a place in the input are bad.
+/// Returns `NotUtf8(place)` if the bytes at a place in the input are not UTF-8.
 pub fn bad_at(is_bad: bool, place: u64) -> Option<RunFault>
     ensures { result ≡ (if is_bad then Some (RunFault.NotUtf8 place) else None) }
 {
@@ -156,7 +156,7 @@ pub fn push_text(
     push_ended(alloc, page, engine, width, print, held, text)
 }
 
-// The same, with capacity for all characters if nothing is printed.
+// Does the work of `push_text`. If nothing is printed, `held` already has capacity for all characters.
 fn push_ended(
     alloc: Global,
     page: &mut Page,

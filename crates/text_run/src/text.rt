@@ -36,7 +36,7 @@ struct Held {
     // The last chunk. Its first `waiting` bytes are the beginning of a character.
     chunk: Vec<u8>,
     waiting: usize,
-    // The number of bytes decoded before these.
+    // The number of bytes decoded before the waiting ones.
     decoded: u64,
     // The characters after the last paragraph boundary.
     text: Vec<char>,
@@ -88,8 +88,8 @@ impl Held {
     // Decodes the waiting bytes and `len` more, and adds to the page the lines of the paragraphs known to end
     // then. Returns what is wrong with the text, if anything.
     //
-    // Allocates only if a character is decoded and no paragraph is too long. If bytes are bad, it allocates
-    // only if a paragraph ends before them.
+    // Allocates only if a character is decoded and no paragraph is too long. If bytes are not UTF-8, it
+    // allocates only if a paragraph ends before them.
     fn gather(
         &mut self,
         alloc: Global,

@@ -17,7 +17,7 @@ use Rattle.text_run.specs.declared.faults.RunFault.{RunFault}
 use Rattle.text_run.specs.declared.faults.RunFault.TheVariants as f
 
 module _ (rules : Rules) (print : Print) (command : Command) (old new : Held) where
-  -- what became of the text and the width, and what is answered
+  -- the text and the width after a command, and the reply to it, are those that the edit's result gives
   record Told (edit : Result Damage EditFault) : Type 0 where
     pub held : new ≡ after_command rules old command
     pub text : answer_to rules print old command ≡ answer_text edit
@@ -60,7 +60,7 @@ module _ (rules : Rules) (print : Print) (command : Command) (old new : Held) wh
     stops (Ok n) stopped = tt
     stops (Err fault) stopped = stops_at fault stopped
 
-  -- where memory ran out nothing refuses what is asked, it takes some, and all stays
+  -- if an allocation failed, the command is not refused, may allocate, and changed nothing
   pub wants : (edit : Result Damage EditFault) → Edited rules command old new edit → lacks_memory edit ≡ true → (command_refusal rules old command ≡ None) × TakesMemory old command × (new ≡ old)
   wants (Ok damage) replaced short = absurd (true≢false (sym short))
   wants (Err e.NoMemory) replaced short = replaced

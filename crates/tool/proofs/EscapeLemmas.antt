@@ -8,7 +8,7 @@ use Rattle.std.proofs.lemmas.Str.{chars-append, chars-encodes}
 use Rattle.std.proofs.lemmas.Bool.{true≢false}
 use Rattle.tool.specs.Scripts.{LacksText, onto, unescaped, unescaped_after, written}
 
--- an escape is passed over
+-- the characters after an escape are decoded from its end on
 skipped : (n : ℕ) (text : List ℕ) → unescaped_after n text ≡ unescaped (drop n text)
 unfolding unescaped_after
 skipped zero text = refl
@@ -38,7 +38,7 @@ chars-push bytes c utf8 is =
     chars-append bytes (encode_utf8 c) utf8 ∙ ap (λ t. chars bytes ++ t) one
 
 module _ (text : List ℕ) (n d : ℕ) (within : n < length text) where
-  -- the next character is written
+  -- the next character or escape is decoded
   pub next_written : (front : List ℕ) (c len : ℕ) → written (get_or text n d) (drop (n + 1) text) ≡ Some (c, len) → 0 < len
       → option_map (λ cs. front ++ cs) (unescaped (drop n text)) ≡ option_map (λ cs. (front ++ c ∷ []) ++ cs) (unescaped (drop (n + len) text))
   next_written front c len is some =
@@ -49,7 +49,7 @@ module _ (text : List ℕ) (n d : ℕ) (within : n < length text) where
       ap unescaped (begins_at text n d within) ∙ one (get_or text n d) (drop (n + 1) text) (Some (c, len)) is ∙ ap (option_map (λ cs. c ∷ cs)) rest in
       ap (option_map (λ cs. front ++ cs)) here ∙ joined front c (unescaped (drop (n + len) text))
 
-  -- or none is
+  -- or it is invalid
   pub none_written : (front : List ℕ) → written (get_or text n d) (drop (n + 1) text) ≡ None → option_map (λ cs. front ++ cs) (unescaped (drop n text)) ≡ None
   none_written front is =
       ap (option_map (λ cs. front ++ cs)) (ap unescaped (begins_at text n d within) ∙ one (get_or text n d) (drop (n + 1) text) None is)
@@ -60,27 +60,27 @@ all_written [] front (suc n) past = ap (option_map (λ cs. front ++ cs)) none_le
 all_written (c ∷ text) front zero past = absurd (omega arith)
 all_written (c ∷ text) front (suc n) past = all_written text front n (omega (arith, past))
 
--- ---- whether all of it is right
+-- ---- whether all escapes of a text are valid
 
 is_some_map : {A B : Type 0} (f : A → B) (o : Option A) → is_some (option_map f o) ≡ is_some o
 is_some_map f None = refl
 is_some_map f (Some a) = refl
 
 module _ (text : List ℕ) (n d : ℕ) (within : n < length text) where
-  -- it is where what stands after the next character is
+  -- if the next character or escape is valid, the text is valid exactly if its rest is
   pub next_right : (c len : ℕ) → written (get_or text n d) (drop (n + 1) text) ≡ Some (c, len) → 0 < len → is_some (unescaped (drop n text)) ≡ is_some (unescaped (drop (n + len) text))
   next_right c len is some =
       sym (is_some_map (λ cs. [] ++ cs) (unescaped (drop n text))) ∙ ap is_some (next_written text n d within [] c len is some)
       ∙ is_some_map (λ cs. ([] ++ c ∷ []) ++ cs) (unescaped (drop (n + len) text))
 
-  -- and isn't where the next escape is wrong
+  -- if the next escape is not valid, the text is not
   pub none_right : written (get_or text n d) (drop (n + 1) text) ≡ None → is_some (unescaped (drop n text)) ≡ false
   none_right is = sym (is_some_map (λ cs. [] ++ cs) (unescaped (drop n text))) ∙ ap is_some (none_written text n d within [] is)
 
 pub all_right : (text : List ℕ) (n : ℕ) → length text ≤ n → is_some (unescaped (drop n text)) ≡ true
 all_right text n past = sym (is_some_map (λ cs. [] ++ cs) (unescaped (drop n text))) ∙ ap is_some (all_written text [] n past)
 
--- what is kept of it lacks a character that is written
+-- the kept characters lack the one that is decoded next
 pub lacks_next : (text front : List ℕ) (c : ℕ) (rest : Option (List ℕ)) → unescaped text ≡ option_map (λ cs. (front ++ c ∷ []) ++ cs) rest → is_some (unescaped text) ≡ true
     → LacksText text front
 lacks_next text front c None is right = absurd (true≢false (sym right ∙ ap is_some is))

@@ -1,14 +1,14 @@
--- Numbers of few digits fit.
+-- Numbers of few digits do not overflow.
 use Rattle.std.proofs.Common.{ℕ, suc, ◌+◌, ◌*◌, ◌^◌, ◌<◌, ◌≤◌, arith, lit<}
 use Rattle.std.proofs.Math.Nat.{mul-le-mul_left, mul-le-mul_right, pow-le-pow_left, pow-le-pow_right, pow-succ'}
 
--- one digit more
+-- a number of i digits, with one more digit, has i + 1 digits
 pub more_digits : (radix n d i : ℕ) → n < radix ^ i → d < radix → radix * n + d < radix ^ suc i
 more_digits radix n d i below digit =
     let whole : radix * suc n ≤ radix * radix ^ i = mul-le-mul_left radix below in
     omega (arith, whole, pow-succ' radix i)
 
--- up to i digits of a radix of at most 16
+-- the powers and products that occur in numbers of a radix of at most 16
 pub digits_fit : (radix i most : ℕ) → 2 ≤ radix → radix ≤ 16 → i ≤ most → radix ^ i ≤ 16 ^ most
 digits_fit radix i most low high few =
     let radix_up : radix ^ i ≤ 16 ^ i = pow-le-pow_left high i in

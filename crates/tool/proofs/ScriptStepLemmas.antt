@@ -33,7 +33,7 @@ with_ends_more : (ls : List (List ℕ)) (l : List ℕ) → length (with_ends (ls
 with_ends_more [] l = omega (arith, length-append (l ++ 10 ∷ []) [], length-append l (10 ∷ []))
 with_ends_more (m ∷ ls) l = omega (arith, with_ends_more ls l, length-append (m ++ 10 ∷ []) (with_ends (ls ++ l ∷ [])), length-append (m ++ 10 ∷ []) (with_ends ls))
 
--- an ended line is the first part, after the bytes before the piece
+-- a line that ends in a chunk is the unfinished line, followed by the first bytes of the chunk
 pub ended_first : (line piece front after more : List ℕ) → NoEnd line → EndsIn piece front after
     → slice_split is_line_end (line ++ (piece ++ more)) ≡ (line ++ front) ∷ slice_split is_line_end (after ++ more)
 ended_first line piece front after more none ends =
@@ -41,7 +41,7 @@ ended_first line piece front after more none ends =
     ap (λ t. line ++ (t ++ more)) ends.whole ∙ ap (λ t. line ++ t) (append_assoc front (10 ∷ after) more) ∙ sym (append_assoc line front (10 ∷ (after ++ more))) in
     ap (slice_split is_line_end) place ∙ slice_split_at is_line_end (line ++ front) 10 (after ++ more) (All-append (λ b. is_line_end b ≡ false) line front none ends.none) refl
 
--- a part that is too long already is a line, and none of a script
+-- a part over the length limit is a line, and not a valid one
 some_bytes : (p : List ℕ) → LINE_LIMIT < length p → nat_lt 0 (length p) ≡ true
 some_bytes p long = grind (arith, nat_tests)
 
@@ -60,7 +60,7 @@ module _ (rules : Rules) (options : ScriptOptions) (start : SessionState) (reade
   before = held_at start
 
   module _ (now : SessionState) (reading : Reading) where
-    -- ---- a piece is read
+    -- ---- a chunk is read
     pub at_read : (reader_new : Device) (n : ℕ) (buffer : List ℕ)
         → IsAt rules options start reader_old reader writer_old writer now reading []
         → Gives reader reader_new n buffer → n ≤ length buffer → n ≤ CHUNK
@@ -88,7 +88,7 @@ module _ (rules : Rules) (options : ScriptOptions) (start : SessionState) (reade
         }
 
     module _ (waiting : List ℕ) (at : IsAt rules options start reader_old reader writer_old writer now reading waiting) where
-      -- ---- of what waits, a part is taken
+      -- ---- a part of the waiting bytes is read
       pub at_more : (n : ℕ) (state : SessionState) (new : Reading) (writer_new : Device) → GoesOn waiting n now state reading new writer writer_new
           → IsAt rules options start reader_old reader writer_old writer_new state new []
       at_more n state new writer_new more = record {
@@ -184,7 +184,7 @@ module _ (rules : Rules) (options : ScriptOptions) (start : SessionState) (reade
           ap (λ k. drop k waiting) taken.taken ∙ ap (drop (length taken.front + 1)) taken.ends.whole ∙ drop-append-add taken.front (10 ∷ taken.after) 1 in
           subst (IsAt rules options start reader_old reader writer_old writer_new state new) (sym place) (at_line n state new writer_new taken)
 
-      -- ---- the run ends within it
+      -- ---- the run ends within the waiting bytes
       ahead_now : (state : SessionState) (writer_new : Device) → IsDone rules options start state reader_old writer_old reader writer_new at.done
       ahead_now state writer_new = record { ahead = omega (arith, at.passed, at.size, at.ahead) }
 
@@ -198,7 +198,7 @@ module _ (rules : Rules) (options : ScriptOptions) (start : SessionState) (reade
           ≡ p ∷ ps → script_lines AtEnd (at.bytes ++ rest) ≡ at.done ++ lines_among AtEnd (p ∷ ps)
       lines_are p ps parts = ap (lines_among AtEnd) (at.parts rest ∙ ap (λ t. at.done ++ t) parts) ∙ lines_after AtEnd at.done p ps
 
-      -- for want of memory
+      -- an allocation failed, and bytes wait
       pub ends_memory : 0 < length waiting → IsScriptRun rules options start now reader_old reader writer_old writer (Err f.Memory)
       ends_memory some_wait =
           let some = parts_some (reading.line.items ++ (waiting ++ rest)) in
@@ -209,7 +209,7 @@ module _ (rules : Rules) (options : ScriptOptions) (start : SessionState) (reade
           (lines_work_front rules options.queries before at.done (take 1 (good_lines options.queries others)) start.engine now.engine at.works)
           (inr (omega (arith, some_wait, at.passed, at.size)))
 
-      -- at a line that is ended
+      -- the run ends at a complete line
       ends_ended : (state : SessionState) (new : Reading) (writer_new : Device) (fault : RunFault) → FailsLine rules options waiting now state reading new writer writer_new fault
           → IsScriptRun rules options start state reader_old reader writer_old writer_new (Err fault)
       ends_ended state new writer_new fault failed =
@@ -223,7 +223,7 @@ module _ (rules : Rules) (options : ScriptOptions) (start : SessionState) (reade
           gave (lines_are line (some.0 ∷ some.1) parts) at.good at.held_is at.lines at.written at.wrote at.works failed.fails failed.works (ahead_now state writer_new)
           (omega (arith, at.passed, at.size, ap length failed.ends.whole, length-append failed.front (10 ∷ failed.after)))
 
-      -- at one that is too long, wherever it ends
+      -- the run ends at a line that is too long, wherever it ends
       ends_long : (n : ℕ) (front after : List ℕ) → waiting ≡ front ++ after → NoEnd front → LINE_LIMIT < length (reading.line.items ++ front) → n ≡ reading.lines + 1
           → IsScriptRun rules options start now reader_old reader writer_old writer (Err (f.BadLine n))
       ends_long n front after whole none long number =
@@ -261,7 +261,7 @@ module _ (rules : Rules) (options : ScriptOptions) (start : SessionState) (reade
           subst (λ (s : SessionState). IsScriptRun rules options start s reader_old reader writer_old writer_new (Err fault)) (sym not.state)
           (subst (λ w. IsScriptRun rules options start now reader_old reader writer_old w (Err fault)) (sym not.writer) (ends_unkept not.front not.after not.whole not.none new fault not.grows))
 
-    -- ---- nothing waits
+    -- ---- no bytes wait
     module _ (at : IsAt rules options start reader_old reader writer_old writer now reading []) where
       all_parts : slice_split is_line_end at.bytes ≡ at.done ++ reading.line.items ∷ []
       all_parts =
@@ -283,7 +283,7 @@ module _ (rules : Rules) (options : ScriptOptions) (start : SessionState) (reade
           (all_lines AtFailure ∙ ap (λ (b : Bool). at.done ++ (if b then reading.line.items ∷ [] else [])) short ∙ append-nil at.done) at.good
           (record { done_is = record { ahead = omega (arith, at.passed, at.size, at.ahead, fails.passed) }; wrote = at.wrote; held = at.held_is; works = at.works })
 
-      -- the script has no more
+      -- the script has no more bytes
       module _ (finished : IsAtEnd reader.bytes) where
         gave_all : Gave reader_old reader AtEnd at.bytes
         gave_all = (had_all reader_old.bytes reader.bytes at.bytes at.read finished, at.failures)
@@ -329,7 +329,7 @@ nothing_read : (known : Option (List ℕ)) → Consumes known known []
 nothing_read None = tt
 nothing_read (Some xs) = refl
 
--- the run begins
+-- the state of a run before anything is read
 pub at_start : (rules : Rules) (options : ScriptOptions) (start : SessionState) (reader writer : Device)
     (reading : Reading) → reading.line.items ≡ [] → reading.lines ≡ 0 → reading.written ≡ 0
     → IsAt rules options start reader reader writer writer start reading []
@@ -352,7 +352,7 @@ at_start rules options start reader writer reading line lines written = record {
   short = omega (arith, ap length line);
 }
 
--- ---- the counts fit
+-- ---- counters do not overflow
 done_short : (done : List (List ℕ)) → length done ≤ length (with_ends done)
 done_short [] = omega arith
 done_short (l ∷ done) = omega (arith, done_short done, length-append (l ++ 10 ∷ []) (with_ends done), length-append l (10 ∷ []))
@@ -366,7 +366,7 @@ module _ (rules : Rules) (options : ScriptOptions) (start : SessionState)
   pub written_fits : reading.written ≤ writer.passed
   written_fits = omega (arith, at.written, at.wrote.0.passed)
 
--- the last line was executed, or failed
+-- the run ends with its last line, which was executed or failed
 pub ends_finish : (rules : Rules) (options : ScriptOptions) (start : SessionState)
     (reader_old reader writer_old writer : Device) (now state : SessionState) (reading new : Reading)
     (writer_new : Device) → IsAt rules options start reader_old reader writer_old writer now reading []
@@ -380,7 +380,7 @@ ends_finish rules options start reader_old reader writer_old writer now state re
 ends_finish rules options start reader_old reader writer_old writer now state reading new writer_new at finished some (Err fault) executes fails works =
     ends_last_not rules options start reader_old reader writer_old writer now reading at finished some new state writer_new fault fails works
 
--- ---- a part of a piece, under the rules that the run began with
+-- ---- a part of a chunk, by the rules with which the run started
 module _ (rules held_rules : Rules) (options : ScriptOptions) (start : SessionState)
     (reader_old reader writer_old writer writer_new : Device) (now state : SessionState) (reading new : Reading)
     (piece part : List ℕ) (n at : ℕ)
@@ -407,7 +407,7 @@ module _ (rules held_rules : Rules) (options : ScriptOptions) (start : SessionSt
   fails_lines (inl failed) = failed.lines
   fails_lines (inr not) = not.grows.3
 
-  -- memory is wanted for it
+  -- an allocation failed for a line in this part
   pub wants_part : FailsIn held_rules options part now state reading new writer writer_new f.Memory → WantsIn rules options start reader_old reader writer_old writer_new state new
   wants_part fails =
       let failed = failed_here f.Memory fails in
@@ -421,7 +421,7 @@ module _ (rules held_rules : Rules) (options : ScriptOptions) (start : SessionSt
         fails = failed;
       }
 
--- the fault that a run ends with
+-- the fault with which a run ends
 abbrev fault_in : {T : Type 0} → Result T RunFault → RunFault
 fault_in (Ok done) = f.Read
 fault_in (Err fault) = fault
@@ -432,7 +432,7 @@ same_fault one other is = ap (λ (x : RunFault). Err x) (ap fault_in is)
 pub wants_memory : {T : Type 0} (P : RunFault → Type 0) (fault : RunFault) → IsErrOf {T = T} {E = RunFault} (Err fault) f.Memory → P fault → P f.Memory
 wants_memory P fault is p = subst P (ap fault_in is) p
 
--- of the first n of a list that is longer, some are taken
+-- of a chunk that is not empty, at least one byte is read
 pub takes_some : (rules : Rules) (options : ScriptOptions) (piece : List ℕ) (n : ℕ) (now state : SessionState)
     (reading new : Reading) (writer writer_new : Device) → 0 < length piece
     → Takes rules options piece n now state reading new writer writer_new → (0 < n) × (n ≤ length piece)
@@ -440,7 +440,7 @@ takes_some rules options piece n now state reading new writer writer_new some (i
 takes_some rules options piece n now state reading new writer writer_new some (inr ended) =
     (omega (arith, ended.taken), omega (arith, ended.taken, ap length ended.ends.whole, length-append ended.front (10 ∷ ended.after)))
 
--- a read that gave nothing leaves the run where it stands
+-- a read of no bytes does not change the state of the run
 pub at_none : (rules : Rules) (options : ScriptOptions) (start : SessionState)
     (reader_old reader writer_old writer : Device) (now : SessionState) (reading : Reading) (reader_new : Device)
     (n : ℕ) (buffer : List ℕ)
@@ -450,7 +450,7 @@ at_none rules options start reader_old reader writer_old writer now reading read
     subst (IsAt rules options start reader_old reader_new writer_old writer now reading) (ap (λ k. take k buffer) none)
     (at_read rules options start reader_old reader writer_old writer now reading reader_new n buffer at gives (omega (arith, none)) (omega (arith, none)))
 
--- a step of a run under the rules that it began with
+-- a step of a run by the rules with which it started
 module _ (rules held_rules : Rules) (options : ScriptOptions) (start : SessionState)
     (reader_old writer_old reader writer reader_new writer_new : Device) (now state : SessionState)
     (reading new : Reading) (kept : held_rules ≡ rules)
@@ -464,7 +464,7 @@ module _ (rules held_rules : Rules) (options : ScriptOptions) (start : SessionSt
   pub script_stepped : (is : Result Bool RunFault) → result ≡ is → Steps rules options start reader_old writer_old reader_new writer_new state new is
   script_stepped is same = subst (Steps rules options start reader_old writer_old reader_new writer_new state new) same stepped
 
--- memory ran out before anything was read
+-- an allocation failed before anything was read
 pub ends_at_once : (rules : Rules) (options : ScriptOptions) (start : SessionState) (reader writer : Device) → IsScriptRun rules options start start reader reader writer writer (Err f.Memory)
 ends_at_once rules options start reader writer =
     let some = parts_some (unwrap_or reader.bytes []) in

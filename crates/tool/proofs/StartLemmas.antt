@@ -11,7 +11,7 @@ use Rattle.session.specs.declared.edits.EditFault.TheVariants as e
 use Rattle.tool.specs.Starts.{IsStartFault, start_fault}
 use Rattle.session.specs.declared.edits.TheConstants.{TEXT_LIMIT}
 
--- whether a text is refused for a reason that is none of a text
+-- whether a refusal is about the width or a position, and not about the text
 abbrev is_width : Option EditFault → Bool
 is_width (Some e.WidthOutOfRange) = true
 is_width (Some e.OutOfRange) = true

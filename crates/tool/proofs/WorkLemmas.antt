@@ -27,7 +27,7 @@ more_rise n m k a b c r s e = record { least = omega (arith, r.least, s.least); 
 within_rise : (n m a b : ℕ) → n ≤ m → RisesBy n a b → RisesBy m a b
 within_rise n m a b le r = record { least = r.least; most = omega (arith, r.most, le) }
 
--- an engine that is as it was has worked no more than anything
+-- an unchanged engine has worked within any bound
 pub works_none : (rules : Rules) (most : (Held → Command → ℕ) → ℕ) (old new : Engine) → new ≡ old → Works rules most old new
 works_none rules most old new e = record {
   analysed = same_rise _ (analysed_of old) (analysed_of new) (ap analysed_of e);
@@ -93,7 +93,7 @@ edit_works edit old new (Err fault) whole m r =
     (subst (λ ps. IsCountedFor fault (LaysOutAtMost (fresh ps edit)) old.engine new.engine) (pars_kept old whole) r.counts)
     (λ e counts. laid_out reason n old.engine new.engine e counts)
 
--- what rises by exactly so much rises by at most that
+-- a count that rises by exactly n rises by at most n
 exact_rise : (n most old new : ℕ) → new ≡ counted old n → RisesBy most old new → RisesBy n old new
 exact_rise n most old new exact r = record { least = r.least; most = omega (arith, exact) }
 
@@ -166,7 +166,7 @@ module _ (rules : Rules) (queries : Bool) where
         written = more_rise _ _ _ _ _ _ before.written works.written (sum (filled_by rules));
       }
 
-  -- a line that is none asks for nothing
+  -- a line that is not valid does no work
   no_work : (work : Held → Command → ℕ) (held : Held) (command : Option Command) → is_some command ≡ false → work_of_line rules work held command ≡ 0
   no_work work held None bad = refl
   no_work work held (Some command) bad = absurd (true≢false bad)

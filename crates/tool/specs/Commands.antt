@@ -1,4 +1,4 @@
--- The command of a line that was read, with the bytes of an insert's text beside it.
+-- The command that was parsed from a line. The bytes of an insert's text are passed separately.
 use Rattle.std.specs.Prelude.{ℕ, List}
 use Rattle.std.specs.Str.{chars}
 use Rattle.tool.specs.Scripts.{Command, Insert, Delete, SetWidth, Show, Ask}

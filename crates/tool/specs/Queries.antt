@@ -22,11 +22,11 @@ use Rattle.text_run.specs.declared.faults.RunFault.TheVariants as f
 use Rattle.tool.specs.declared.queries.Query.{Query}
 use Rattle.tool.specs.declared.queries.Query.TheVariants as ask
 
--- `=` and numbers, each after a space
+-- the reply with these numbers: `=`, each number after a space, and a newline
 abbrev pub told : List ℕ → List ℕ
 told numbers = codes "=" ++ flat_map (λ n. codes " " ++ decimal n) numbers ++ codes "\n"
 
--- or the reply to a query that is out of range
+-- the reply to a query that is out of range
 abbrev pub out_of_range : List ℕ
 out_of_range = codes "! range\n"
 
@@ -34,8 +34,8 @@ abbrev pub told_of : Option (List ℕ) → List ℕ
 told_of (Some numbers) = told numbers
 told_of None = out_of_range
 
--- The number of columns of the screen to the left of a line's shown part. For a line that does not exist yet,
--- it depends on the level.
+-- The number of columns of the screen to the left of a line's shown part. For a line that does not exist yet, it
+-- depends on the base level.
 abbrev pub screen_left : Print → ℕ → Visual → ℕ
 screen_left print width line = if print.nopad then 0 else padding_of width line
 
@@ -46,7 +46,7 @@ abbrev pub left_of : Print → ℕ → Option Visual → ℕ → ℕ
 left_of print width (Some line) level = screen_left print width line
 left_of print width None level = empty_left print width level
 
--- The hit to the left of the shown part: the leftmost character of nonzero width, trailing if its level is
+-- The hit at a column to the left of the shown part: the leftmost character of nonzero width, trailing if its level is
 -- odd. In a line of width 0, it is the start of the line.
 abbrev pub is_odd_at : Visual → Option ℕ → Bool
 is_odd_at line (Some place) = is_odd (slice_index line.levels (slice_index line.vtol place))
@@ -58,14 +58,14 @@ leftmost line hit = record { pos = hit.pos; trailing = is_odd_at line (covering 
 -- ---- queries about a text laid out at a width
 
 module _ (print : Print) (width : ℕ) (kept : List Layout) where
-  -- a line, a column on the screen and a level
+  -- the reply to `caret`: a line, a column of the screen and a level
   abbrev pub caret_numbers : Caret → List ℕ
   caret_numbers caret = caret.line ∷ (left_of print width (slice_get (lines_in kept) caret.line) caret.level + caret.column) ∷ caret.level ∷ []
 
   abbrev pub caret_text : Rules → ℕ → List ℕ
   caret_text rules pos = told_of (option_map caret_numbers (caret_at rules kept pos))
 
-  -- the character at a column of the screen
+  -- the character at a column of the screen, and the reply to `hit`
   abbrev pub screen_hit_on : ℕ → ℕ → Option Visual → Option Hit
   screen_hit_on n column (Some line) =
       if nat_lt column (screen_left print width line) then option_map (leftmost line) (hit_at kept n 0) else hit_at kept n (column - screen_left print width line)
@@ -77,7 +77,7 @@ module _ (print : Print) (width : ℕ) (kept : List Layout) where
   abbrev pub hit_text : ℕ → ℕ → List ℕ
   hit_text n column = told_of (option_map (λ hit. hit.pos ∷ (if hit.trailing then 1 else 0) ∷ []) (screen_hit n column))
 
-  -- the number of lines that follow, and the lines
+  -- the reply to `lines`: the number of lines that follow, and the lines
   abbrev pub lines_text : ℕ → ℕ → List ℕ
   lines_text first count =
       if nat_lt (length (lines_in kept)) (first + count) then out_of_range
@@ -90,7 +90,7 @@ module _ (kept : List Layout) where
   abbrev pub size_text : List ℕ
   size_text = told (length (text_of kept) ∷ length (lines_in kept) ∷ length kept ∷ [])
 
-  -- the number of bytes that follow, the characters, and the line end
+  -- the reply to `text`: the number of bytes that follow, the characters, and a newline
   abbrev pub part_text : ℕ → ℕ → List ℕ
   part_text pos count =
       if nat_lt (length (text_of kept)) (pos + count) then out_of_range
@@ -104,7 +104,7 @@ query_text rules print width kept (ask.Cluster pos) = cluster_text kept pos
 query_text rules print width kept ask.Size = size_text kept
 query_text rules print width kept (ask.Text pos count) = part_text kept pos count
 
--- the queries that allocate: the cluster of a character that exists
+-- a query allocates: it is `cluster`, for a character that exists
 abbrev pub AsksMemory : List ℕ → Query → Type 0
 AsksMemory text (ask.Cluster pos) = pos < length text
 AsksMemory text query = ⊥

@@ -25,8 +25,7 @@ use Rattle.text_run.specs.declared.faults.RunFault.TheVariants as f
 use Rattle.tool.specs.declared.script.Reading.{Reading}
 use Rattle.tool.specs.declared.script.ScriptOptions.{ScriptOptions}
 
--- What allocates: an edit, if there is a text or an inserted text, and the cluster of a character that
--- exists.
+-- A command allocates: it is an edit, and the text or the inserted text is not empty; or it is a query that allocates.
 abbrev pub TakesMemory : Held → Command → Type 0
 TakesMemory held (Insert pos piece) = 0 < length held.text + length piece
 TakesMemory held (Delete pos count) = 0 < length held.text
@@ -34,8 +33,8 @@ TakesMemory held (SetWidth width) = 0 < length held.text
 TakesMemory held Show = ⊥
 TakesMemory held (Ask query) = AsksMemory held.text query
 
--- An edit was made, and this is its damage; or it was refused, and nothing changes. Nothing changes either if
--- an allocation fails, and then there was no reason to refuse the edit.
+-- The result of an edit. With `Ok`, it was executed, and this is its damage. With `NoMemory`, it is not refused, may
+-- allocate, and changed nothing. With another fault, it was refused, and changed nothing.
 abbrev pub Edited : Rules → Command → Held → Held → Result Damage EditFault → Type 0
 Edited rules command old new (Ok damage) =
     (command_refusal rules old command ≡ None) × (new ≡ executed old command)
@@ -52,7 +51,7 @@ abbrev pub answer_text : Result Damage EditFault → List ℕ
 answer_text (Ok damage) = damage_text damage.first_line damage.old_lines damage.new_lines
 answer_text (Err reason) = refusal_text reason
 
--- a reply was written only in part, or not at all
+-- a write failed within a reply
 abbrev pub Stops : List ℕ → ℕ → Device → Device → RunFault → Type 0
 Stops answer written old new (f.Write n) = StoppedIn answer written old new n
 Stops answer written old new fault = ⊥
@@ -62,8 +61,8 @@ pub record Executes (rules : Rules) (print : Print) (command : Command) (written
   pub held : held_new ≡ after_command rules held_old command
   pub wrote : PassedOn (answer_to rules print held_old command) written old new n
 
--- Or it was executed, and a write failed. Or an allocation failed for it, and nothing changes; then the
--- command is not refused, and it allocates.
+-- A command failed. With `Write`, it was executed, and the sink failed within its reply. With `Memory`, it is not
+-- refused, may allocate, and changed nothing.
 abbrev pub ExecutesNot : Rules → Print → Command → ℕ → Held → Held → Device → Device → RunFault → Type 0
 ExecutesNot rules print command written held_old held_new old new (f.Write n) =
     (held_new ≡ after_command rules held_old command) × StoppedIn (answer_to rules print held_old command) written old new n
@@ -79,16 +78,15 @@ pub record ExecutesLine (rules : Rules) (options : ScriptOptions) (line : List �
   pub lines : new.lines ≡ old.lines + 1
   pub empty : new.line.items ≡ []
 
--- What an allocation failed for, in a line that is UTF-8. One case is its characters, of which fewer were
--- kept than it has. Another is the text of an insert, of which less was kept than the line represents. The
--- last is its command, which is not refused.
+-- An allocation failed for a line that is UTF-8. Fewer characters were kept than the line has, or fewer of an insert's
+-- text than the line represents. Or it failed for the line's command, which is not refused.
 abbrev pub WantsMemory : Rules → Bool → List ℕ → Reading → Held → Type 0
 WantsMemory rules queries line reading held =
     (length reading.text.items < length (chars line))
     ⊎ (LacksPiece (chars line) (chars (string_bytes reading.piece))
     ⊎ ((command : Command) × (command_of_line queries line ≡ Some command) × (command_refusal rules held command ≡ None) × TakesMemory held command))
 
--- or it was not executed
+-- a line failed: it is not valid, a write failed within its reply, or an allocation failed
 abbrev pub FailsAt : Rules → ScriptOptions → List ℕ → Reading → ℕ → ℕ → Held → Held → Device → Device → RunFault → Type 0
 FailsAt rules options line reading lines written held_old held_new old new (f.BadLine n) =
     (is_good options.queries line ≡ false) × (n ≡ lines + 1) × (held_new ≡ held_old) × (new ≡ old)
@@ -99,31 +97,31 @@ FailsAt rules options line reading lines written held_old held_new old new f.Mem
     (utf8_valid_len line ≡ length line) × WantsMemory rules options.queries line reading held_old × (held_new ≡ held_old) × (new ≡ old)
 FailsAt rules options line reading lines written held_old held_new old new fault = ⊥
 
--- no line ends within some bytes
+-- no line ends within these bytes
 abbrev pub NoEnd : List ℕ → Type 0
 NoEnd bytes = All (λ b. is_line_end b ≡ false) bytes
 
--- a line ends within a chunk, after its first bytes
+-- a line ends within a chunk, after the bytes of `front`
 pub record EndsIn (piece front after : List ℕ) : Type 0 where
   pub whole : piece ≡ front ++ 10 ∷ after
   pub none : NoEnd front
 
--- bytes were added to the beginning of a line
+-- bytes were appended to the unfinished line
 pub record Grows (bytes : List ℕ) (old new : Reading) : Type 0 where
   pub line : new.line.items ≡ old.line.items ++ bytes
   pub short : length new.line.items ≤ LINE_LIMIT
   pub lines : new.lines ≡ old.lines
   pub written : new.written ≡ old.written
 
--- or they were not, since the line would be too long, or else since an allocation failed, and none was added
+-- bytes were not appended to the unfinished line: it would be too long, or otherwise an allocation failed
 abbrev pub GrowsNot : List ℕ → Reading → Reading → RunFault → Type 0
 GrowsNot bytes old new (f.BadLine n) = (LINE_LIMIT < length (old.line.items ++ bytes)) × (n ≡ old.lines + 1)
 GrowsNot bytes old new f.Memory =
     (length (old.line.items ++ bytes) ≤ LINE_LIMIT) × (0 < length bytes) × (new.line.items ≡ old.line.items) × (new.lines ≡ old.lines)
 GrowsNot bytes old new fault = ⊥
 
--- Of a chunk, the first n bytes were taken: all of it goes on with the line, or a line ended and was
--- executed.
+-- The first n bytes of a chunk were read. With `GoesOn`, the whole chunk continues the unfinished line. With
+-- `EndsLine`, a line ended and was executed.
 pub record GoesOn (piece : List ℕ) (n : ℕ) (state_old state_new : SessionState) (old new : Reading) (writer_old writer_new : Device) : Type 0 where
   pub all : n ≡ length piece
   pub none : NoEnd piece
@@ -143,7 +141,7 @@ abbrev pub Takes : Rules → ScriptOptions → List ℕ → ℕ → SessionState
 Takes rules options piece n state_old state_new old new writer_old writer_new =
     GoesOn piece n state_old state_new old new writer_old writer_new ⊎ EndsLine rules options piece n state_old state_new old new writer_old writer_new
 
--- a line that ends in a chunk fails
+-- a line that ends in a chunk failed
 pub record FailsLine (rules : Rules) (options : ScriptOptions) (piece : List ℕ) (state_old state_new : SessionState) (old new : Reading) (writer_old writer_new : Device) (fault : RunFault) : Type 0 where
   pub front : List ℕ
   pub after : List ℕ
@@ -152,7 +150,7 @@ pub record FailsLine (rules : Rules) (options : ScriptOptions) (piece : List ℕ
   pub works : LineWorks rules options.queries (held_at state_old) (old.line.items ++ front) state_old.engine state_new.engine
   pub lines : new.lines ≡ old.lines
 
--- or its beginning, up to its end or to that of the chunk, cannot be kept
+-- the part of a line that is in a chunk was not appended to the unfinished line
 pub record IsNotKept (piece : List ℕ) (state_old state_new : SessionState) (old new : Reading) (writer_old writer_new : Device) (fault : RunFault) : Type 0 where
   pub front : List ℕ
   pub after : List ℕ
@@ -168,8 +166,8 @@ FailsIn rules options piece state_old state_new old new writer_old writer_new fa
     FailsLine rules options piece state_old state_new old new writer_old writer_new fault
     ⊎ IsNotKept piece state_old state_new old new writer_old writer_new fault
 
--- What a run did between two states of its source, sink and session: it read some bytes and executed some
--- lines. It holds the beginning of a line after these, and bytes that wait.
+-- What a run did between two states of its source, sink and session: it read some bytes and executed the lines `done`.
+-- It holds the unfinished line after these, and the bytes that wait.
 pub record IsAt (rules : Rules) (options : ScriptOptions) (start : SessionState)
     (reader_old reader_new writer_old writer_new : Device) (now : SessionState) (reading : Reading)
     (waiting : List ℕ) : Type 0 where
@@ -190,8 +188,8 @@ pub record IsAt (rules : Rules) (options : ScriptOptions) (start : SessionState)
   pub ahead : length reading.line.items + length waiting ≤ LINE_LIMIT + CHUNK
   pub short : length reading.line.items ≤ LINE_LIMIT
 
--- An allocation fails for one line, after those that were executed: the first one that ends in the waiting
--- bytes, or that goes on in them.
+-- An allocation failed for the line after those that were executed. This line ends in the waiting bytes or continues in
+-- them.
 pub record WantsIn (rules : Rules) (options : ScriptOptions) (start : SessionState)
     (reader_old reader writer_old writer : Device) (state : SessionState) (reading : Reading) : Type 0 where
   pub state_before : SessionState
@@ -202,13 +200,13 @@ pub record WantsIn (rules : Rules) (options : ScriptOptions) (start : SessionSta
   pub lines : reading.lines ≡ before.lines
   pub fails : FailsIn rules options waiting state_before state before reading writer_before writer f.Memory
 
--- a run is in some state, and its counts fit
+-- the state of a run, whose counters do not overflow
 abbrev pub CanFeed : Rules → ScriptOptions → SessionState → Reading → Device → List ℕ → Type 0
 CanFeed rules options now reading writer_new waiting =
     (start : SessionState) × (reader_old : Device) × (writer_old : Device) × (reader_new : Device)
     × IsAt rules options start reader_old reader_new writer_old writer_new now reading waiting × (reader_new.passed ≤ greatest)
 
--- a step goes on, or ends the run
+-- a step continues the run or ends it
 abbrev pub Steps : Rules → ScriptOptions → SessionState → Device → Device → Device → Device → SessionState → Reading → Result Bool RunFault → Type 0
 Steps rules options start reader_old writer_old reader_new writer_new now reading (Ok true) =
     IsAt rules options start reader_old reader_new writer_old writer_new now reading []
@@ -217,7 +215,7 @@ Steps rules options start reader_old writer_old reader_new writer_new now readin
 Steps rules options start reader_old writer_old reader_new writer_new now reading (Err fault) =
     IsScriptRun rules options start now reader_old reader_new writer_old writer_new (Err fault)
 
--- the chunk that was read was taken, or the run ends within it
+-- the whole chunk was read, or the run ends within it
 abbrev pub Feeds : Rules → ScriptOptions → SessionState → Device → Device → Device → Device → SessionState → Reading → Result (Unit {0}) RunFault → Type 0
 Feeds rules options start reader_old writer_old reader_new writer_new now reading (Ok done) =
     IsAt rules options start reader_old reader_new writer_old writer_new now reading []

@@ -12,16 +12,16 @@ use Rattle.tool.specs.ScriptRun.{after_lines, answers, good_lines, line_read_ahe
 use Rattle.tool.specs.Scripts.{script_lines}
 use Rattle.tool.specs.Work.{LinesWork}
 
--- What was written when the first k lines were replied to. A write failed after n bytes, within the reply to
--- the next line. Or an allocation failed, and no byte of the next reply was written. Otherwise these are all
--- lines, and the run ends with the fault of the input, if any.
+-- What a run wrote: the replies to the first k lines. After a failed write, n bytes were written, and the sink failed
+-- within the reply to the next line. Without a failed write or allocation, these are all lines, and the run ends with
+-- the fault of the input, if any.
 abbrev pub Answered : Rules → ScriptOptions → Held → List (List ℕ) → Option RunFault → ℕ → Device → Device → Option RunFault → Type 0
 Answered rules options held lines wrong k old new (Some (fault.Write n)) =
     (length (answers rules options held (take k lines)) ≤ n) × StoppedAt n (answers rules options held (take (k + 1) lines)) old new
 Answered rules options held lines wrong k old new (Some fault.Memory) = Wrote (answers rules options held (take k lines)) old new
 Answered rules options held lines wrong k old new stop = (stop ≡ wrong) × (k ≡ length lines) × Wrote (answers rules options held lines) old new
 
--- the lines that were executed: those that were replied to, and the one within whose reply a write failed
+-- the executed lines: those that were replied to, and the one whose reply was not written completely
 abbrev pub executed_lines : List (List ℕ) → ℕ → Option RunFault → List (List ℕ)
 executed_lines lines k (Some (fault.Write n)) = take (k + 1) lines
 executed_lines lines k stop = take k lines
@@ -32,9 +32,9 @@ WantsMore done old new (Some fault.Memory) =
     ((length done ≡ 0) × (new.passed ≡ old.passed)) ⊎ (old.passed + length (with_ends done) < new.passed)
 WantsMore done old new stop = ⊤
 
--- A run ended after the first k lines. No more lines than these were executed, except the one whose reply was
--- being written. At most `line_read_ahead` bytes after them were read. The session worked no more than these
--- lines and the next one, at which the run ended, require.
+-- A run ended after the first k lines. Only these lines were executed, and the next one if a write failed within its
+-- reply. At most `line_read_ahead` bytes after the k lines were read. The session worked at most as much as these lines
+-- and the next one require.
 pub record EndsAfter (rules : Rules) (options : ScriptOptions) (old new : SessionState) (lines : List (List ℕ))
     (wrong : Option RunFault) (k : ℕ) (reader_old reader_new writer_old writer_new : Device)
     (stop : Option RunFault) : Type 0 where
@@ -44,8 +44,8 @@ pub record EndsAfter (rules : Rules) (options : ScriptOptions) (old new : Sessio
   pub wants : WantsMore (take k lines) reader_old reader_new stop
   pub works : LinesWork rules options.queries (held_at old) (take (k + 1) lines) old.engine new.engine
 
--- The run of a script in a session. What the reader returned has lines, which are executed and replied to one
--- after another, up to the first that is not valid.
+-- The run of a script in a session. The lines of what was read are executed and replied to one after another, up to the
+-- first one that is not valid.
 abbrev pub IsScriptRun : Rules → ScriptOptions → SessionState → SessionState → Device → Device → Device → Device → Result (Unit {0}) RunFault → Type 0
 IsScriptRun rules options old new reader_old reader_new writer_old writer_new result =
     (ending : Ending) × (bytes : List ℕ) × Gave reader_old reader_new ending bytes

@@ -1,4 +1,4 @@
--- What an edit script does and replies, and how its run ends.
+-- What an edit script changes and replies, and how its run ends.
 use Rattle.std.specs.Prelude.{ℕ, ◌+◌, ◌-◌, nat_lt, Bool, List, [], ◌∷◌, ◌++◌, length, map, take, take_while, codes, slice_range, Option, Some, None, is_some, is_none, if◌then◌else◌}
 use Rattle.std.specs.Fmt.{decimal}
 use Rattle.std.specs.List.{concat, list_all}
@@ -30,7 +30,7 @@ command_refusal rules held (SetWidth width) = if nat_lt 65535 width then Some re
 command_refusal rules held Show = None
 command_refusal rules held (Ask query) = None
 
--- what it changes in a text and a width
+-- the text and the width after a command
 abbrev pub executed : Held → Command → Held
 executed held (Insert pos piece) = record { text = replaced held.text (insertion pos piece); width = held.width }
 executed held (Delete pos count) = record { text = replaced held.text (deletion pos count); width = held.width }
@@ -41,15 +41,15 @@ executed held (Ask query) = held
 abbrev pub after_command : Rules → Held → Command → Held
 after_command rules held command = if is_none (command_refusal rules held command) then executed held command else held
 
--- the layout of a text at a width from scratch
+-- the fresh layouts of a text at a width
 abbrev pub layouts_at : Rules → Held → List Layout
 layouts_at rules held = layouts_of rules held.width held.text
 
--- a number of lines, from the first on, was replaced by others
+-- the reply to an edit: `new` lines replace `old` lines from `first` on
 abbrev pub damage_text : ℕ → ℕ → ℕ → List ℕ
 damage_text first old new = codes "@ " ++ decimal first ++ codes " " ++ decimal old ++ codes " " ++ decimal new ++ codes "\n"
 
--- those of the touched paragraphs, and the lines that replace them
+-- the reply to an edit of the text: which lines of the touched paragraphs were replaced, and by how many
 abbrev pub edit_text : (old new : List Layout) → Replacement → List ℕ
 edit_text old new edit =
     let first = first_touched (pars_of old) edit in
@@ -64,7 +64,7 @@ executed_text rules print held (SetWidth width) = damage_text 0 (length (lines_i
 executed_text rules print held Show = page rules held.width print (paragraphs (cut_by rules) held.text)
 executed_text rules print held (Ask query) = query_text rules print held.width (layouts_at rules held) query
 
--- The reply to one that is. A failed allocation does not refuse a command.
+-- The reply to a refused command.
 abbrev pub refusal_text : EditFault → List ℕ
 refusal_text refused.OutOfRange = codes "! range\n"
 refusal_text refused.WidthOutOfRange = codes "! width\n"
@@ -81,8 +81,8 @@ answer_to rules print held command = answer_by (command_refusal rules held comma
 
 -- ---- lines
 
--- What lines change in a text and a width, one after another, and the replies. A line without a command
--- changes nothing.
+-- The text and the width after lines are executed one after another, and the replies. A line without a command changes
+-- nothing.
 abbrev pub after_line : Rules → Held → Option Command → Held
 after_line rules held None = held
 after_line rules held (Some command) = after_command rules held command
@@ -102,7 +102,7 @@ answers rules options held (line ∷ lines) =
 
 -- ---- the run
 
--- the lines before the first that is not valid
+-- the lines before the first one that is not valid
 abbrev pub is_good : Bool → List ℕ → Bool
 is_good queries line = is_some (command_of_line queries line)
 
@@ -118,7 +118,7 @@ abbrev pub script_fault : Bool → Ending → List (List ℕ) → Option RunFaul
 script_fault queries ending lines =
     if list_all (is_good queries) lines then input_fault ending else Some (fault.BadLine (length (good_lines queries lines) + 1))
 
--- the maximum number of bytes that a run reads after the lines replied to: a line with its end, and one chunk
+-- the maximum number of bytes that a run reads after the lines it has replied to: a line with its end, and one chunk
 abbrev pub line_read_ahead : ℕ
 line_read_ahead = LINE_LIMIT + 1 + CHUNK
 

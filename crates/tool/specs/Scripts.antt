@@ -16,13 +16,13 @@ use Rattle.text_run.specs.TextRun.{Ending, AtEnd, AtFailure}
 abbrev pub is_line_end : ℕ → Bool
 is_line_end b = b == 10
 
--- What follows the last line end is a line too if the script ended and it is not empty. If the source failed,
--- it is not a line, unless it is over the limit already.
+-- The bytes after the last line end are a line if the script has ended and they are not empty. If the source failed,
+-- they are a line only if they are over the length limit already.
 abbrev pub is_last_line : Ending → List ℕ → Bool
 is_last_line AtEnd rest = nat_lt 0 (length rest)
 is_last_line AtFailure rest = nat_lt LINE_LIMIT (length rest)
 
--- the lines among the parts between ends
+-- the lines among the parts between line ends
 abbrev pub lines_among : Ending → List (List ℕ) → List (List ℕ)
 lines_among ending [] = []
 lines_among ending (rest ∷ []) = if is_last_line ending rest then rest ∷ [] else []
@@ -33,8 +33,8 @@ script_lines ending bytes = lines_among ending (slice_split is_line_end bytes)
 
 -- ---- commands
 
--- inserts a text before the character at a position, deletes characters from a position on, sets the width,
--- shows all lines, or replies to a query
+-- Inserts a text before the character at a position, deletes characters from a position on, sets the width, prints all
+-- lines, or replies to a query.
 pub data Command : Type 0 where
   Insert : (pos : ℕ) (piece : List ℕ) → Command
   Delete : (pos count : ℕ) → Command
@@ -42,7 +42,7 @@ pub data Command : Type 0 where
   Show : Command
   Ask : (query : Query) → Command
 
--- a number is 1 to 9 decimal digits
+-- the number that 1 to 9 decimal digits denote
 abbrev pub number_by : ℕ → List ℕ → ℕ
 number_by radix digits = fold (λ n d. radix * n + digit_value d) 0 digits
 
@@ -52,9 +52,8 @@ are_digits radix text = list_all (λ c. is_digit c radix) text
 abbrev pub number_in : List ℕ → Option ℕ
 number_in text = if nat_lt 0 (length text) && (nat_le (length text) 9 && are_digits 10 text) then Some (number_by 10 text) else None
 
--- An escape is a backslash and `n`, `r`, another backslash, or `u{H}`. H is 1 to 6 hexadecimal digits, the
--- number of a character. From the text after the backslash: the character, and the length of the whole
--- escape.
+-- An escape is a backslash and `n`, `r`, another backslash, or `u{H}`. H is the number of a character, 1 to 6
+-- hexadecimal digits. Given the text after the backslash: the character, and the length of the whole escape.
 abbrev pub is_character : ℕ → Bool
 is_character n = nat_lt n 0xD800 || (nat_le 0xE000 n && nat_le n 0x10FFFF)
 
@@ -73,11 +72,11 @@ escaped text =
     else (if slice_index text 0 == 92 then Some (92, 2)
     else (if slice_index text 0 == 117 && slice_index text 1 == 123 then braced (drop 2 text) else None)))
 
--- the character that a text represents first, by its first one and those after it, and how many represent it
+-- the first character that a text represents, and the number of characters that represent it
 abbrev pub written : ℕ → List ℕ → Option (ℕ × ℕ)
 written c after = if c == 92 then escaped after else Some (c, 1)
 
--- the characters that a text represents, of which the first `skip` belong to an escape before it
+-- the characters that a text represents, after the first `skip`, which belong to an escape
 abbrev pub onto : Option (ℕ × ℕ) → (ℕ → Option (List ℕ)) → Option (List ℕ)
 onto None others = None
 onto (Some (c, len)) others = option_map (λ cs. c ∷ cs) (others len)
@@ -97,7 +96,7 @@ is_space c = c == 32
 abbrev pub parted : List ℕ → Option (List ℕ × List ℕ)
 parted text = if nat_lt (position_or_len is_space text) (length text) then Some (before_first is_space text, after_first is_space text) else None
 
--- what follows a prefix
+-- the rest of a text after a prefix, if it has that prefix
 abbrev pub stripped : List ℕ → List ℕ → Option (List ℕ)
 stripped word text = if pointwise (◌==◌) (take (length word) text) word then Some (drop (length word) text) else None
 
@@ -111,13 +110,13 @@ abbrev pub insertion_in : Option (List ℕ × List ℕ) → Option Command
 insertion_in None = None
 insertion_in (Some (pos, text)) = insertion_of (number_in pos) (unescaped text)
 
--- A text whose escapes are valid represents more characters than are kept.
+-- A text whose escapes are valid represents more characters than were kept.
 pub record LacksText (text kept : List ℕ) : Type 0 where
   pub whole : List ℕ
   pub right : unescaped text ≡ Some whole
   pub short : length kept < length whole
 
--- So does that of an insert at a position that is a number, the only text that is kept when a line is read.
+-- The text of an insert at a valid position represents more characters than were kept.
 pub record LacksPieceIn (text kept : List ℕ) : Type 0 where
   pub pos : List ℕ
   pub piece : List ℕ

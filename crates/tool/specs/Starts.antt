@@ -1,4 +1,4 @@
--- The text that a script starts with.
+-- The text with which a script starts.
 use Rattle.std.specs.Prelude.{◌≡◌, ℕ, ◌<◌, List, length, Some, None}
 use Rattle.std.specs.Str.{chars}
 use Rattle.std.specs.Str.Lossy.{utf8_valid_len}
@@ -16,8 +16,8 @@ pub record Starts (engine : Engine) (bytes : List ℕ) (width : ℕ) (state : Se
   pub valid : utf8_valid_len bytes ≡ length bytes
   pub opens : Opens engine (chars bytes) width state
 
--- Why no session was opened: the bytes are not UTF-8, or else the text is too long, or else one of its
--- paragraphs is. If an allocation failed, none of these is so, and the text is not empty.
+-- Why no session was opened: the bytes are not UTF-8, or else the text is too long, or else one of its paragraphs is.
+-- If an allocation failed, none of these applies, and the text is not empty.
 abbrev pub IsStartFault : Rules → List ℕ → RunFault → Type 0
 IsStartFault rules bytes (f.NotUtf8 n) = (n ≡ utf8_valid_len bytes) × (n < length bytes)
 IsStartFault rules bytes f.TextTooLong = (utf8_valid_len bytes ≡ length bytes) × (text_refusal (cut_by rules) (chars bytes) ≡ Some e.TextTooLong)

@@ -1,4 +1,5 @@
--- The maximum work of a script's lines: for each command, that of its edit in a session, and none if refused.
+-- The maximum work of a script's lines. A command works at most as much as its edit in a session, and not at all if it
+-- is refused.
 use Rattle.std.specs.Prelude.{ℕ, ◌+◌, Bool, List, [], ◌∷◌, Option, Some, None, is_none, if◌then◌else◌}
 use Rattle.bidi.specs.Cuts.{paragraphs}
 use Rattle.lines.specs.Engine.{analysed_of, filled_of, written_of, RisesBy}
@@ -11,8 +12,7 @@ use Rattle.tool.specs.ScriptRun.{after_line, layouts_at, command_refusal}
 use Rattle.tool.specs.Scripts.{Command, Insert, Delete, SetWidth, Show, Ask, command_of_line}
 
 module _ (rules : Rules) where
-  -- the maximum numbers of characters that a command which is not refused analyses, and fills into lines and
-  -- writes
+  -- the maximum numbers of characters that a command analyses, and fills into lines and writes, if it is not refused
   abbrev pub analysed_by : Held → Command → ℕ
   analysed_by held (Insert pos piece) = fresh (paragraphs (cut_by rules) held.text) (insertion pos piece)
   analysed_by held (Delete pos count) = fresh (paragraphs (cut_by rules) held.text) (deletion pos count)
@@ -27,7 +27,7 @@ module _ (rules : Rules) where
   filled_by held Show = 0
   filled_by held (Ask query) = 0
 
-  -- of any command, of a line, and of several lines in order
+  -- the work of any command, of a line, and of several lines in order
   abbrev pub work_of : (Held → Command → ℕ) → Held → Command → ℕ
   work_of work held command = if is_none (command_refusal rules held command) then work held command else 0
 
@@ -40,7 +40,7 @@ module _ (rules : Rules) where
   work_of_lines queries work held (line ∷ lines) =
       work_of_line work held (command_of_line queries line) + work_of_lines queries work (after_line rules held (command_of_line queries line)) lines
 
-  -- an engine worked no more than this, in each count
+  -- no counter of an engine rose by more than this work
   pub record Works (most : (Held → Command → ℕ) → ℕ) (old new : Engine) : Type 0 where
     pub analysed : RisesBy (most analysed_by) (analysed_of old) (analysed_of new)
     pub filled : RisesBy (most filled_by) (filled_of old) (filled_of new)

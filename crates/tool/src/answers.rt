@@ -96,7 +96,7 @@ fn push_number(answer: &mut Answer, number: usize)
     push(answer, buffer.format(number).as_bytes());
 }
 
-// The capacity suffices for these bytes.
+// Appends bytes to a reply, which has the capacity for them.
 fn push(answer: &mut Answer, bytes: &[u8])
     requires { array_vec_len answer.old + length bytes.now ≤ 65 }
     ensures items { answer.new.items ≡ answer.old.items ++ bytes.now }
@@ -108,7 +108,7 @@ fn push(answer: &mut Answer, bytes: &[u8])
     }
 }
 
-// A failed allocation does not refuse an edit, and has no text.
+// Returns the reply to a refused edit. A failed allocation does not refuse an edit, and has no text.
 fn reason_text(reason: EditFault) -> &'static str
     ensures value { result.now ≡ refusal_text reason }
     ensures short { length result.now ≤ 65 }

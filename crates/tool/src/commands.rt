@@ -275,7 +275,7 @@ fn written(c: char, after: &[char]) -> Option<(char, usize)>
     }
 }
 
-// The same for an escape, from the text after its backslash.
+// The character of an escape, given the text after its backslash, and the length of the whole escape.
 fn escaped(text: &[char]) -> Option<(char, usize)>
     ensures value { result ≡ escaped text.now }
     ensures within { IfSome result (λ w. (0 < w.1) × (w.1 ≤ length text.now + 1)) }
@@ -294,7 +294,7 @@ fn escaped(text: &[char]) -> Option<(char, usize)>
     }
 }
 
-// The same after `\u{`.
+// The character of an escape `\u{H}`, given the text after `\u{`, and the length of the whole escape.
 fn braced(text: &[char]) -> Option<(char, usize)>
     ensures value { result ≡ braced text.now }
     ensures within { IfSome result (λ w. (0 < w.1) × (w.1 ≤ length text.now + 3)) }

@@ -46,7 +46,7 @@ fn screen_left(line: &VisualLine<'_>, width: u16, print: &Print) -> usize
     }
 }
 
-// The same for a line that does not exist yet, by its level.
+// Returns the number of columns of the screen to the left of a line that does not exist yet, by its level.
 fn empty_left(level: u8, width: u16, print: &Print) -> usize
     ensures value { result ≡ empty_left print.now width level }
     ensures fits { result < 2 ^ 32 }

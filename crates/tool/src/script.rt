@@ -81,7 +81,7 @@ fn set_width<S: ParagraphStore<Kept>>(
         session.old.engine session.new.engine }
     ensures rules { SameRules session.old.engine session.new.engine }
 {
-    // Shows that what is kept is laid out.
+    // The contract of `width` shows that the session is laid out.
     let _width = session.width();
     match u16::try_from(width) {
         Ok(width) => session.set_width(width),
@@ -100,7 +100,7 @@ fn insert<S: ParagraphStore<Kept>>(
         (Insert pos (chars piece.now)) session.old.engine session.new.engine }
     ensures rules { SameRules session.old.engine session.new.engine }
 {
-    // Shows that what is kept is laid out.
+    // The contract of `width` shows that the session is laid out.
     let _width = session.width();
     session.insert(pos, piece)
 }
@@ -116,7 +116,7 @@ fn delete<S: ParagraphStore<Kept>>(
         session.old.engine session.new.engine }
     ensures rules { SameRules session.old.engine session.new.engine }
 {
-    // Shows that what is kept is laid out.
+    // The contract of `width` shows that the session is laid out.
     let _width = session.width();
     session.delete(pos, count)
 }
@@ -172,7 +172,7 @@ fn ask<W: Sink, S: ParagraphStore<Kept>>(
         written (held_at session.now) (held_at session.now) (W.state writer.old) (W.state writer.new)) }
     ensures counted { IfOk result (λ n. n ≤ (W.state writer.new).passed) }
 {
-    // Shows that what is kept is laid out.
+    // The contract of `width` shows that the session is laid out.
     let _width = session.width();
     write_query(session, writer, written, print, query)
 }
@@ -293,8 +293,8 @@ fn execute_line<W: Sink, S: ParagraphStore<Kept>>(
     }
 }
 
-// Adds bytes to the beginning of a line, unless the line is too long with them, which fails with `BadLine`
-// before anything is allocated.
+// Appends bytes to the unfinished line. If it would be too long, fails with `BadLine` before anything is
+// allocated.
 fn grow(reading: &mut Reading, bytes: &[u8]) -> Result<(), RunFault>
     requires { reading.old.lines < 2 ^ 64 - 1 }
     ensures ok { OnOk result (Grows bytes.now reading.old reading.new) }
@@ -479,8 +479,8 @@ fn step<R: Source, W: Sink, S: ParagraphStore<Kept>>(
     }
 }
 
-/// Runs an edit script over a session, and gives the session up, however the run ends. All lines of the
-/// script must be commands. [`run_script_in`] borrows the session, and accepts queries.
+/// Runs an edit script over a session, and drops the session when the run ends. All lines of the script must
+/// be commands. [`run_script_in`] borrows the session, and accepts queries.
 pub fn run_script<R: Source, W: Sink, S: ParagraphStore<Kept> + Drop>(
     alloc: Global,
     reader: &mut R,
@@ -524,7 +524,7 @@ pub fn run_script_in<R: Source, W: Sink, S: ParagraphStore<Kept>>(
     ensures rules { SameRules session.old.engine session.new.engine }
 {
     let result = run_over(alloc, reader, writer, session, options);
-    // Shows that what is kept is laid out.
+    // The contract of `width` shows that the session is laid out.
     let _width = session.width();
     result
 }

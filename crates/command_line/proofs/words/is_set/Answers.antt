@@ -9,7 +9,7 @@ use Rattle.clap.specs.contracts.parser.matches.ValueSourcePartialEq.TheImpl.{eq-
 use Rattle.clap.proofs.TakesLemmas.{present_row}
 use Rattle.command_line.proofs.words.is_set.Goals as goal
 
--- no default is what the words outweigh
+-- an argument is set explicitly if its source is not its default
 differs : (s : Option ValueSource) → not (option_eq eq-value.it s (Some DefaultValue)) ≡ explicit_source s
 differs None = refl
 differs (Some DefaultValue) = refl

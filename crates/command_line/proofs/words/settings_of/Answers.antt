@@ -10,13 +10,13 @@ use Rattle.std.proofs.lemmas.List.{length-map}
 use Rattle.command_line.proofs.DefaultLemmas.{number_read}
 use Rattle.command_line.proofs.words.settings_of.Goals as goal
 
--- the texts of a list that may be missing
+-- the texts of an optional list, none if it is missing
 texts_or_none : (o : Option (Bor (List (Bor Text)))) (none : Bor (List (Bor Text))) → none.now ≡ []
     → map (λ s. s.now) (unwrap_or o none).now ≡ unwrap_or (option_map (λ s. map (λ v. v.now) s.now) o) []
 texts_or_none None none empty = ap (map (λ s. s.now)) empty
 texts_or_none (Some s) none empty = refl
 
--- whether the texts fit a script, by what was read of both
+-- whether the number of texts fits a script, and whether queries have one, computed from the matches
 some_told : (o : Option (Bor Text)) → is_some (option_map (λ s. s.now) o) ≡ is_some o
 some_told None = refl
 some_told (Some s) = refl
@@ -34,7 +34,7 @@ unreachable-requires c =
     let found = found_of c.args.matches.now in
     true≢false (sym (ap is_some (c.in_default-get_str.ensures ∙ first_value-rows found (codes "ucd")) ∙ c.requires.1.ucd))
 
--- the width's text is read as the number that it writes
+-- the text of the width is parsed as the number that it denotes
 read_width : (E : Type 0) (Gives : Text → Result ℕ E → Type 0) → ((t : Text) (x : Result ℕ E) → Gives t x → ParsesUnsigned 16 10 t x)
     → (f : Found) (r : Option ℕ) → HasWidth (rows_of f) → ((t : Text) → one_text f (codes "width") ≡ Some t → ReadsOne Gives t r)
     → option_map number_of (first_of (codes "width") (rows_of f)) ≡ r

@@ -4,7 +4,7 @@ use Rattle.ucd.specs.Within.{AreWithin}
 use Rattle.lines.proofs.WriteLemmas.{encoded-more, part-more}
 use Rattle.lines.proofs.bytes.encode_places.Goals as goal
 
--- a character, read at its index
+-- the character at the k-th place is the k-th of the characters at all places
 module _ (text places : List ℕ) (k : ℕ) (within : k < length places) where
   inside : k < length (map (slice_index text) places)
   inside = rw (length-map places (slice_index text)) within
@@ -13,7 +13,7 @@ module _ (text places : List ℕ) (k : ℕ) (within : k < length places) where
   read c are_within c_is =
       c_is ∙ get_or_default text (slice_index places k) c 0 (are_within k within) ∙ sym (get_or-map (slice_index text) places k 0 c within)
 
--- one character more
+-- the invariant holds after one more character
 pub loop-next-preserved : goal.loop-next-preserved
 loop-next-preserved c =
     let text = c.args.text.now in
@@ -31,7 +31,7 @@ loop-next-preserved c =
           c.encode_at-len.ensures.bytes now.bytes_are ∙ sym more;
     }
 
--- one fitted
+-- at least one character fits in the buffer
 pub returns-else-len-buffer-clause-next : goal.returns-else-len-buffer-clause-next
 returns-else-len-buffer-clause-next c =
     let now = c.loop-next.invariant in

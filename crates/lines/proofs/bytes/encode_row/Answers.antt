@@ -4,7 +4,7 @@ use Rattle.std.specs.List.{join_with_byte}
 use Rattle.lines.proofs.WriteLemmas.{joined-more, part-more}
 use Rattle.lines.proofs.bytes.encode_row.Goals as goal
 
--- one number more
+-- the row with one more number
 more : {I : Type 0} (text : I → List ℕ) (numbers : List I) (k : ℕ) (n : I) → k < length numbers → n ≡ get_or numbers k n
     → join_with_byte 32 (take (k + 1) (map text numbers)) ≡ join_with_byte 32 (take k (map text numbers)) ++ ((if k == 0 then [] else 32 ∷ []) ++ text n)
 more text numbers k n within is =
@@ -26,7 +26,7 @@ loop-next-preserved g c =
           ∙ sym (more text c.args.numbers.now next c.index-numbers-next.result c.loop-next-test.true c.index-numbers-next.is);
     }
 
--- one fitted
+-- at least one number fits in the buffer
 pub returns-else-len-buffer-clause-next : goal.returns-else-len-buffer-clause-next
 returns-else-len-buffer-clause-next g c =
     let now = c.loop-next.invariant in

@@ -3,7 +3,7 @@ use Rattle.lines.specs.Writing.{StoppedIn}
 use Rattle.lines.proofs.WriteLemmas.{encoded-part, encoded-rest, passed-append, same_fault, stopped-before, stopped-after}
 use Rattle.lines.proofs.bytes.write_chars.Goals as goal
 
--- one more part
+-- the invariant holds after one more part
 pub loop-at-preserved : goal.loop-at-preserved
 loop-at-preserved g c =
     let chars = c.args.chars.now in

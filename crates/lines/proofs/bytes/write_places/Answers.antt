@@ -4,7 +4,7 @@ use Rattle.lines.specs.Writing.{StoppedIn}
 use Rattle.lines.proofs.WriteLemmas.{encoded-rest, passed-append, same_fault, stopped-before, stopped-after}
 use Rattle.lines.proofs.bytes.write_places.Goals as goal
 
--- one more part
+-- the invariant holds after one more part
 pub loop-at-preserved : goal.loop-at-preserved
 loop-at-preserved g c = record {
   within = c.encode_places-next.ensures.next.1;

@@ -3,7 +3,7 @@ use Rattle.lines.specs.Writing.{StoppedIn}
 use Rattle.lines.proofs.WriteLemmas.{stopped-before, stopped-after, same_fault}
 use Rattle.lines.proofs.bytes.write_shown.Goals as goal
 
--- the end of the line is not written
+-- the sink failed before the newline was written
 pub returns-in_err-shown-clause-err : goal.returns-in_err-shown-clause-err
 returns-in_err-shown-clause-err g c =
     let stopped = stopped-before (codes "\n") (stopped-after c.in_ok-padded.ensures.ok c.in_err-shown.ensures.err) in

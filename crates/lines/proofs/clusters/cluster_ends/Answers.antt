@@ -8,7 +8,7 @@ use Rattle.lines.proofs.ClusterLemmas.{ends_of_graphemes, length-cluster_ends, n
 use Rattle.lines.specs.Clusters.{cluster_ends, ends_of}
 use Rattle.lines.proofs.clusters.cluster_ends.Goals as goal
 
--- a text without characters
+-- an empty text has no cluster ends
 pub returns-then-is_empty-clause-ends : goal.returns-then-is_empty-clause-ends
 returns-then-is_empty-clause-ends c =
     let none : length c.args.text.now ≡ 0 = grind (arith, nat_tests, c.is_empty.ensures, c.if-is_empty.true) in
@@ -19,7 +19,7 @@ returns-then-are_alone-clause-ends c =
     let all : replicate (length c.args.text.now) true ≡ cluster_ends c.args.text.now = ends_alone c.args.text.now (sym c.are_alone.ensures ∙ c.if-are_alone.true) in
     search rules
 
--- all clusters are left
+-- at the start, all clusters are left
 pub loop-cluster-init : goal.loop-cluster-init
 loop-cluster-init c =
     let ran = c.in_ok-utf8.ensures.ran in
@@ -27,7 +27,7 @@ loop-cluster-init c =
     ap₂ ◌++◌ c.in_ok-ends.ensures.items (ap (flat_map ends_of) (ap graphemes_left c.into_iter-cluster-iterator.ensures.into_iter_gives ∙ c.graphemes-cluster-items.ensures.left))
     ∙ ends_of_graphemes c.deref.result.now c.deref.utf8 ∙ ap cluster_ends (spelled _ _ _ _ same (c.deref.ensures ∙ ran.2) c.deref.utf8)
 
--- none is left
+-- at the end, no cluster is left
 pub returns : goal.returns
 returns c =
     let ends = c.loop-cluster.ends.items in

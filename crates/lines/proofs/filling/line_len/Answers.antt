@@ -18,11 +18,11 @@ returns-in-Some-clause-line c =
     ap (map bare) is ∙ alike_drop infos known start (sym (with_alike infos (cluster_ends c.args.text.now) (length-cluster_ends c.args.text.now ∙ sym c.requires.len))) in
     c.in-Some.ensures.len (drop start known) alike
 
--- as many cluster ends as items
+-- there are as many cluster ends as items
 sizes : (c : After-line_end) → length (cluster_ends c.args.text.now) ≡ length c.args.infos.now
 sizes c = length-cluster_ends c.args.text.now ∙ sym c.requires.len
 
--- it is known where clusters end
+-- once cluster ends are known, the items have those of the text
 known : (c : After-line_end) → c.if-not-is_known.infos ≡ with_ends c.args.infos.now (cluster_ends c.args.text.now)
 known c = elim c.if-not-is_known.branch [
   | then-not-is_known+in_ok-mark_clusters w ↦ w.infos-is ∙ w.in_ok-mark_clusters.ensures

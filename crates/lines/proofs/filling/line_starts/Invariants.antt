@@ -5,7 +5,7 @@ use Rattle.lines.specs.Filling.{line_starts_of, starts}
 use Rattle.lines.specs.Kept.{AreStarts}
 use Rattle.lines.proofs.filling.line_starts.Given as goal
 
--- the lines so far, and those of what is left, are the lines of the paragraph with its clusters
+-- the line starts so far, followed by those of the remaining characters, are the line starts of the paragraph
 abbrev pub invariant-loop-start : goal.invariant-loop-start
 invariant-loop-start l = let known = with_ends l.fn.infos (cluster_ends l.text) in record {
   alike : AreAlike l.infos l.fn.infos;

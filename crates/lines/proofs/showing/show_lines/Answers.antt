@@ -3,7 +3,7 @@ use Rattle.std.proofs.lemmas.List.{with_items_is}
 use Rattle.lines.proofs.ShowLemmas.{all_shown, all_within, length-shown_from, shown_as, sound, taken_shown}
 use Rattle.lines.proofs.showing.show_lines.Goals as goal
 
--- how much of each line is shown follows from these items
+-- the shown part of each line is computed from the `CharInfo`s
 pub show_each-requires-clause-shown : goal.show_each-requires-clause-shown
 show_each-requires-clause-shown c = (
   c.args.infos.now,

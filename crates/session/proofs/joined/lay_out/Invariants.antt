@@ -5,7 +5,7 @@ use Rattle.session.specs.Edits.{is_within_limit}
 use Rattle.session.specs.Kept.{layouts_of}
 use Rattle.session.proofs.joined.lay_out.Given as goal
 
--- the paragraphs so far, and those of what is left, are those of the whole text
+-- the layouts so far, followed by those of the remaining text, are the layouts of the whole text
 abbrev pub invariant-loop-end : goal.invariant-loop-end
 invariant-loop-end l =
     let keep = layouts_of (rules_of l.fn.engine) l.width in

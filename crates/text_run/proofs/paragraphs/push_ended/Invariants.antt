@@ -9,7 +9,7 @@ use Rattle.text_run.specs.Pages.{prints_some}
 use Rattle.text_run.proofs.PushLemmas.{PushedSoFar}
 use Rattle.text_run.proofs.paragraphs.push_ended.Given as goal
 
--- the lines so far, and what is held of the rest
+-- the lines of the paragraphs so far are on the page, and the rest has no too long paragraph
 abbrev pub invariant-loop-end : goal.invariant-loop-end
 invariant-loop-end l =
     let rules = rules_of l.fn.engine in

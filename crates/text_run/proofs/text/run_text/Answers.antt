@@ -3,7 +3,7 @@ use Rattle.lines.specs.Engine.{rules_of}
 use Rattle.text_run.proofs.StartLemmas.{ends_at_once, stands_at_start, stepped_as}
 use Rattle.text_run.proofs.text.run_text.Goals as goal
 
--- memory ran out before anything was read
+-- an allocation failed before anything was read
 pub returns-in_default-clause-run : goal.returns-in_default-clause-run
 returns-in_default-clause-run g c =
     (ends_at_once (rules_of c.args.engine.now) c.args.width c.args.print.now (g.R.Source.state c.args.reader.now)
@@ -95,7 +95,7 @@ returns-in-Err-clause-stopped g c =
     c.loop-held.invariant.kept c.loop-held.invariant.stands c.step.result
     (c.step.ensures.steps (g.R.Source.state c.args.reader.now) (g.W.Sink.state c.args.writer.now) c.args.engine.now) (Err c.in-Err.fault) c.in-Err.is).stopped
 
--- a step that ends otherwise than by a failed read adds no failure, and those before it added none
+-- a step with another result than `Read` adds no read failure, and neither did the steps before it
 pub returns-in-Ok-false-clause-reads : goal.returns-in-Ok-false-clause-reads
 returns-in-Ok-false-clause-reads g c = λ other.
     c.step.ensures.reads (λ e. cc (e, c.in-Ok-false.is)) ∙ c.loop-held.invariant.stands.is_at.failures

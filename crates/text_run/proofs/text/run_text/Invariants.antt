@@ -4,7 +4,7 @@ use Rattle.lines.specs.Engine.{rules_of}
 use Rattle.text_run.specs.Streaming.{Stands}
 use Rattle.text_run.proofs.text.run_text.Given as goal
 
--- the run stands between two reads
+-- the run is between two reads
 abbrev pub invariant-loop-held : goal.invariant-loop-held
 invariant-loop-held g l =
     let reader = g.R.Source.state in

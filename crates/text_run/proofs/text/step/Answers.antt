@@ -48,7 +48,7 @@ returns-in-None-clause-steps g c = λ reader_start writer_start engine_start sta
     c.args.engine.now _ _ c.args.held.now _ stands c.in-Ok.ensures.ok _ c.gather.new.engine _
     c.in-Ok-gather.ensures.gathers _ _ c.in_default-write.ensures.ok c.in-None.is
 
--- where memory ran out nothing was written
+-- if memory ran out, nothing was written
 pub returns-in-Err-finish-clause-memory : goal.returns-in-Err-finish-clause-memory
 returns-in-Err-finish-clause-memory g c = λ is.
     none_written (rules_of c.args.engine.now) c.args.width c.args.print.now c.read.new.self
@@ -62,7 +62,7 @@ pub returns-in-Some-clause-memory : goal.returns-in-Some-clause-memory
 returns-in-Some-clause-memory g c = λ is.
     absurd (no_memory (rules_of c.args.engine.now) c.args.width c.args.print.now _ _ _ _ _ _ c.in-Some.fault c.in-Ok-gather.ensures.gathers c.in-Some.is (cc is))
 
--- where the sink failed, the paragraphs that end in what was read were printed
+-- if the sink failed, the paragraphs that end in what was read were printed
 pub returns-in-Err-finish-clause-stopped : goal.returns-in-Err-finish-clause-stopped
 returns-in-Err-finish-clause-stopped g c = λ n is rises.
     absurd (omega (arith, rises, c.in-Ok.ensures.ok.read.gives.passes.passed, c.if-len-eq0.true))

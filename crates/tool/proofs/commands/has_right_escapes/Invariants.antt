@@ -3,7 +3,7 @@ use Rattle.std.specs.Prelude.{is_some}
 use Rattle.tool.specs.Scripts.{unescaped}
 use Rattle.tool.proofs.commands.has_right_escapes.Given as goal
 
--- the whole text is right where the rest is
+-- the escapes of the whole text are valid exactly if those of the rest are
 abbrev pub invariant-loop-at : goal.invariant-loop-at
 invariant-loop-at l = record {
   within : l.at ≤ length l.text;

@@ -6,7 +6,7 @@ use Rattle.std.proofs.lemmas.List.{take_rest}
 use Rattle.tool.specs.Scripts.{is_space, parted}
 use Rattle.tool.proofs.commands.words.Goals as goal
 
--- what stands on both sides of a place, if it is one of the text
+-- the parts of a text before and after a position, if the position is inside it
 abbrev sides : List ℕ → ℕ → Bool → Option (List ℕ × List ℕ)
 sides text n within = if within then Some (take n text, drop (n + 1) text) else None
 

@@ -5,7 +5,7 @@ use Rattle.tool.specs.Reading.{IsAt}
 use Rattle.tool.proofs.script.run_over.Given as goal
 use Rattle.stream.specs.declared.reading.TheConstants.{CHUNK}
 
--- the run stands between two reads
+-- the run is between two reads
 abbrev pub invariant-loop-reading : goal.invariant-loop-reading
 invariant-loop-reading g l =
     let reader = g.R.Source.state in

@@ -1,4 +1,4 @@
--- `of` takes the box apart, and the parts own what it owned.
+-- `of` splits a box into its parts, which own what the box owned.
 use mathlib.Core.Path.{◌≡◌, refl, sym, subst, ap, ◌∙◌}
 use mathlib.Core.List.{List, [], ◌∷◌, ◌++◌}
 use seplogic.Ra.Ura.{Ura}

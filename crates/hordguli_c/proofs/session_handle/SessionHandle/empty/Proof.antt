@@ -1,4 +1,4 @@
--- `empty` puts null into a struct.
+-- `empty` stores null in the handle.
 use Rattle.std.proofs.Common.{◌≡◌, [], ◌∷◌, refl}
 use base.Logic.{emp}
 use base.Fml.{ftrue}

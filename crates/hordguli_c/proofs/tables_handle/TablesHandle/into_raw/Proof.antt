@@ -1,4 +1,4 @@
--- `into_raw` tests the pointer, and takes what lies there.
+-- `into_raw` compares the pointer with null, and returns what it owns.
 use Rattle.std.proofs.Common.{List, [], ◌∷◌, ◌++◌, refl, sym, ap, ◌∙◌, subst, lit<}
 use mir.Val.{Val, vptr, vcons, vnil}
 use base.Logic.{SProp, ent, emp, id⊢}

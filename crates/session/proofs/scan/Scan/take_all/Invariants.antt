@@ -4,6 +4,6 @@ use Rattle.lines.specs.Layouts.{cut_by}
 use Rattle.session.specs.Scans.{HasScanned}
 use Rattle.session.proofs.scan.Scan.take_all.Given as goal
 
--- the characters so far are taken
+-- the scan has read the characters so far
 abbrev pub invariant-loop-c : goal.invariant-loop-c
 invariant-loop-c l = (text : List ℕ) → HasScanned (cut_by (rules_of l.engine)) text l.fn.self → HasScanned (cut_by (rules_of l.engine)) (text ++ take l.c-index l.part) l.self

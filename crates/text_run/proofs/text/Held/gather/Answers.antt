@@ -12,7 +12,7 @@ use Rattle.text_run.proofs.LongLemmas.{front_few}
 use Rattle.std.specs.Str.{chars}
 use Rattle.text_run.proofs.text.Held.gather.Goals as goal
 
--- how many bytes the front of some bytes has
+-- the length of the valid UTF-8 prefix of some bytes
 front_len : (bytes front : List ℕ) → front ≡ take (utf8_valid_len bytes) bytes → length front ≡ utf8_valid_len bytes
 front_len bytes front is = ap length is ∙ length-take-le (utf8_valid_len bytes) bytes (utf8_valid_len_le bytes)
 

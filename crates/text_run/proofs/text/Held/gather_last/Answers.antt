@@ -8,7 +8,7 @@ use Rattle.text_run.proofs.text.Held.gather_last.Goals as goal
 nothing : (n : ℕ) → (n == 0) ≡ true → 0 ≡ n
 nothing n is = grind (arith, nat_tests)
 
--- there is no last paragraph
+-- the text has no last paragraph
 pub returns-then-is_empty-clause-counts : goal.returns-then-is_empty-clause-counts
 returns-then-is_empty-clause-counts c =
     let text = c.args.self.now.text.items in
