@@ -120,8 +120,8 @@ impl Engine {
         first_cut(&self.tables, text)
     }
 
-    /// Returns the first paragraph boundary of `before` followed by `text`, as the number of bytes of `text` before
-    /// it. `before` has no boundary itself; the boundary may be directly after it.
+    /// Returns the first paragraph boundary of `before` followed by `text`, as the number of bytes of `text`
+    /// before it. `before` has no boundary itself; the boundary may be directly after it.
     pub fn first_cut_in_text(&self, before: &[char], text: &str) -> Option<usize>
         requires { SplitsAt (cut_by (rules_of self.now)) before.now None }
         ensures { FindsEndAfter (cut_by (rules_of self.now)) before.now text.now result }

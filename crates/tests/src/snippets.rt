@@ -1,4 +1,4 @@
-//! The examples in the first lines of `ucd`, `bidi`, `reorder`, `breaks`, `store` and `stream`. `tests/docs/run` checks
+//! The examples in the first lines of `ucd`, `bidi`, `reorder`, `breaks` and `store`. `tests/docs/run` checks
 //! that they are here.
 use crate::files::{FILES, read};
 use crate::levels::properties_of;
