@@ -25,7 +25,7 @@
 #   make dist       Builds hordguli-VERSION-linux-x86_64.tar.gz from the same files (DIST=dist).
 #   make test-packages  Tests the packages in new Debian 12 and 13 systems (debootstrap, as root): four minutes.
 #   make test-reproducible  Builds all packages in two folders, compiled both times, and compares them byte by byte.
-#   make test-hosts Runs examples/many over three hosts on the loopback address, one of which is ended during a run.
+#   make test-hosts Runs examples/many on three hosts on the loopback address, and kills one during a run.
 #   make release    Checks the version, runs CI, builds and tests all packages, and writes them to dist/.
 #   make bench      Runs all benchmarks of bench/, which compare with Debian's fribidi, with ICU and with Rust crates.
 

@@ -1,8 +1,8 @@
 /* Numbers, fields, parameters and statuses of hordguli.h: statuses FOLDER HEADER. FOLDER has the table files, HEADER is
  * hordguli.h.
  *
- * - Each status, option, flag and other constant has its number.
- * - Each field of each struct has its place, and gets the value that belongs to it. Parameters of one type are not
+ * - Each status, option, flag and other constant has the expected value.
+ * - Each field of each struct is at its offset, and gets the value that belongs to it. Parameters of one type are not
  *   exchanged.
  * - If two errors of a call apply, it returns the one that the header lists first, and changes nothing. It returns the
  *   same if every allocation fails, unless the header says that NO_MEMORY comes first. (tests/c/refuse.c lets each

@@ -2,7 +2,7 @@
  *
  * - AS_ONE: all isolates of a depth are one sequence, in logical order. Brackets pair across its runs, by the level of the opening one,
  *   except across runs that are adjacent. A mark at the start of a later isolate is ON, so what follows does not take the type that ended
- *   the isolate before. After an EN that W2 changes, the mark is AN. If an override changes the initiator, it stays a mark and counts as L.
+ *   the isolate before. After an EN that W2 changes, the mark is AN. If an override changes the initiator, the mark stays NSM and counts as L.
  * - LATER: an FSI whose isolate has no strong type takes its direction from a later isolate of its depth.
  * - DEEP: an isolate that overflows counts as a depth of its own, and an overflow before it does not prevent an isolate.
  * - CONTEXT: the strong type before a pair of brackets is sought beyond the level run too.
@@ -201,7 +201,7 @@ static void pair_brackets(const input *one, sequence *runs, int many, int ways) 
     }
 }
 
-/* The type next to neutral types. A mark that is left has no direction. */
+/* The type next to neutral types. An NSM that remains after W1 has no direction. */
 static FriBidiCharType side_of(FriBidiCharType type) { return type == FRIBIDI_TYPE_NSM ? type : seen(type); }
 
 static void resolve(sequence *s, int *levels) {

@@ -1,4 +1,4 @@
-//! Times the levels of one paragraph, and its whole layout, by its contents.
+//! Measures how long the levels and the whole layout of one paragraph take, for several kinds of text.
 use crate::fill::lay_out;
 use crate::paragraphs::{Kind, Subject, engine, let_go, measure_all};
 use crate::rows::show;

@@ -54,7 +54,7 @@ module _ (bracket_of : ℕ → Option Bracket) (characters : List ℕ) (types : 
   abbrev pub fits : ℕ → ℕ → Bool
   fits i j = is_pair_of (bracket_of (slice_index characters i)) (slice_index characters j)
 
-  -- an opening bracket is live at j if no pair of those before j begins at it or before it, and ends after it
+  -- the opening bracket at i is live if no pair found so far has opener ≤ i < closer
   abbrev pub is_live : List Pair → ℕ → Bool
   is_live pairs i = is_opener i && not (list_any (λ pair. nat_le pair.opener i && nat_lt i pair.closer) pairs)
 

@@ -176,7 +176,7 @@ fn find_pairs(
     Ok(())
 }
 
-// The least index from `from` on, and before a limit, of a strong type of direction L, or of direction R.
+// The least index from `from` on, and before a limit, of a strong type in direction L if `left`, else in direction R.
 // Otherwise the limit, or `from` if that is greater.
 fn next_toward(types: &[BidiClass], left: bool, from: usize, limit: usize) -> usize
     requires from { from ≤ length types.now }
@@ -193,7 +193,7 @@ fn next_toward(types: &[BidiClass], left: bool, from: usize, limit: usize) -> us
     at
 }
 
-// Whether a type is strong and of direction L, or of direction R. Numbers count as R.
+// Whether a type is strong in direction L if `left`, else in direction R. Numbers count as R.
 fn is_toward(left: bool, class: BidiClass) -> bool
     ensures { result ≡ is_toward left class }
 {

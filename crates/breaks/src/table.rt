@@ -68,7 +68,7 @@ pub enum State {
     NumberIS,
     /// SY after a number that may go on after it.
     NumberSY,
-    /// CL after a number, or wide CP.
+    /// CL, or wide CP, after a number.
     NumberCL,
     /// CP that is not wide, after a number.
     NumberCP,

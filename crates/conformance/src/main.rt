@@ -190,7 +190,7 @@ fn write_laid_out<W: Write>(
     }
 }
 
-// Returns the characters whose hexadecimal code points a line has.
+// Parses a line of hexadecimal code points into characters.
 fn characters(alloc: Global, line: &str) -> Result<Vec<char>> {
     let mut text = Vec::new(alloc);
     for word in line.split_whitespace() {

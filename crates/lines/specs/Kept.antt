@@ -24,7 +24,7 @@ module _ (levels ltov vtol chars : List ℕ) where
 abbrev pub lines_in : List ℕ → List Shown → List ℕ → List ℕ → List ℕ → List ℕ → List Line
 lines_in starts shown levels ltov vtol chars = lines_by levels ltov vtol chars starts shown
 
--- the lists have the same length, and each line's shown part is inside them
+-- `shown` has one item per line, the other lists one per character, and each line's shown part is inside them
 pub record IsSound (starts : List ℕ) (shown : List Shown) (levels ltov vtol chars : List ℕ) : Type 0 where
   pub all_shown : length shown ≡ length starts
   pub ltov_len : length ltov ≡ length levels

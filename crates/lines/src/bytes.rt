@@ -1,5 +1,5 @@
-//! The bytes of a line, passed to a sink as they are made. Each function writes a part of them after `before`
-//! bytes, and returns the number of bytes written then.
+//! The bytes of a line, passed to a sink as they are made. Each function writes a part of
+//! them. `before` is the number of bytes already written, and the returned count includes it.
 ghost use Rattle.std.specs.Prelude.{◌≡◌, [], ◌∷◌, ◌++◌, ◌≤◌, ◌&&◌, IfOk, IfErr, if◌then◌else◌};
 ghost use Rattle.std.specs.Prelude.{◌+◌, ◌*◌, ◌<◌, take, codes};
 ghost use Rattle.std.specs.Prelude.{length, map, replicate, encode_utf8, encode_utf8_all, slice_index};
@@ -43,8 +43,8 @@ fn write_part<W: Sink>(writer: &mut W, before: u64, part: &[u8]) -> Result<u64, 
 // The number of characters encoded for each write.
 const CHARACTERS_AT_ONCE: usize = 64;
 
-/// Writes characters as UTF-8 after `before` bytes, and returns the number of bytes written then; a fault
-/// counts these too. Allocates nothing.
+/// Writes characters as UTF-8. `before` is the number of bytes already written. The returned count, and that
+/// in a fault, include it. Allocates nothing.
 pub fn write_chars<W: Sink>(writer: &mut W, before: u64, chars: &[char]) -> Result<u64, WriteFault>
     requires { before ≤ (W.state writer.old).passed }
     ensures ok { IfOk result (λ n. PassedOn (encode_utf8_all chars.now) before

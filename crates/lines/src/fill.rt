@@ -205,8 +205,8 @@ impl Fill {
         })
     }
 
-    /// Writes all lines of the paragraph with this text and base level after `before` bytes, and returns the
-    /// number of bytes written then.
+    /// Writes all lines of the paragraph with this text and base level. `before` is the number of bytes
+    /// already written, and the returned count includes it.
     pub(crate) fn write_after<W: Sink>(
         &self,
         text: &[char],

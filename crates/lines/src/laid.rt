@@ -149,8 +149,8 @@ impl Laid {
         Ok(())
     }
 
-    /// Writes the lines after `before` bytes, and returns the number of bytes written then; a fault counts
-    /// these too.
+    /// Writes the lines. `before` is the number of bytes already written. The returned count, and that in a
+    /// fault, include it.
     pub fn write_after<W: Sink>(
         &self,
         writer: &mut W,

@@ -180,8 +180,8 @@ impl<'a> VisualLine<'a> {
         Ok(())
     }
 
-    /// Writes the line after `before` bytes, and returns the number of bytes written then; a fault counts
-    /// these too.
+    /// Writes the line. `before` is the number of bytes already written. The returned count, and that in a
+    /// fault, include it.
     pub fn write_after<W: Sink>(
         &self,
         writer: &mut W,

@@ -87,7 +87,7 @@ pub(crate) fn write_each<W: Sink>(
     Ok(written)
 }
 
-/// Writes a line after `before` bytes, and returns the number of bytes written then.
+/// Writes a line. `before` is the number of bytes already written, and the returned count includes it.
 pub(crate) fn write_line<W: Sink>(
     writer: &mut W,
     before: u64,

@@ -29,8 +29,8 @@ module _ (levels : List ℕ) where
   abbrev pub lowest_odd : Option ℕ
   lowest_odd = least has_odd 0 (suc highest)
 
-  -- a list with the maximal intervals at each of `count` levels or higher reversed, from the highest of these levels
-  -- down to `low`
+  -- the list after L2 for `count` levels: for each level from `low + count - 1` down to `low`, the maximal intervals at that level or
+  -- higher are reversed
   abbrev pub reversed_from : ℕ → ℕ → List ℕ → List ℕ
   reversed_from low zero items = items
   reversed_from low (suc count) items = reverse_runs (is_at_least low) [] (reversed_from (suc low) count items)

@@ -23,8 +23,8 @@ pub enum RangeFault {
     Write(WriteFault),
 }
 
-// Writes `count` lines of a paragraph, from the line `from` on, after `before` bytes. Returns the number of
-// bytes written then.
+// Writes `count` lines of a paragraph, starting at line `from`. `before` is the number of bytes already
+// written, and the returned count includes it.
 fn write_part<W: Sink>(
     laid: &Laid,
     from: usize,
@@ -56,8 +56,8 @@ fn write_part<W: Sink>(
     Ok(written)
 }
 
-/// Writes `count` lines, from the line `first` on, after `before` bytes. Returns the number of bytes written
-/// then, and writes nothing after a failed write. Only the first line is searched for.
+/// Writes `count` lines, starting at line `first`. `before` is the number of bytes already written, and the
+/// returned count includes it. Writes nothing after a failed write. Only the first line is searched for.
 pub fn write_lines<S: ParagraphStore<Kept>, W: Sink>(
     store: &S,
     first: usize,

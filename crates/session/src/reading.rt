@@ -69,8 +69,8 @@ pub fn utf8_len<S: ParagraphStore<Kept>>(store: &S, pos: usize, count: usize) ->
     Some(bytes)
 }
 
-/// Writes `count` characters from `pos` on as UTF-8, after `before` bytes. Returns the number of bytes
-/// written then, and writes nothing after a failed write.
+/// Writes `count` characters from `pos` on as UTF-8. `before` is the number of bytes already written, and the
+/// returned count includes it. Writes nothing after a failed write.
 pub fn write_text<S: ParagraphStore<Kept>, W: Sink>(
     store: &S,
     pos: usize,

@@ -274,8 +274,8 @@ impl<S: ParagraphStore<Kept>> Session<S> {
         Ok(())
     }
 
-    /// Writes `count` characters from `pos` on as UTF-8 after `before` bytes, and returns the number of bytes
-    /// written then; a fault counts these too.
+    /// Writes `count` characters from `pos` on as UTF-8. `before` is the number of bytes already written. The
+    /// returned count, and that in a fault, include it.
     pub fn write_text_after<W: Sink>(
         &self,
         writer: &mut W,
@@ -424,8 +424,8 @@ impl<S: ParagraphStore<Kept>> Session<S> {
         }
     }
 
-    /// Writes all lines after `before` bytes, and returns the number of bytes written then; a fault counts
-    /// these too.
+    /// Writes all lines. `before` is the number of bytes already written. The returned count, and that in a
+    /// fault, include it.
     pub fn print_after<W: Sink>(
         &self,
         writer: &mut W,
@@ -468,8 +468,8 @@ impl<S: ParagraphStore<Kept>> Session<S> {
         Ok(())
     }
 
-    /// Writes `count` lines, from the line `first` on, after `before` bytes, and returns the number of bytes
-    /// written then; a fault counts these too.
+    /// Writes `count` lines, starting at line `first`. `before` is the number of bytes already written. The
+    /// returned count, and that in a fault, include it.
     pub fn print_lines_after<W: Sink>(
         &self,
         writer: &mut W,

@@ -711,7 +711,8 @@ fn width_of_zero_is_out_of_range(rt: HostRuntime) {
     assert!(rt; holds(rt.alloc(), Call::WidthOutOfRange));
 }
 
-// Returns why no session is opened on this number of letters, or `None` after an allocation failure.
+// Returns the error from opening a session on `count` letters, or `None` if it opens or the text cannot be
+// allocated.
 fn fault_of_letters(alloc: Global, count: usize) -> Option<session::EditFault> {
     let Ok(letters) = vec![in alloc; b'a'; count] else {
         return None;

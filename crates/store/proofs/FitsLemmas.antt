@@ -13,7 +13,7 @@ module _ {P : Type 0} (chars lines : P → ℕ) where
     lines_fit = omega (arith, f.lines_fit);
   }
 
-  -- the front of a list that fits, fits, and so does its back
+  -- if a list fits, so do its prefixes and suffixes
   pub fits_front : (xs ys : List P) → Fits chars lines (xs ++ ys) → Fits chars lines xs
   fits_front xs ys f =
       fits_less (xs ++ ys) xs (omega (arith, length-append xs ys)) (omega (arith, sum_by-append chars xs ys)) (omega (arith, sum_by-append lines xs ys)) f
@@ -30,7 +30,7 @@ module _ {P : Type 0} (chars lines : P → ℕ) where
       (omega (arith, sum_by-append lines xs (x ∷ ys), sum_by-cons lines x ys))
       f
 
-  -- a list that fits, fits without some of its first items
+  -- if a list fits, so does the list without some of its first items
   pub fits_after : (xs ys : List P) (n : ℕ) → Fits chars lines (xs ++ ys) → Fits chars lines (drop n xs ++ ys)
   fits_after xs ys n f =
       fits_less (xs ++ ys) (drop n xs ++ ys)

@@ -42,12 +42,12 @@ pub trait ParagraphStore<P: Measured> {
         ensures ok { IfOk result (λ list. map (λ item. item.now) list.items ≡ items self.now) }
         ensures memory { OnErr result (0 < length (items self.now)) };
 
-    /// Finds the item that has a character, which is counted through all items from 0.
+    /// Finds the item that contains character `pos`. Characters are numbered from 0 across all items.
     fn find_char(&self, pos: usize) -> Found
         requires { pos < sum_by P.chars (items self.now) }
         ensures { Finds P.chars P.chars P.lines (items self.now) pos result };
 
-    /// Finds the item that has a line, which is counted through all items from 0.
+    /// Finds the item that contains line `n`. Lines are numbered from 0 across all items.
     fn find_line(&self, n: usize) -> Found
         requires { n < sum_by P.lines (items self.now) }
         ensures { Finds P.lines P.chars P.lines (items self.now) n result };

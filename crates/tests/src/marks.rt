@@ -300,7 +300,7 @@ static LETTERS: [char; 12] = [
     'a', '\u{5D0}', '\u{627}', '1', '\u{660}', '+', ',', '$', '\u{300}', '(', ')', ' ',
 ];
 
-// Whether the marks agree for the list of `length` of these characters with this number.
+// Whether the marks agree for list number `number` among the lists of `length` characters from `letters`.
 fn agrees_on(
     tables: &Tables,
     letters: &[char],

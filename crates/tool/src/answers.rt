@@ -108,7 +108,7 @@ fn push(answer: &mut Answer, bytes: &[u8])
     }
 }
 
-// Returns the reply to a refused edit. A failed allocation does not refuse an edit, and has no text.
+// Returns the reply to a refused edit. `NoMemory` is not a refusal, so its text is empty.
 fn reason_text(reason: EditFault) -> &'static str
     ensures value { result.now ≡ refusal_text reason }
     ensures short { length result.now ≤ 65 }

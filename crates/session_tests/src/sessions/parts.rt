@@ -34,7 +34,8 @@ pub(super) static LINES: [Lines<'_>; 8] = [
     (5, 0, None),
 ];
 
-// Returns what is printed of some lines, if they exist and the buffer is large enough.
+// Prints `count` lines from `first` on into `room`. Returns the bytes, `None` if the range is past the end,
+// or `fault` if a write fails.
 fn print_lines<'a, S: ParagraphStore<Kept>>(
     session: &Session<S>,
     room: &'a mut [u8],

@@ -98,7 +98,7 @@ length-closed_by : (found : Option ℕ) (openers : List Opener) (closers : List 
 length-closed_by (Some m) openers closers k = length-set closers (place_of openers m) k
 length-closed_by None openers closers k = refl
 
--- the bracket type `Other` is not a bracket
+-- a bracket type that is not a bracket is `Other`
 no_bracket : (bracket : BracketType) → is_bracket bracket ≡ false → bracket ≡ Other
 no_bracket Other e = refl
 no_bracket (Opening n) e = absurd (cc)
