@@ -6,9 +6,10 @@ ghost use Rattle.bidi.specs.Plain.{has_bracket_in};
 
 use ucd::{Properties, Tables};
 
-/// A character as a bracket. A closing bracket makes a pair with an opening one of the same number. In bracket
-/// types made from tables, the number is the code point of the closing bracket of the pair. U+2329 counts as
-/// U+3008, and U+232A as U+3009. Other callers may use any numbers, the same for both brackets of a pair.
+/// A character as a bracket. A closing bracket makes a pair with an opening one of the same number. In
+/// bracket types made from tables, the number is the code point of the closing bracket of the pair. U+2329
+/// counts as U+3008, and U+232A as U+3009. Other callers may use any numbers, the same for both brackets of a
+/// pair.
 #[derive(Clone, Copy, Debug, PartialEq, Eq)]
 pub enum BracketType {
     /// No bracket.

@@ -176,8 +176,8 @@ fn find_pairs(
     Ok(())
 }
 
-// The least index from `from` on, and before a limit, of a strong type in direction L if `left`, else in direction R.
-// Otherwise the limit, or `from` if that is greater.
+// The least index from `from` on, and before a limit, of a strong type in direction L if `left`, else in
+// direction R. Without one, the limit, or `from` if that is greater.
 fn next_toward(types: &[BidiClass], left: bool, from: usize, limit: usize) -> usize
     requires from { from ≤ length types.now }
     requires limit { limit ≤ length types.now }
