@@ -85,7 +85,8 @@ run-%:
 ucd:
 	@tools/collect_ucd '$(UNICODE)'
 
-# Runs the command in a new folder with copies of these files, once for each text of examples/texts, with the arguments in its .args.
+# Runs the command in a new folder with copies of the table files. With --cases FOLDER, it is run once for each text there, with the
+# arguments in the .args file of the text.
 try = cd crates/fribidi && rt try $(foreach table,$(TABLES),--data ucd/$(table).txt=$(CURDIR)/ucd/$(table).txt)
 
 quick: ucd

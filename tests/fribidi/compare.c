@@ -117,7 +117,7 @@ static void draw(input *one) {
     prepare(one);
 }
 
-/* ---- Shortening an input that differs ---- */
+/* ---- Shrinking an input on which the results differ ---- */
 
 static void drop(input *one, int at) {
     memmove(one->types + at, one->types + at + 1, sizeof *one->types * (size_t)(one->length - at - 1));

@@ -4,7 +4,7 @@
  *   except across runs that are adjacent. A mark at the start of a later isolate is ON, so what follows does not take the type that ended
  *   the isolate before. After an EN that W2 changes, the mark is AN. If an override changes the initiator, the mark stays NSM and counts as L.
  * - LATER: an FSI whose isolate has no strong type takes its direction from a later isolate of its depth.
- * - DEEP: an isolate that overflows counts as a depth of its own, and an overflow before it does not prevent an isolate.
+ * - DEEP: an overflow isolate increases the isolate depth. An isolate whose level is at most 125 is valid even after an overflow.
  * - CONTEXT: the strong type before a pair of brackets is sought beyond the level run too.
  * - MERGED: a neutral directly after a neutral's marks is merged with that neutral. It does not count as a bracket, and takes the
  *   direction of a bracket before it.
@@ -94,7 +94,7 @@ static void find_explicit(const input *one, int base, int ways, plain *p) {
 
 typedef struct sequence {
     int count, at[MOST], level;
-    FriBidiCharType sos, eos, before; /* `before`: the last strong type for brackets in the runs before, or 0 */
+    FriBidiCharType sos, eos, before; /* `before`: the last strong type in the earlier runs, or 0 (N0) */
     FriBidiCharType was[MOST], marked[MOST], type[MOST]; /* before W1, after it, and now */
     FriBidiCharType opener[MOST]; /* the type of the initiator right before it, or 0 */
 } sequence;

@@ -64,8 +64,8 @@ override_of RLO = Some R
 override_of LRO = Some L
 override_of opener = None
 
--- The state inside a chain of openers: the level and override of the innermost one that is not void. An opener is void
--- if its level would be above 125, or if it is inside a void one.
+-- The state inside a chain of openers: the level and override of the innermost one that does not overflow. An opener overflows (`is_void`)
+-- if its level would be above 125, or if it is inside one that overflows.
 pub record Inside : Type 0 where
   pub level : ℕ
   pub override : Option BidiClass

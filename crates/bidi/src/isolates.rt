@@ -137,8 +137,8 @@ fn acting_class(classes: &[BidiClass], matches: &[usize], at: usize) -> BidiClas
     }
 }
 
-// The level of the first strong character between an initiator and its match. Skips an isolate inside in one
-// step.
+// The level of the first strong character between an initiator and its match. Skips each nested isolate in
+// one step.
 fn first_strong_level(classes: &[BidiClass], matches: &[usize], initiator: usize) -> Option<u8>
     requires within { initiator < length classes.now }
     requires opens { is_initiator (class_at classes.now initiator) ≡ true }

@@ -169,7 +169,8 @@ fn are_still_found(is_found: bool, stayed: &[BidiClass], acting: &[BidiClass]) -
     is_found && stayed.len() == acting.len()
 }
 
-/// Finds the levels of a paragraph by all rules, from its classes without FSI. Their matches may be known.
+/// Finds the levels of a paragraph (X1 to I2) from its classes, in which each FSI is already replaced by LRI
+/// or RLI. The matches of its isolates may be known.
 pub(crate) fn resolve_acting(
     paragraph: &Classified<'_>,
     is_found: bool,

@@ -1,4 +1,5 @@
-//! The symbol that the rules read of a character (UAX #14, LB1, and LB30 for parentheses).
+//! The symbol of a character: all that the break rules need to know about it (UAX #14: its class after LB1,
+//! and for LB30 whether a parenthesis is wide).
 ghost use Rattle.std.specs.Prelude.{◌≡◌, ◌<◌, slice_index};
 ghost use Rattle.ucd.specs.declared.properties.TheConstants.{LINE_INDEX_COUNT};
 ghost use Rattle.breaks.specs.Symbols.{character_by, shown, told};

@@ -64,9 +64,9 @@ pub enum State {
     RI,
     /// EX, IN, NS or an even number of RI.
     Other,
-    /// IS after a number, as `NU (NU | SY | IS)*`, that may go on after it.
+    /// IS after a number, as `NU (NU | SY | IS)*`, which may continue after the IS.
     NumberIS,
-    /// SY after a number that may go on after it.
+    /// SY after a number, which may continue after the SY.
     NumberSY,
     /// CL, or wide CP, after a number.
     NumberCL,

@@ -1,6 +1,6 @@
 //! What `--version` prints: the product's version and two of Unicode's. The first is that of the rules and
 //! table files (`ucd`), the second that of the kit's tables, for columns and grapheme clusters.
-//! `tools/sync_versions` writes this file from the file `VERSION`, and CI compares it.
+//! `tools/sync_versions` generates this file from `VERSION`, `ucd` and the kit's tables. CI checks it.
 
 /// The versions.
 pub const VERSION: &str = "0.5.0

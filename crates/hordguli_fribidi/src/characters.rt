@@ -1,5 +1,5 @@
-//! Lookups in the tables of single characters, which C passes: page numbers, pages of entries, and the values
-//! of the entries. Each table is as large as the numbers that index it allow, or larger, so few checks
+//! Lookups of single characters, in tables that the C code passes: page numbers, pages of entries, and the
+//! values of the entries. Each table is as large as the numbers that index it allow, or larger, so few checks
 //! remain.
 ghost use Rattle.std.specs.Prelude.{◌≡◌, ◌<◌, ◌==◌, ◌+◌, ◌*◌, ◌%◌, if◌then◌else◌};
 ghost use Rattle.std.specs.Prelude.{length, map, slice_index_or};
@@ -92,7 +92,7 @@ fn put_each_type(index: &[u8; 4352], pages: &[u32; 65_536], characters: &[u32], 
     }
 }
 
-/// Returns the mirror or bracket of a code point; 0 for most.
+/// Returns the mirror or bracket of a code point, or 0 if it has none.
 #[unsafe(no_mangle)]
 pub extern "C" fn hordguli_fribidi_core_number(
     c: u32,

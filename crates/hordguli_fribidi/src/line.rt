@@ -29,8 +29,8 @@ fn arrange_if(types: &[u32], off: usize, levels: &[u8], marks: bool, array: &mut
     }
 }
 
-/// Reorders a line in place: its levels after L1, and the items of a string and of a map at its positions,
-/// each of which may be missing. The arrays are those of the paragraph up to the line's end. Returns the
+/// Reorders a line in place: its levels after L1, and its part of the string and of the map. Either array may
+/// be missing. The arrays are those of the paragraph up to the line's end. Returns the
 /// line's greatest level plus one.
 ///
 /// Returns 0, and changes nothing, exactly if `levels` and `types` differ in length, or `off` is past their

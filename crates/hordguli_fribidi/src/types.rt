@@ -57,7 +57,7 @@ impl Classes for TypeClasses<'_> {
     }
 }
 
-/// Returns the index of a number among those that have names, or 26.
+/// Returns the index of a FriBidi type among those that have names, or 26 if it has none.
 #[unsafe(no_mangle)]
 #[tactic(auto, unfolding(crate::specs::Types::name_index))]
 pub extern "C" fn hordguli_fribidi_core_name(number: u32) -> u32

@@ -8,7 +8,7 @@ use Rattle.breaks.specs.Bases.{base_class, character}
 use Rattle.breaks.specs.Classes.{is_one_of}
 use Rattle.lines.specs.CharInfos.{is_trailing_in}
 
--- whether a line must end after a character of a class, after LB1, except between CR and LF
+-- whether a line must end after a character of this class, as resolved by LB1; the exception for CR LF is not covered
 abbrev pub ends_line : LineClass → Bool
 ends_line class = is_one_of (BK ∷ []) (base_class class) || is_one_of (CR ∷ LF ∷ NL ∷ []) (base_class class)
 

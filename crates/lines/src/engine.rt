@@ -238,8 +238,8 @@ impl Engine {
         ensures unwritten { IsErrOf result PrintFault.Memory → written_of self.new ≡ written_of self.old }
         ensures at_most { LaysOutAtMost (length text.now) self.old self.new }
 
-        // After each fault too, the characters count as analysed. They also count as filled if lines are
-        // printed, and else as neither filled nor written.
+        // After each fault too, the characters count as analysed. If lines are printed, they also count as
+        // filled. Otherwise they count as neither filled nor written.
         ensures analysed { analysed_of self.new ≡ counted (analysed_of self.old) (length text.now) }
         ensures filled { skips_lines print.now ≡ false
             → filled_of self.new ≡ counted (filled_of self.old) (length text.now) }

@@ -183,7 +183,7 @@ module _ (law : ParagraphsArePieces) (few : LinesAreFew) (engine : Engine) (widt
       ∙ ap (λ t. map one (take front.index pars ++ (paragraphs (cut_by rules) t ++ drop back.index pars))) (sym region_is)
       ∙ ap (map one) (sym spliced.pieces)
 
-  -- if the new text is not too long, an edit is refused only for a too long paragraph of the edited region
+  -- if the new text is not too long, an edit is refused only if a paragraph of the edited region is too long
   pub refusal-by_region : length (text_of kept) - count + length piece ≤ TEXT_LIMIT → refusal (cut_by rules) (text_of kept) edit ≡ paragraphs_refusal (cut_by rules) region
   refusal-by_region short =
       let text = replaced (text_of kept) edit in

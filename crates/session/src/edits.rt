@@ -15,8 +15,8 @@ pub enum Edit<'a> {
     SetWidth(u16),
 }
 
-/// What an edit replaced: `old_lines` lines from `first_line` on by `new_lines` lines, and likewise for
-/// paragraphs. Lines and paragraphs are numbered from 0.
+/// What an edit replaced: starting at line `first_line`, `new_lines` lines replace `old_lines` lines.
+/// Likewise for paragraphs. Lines and paragraphs are numbered from 0.
 #[derive(Clone, Copy, Debug, PartialEq, Eq)]
 pub struct Damage {
     pub first_line: usize,

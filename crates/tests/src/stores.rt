@@ -539,7 +539,7 @@ fn check_million<S: ParagraphStore<Item>>(
     Ok(())
 }
 
-// Dropping a tree recurses no deeper than its height.
+// Also drops a tree of a million items, which recurses no deeper than the height of the tree.
 #[test]
 fn tree_visits_at_most_39_of_a_million_items(rt: HostRuntime) -> Result<(), Fail> {
     Ok(check_stores(&rt, rt.alloc(), Check::Million)?)

@@ -1,4 +1,4 @@
--- The first paragraph of a text is one paragraph, and so is a text without a paragraph boundary.
+-- The first paragraph of a text has no boundary inside it. A text without a paragraph boundary is one paragraph.
 use Rattle.std.proofs.Common.{◌≡◌, ◌∙◌, ℕ, ◌<◌, ◌≤◌, Bool, List, [], ◌∷◌, length, take, Some, None, sym, subst, ap, arith}
 use Rattle.std.proofs.lemmas.List.{append-nil, length-take-le}
 use Rattle.bidi.specs.Cuts.{SplitsAt, paragraphs}

@@ -569,7 +569,7 @@ module _ (rules : Rules) (width : ℕ) (print : Print) (reader_old writer_old : 
       page_is : held_new.page.bytes.items ≡ []
       page_is = ap (λ (h : Held). h.page.bytes.items) l.same ∙ no_lines
 
-      -- the page is empty, so that the sink cannot fail in it
+      -- the page is empty, so writing it cannot fail
       found_none : (writer_new : Device) (wrong : RunFault) → StopsWriting held_new wrong writer writer_new → ⊥
       found_none writer_new wrong stops = omega (arith, stops.2.0, ap length page_is)
 

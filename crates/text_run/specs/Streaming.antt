@@ -1,4 +1,4 @@
--- The state of a text's run between two reads. No contract of an exported function uses these definitions.
+-- The state of `run_text` between two reads. No contract of an exported function uses these definitions.
 use Rattle.std.specs.Prelude.{◌≡◌, ℕ, ◌+◌, ◌<◌, ◌≤◌, ◌==◌, Bool, true, false, List, [], ◌∷◌, ◌++◌, length, take, drop, vec_len, Option, None, Some, Result, Ok, Err, OnErr, IsErrOf, encode_utf8_all, IsUtf8, if◌then◌else◌}
 use Rattle.std.specs.List.{concat}
 use Rattle.std.specs.Str.{chars}

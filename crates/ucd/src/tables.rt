@@ -73,8 +73,8 @@ impl Tables {
         Ok(Tables { shared })
     }
 
-    /// Returns the same tables for another owner. Nothing is copied: both share one block of memory, whose
-    /// count of owners is atomic. `alloc` is not used. Fails only if there are already 2^63 owners.
+    /// Returns the same tables for another owner. Nothing is copied: both share one block of memory with
+    /// an atomic reference count. `alloc` is not used. Fails only if there are already 2^63 owners.
     pub fn copy(&self, _alloc: Global) -> Result<Tables, AllocError>
         ensures { IfOk result (λ tables. tables ≡ self.now) }
     {

@@ -84,7 +84,8 @@ fn first_mark(rules: &[Rule], before: &Before, after: &Character) -> Option<Mark
     None
 }
 
-/// The form of LB25: a rule on two bases, or a rule on whole numbers with whether the position is inside one.
+/// The form of LB25: the rule for pairs of bases, or the rule for whole numbers, with the position inside or
+/// outside a number.
 #[derive(Clone, Copy)]
 pub enum Numbers {
     Pairs,

@@ -6,7 +6,7 @@ use lines::{Engine, Laid, Print, VisualLine, WriteFault};
 use std::alloc::Global;
 use std::test::Fail;
 
-// Whether these bytes are written, and a writer that takes fewer fails after exactly as many as it takes.
+// Whether exactly these bytes are written, and writing to a smaller buffer fails once the buffer is full.
 fn writes(line: &VisualLine<'_>, width: u16, print: &Print, bytes: &[u8]) -> bool {
     let mut all_right = bytes.len() <= 64;
     for room in 0..65usize {

@@ -8,7 +8,7 @@ use Rattle.bidi.proofs.OpenersLemmas.{counts-le, is_void, Holds-entered, Holds-v
 use Rattle.bidi.proofs.explicit.Openers.open.Goals as goal
 use Rattle.bidi.proofs.explicit.Openers.open.Goals.{else-level-le-MAX_DEPTH-via-then-level-le-MAX_DEPTH+then-self-eq0+else-self-eq0-2 as void_embedding, else-level-le-MAX_DEPTH-via-then-level-le-MAX_DEPTH+else-self-eq0 as void_isolate, else-level-le-MAX_DEPTH-via-else-level-le-MAX_DEPTH as above}
 
--- the opener is void because it is inside a void one, or because its level is above 125
+-- the opener overflows because it is inside one that overflows, or because its level would be above 125
 cause : (base : ℕ) (openers : Openers) (chain : List BidiClass) → Holds base openers chain → (opener : BidiClass) (status : Status) (level : ℕ) → status ≡ innermost base chain
     → level ≡ level_above opener status.level → (0 < openers.overflowed_isolates + openers.overflowed_embeddings) ⊎ (125 < level)
     → ((inside base chain).is_void ≡ true) ⊎ (125 < level_above opener (inside base chain).level)
