@@ -15,7 +15,7 @@ fn look_up(rt: &impl Abort, alloc: Global, files: &UcdFiles<'_>) -> Result<(), T
     let tables = Tables::read(alloc, files)?;
     assert!(rt; tables.bidi_class('א') == BidiClass::R);
     assert!(rt; tables.mirror('(') == Some(')'));
-    let space = tables.properties(' '); // all of a character by one look
+    let space = tables.properties(' '); // all properties, by one lookup
     assert!(rt; space.line_class() == LineClass::SP && !space.is_wide());
     Ok(())
 }
