@@ -1,4 +1,4 @@
--- A paragraph at level 0 in which no character raises a level has level 0 throughout.
+-- If the paragraph level is 0 and no character raises a level, all levels are 0.
 use Rattle.std.proofs.Common.{◌≡◌, ℕ, zero, suc, ◌+◌, ◌-◌, ◌<◌, Bool, true, false, ◌&&◌, ◌||◌, not, if◌then◌else◌, List, [], ◌∷◌, ◌++◌, length, get_or, drop, map, fold, replicate, slice_index, slice_range, Option, Some, None, refl, sym, ap, subst, ◌∙◌, inl, inr, arith, add-zero, zero-add}
 use Rattle.std.specs.List.{range_with_len, All}
 use Rattle.std.proofs.lemmas.Bool.{cond-true, cond-false, cases_Bool, cases_lt}
@@ -26,7 +26,7 @@ use Rattle.bidi.proofs.NeutralLemmas.{levels_after-is}
 use Rattle.bidi.proofs.PlainLemmas.{directed-none, level_at-base, map-agree, map-same, resolved-one, type_at-class}
 use Rattle.bidi.proofs.WeakLemmas.{any, ends_row, left_type, separator_type, terminator_type, weak-later}
 
--- all types of a list pass a test
+-- whether all types of a list pass a test
 abbrev Passes : (BidiClass → Bool) → List BidiClass → Type 0
 Passes test types = All (λ type. test type ≡ true) types
 
@@ -63,7 +63,8 @@ is_calm WS = true
 is_calm ON = true
 is_calm type = false
 
--- if a rule maps each type that passes one test to a type that passes another, so it does for a list
+-- if a rule maps every type that passes one test to a type that passes another, it also does so for each type
+-- of a list
 carry-passes : (rule : BidiClass → BidiClass → List BidiClass → BidiClass) (test kept passes makes : BidiClass → Bool)
     → ((before type : BidiClass) (after : List BidiClass) → kept before ≡ true → passes type ≡ true → makes (rule before type after) ≡ true)
     → ((before type : BidiClass) → kept before ≡ true → passes type ≡ true → kept (if test type then type else before) ≡ true)

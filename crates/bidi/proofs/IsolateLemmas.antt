@@ -12,8 +12,8 @@ use Rattle.ucd.specs.Classes.{class_at, is_initiator, is_pdi, is_strong}
 use Rattle.bidi.specs.Base.{is_balanced, match_of, is_before, is_in_span, is_outside, strong_level, first_strong_level}
 use Rattle.bidi.proofs.LeastLemmas.{least_found, least_none, least_reaches, least_misses}
 
--- The height of an index is `o` minus `s`, and may be negative. The last index up to k with the least height is d
--- below k.
+-- The height of an index is its value of `o` minus its value of `s`, and may be negative. The height of the
+-- last lowest index up to k is d less than that of k.
 pub record Lowest (o s : ℕ → ℕ) (k d : ℕ) : Type 0 where
   pub place : ℕ
   pub reached : place ≤ k
@@ -21,7 +21,7 @@ pub record Lowest (o s : ℕ → ℕ) (k d : ℕ) : Type 0 where
   pub lowest : (m : ℕ) → m ≤ place → o place + s m ≤ o m + s place
   pub above : (m : ℕ) → place < m → m ≤ k → o place + s m < o m + s place
 
--- no index up to k has less height than the last lowest one
+-- no index up to k is lower than the last lowest index
 pub Lowest-all : (o s : ℕ → ℕ) (k d : ℕ) (low : Lowest o s k d) (m : ℕ) → m ≤ k → o low.place + s m ≤ o m + s low.place
 Lowest-all o s k d low m h =
     elim (cases_lt low.place m) [ inl up ↦ omega (arith, low.above m up h) | inr down ↦ low.lowest m down ]
@@ -69,7 +69,8 @@ pub Lowest-below : (o s : ℕ → ℕ) (k d : ℕ) (low : Lowest o s k d) → 0 
 Lowest-below o s k d low deep =
     elim (cases_eq low.place k) [ inl e ↦ absurd (omega (arith, rw e at low.depth)) | inr ne ↦ omega (arith, low.reached) ]
 
--- the depth after an initiator, a PDI or another class
+-- an initiator raises the depth by 1, a PDI lowers it by 1 unless it is 0, and other classes leave it
+-- unchanged
 Lowest-next : (o s : ℕ → ℕ) (k d : ℕ) (opens shuts : Bool) → (opens && shuts) ≡ false
     → o (k + 1) ≡ o k + cond opens 1 0 → s (k + 1) ≡ s k + cond shuts 1 0 → Lowest o s k d
     → Lowest o s (k + 1) (cond opens (d + 1) (cond shuts (d - 1) d))
@@ -101,7 +102,7 @@ pub closed-next : (classes : List BidiClass) (k : ℕ) → k < length classes �
 unfolding closed
 closed-next classes k h = sum_by_more (λ x. cond (is_pdi x) 1 0) classes k ON h
 
--- an initiator is not a PDI, and neither is strong
+-- an initiator is not a PDI, and neither of them is strong
 pub opens_or_shuts : (class : BidiClass) → (is_initiator class && is_pdi class) ≡ false
 opens_or_shuts PDI = refl
 opens_or_shuts LRI = refl
@@ -144,21 +145,22 @@ unfolding opened closed
 unbalanced classes i j h l =
     ne_eqb _ _ (λ e. omega (arith, e, l, count-slice_range is_initiator classes i (j + 1) h, count-slice_range is_pdi classes i (j + 1) h))
 
--- a balanced range ends at the height at which it begins
+-- a balanced range begins and ends at the same height
 pub level_at_match : (s : List BidiClass) (j k : ℕ) → j ≤ k + 1 → is_balanced s j k ≡ true → opened s (k + 1) + closed s j ≡ opened s j + closed s (k + 1)
 unfolding opened closed
 level_at_match s j k order here =
     let e : count_by is_initiator (slice_range s j (k + 1)) ≡ count_by is_pdi (slice_range s j (k + 1)) = eqb-true _ _ here in
     omega (arith, e, count-slice_range is_initiator s j (k + 1) order, count-slice_range is_pdi s j (k + 1) order)
 
--- a test that each number of a range passes holds for the whole range
+-- if each number of a range passes a test, `list_all` is true for the range
 list_all-range : (p : ℕ → Bool) (low count : ℕ) → ((i : ℕ) → low ≤ i → i < low + count → p i ≡ true) → list_all p (range_with_len low count) ≡ true
 list_all-range p low zero each = refl
 list_all-range p low (suc count) each =
     and_from (p low) (list_all p (range_with_len (low + 1) count)) (each low (omega arith) (omega arith))
     (list_all-range p (low + 1) count (λ i above below. each i (omega arith) (omega arith)))
 
--- the count of initiators does not fall, and that of PDIs rises by at most one
+-- from one index to the next, the count of initiators does not fall, and the count of PDIs rises by at most
+-- one
 pub steps : (classes : List BidiClass) (k : ℕ) → k < length classes → (opened classes k ≤ opened classes (k + 1)) × (closed classes (k + 1) ≤ closed classes k + 1)
 steps classes k h = (
   omega (arith, opened-next classes k h),
@@ -234,7 +236,7 @@ Reached-start classes = record {
   none = λ m h. absurd (omega arith);
 }
 
--- the step for a character that is not strong, or that is inside an isolate
+-- the search moves on to k + 1 if the character at k is not strong or is inside an isolate
 pub Reached-next : (classes : List BidiClass) (k d : ℕ) → k < length classes → Reached classes k d → (is_strong (class_at classes k) ≡ true → 0 < d)
     → Reached classes (k + 1) (cond (is_initiator (class_at classes k)) (d + 1) (cond (is_pdi (class_at classes k)) (d - 1) d))
 Reached-next classes k d within reached deep = record {
