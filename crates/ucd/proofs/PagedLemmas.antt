@@ -20,7 +20,8 @@ use Rattle.ucd.specs.declared.grammar.Entry.{Entry}
 use Rattle.ucd.specs.declared.tables.Tables.{Tables}
 
 module _ {V : Type 0} where
-  -- in a concatenation, the first list that has a value for a code point gives it; only `c` has a value in `single c`
+  -- In a concatenation, the value of a code point comes from the first list that has one. In `single c`, only
+  -- `c` can have a value.
   value_append_some : (xs ys : List (Entry V)) (c : ℕ) (v : V) → value_at xs c ≡ Some v → value_at (xs ++ ys) c ≡ Some v
   value_append_some [] ys c v is = cc
   value_append_some (x ∷ xs) ys c v is = grind (arith, nat_tests, value_append_some xs ys c v)
@@ -64,7 +65,7 @@ module _ {V : Type 0} where
 pub below_limit : (c : ℕ) → IsScalar c → c < 1114112
 below_limit c is = grind (arith, nat_tests, is)
 
--- the general category made from the flags is a mark if and only if the mark flag is set
+-- the general category computed from the flags is a mark if and only if the mark flag is set
 mark_by : (mark future : Bool) → (mark && future) ≡ false → is_mark_by (if future then category.Unassigned else (if mark then category.Mark else category.Other)) ≡ mark
 mark_by true true apart = cc
 mark_by true false apart = refl

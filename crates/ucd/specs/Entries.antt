@@ -4,7 +4,7 @@ use Rattle.std.specs.Char.{IsScalar}
 use Rattle.ucd.specs.declared.grammar.Entry.{Entry}
 
 module _ {V : Type 0} where
-  -- whether the entry names the code point
+  -- whether the code point is in the range of the entry
   abbrev pub covers : Entry V → ℕ → Bool
   covers e c = nat_le e.first c && nat_le c e.last
 
@@ -23,7 +23,8 @@ module _ {V : Type 0} where
     pub len : length named ≡ 1114112
     pub each : (c : ℕ) → c < 1114112 → slice_index_or named c false ≡ is_some (value_at es c)
 
-  -- `new` gives the entry's value to the entry's code points, which had none, and to every other the value in `old`
+  -- `new` gives the entry's value to the code points that the entry covers, which have no value in `old`.
+  -- Every other code point has the same value as in `old`.
   pub record AddsEntry (old new : List (Entry V)) (e : Entry V) : Type 0 where
     pub free : (c : ℕ) → IsTrue (covers e c) → value_at old c ≡ None
     pub values : (c : ℕ) → value_at new c ≡ (if covers e c then Some e.value else value_at old c)
@@ -32,7 +33,7 @@ module _ {V : Type 0} where
   abbrev pub AddsBoth : List (Entry V) → List (Entry V) → Entry V → Entry V → Type 0
   AddsBoth old new one other = (mid : List (Entry V)) × AddsEntry old mid one × AddsEntry mid new other
 
-  -- an entry is added as in `AddsEntry`, for scalar values only
+  -- an entry is added as in `AddsEntry`, but only for scalar values
   pub record AddsCharacters (old new : List (Entry V)) (e : Entry V) : Type 0 where
     pub free : (c : ℕ) → IsScalar c → IsTrue (covers e c) → value_at old c ≡ None
     pub values : (c : ℕ) → IsScalar c → value_at new c ≡ (if covers e c then Some e.value else value_at old c)

@@ -10,7 +10,7 @@ use Rattle.ucd.specs.declared.file.FileFault.{FileFault}
 use Rattle.ucd.specs.Entries.{covers, value_at, AddsCharacters, IsTaken, NamesSome}
 
 module _ {V : Type 0} (form : Form V) where
-  -- the value that a line gives to a character that it names; a surrogate is not a character, so it has none
+  -- The value that a line gives to a character. A surrogate is not a character, so no line gives it a value.
   abbrev pub given_by : Result (Option (Entry V)) Cause → ℕ → Option V
   given_by (Ok (Some e)) c = if scalar c && covers e c then Some e.value else None
   given_by (Ok None) c = None
@@ -35,7 +35,7 @@ module _ {V : Type 0} (form : Form V) where
   abbrev pub NamesAgain : List (List ℕ) → ℕ → Type 0
   NamesAgain lines k = (j : ℕ) × (c : ℕ) × (j < k) × IsSome (given (line_at lines j) c) × IsSome (given (line_at lines k) c)
 
-  -- line k is faulty, for this cause
+  -- line k is faulty for the given cause
   abbrev pub HasFault : List (List ℕ) → ℕ → Cause → Type 0
   HasFault lines k why = (reading_of form (line_at lines k) ≡ Err why) ⊎ ((why ≡ cause.NamedBefore) × NamesAgain lines k)
 
@@ -58,7 +58,8 @@ module _ {V : Type 0} (form : Form V) where
   abbrev pub AddsLine : List (Entry V) → List (Entry V) → List ℕ → Type 0
   AddsLine old new line = AddsReading (reading_of form line) old new
 
-  -- The reason why a line cannot be added. `Memory` requires that the line is not faulty and names a character.
+  -- The cause that prevents a line from being added. `Memory` can be the cause only if the line is not faulty
+  -- and names a character.
   abbrev pub IsReadingCause : Result (Option (Entry V)) Cause → List (Entry V) → Cause → Type 0
   IsReadingCause (Ok None) es why = ⊥
   IsReadingCause (Ok (Some e)) es cause.NamedBefore = IsTaken es e
@@ -81,7 +82,8 @@ module _ {V : Type 0} (form : Form V) where
     pub names : NamesSome entry
     pub good : (j : ℕ) (why : Cause) → j ≤ k → ¬ (HasFault lines j why)
 
-  -- a line, numbered from 1, is the first faulty line; or memory ran out at that line
+  -- the line with the given number, which counts from 1, is the first faulty line, or memory ran out at that
+  -- line
   abbrev pub IsFaultFor : List (List ℕ) → ℕ → Cause → Type 0
   IsFaultFor lines line cause.Memory = (0 < line) × WantsMemoryAt lines (line - 1)
   IsFaultFor lines line why = (0 < line) × IsFirstFault lines (line - 1) why
