@@ -229,7 +229,7 @@ pub record Touched (closers : List ℕ) (current : List BidiClass) (k q : ℕ) :
   pub order : place ≤ q
   pub row : (m : ℕ) → place ≤ m → m ≤ q → is_other (class_at current m) ≡ false
 
--- the pairs whose openers are before k have changed only the indices that they set
+-- the pairs whose openers are before k have changed types only at the indices that they set
 pub record Changed (closers : List ℕ) (old current : List BidiClass) (k : ℕ) : Type 0 where
   pub sizes : length current ≡ length old
   pub cases : (q : ℕ) → q < length old → (class_at current q ≡ class_at old q) ⊎ Touched closers current k q

@@ -1,4 +1,5 @@
--- The pass over a paragraph's classes (X1 to X9): its state after k characters, and its step.
+-- The pass over the classes of a paragraph (X1 to X9): its state after k characters, and how each character
+-- changes the state.
 use Rattle.std.proofs.Common.{◌≡◌, ℕ, ◌+◌, ◌^◌, ◌<◌, ◌≤◌, Bool, true, false, cond, not, List, [], ◌∷◌, ◌++◌, length, take, drop, map, filter, fold, unwrap_or, if◌then◌else◌, refl, sym, ap, subst, ◌∙◌, inl, inr, arith, zero-add, length-drop, length-take, Option}
 use Rattle.std.specs.List.{list_any, prefix_len, range_with_len}
 use Rattle.std.proofs.lemmas.Bool.{cond-true, cond-false, cases_Bool}

@@ -30,7 +30,7 @@ use Rattle.bidi.proofs.WeakLemmas.{any, ends_row, left_type, separator_type, ter
 abbrev Passes : (BidiClass → Bool) → List BidiClass → Type 0
 Passes test types = All (λ type. test type ≡ true) types
 
--- the types that can occur in such a paragraph before W1, after W1, after W6, and after W7
+-- the types that can occur in a paragraph of flat characters before W1, after W1, after W6, and after W7
 abbrev is_first : BidiClass → Bool
 is_first type = is_flat type && not (is_removed type)
 
@@ -152,7 +152,7 @@ left-next strong R k p = absurd (cc)
 left-next strong AL k p = absurd (cc)
 left-next strong _ k p = k
 
--- after W1 to W7 all types are L or neutral
+-- in a paragraph of flat characters, all types after W1 to W7 are L or neutral
 weak-calm : (types : List BidiClass) → Passes is_first types → Passes is_calm (weak L types)
 weak-calm types first =
     let mark = λ (b type : BidiClass) (after : List BidiClass). mark_type b type in
@@ -188,7 +188,7 @@ length-weak types =
     ∙ length-carry terminator_type ends_row ON separated ∙ length-carry separator_type any ON read ∙ length-map digits w3_type
     ∙ length-carry digit is_strong L unmarked ∙ length-carry mark (λ type. not (is_mark type)) L types
 
--- N0 keeps the property that all types are L or neutral
+-- if all types are L or neutral, they still are after N0
 calm_at : (types : List BidiClass) → Passes is_calm types → (k : ℕ) → is_calm (class_at types k) ≡ true
 calm_at types calm k =
     elim (cases_lt k (length types)) [
@@ -285,7 +285,7 @@ put_back-zero (class ∷ classes) (suc m) =
           ∙ ap (λ xs. 0 ∷ xs) (put_back-zero classes m)
     ]
 
--- a class that raises no level opens nothing, and it is not FSI
+-- a flat class opens nothing and is not FSI
 flat-closed : (class : BidiClass) → is_flat class ≡ true → open_after [] class ≡ []
 flat-closed LRE e = absurd (cc)
 flat-closed LRO e = absurd (cc)

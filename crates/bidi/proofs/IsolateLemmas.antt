@@ -46,7 +46,7 @@ Lowest-kept o s k d e low next some = record {
   above = λ m h l. elim (cases_eq m (k + 1)) [ inl last ↦ rw last (omega arith) | inr ne ↦ low.above m h (omega arith) ];
 }
 
--- at depth 0, no index up to k is lower than k
+-- if the depth at k is 0, no index up to k is lower than k
 pub Lowest-here : (o s : ℕ → ℕ) (k : ℕ) (low : Lowest o s k 0) (m : ℕ) → m ≤ k → o k + s m ≤ o m + s k
 Lowest-here o s k low m h = omega (arith, Lowest-all o s k 0 low m h, low.depth)
 
@@ -64,7 +64,7 @@ returns_to o s i (suc k) steps before up down =
       ]
     ]
 
--- at a depth above 0, the last lowest index is before k
+-- if the depth at k is above 0, the last lowest index is before k
 pub Lowest-below : (o s : ℕ → ℕ) (k d : ℕ) (low : Lowest o s k d) → 0 < d → low.place < k
 Lowest-below o s k d low deep =
     elim (cases_eq low.place k) [ inl e ↦ absurd (omega (arith, rw e at low.depth)) | inr ne ↦ omega (arith, low.reached) ]
@@ -87,7 +87,7 @@ Lowest-next o s k d false false one up down low =
       | inr flat ↦ let e : d ≡ 0 = omega arith in rw e (Lowest-fresh o s k (λ m h. omega (arith, Lowest-all o s k d low m h, low.depth)))
     ]
 
--- the number of initiators before an index, and the number of PDIs
+-- the number of initiators before an index, and the number of PDIs before it
 pub opened : List BidiClass → ℕ → ℕ
 opened classes k = count_by is_initiator (take k classes)
 
@@ -124,7 +124,7 @@ pub strong_shuts_none : (class : BidiClass) → is_strong class ≡ true → is_
 strong_shuts_none PDI h = sym h
 strong_shuts_none _ h = refl
 
--- the count in a range is the difference of the counts before its ends
+-- the count in a range is the difference between the counts before its end and before its start
 pub count-slice_range : (p : BidiClass → Bool) (xs : List BidiClass) (i j : ℕ) → i ≤ j
     → count_by p (take j xs) ≡ count_by p (take i xs) + count_by p (slice_range xs i j)
 count-slice_range p xs i j h =
@@ -167,7 +167,7 @@ steps classes k h = (
   omega (arith, closed-next classes k h, cond_both (is_pdi (class_at classes k)) 1 0 (λ n. n ≤ 1) (λ e. omega arith) (λ e. omega arith)),
 )
 
--- at depth 0, each initiator before k has its match before k
+-- if the depth at k is 0, each initiator before k has its match before k
 matched : (classes : List BidiClass) (k : ℕ) → k ≤ length classes → Lowest (opened classes) (closed classes) k 0
     → (i : ℕ) → i < k → is_initiator (class_at classes i) ≡ true → is_before k (match_of classes i) ≡ false
 matched classes k within low i below opens =
@@ -178,7 +178,7 @@ matched classes k within low i below opens =
     least_reaches (is_balanced classes i) (i + 1) (length classes - (i + 1)) found.0 k (omega (arith, found.1)) (omega (arith, found.1, found.2))
     (balanced classes i found.0 (omega (arith, found.1)) found.3) (omega (arith, found.2))
 
--- at depth 0, an index is outside all isolates
+-- an index at depth 0 is outside all isolates
 outside_at_none : (classes : List BidiClass) (k : ℕ) → k ≤ length classes → Lowest (opened classes) (closed classes) k 0 → is_outside classes k ≡ true
 outside_at_none classes k within low =
     list_all-range (λ i. not (is_in_span classes k i)) 0 k
@@ -190,7 +190,7 @@ outside_at_none classes k within low =
     ]
     ))
 
--- at a depth above 0, a strong character is inside the isolate of the initiator at the last lowest index
+-- a strong character at a depth above 0 is inside the isolate of the initiator at the last lowest index
 inside_at_some : (classes : List BidiClass) (k d : ℕ) → k < length classes → Lowest (opened classes) (closed classes) k d → 0 < d
     → is_strong (class_at classes k) ≡ true → is_outside classes k ≡ false
 inside_at_some classes k d within low deep strong =

@@ -109,7 +109,8 @@ module _ (s : List BidiClass) (j : ℕ) (within : j < length s) (opens : is_init
       let shuts : is_pdi (class_at s j) ≡ false = opens_shuts_none (class_at s j) opens in
       omega (arith, rw opens at (opened-next s j within), rw shuts at (closed-next s j within))
 
-  -- the isolate depth at each index after the initiator, up to its match, is greater than at the initiator
+  -- the isolate depth at each index after an initiator, up to its match, is greater than the depth at the
+  -- initiator
   higher : (k : ℕ) → k ≤ length s → ((m : ℕ) → j < m → m < k → is_balanced s j m ≡ false) → (m : ℕ) → j < m → m ≤ k → opened s j + closed s m < opened s m + closed s j
   higher k inside none m after upto =
       elim (cases_lt (opened s j + closed s m) (opened s m + closed s j)) [

@@ -55,7 +55,7 @@ popped_isolate front entries rest status h popped isolate =
           (sym (ap (λ (s : Status). s.is_isolate) same) ∙ isolate))
     ]
 
--- if the popped entry is not an isolate, the last isolate and the entries below it stay
+-- if the popped entry is not an isolate, the last isolate and the entries below it stay on the stack
 pub popped_other : (front entries rest : List Status) (status : Status) → AreBeforeIsolate front entries → entries ≡ rest ++ status ∷ [] → status.is_isolate ≡ false → AreBeforeIsolate front rest
 popped_other front entries rest status h popped other =
     elim (cases_last h.inner) [
@@ -196,7 +196,7 @@ module _ (base : ℕ) where
         | inr v ↦ rw v.is (level-le low outer)
       ]
 
-  -- the stack is not empty, and its last entry is the innermost one
+  -- the stack is not empty, and its last entry is `innermost`
   pub statuses-last : (chain : List BidiClass) → (front : List Status) × (statuses base chain ≡ front ++ innermost base chain ∷ [])
   statuses-last [] = ([], refl)
   statuses-last (opener ∷ outer) =
@@ -283,7 +283,7 @@ module _ (base : ℕ) where
   counts-entered true opener outer a = (a.isolates_are, a.overflowed_isolates_are, a.overflowed_embeddings_are)
   counts-entered false opener outer a = (a.isolates_are, a.overflowed_isolates_are, a.overflowed_embeddings_are)
 
-  -- the properties of a state that belongs to a chain
+  -- what holds if `openers` belongs to the chain
   module _ (openers : Openers) (chain : List BidiClass) (holds : Holds base openers chain) where
     pub is_live : openers.overflowed_isolates ≡ 0 → openers.overflowed_embeddings ≡ 0 → (inside base chain).is_void ≡ false
     is_live no_isolate no_embedding =
@@ -319,7 +319,7 @@ module _ (base : ℕ) where
           overflowed_embeddings_are = holds.overflowed_embeddings_are ∙ sym (counts-entered b opener chain a).2;
         }
 
-    -- an opener that overflows raises an overflow count, or changes nothing inside an overflow isolate
+    -- an opener that overflows raises an overflow count, unless it is an embedding inside an overflow isolate
     pub Holds-void_isolate : (opener : BidiClass) → ((inside base chain).is_void ≡ true) ⊎ (125 < level_above opener (inside base chain).level) → is_initiator opener ≡ true
         → Holds base (record openers { overflowed_isolates = openers.overflowed_isolates + 1 }) (opener ∷ chain)
     Holds-void_isolate opener cause isolate =
@@ -428,7 +428,7 @@ module _ (base : ℕ) where
         | inr w ↦ rw (cond-true (is_initiator opener) (opener ∷ outer) outer (sym (ap (λ (s : Status). s.is_isolate) (w.1 ∙ a.innermost_is)) ∙ w.2)) holds
       ]
 
-  -- if an isolate is counted, the chain contains one
+  -- if a count of isolates is above 0, the chain contains an isolate
   some_isolate : (chain : List BidiClass) → 0 < isolates base chain + overflowed_isolates base chain → list_any is_initiator chain ≡ true
   some_isolate [] some = absurd (omega arith)
   some_isolate (opener ∷ outer) some =

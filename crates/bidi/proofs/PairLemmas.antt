@@ -306,7 +306,7 @@ module _ (bracket_of : ℕ → Option Bracket) (characters : List ℕ) (types : 
       ap (λ l. before k ++ l) (cond-true (closes k) (paired_with bracket_of characters types (match_for k) k) [] e ∙ ap (λ o. paired_with bracket_of characters types o k) found)
       ∙ append-nil (before k)
 
-  -- one more character adds no pair, or a pair with the opener that it matches
+  -- each character adds either no pair or a pair with the opener that it matches
   cases_step : (k : ℕ) → (before (suc k) ≡ before k) ⊎ ((i : ℕ) × (closes k ≡ true) × (match_for k ≡ Some i))
   cases_step k =
       elim (cases_Bool (closes k)) [

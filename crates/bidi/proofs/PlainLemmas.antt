@@ -172,7 +172,7 @@ module _ (bracket : ℕ → Option Bracket) (base : ℕ) (characters : List ℕ)
       ∙ ap (λ m. put levels (range_with_len 0 m) values) (sym whole)
       ∙ put-range values levels 0 all
 
--- if X9 removed nothing, putting back changes nothing
+-- if X9 removed nothing, `put_back` changes nothing
 put_back-all : (before : ℕ) (classes : List BidiClass) (values : List ℕ) → All (λ class. is_removed class ≡ false) classes → length values ≡ length classes → put_back before classes values ≡ values
 put_back-all before [] [] stays size = refl
 put_back-all before [] (value ∷ values) stays size = absurd (omega arith)

@@ -30,7 +30,7 @@ least_same : (p q : ℕ → Bool) → ((k : ℕ) → p k ≡ q k) → (low count
 least_same p q same low zero = refl
 least_same p q same low (suc count) = ap₂ (λ b rest. if b then Some low else rest) (same low) (least_same p q same (suc low) count)
 
--- counting the items that pass a test equals counting the results `true`
+-- counting the items that pass a test is the same as counting the results that are `true`
 count_from : {X : Type 0} (p : X → Bool) (n : ℕ) (xs : List X) → fold (λ k x. k + cond (p x) 1 0) n xs ≡ fold (λ k b. k + cond b 1 0) n (map p xs)
 count_from p n [] = refl
 count_from p n (x ∷ xs) = count_from p (n + cond (p x) 1 0) xs

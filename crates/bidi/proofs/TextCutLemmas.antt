@@ -46,7 +46,7 @@ leads_within bytes at n k lt =
     ∙ ap (λ c. may_lead (get_or bytes (at + k) 0) (get_or bytes (at + k + 1) 0) c)
     (get_or-take n (drop at bytes) (k + 2) 0 lt ∙ get_or-drop at bytes (k + 2) 0 ∙ ap (λ i. get_or bytes i 0) two)
 
--- if the bytes of a character cannot begin a separator, the character is not one
+-- if the bytes of a character cannot begin a separator, the character is not a separator
 lead_by : (c : ℕ) (rest : List ℕ) → Shape c → leads_at (encode c ++ rest) 0 ≡ false → may_separate c ≡ false
 lead_by c rest (of1 l e) plain =
     let first : may_lead c (get_or rest 0 0) (get_or rest 1 0) ≡ false = subst (λ (t : List ℕ). leads_at (t ++ rest) 0 ≡ false) e plain in

@@ -87,7 +87,8 @@ inside base (opener ∷ outer) = enter (inside base outer) opener
 abbrev pub inside_at : ℕ → List BidiClass → ℕ → Inside
 inside_at base classes k = inside base (open_chain classes (if is_pdi (class_at classes k) then k + 1 else k))
 
--- a separator has the paragraph level and keeps its type
+-- The explicit level and explicit type of the character at k. A separator has the paragraph level and keeps
+-- its type.
 abbrev pub level_at : ℕ → List BidiClass → ℕ → ℕ
 level_at base classes k = if is_separator (class_at classes k) then base else (inside_at base classes k).level
 

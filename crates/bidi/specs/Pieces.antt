@@ -10,7 +10,7 @@ module _ (is_cut : ℕ → ℕ → Bool) where
     pub filled : 0 < length piece
     pub uncut : (k : ℕ) → k + 1 < length piece → is_cut (slice_index piece k) (slice_index piece (k + 1)) ≡ false
 
-  -- there is a boundary between two parts
+  -- there is a boundary between two adjacent parts
   abbrev pub IsCutBetween : List ℕ → List ℕ → Type 0
   IsCutBetween before after = is_cut (slice_index before (length before - 1)) (slice_index after 0) ≡ true
 

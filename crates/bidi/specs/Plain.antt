@@ -36,6 +36,6 @@ is_flat FSI = false
 is_flat PDI = false
 is_flat class = true
 
--- whether a character is a bracket, by its properties
+-- whether a character is a bracket, according to its properties
 abbrev pub has_bracket_in : Properties → Bool
 has_bracket_in properties = properties.has_bracket

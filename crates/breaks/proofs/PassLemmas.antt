@@ -256,7 +256,7 @@ read_text whole_numbers c text =
     let next = first_base c text in
     rw next.2 (reads_after whole_numbers c next.0 next.1)
 
--- the mark depends on the base after next only if the outcome waits
+-- the mark depends on the base after next only if the outcome is `WAITS`
 waits_or_not : (whole_numbers : Bool) (outcome : ℕ) (is_joined is_pictograph : Bool) (a b : Bool) → (outcome == WAITS)
     ≡ false → mark_of whole_numbers (decided_at outcome is_joined is_pictograph) a
     ≡ mark_of whole_numbers (decided_at outcome is_joined is_pictograph) b

@@ -1,4 +1,5 @@
--- The bases of a paragraph: its characters, each with the combining marks that join it (UAX #14, LB1, LB9 and LB10).
+-- The bases of a paragraph, each of which is a character with the combining marks that join it (UAX #14, LB1,
+-- LB9 and LB10).
 use Rattle.std.specs.Prelude.{ℕ, Bool, true, false, not, ◌&&◌, List, [], ◌∷◌, if◌then◌else◌}
 use Rattle.ucd.specs.Tables.{line_class_of, is_wide_in, is_mark_in, is_future_pictograph_in}
 use Rattle.ucd.specs.declared.line_class.LineClass.{LineClass}

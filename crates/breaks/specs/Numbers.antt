@@ -48,7 +48,7 @@ begins_with_digit (class ∷ rest) = is_same class NU && goes_on rest
 abbrev pub is_unaffixed : List LineClass → Bool
 is_unaffixed classes = begins_with_digit (after_one opening classes)
 
--- whether a list is a number
+-- whether a list of classes matches the whole expression
 abbrev pub is_number : List LineClass → Bool
 is_number classes = is_unaffixed (after_one affix classes)
 

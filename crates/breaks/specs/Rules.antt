@@ -17,7 +17,7 @@ pub record Rule : Type 0 where
   pub holds : List Base → List Base → Bool
   pub mark : Mark
 
--- the form of most rules: a condition on the bases before a position, and one on those after it
+-- the form of most rules: a condition on the bases before a position, and another on the bases after it
 pub record Row : Type 0 where
   pub before : List Base → Bool
   pub after : List Base → Bool

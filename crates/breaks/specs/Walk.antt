@@ -19,7 +19,7 @@ use Rattle.breaks.specs.declared.symbol.TheConstants.{SYMBOL_COUNT}
 abbrev pub base : LineClass → Base
 base class = alone (narrow class)
 
--- example bases of each state, the nearest first, in the order of the states
+-- Example bases for each state, in the order of the states. The nearest base comes first.
 abbrev pub states : List (List Base)
 states =
     (base class.BK ∷ []) ∷
@@ -118,7 +118,7 @@ number_rows true =
     []
 number_rows false = rows_of_numbers
 
--- all rules as rows, with whole numbers or without
+-- all rules as rows, with or without whole numbers
 unfoldable pub rows : Bool → List Row
 rows whole_numbers = rows_before_numbers ++ (number_rows whole_numbers ++ rows_after_numbers)
 

@@ -129,7 +129,8 @@ module _ (classes : List BidiClass) (levels : List ℕ) where
 
 -- ---- lists with intervals reversed
 
--- an interval whose items pass the test is reversed together with the next item, before the rest of the list
+-- an interval whose items pass the test is reversed together with the next item, and the rest of the list
+-- follows
 passed : (test : ℕ → Bool) (run xs : List ℕ) (n : ℕ) → n < length xs → ((k : ℕ) → k < n → test (get_or xs k 0) ≡ true) → test (get_or xs n 0) ≡ false
     → reverse_with_next test run xs ≡ reverse (take (suc n) xs) ++ run ++ reverse_with_next test [] (drop (suc n) xs)
 passed test run [] n within passes stops = absurd (omega (arith, within))

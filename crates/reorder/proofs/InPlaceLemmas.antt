@@ -30,7 +30,7 @@ map_flagged f (true ∷ flags) run (x ∷ xs) = map_flagged f flags (x ∷ run) 
 map_flagged f (false ∷ flags) run (x ∷ xs) =
     map-append f run (x ∷ reverse_flagged flags [] xs) ∙ ap (λ back. map f run ++ f x ∷ back) (map_flagged f flags [] xs)
 
--- ---- reversing intervals inside larger ones keeps the positions that the larger ones cover
+-- ---- reversing intervals inside larger intervals does not change which positions the larger intervals cover
 
 trues_first : (n : ℕ) (bits : List Bool) → replicate n true ++ true ∷ bits ≡ true ∷ (replicate n true ++ bits)
 trues_first zero bits = refl

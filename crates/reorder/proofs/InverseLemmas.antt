@@ -116,7 +116,7 @@ Placed-inverse n vtol ltov k p w past = record {
   at_vtol = λ j h. w.done j (omega arith);
 }
 
--- the first index of a position in a permutation is its only one
+-- the first index of a position in a permutation is its only index
 first_at : (n : ℕ) (vtol : List ℕ) (i j : ℕ) → ArePlaces n vtol → i < n → get_or vtol i 0 ≡ j → position_or_len (λ x. x == j) vtol ≡ i
 first_at n vtol i j p within here =
     position_or_len_is (λ x. x == j) vtol i 0 (omega (arith, p.sizes))
@@ -147,7 +147,7 @@ first_positions n vtol p =
           ∙ first_at n vtol m (get_or vtol m 0) p h refl;
     }
 
--- the two maps of a line are inverse
+-- the two maps of a line are inverse to each other
 pub inverse_maps : (reordernsm : Bool) (classes : List BidiClass) (levels : List ℕ)
     → AreInverse (length levels) (vtol_of reordernsm classes levels) (ltov_of reordernsm classes levels)
 unfolding ltov_of

@@ -31,7 +31,7 @@ pub record IsLow (levels : List ℕ) (top low : ℕ) : Type 0 where
   pub above : 0 < low
   pub below : low ≤ top
 
--- the lowest odd level, if there is one
+-- `Some low` is the lowest odd level of the list, and `None` means that no level is odd
 abbrev pub IsLowest : List ℕ → ℕ → Option ℕ → Type 0
 IsLowest levels top None = (m : ℕ) → has_odd levels m ≡ false
 IsLowest levels top (Some low) = IsLow levels top low

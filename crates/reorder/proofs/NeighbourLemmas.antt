@@ -147,7 +147,7 @@ module _ (levels : List ℕ) (i : ℕ) (same : get_or levels (suc i) 0 ≡ get_o
 
 -- ---- the lowest odd level
 
--- the properties of a result of `least`
+-- what a result of `least` says about the numbers of the range
 abbrev Says : (ℕ → Bool) → ℕ → ℕ → Option ℕ → Type 0
 Says p low count None = (m : ℕ) → low ≤ m → m < low + count → p m ≡ false
 Says p low count (Some k) = (p k ≡ true) × ((m : ℕ) → low ≤ m → m < k → p m ≡ false)

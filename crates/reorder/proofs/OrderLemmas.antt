@@ -1,4 +1,4 @@
--- Lists with their intervals reversed.
+-- Reversing the intervals of a list, for one level after another.
 use Rattle.std.proofs.Common.{◌≡◌, ℕ, zero, suc, ◌+◌, ◌-◌, ◌<◌, ◌≤◌, ◌==◌, Bool, true, false, List, [], ◌∷◌, ◌++◌, length}
 use Rattle.std.proofs.Common.{get_or, map, take, drop, reverse, Option, Some, None, sym, ap, subst, ◌∙◌, inl, inr, arith, add-one, append_assoc}
 use Rattle.std.specs.List.{position_or_len, prefix_len, range_with_len}

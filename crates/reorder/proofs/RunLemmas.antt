@@ -210,7 +210,7 @@ module _ (levels : List ℕ) where
   level_within : (s : ℕ) → get_or levels s 0 < suc (highest levels)
   level_within s = omega (arith, (most_of 0 s levels).1)
 
--- the result of `least` passes, is in the range, and no smaller number of the range passes
+-- the result of `least` is in the range and passes the test, and no smaller number of the range passes
 least_is : (p : ℕ → Bool) (low count k : ℕ) → least p low count ≡ Some k → (p k ≡ true) × (k < low + count) × ((m : ℕ) → low ≤ m → m < k → p m ≡ false)
 least_is p low zero k is = absurd (cc)
 least_is p low (suc count) k is =
@@ -409,7 +409,8 @@ runs_few levels [] = omega arith
 runs_few levels (s ∷ starts) =
     omega (arith, length-append (run_shown levels s) (flat_map (run_shown levels) starts), length-run_shown levels s, runs_few levels starts)
 
--- the positions of all runs but the first `left` are at the end of the list, and the starts before them are unchanged
+-- the positions of all runs except the first `left` have been written at the end of the list, and the starts
+-- of the first `left` runs are unchanged
 pub record RunsLaid (levels starts old current : List ℕ) (left end : ℕ) : Type 0 where
   pub sizes : length current ≡ length old
   pub below : left ≤ length starts

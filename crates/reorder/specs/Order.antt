@@ -1,4 +1,4 @@
--- The visual order of a line's characters (UAX #9, L2 and, as an option, L3), from their levels after L1.
+-- The visual order of the characters of a line (UAX #9, L2 and optionally L3), from their levels after L1.
 use Rattle.std.specs.Prelude.{◌≡◌, ℕ, zero, suc, ◌-◌, ◌%◌, ◌<◌, nat_le, ◌==◌, max, Bool, false, ◌&&◌, ◌||◌, not, List, [], ◌∷◌, ◌++◌, length, map, fold, slice_index, Option, Some, None, if◌then◌else◌}
 use Rattle.std.specs.List.{list_any, position_or_len, range_with_len}
 use Rattle.ucd.specs.declared.bidi_class.BidiClass.{BidiClass}
@@ -15,7 +15,7 @@ abbrev pub is_odd : ℕ → Bool
 is_odd level = level % 2 == 1
 
 module _ (levels : List ℕ) where
-  -- whether the i-th character is at a level or higher
+  -- whether the character at i is at the given level or higher
   abbrev pub is_at_least : ℕ → ℕ → Bool
   is_at_least level i = nat_le level (slice_index levels i)
 

@@ -9,7 +9,7 @@ use Rattle.std.proofs.lemmas.List.Sums.{position_or_len_is}
 use Rattle.std.proofs.lemmas.List.Splits.{slice_split_first, slice_split_none}
 use Rattle.ucd.specs.Grammar.{is_mark, rest_after}
 
--- no byte before the position is the delimiter
+-- no byte before the index `at` is the delimiter
 abbrev pub NoMarkBelow : ℕ → List ℕ → ℕ → Type 0
 NoMarkBelow mark bytes at = (k : ℕ) → k < at → get_or bytes k 0 ≡ mark → ⊥
 

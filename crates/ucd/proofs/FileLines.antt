@@ -1,4 +1,4 @@
--- Adding the lines of a file to entries, one by one.
+-- Adding the lines of a file to the entries, one by one.
 use Rattle.std.proofs.Common.{◌≡◌, ℕ, zero, suc, ◌+◌, ◌<◌, ◌≤◌, ◌==◌, nat_lt, not, Bool, true, false, ◌&&◌, List, [], ◌∷◌, ◌++◌, length, get_or, take, drop, Option, Some, None, IsSome, IfSome, option_map, Result, Ok, Err, ◌⊎◌, inl, inr, IsTrue, add-one, refl, sym, ◌∙◌, ap, subst, if◌then◌else◌, arith}
 use Rattle.std.specs.Char.{IsScalar}
 use Rattle.std.proofs.Math.Utf8.{scalar}
@@ -120,7 +120,8 @@ module _ {V : Type 0} (form : Form V) where
     | inr later ↦ let line = line_of_value lines k c later in (suc line.0, omega (arith, line.1), line.2)
   ]
 
-  -- a line with an entry gives a character the entry's value if the entry covers it, and otherwise none
+  -- a line with an entry gives a character the entry's value if the entry covers the character, and otherwise
+  -- no value
   given_entry : (e : Entry V) (c : ℕ) → IsScalar c → given_by form (Ok (Some e)) c ≡ (if covers e c then Some e.value else None)
   given_entry e c character = rw character refl
 

@@ -1,4 +1,5 @@
--- Entries, each a range of code points with a value, and the value that they give a code point.
+-- Lists of entries, and the values that they give code points. An entry is a range of code points with a
+-- value.
 use Rattle.std.specs.Prelude.{◌≡◌, ℕ, ◌<◌, ◌≤◌, nat_le, Bool, false, ◌&&◌, List, [], ◌∷◌, length, take, slice_get, slice_index_or, Option, Some, None, is_some, IsSome, IsTrue, if◌then◌else◌}
 use Rattle.std.specs.Char.{IsScalar}
 use Rattle.ucd.specs.declared.grammar.Entry.{Entry}
@@ -42,14 +43,14 @@ module _ {V : Type 0} where
   abbrev pub IsFree : List (Entry V) → Entry V → Type 0
   IsFree es e = (c : ℕ) → IsTrue (covers e c) → value_at es c ≡ None
 
-  -- a code point of the entry has a value already
+  -- some code point of the entry already has a value
   abbrev pub IsMet : List (Entry V) → Entry V → Type 0
   IsMet es e = (c : ℕ) × IsTrue (covers e c) × IsSome (value_at es c)
 
-  -- a character of the entry has a value already
+  -- some character of the entry already has a value
   abbrev pub IsTaken : List (Entry V) → Entry V → Type 0
   IsTaken es e = (c : ℕ) × IsScalar c × IsTrue (covers e c) × IsSome (value_at es c)
 
-  -- one of the entry's code points is a character
+  -- at least one code point of the entry is a character
   abbrev pub NamesSome : Entry V → Type 0
   NamesSome e = (c : ℕ) × IsScalar c × IsTrue (covers e c)

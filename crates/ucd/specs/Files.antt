@@ -1,4 +1,4 @@
--- The values that the lines of a file give, and its first faulty line.
+-- The values that the lines of a file give to characters, and the first faulty line of the file.
 use Rattle.std.specs.Prelude.{◌≡◌, ℕ, ◌-◌, ◌<◌, ◌≤◌, ◌⊎◌, ◌&&◌, List, [], ◌∷◌, length, slice_index_or, Option, Some, None, IsSome, Result, Ok, Err, if◌then◌else◌}
 use Rattle.std.specs.Char.{IsScalar}
 use lib.Utf8.{scalar}
@@ -49,7 +49,7 @@ module _ {V : Type 0} (form : Form V) where
     pub fault : HasFault lines k why
     pub earlier : (j : ℕ) (other : Cause) → j < k → ¬ (HasFault lines j other)
 
-  -- adding a line leaves the entries unchanged, or adds its entry
+  -- adding a line adds its entry, or leaves the entries unchanged if the line has none
   abbrev pub AddsReading : Result (Option (Entry V)) Cause → List (Entry V) → List (Entry V) → Type 0
   AddsReading (Ok None) old new = new ≡ old
   AddsReading (Ok (Some e)) old new = AddsCharacters old new e
@@ -75,7 +75,7 @@ module _ {V : Type 0} (form : Form V) where
     pub good : IsGood lines
     pub values : (c : ℕ) → IsScalar c → value_at es c ≡ value_in lines c
 
-  -- line k names a character, so adding it allocates; no line up to k is faulty
+  -- Line k names a character, so adding the line allocates memory. No line up to k is faulty.
   pub record WantsMemoryAt (lines : List (List ℕ)) (k : ℕ) : Type 0 where
     pub entry : Entry V
     pub reads : reading_of form (line_at lines k) ≡ Ok (Some entry)

@@ -6,7 +6,7 @@ use Rattle.ucd.specs.declared.fault.Cause.{Cause}
 use Rattle.ucd.specs.declared.fault.Cause.TheVariants as cause
 use Rattle.ucd.specs.declared.grammar.Entry.{Entry}
 
--- whether a byte is the separator of lines, fields or the ends of a range
+-- whether a byte is the given separator: of lines, of fields, or of the ends of a range
 abbrev pub is_mark : ℕ → ℕ → Bool
 is_mark mark b = b == mark
 
@@ -15,7 +15,7 @@ is_mark mark b = b == mark
 abbrev pub lines_of : List ℕ → List (List ℕ)
 lines_of file = slice_split (is_mark 10) file
 
--- the bytes without those at both ends that pass the test
+-- removes the bytes at both ends that pass the test
 abbrev pub trimmed : (ℕ → Bool) → List ℕ → List ℕ
 trimmed p bytes = let rest = drop (prefix_len p bytes) bytes in take (length rest - suffix_len p rest) rest
 
@@ -97,7 +97,7 @@ module _ {V : Type 0} (form : Form V) where
       if not (list_all is_ascii (before_comment line)) then Err cause.NotAscii
       else (if length (content_of line) == 0 then Ok None else by_fields (fields_of (content_of line)))
 
--- what follows the first separator, if there is one
+-- the bytes after the first separator, if there is one
 abbrev pub rest_after : ℕ → List ℕ → Option (List ℕ)
 rest_after mark bytes = if list_any (is_mark mark) bytes then Some (after_first (is_mark mark) bytes) else None
 

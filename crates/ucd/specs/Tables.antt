@@ -45,7 +45,7 @@ abbrev pub is_unassigned_by : Category → Bool
 is_unassigned_by Unassigned = true
 is_unassigned_by _ = false
 
--- the properties that tables give a character, with the defaults of characters that no line names
+-- the properties that tables give a character, with defaults for characters that no line names
 unfoldable pub class_of : Tables → ℕ → BidiClass
 class_of t c = unwrap_or (value_at t.bidi_classes c) L
 
@@ -80,7 +80,7 @@ pub record AreGood (files : UcdFiles) : Type 0 where
   pub east_asian_width : IsGood width_form (lines_of files.east_asian_width.now)
   pub emoji_data : IsGood emoji_form (lines_of files.emoji_data.now)
 
--- the category that a file gives a character, or Cn
+-- the category that the file gives a character, or Cn if it gives none
 abbrev pub category_in : UcdFiles → ℕ → Category
 category_in files c = unwrap_or (value_in category_form (lines_of files.general_category.now) c) Unassigned
 
@@ -109,7 +109,7 @@ module _ {V : Type 0} (number : ℕ) (form : Form V) (lines : List (List ℕ)) w
   abbrev pub IsFaultIn : TableFault → Type 0
   IsFaultIn fault = IsFaultBy fault.file fault.line fault.cause
 
-  -- the fault is in this file; or this file has no fault, and the fault is in a later file
+  -- The fault is in this file, or this file has no fault and the fault is in a later file.
   abbrev pub IsInOr : (TableFault → Type 0) → TableFault → Type 0
   IsInOr after fault = IsFaultIn fault ⊎ (IsGood form lines × after fault)
 
