@@ -95,8 +95,8 @@ pub no_Row : (marks : List Bool) (p q : ℕ) → q < length marks → (Row marks
 no_Row marks p q within none =
     elim (cases_Bool (is_set_with marks p q)) [ inl set ↦ absurd (none (set-Row marks p q within set)) | inr free ↦ free ]
 
--- once the bracket at p has been set, the type at q is the new direction if q is the bracket or a mark after
--- it, and the old type otherwise
+-- Setting the bracket at p gives the new direction to the bracket and the marks directly after it. All other
+-- types stay the same.
 pub set_with-at : (marks : List Bool) (d : BidiClass) (types : List BidiClass) (p q : ℕ) (e : BidiClass) → q < length types
     → get_or (set_with marks d types p) q e ≡ (if is_set_with marks p q then d else class_at types q)
 set_with-at marks d types p q e within =
@@ -251,7 +251,7 @@ kept_sided marks d types p m sided within here =
       | inr free ↦ ap is_other (set_with-kept marks d types p m ON within free) ∙ here
     ]
 
--- setting one bracket of a pair whose opener is before k keeps `Changed`
+-- `Changed` still holds after one bracket of a pair has been set whose opener is before k
 pub Changed-set : (marks : List Bool) (closers : List ℕ) (old current : List BidiClass) (k opener p : ℕ) (d : BidiClass) → Changed closers old current k
     → length marks ≡ length old → opener < k → slice_index closers opener < length closers → (p ≡ opener) ⊎ (p ≡ slice_index closers opener) → is_other d ≡ false
     → Changed closers old (set_with marks d current p) k
@@ -289,7 +289,8 @@ sided : (left : Bool) → is_other (side left) ≡ false
 sided true = refl
 sided false = refl
 
--- setting both brackets of the pair that opens at k, if it gets a direction, extends `Changed` to k + 1
+-- `Changed` holds for k + 1 after both brackets of the pair that opens at k have been set, if it gets a
+-- direction
 pub Changed-pair : (marks : List Bool) (closers : List ℕ) (old current : List BidiClass) (k : ℕ) (same other x y : Bool) → Changed closers old current k
     → length marks ≡ length old → slice_index closers k < length closers
     → Changed closers old (set_pair marks current k (slice_index closers k) (if same then Some (side x) else (if other then Some (side y) else None))) (k + 1)

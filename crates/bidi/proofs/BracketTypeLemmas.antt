@@ -71,7 +71,7 @@ text_for brackets = map (number_by (bound brackets)) brackets
 pub told : (brackets : List BracketType) → brackets ≡ bracket_types (look_for brackets) (text_for brackets)
 told brackets = sym (all-are (bound brackets) brackets (omega arith))
 
--- the bracket types of a paragraph are those of some text
+-- the bracket types of a paragraph are the bracket types of some text
 pub some_text : (b : Brackets) (n : ℕ) → AreFor b n → (look : ℕ → Option Bracket) × (text : List ℕ) × AreBracketsOf b n look text
 some_text b n size =
     elim (cases_Bool b.has_any) [

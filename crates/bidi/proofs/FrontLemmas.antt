@@ -11,8 +11,8 @@ first_of_two true a ps = ([], ps, refl)
 first_of_two false a [] = ([], [], refl)
 first_of_two false a (p ∷ ps) = (p, ps, refl)
 
--- if the first paragraph continues after x, there is no boundary after x, and the rest of that paragraph is
--- the first paragraph of the text after x
+-- If the first paragraph continues after x, there is no boundary after x. Without x, it is the first
+-- paragraph of the text after x.
 not_cut : (t : Bool) (x b : ℕ) (q : List ℕ) (qs : List (List ℕ)) (w : List ℕ) (ws : List (List ℕ)) (y : ℕ) → (if t then (x ∷ []) ∷ ((b ∷ q) ∷ qs) else onto_first x ((b ∷ q) ∷ qs)) ≡ (x ∷ y ∷ w) ∷ ws
     → (t ≡ false) × ((b ∷ q) ∷ qs ≡ (y ∷ w) ∷ ws)
 not_cut true x b q qs w ws y is = absurd cc
@@ -28,8 +28,7 @@ module _ (is_cut : ℕ → ℕ → Bool) where
   first_paragraph a [] = ([], [], refl)
   first_paragraph a (b ∷ text) = first_of_two (is_cut a b) a (paragraphs is_cut (b ∷ text))
 
-  -- if a text begins with x and y, and its first paragraph is x, y and w, the first paragraph of the text
-  -- after x is y and w
+  -- if the first paragraph of a text is x, y and w, the first paragraph of the text without x is y and w
   later_is : (x y : ℕ) (w text : List ℕ) (ws : List (List ℕ)) → paragraphs is_cut (x ∷ y ∷ text) ≡ (x ∷ y ∷ w) ∷ ws → (is_cut x y ≡ false) × (paragraphs is_cut (y ∷ text) ≡ (y ∷ w) ∷ ws)
   later_is x y w text ws is =
       let some = first_paragraph y text in
@@ -74,8 +73,8 @@ module _ (is_cut : ℕ → ℕ → Bool) where
           let len : length (take n text) + 1 ≡ n + 1 = omega (arith, length-take-le n text (omega arith)) in
           (a, after, is, parts, ap (λ k. take k text) (sym len) ∙ ap (take (length (take n text) + 1)) parts ∙ take-append-add (take n text) (a ∷ after) 1)
 
-  -- if the first n + 1 characters of a text are one paragraph, the first boundary of the text from index n on
-  -- is the text's first boundary
+  -- if the first n + 1 characters of a text are one paragraph, the first boundary after index n is the text's
+  -- first boundary
   pub skip_some : (text : List ℕ) (n k : ℕ) → n < length text → paragraphs is_cut (take (n + 1) text)
       ≡ take (n + 1) text ∷ [] → SplitsAt is_cut (drop n text) (Some k) → SplitsAt is_cut text (Some (n + k))
   skip_some text n k within whole splits =

@@ -25,7 +25,7 @@ abbrev pub continued_at : List BidiClass → List (List ℕ) → ℕ → Bool
 continued_at classes earlier j = list_any (λ run. is_initiator (class_at classes (last_of run)) && is_match (match_of classes (last_of run)) j) earlier
 
 module _ (bracket_of : ℕ → Option Bracket) (base : ℕ) (characters : List ℕ) (classes : List BidiClass) (levels : List ℕ) (types : List BidiClass) where
-  -- the levels `done`, with those of one more sequence written into them
+  -- the levels `done`, after the levels of one more sequence have been written into them
   abbrev pub write : List ℕ → List ℕ → List ℕ
   write done sequence = put done sequence (levels_in bracket_of base characters classes levels types sequence)
 

@@ -24,7 +24,7 @@ module _ (level : ℕ) (sos eos : BidiClass) where
   side-other : (other type : BidiClass) (types : List BidiClass) → is_neutral type ≡ false → side_of other (type ∷ types) ≡ type
   side-other other type types e = cond-true (not (is_neutral type)) type (side_of other types) (not_from_false (is_neutral type) e)
 
-  -- the levels that the pass gives a run and the types after it are those of the rules
+  -- the pass gives a run of neutrals and the types after it the same levels as the rules
   after-is : (n : ℕ) (before : BidiClass) (front types : List BidiClass) → before ≡ side_of sos front
       → levels_after level eos n before types ≡ replicate n (row_level level before (side_of eos types)) ++ rules front types
   after-is n before front [] e = sym (append-nil (replicate n (row_level level before eos)))
@@ -97,7 +97,7 @@ module _ (level : ℕ) (sos eos : BidiClass) where
               ∙ so_far.whole;
         }
 
-    -- at the end, the pass writes the levels of the last run, and all levels are those of the rules
+    -- at the end, the pass writes the levels of the last run, and all levels agree with the rules
     pub levels-end : (written : List ℕ) → length types ≤ at → at ≡ length types → length written ≡ length levels
         → take (length types) written ≡ take start levels ++ replicate (length types - start) (row_level level before eos)
         → written ≡ map (implicit_level level) (neutral (direction level) sos eos types)

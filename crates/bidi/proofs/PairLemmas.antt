@@ -142,8 +142,8 @@ lives-greatest live fit test (suc k) same =
           ∙ ap (λ (l : List ℕ). item_of l (greatest test (length l))) (sym e)
     ]
 
--- if `other` agrees with `live` below the item at m and passes no number from there on, its list is the first
--- m items of the list of `live`
+-- Let x be item m of the list of `live`. If `other` agrees with `live` below x and passes no number from x
+-- on, its list is the first m items of that list.
 pub lives-cut : (live other : ℕ → Bool) (k m : ℕ) → m < length (lives live k)
     → ((i : ℕ) → i < get_or (lives live k) m 0 → other i ≡ live i) → ((i : ℕ) → get_or (lives live k) m 0 ≤ i → i < k → other i ≡ false)
     → lives other k ≡ take m (lives live k)
@@ -418,8 +418,8 @@ module _ (bracket_of : ℕ → Option Bracket) (characters : List ℕ) (types : 
             rw (v.2, w.2) (now.apart a b v.0 w.0 lt v.1 w.1);
       }
 
-  -- The state of the pass after k characters. The list has the live openers, in order. The closers are those
-  -- of the pairs found so far.
+  -- The state of the pass after k characters. `openers` has the live openers, in order. `closers` has the
+  -- closers of the pairs found so far.
   pub record Walks (k : ℕ) (openers : List Opener) (closers : List ℕ) : Type 0 where
     pub held : map (λ (o : Opener). o.place) openers ≡ lives (live (before k)) k
     pub fit : (m : ℕ) → m < length openers → (c : ℕ) → is_pair_of (bracket_of (get_or characters (place_of openers m) 0)) c ≡ (canonical (pair_of openers m) == canonical c)

@@ -210,7 +210,7 @@ plain-other RLI e = absurd (cc)
 plain-other FSI e = absurd (cc)
 plain-other class e = refl
 
--- the levels of a paragraph of plain characters are those of a single sequence at the paragraph level
+-- a paragraph of plain characters has the levels of a single sequence at the paragraph level
 pub plain_levels : (bracket : ℕ → Option Bracket) (text : List ℕ) (classes : List BidiClass) (base : ℕ) → All (λ class. is_plain class ≡ true) classes → length text ≡ length classes
     → length (sequence_levels bracket base (direction base) (direction base) text classes) ≡ length classes
     → paragraph_levels bracket text classes base ≡ sequence_levels bracket base (direction base) (direction base) text classes

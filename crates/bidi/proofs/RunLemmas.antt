@@ -215,7 +215,7 @@ AreWithin-range len start end places inside order within k h =
           rw at (omega arith)
     ]
 
--- an index at which a run begins is below the length
+-- the start of a level run is below the length of the list
 pub next_start-within : (levels : List ℕ) (j k : ℕ) → next_start levels j ≡ Some k → (k ≡ j) × (k < length levels)
 next_start-within levels j k e =
     let test = nat_lt j (length levels) && not (slice_index levels j == slice_index levels (j - 1)) in

@@ -25,7 +25,7 @@ past_two c h = ⊎_elim (λ l. absurd (omega (arith, ap length (two c (past_one 
 past_three : (c : ℕ) → 3 < length (encode c) → 65536 ≤ c
 past_three c h = ⊎_elim (λ l. absurd (omega (arith, ap length (three c (past_two c (omega arith)) l)))) (λ l. l) (cases_lt c 65536)
 
--- which bytes may begin a separator
+-- ---- the bytes that may begin a separator
 
 -- whether a separator may begin in the second part of a text depends on that part alone
 leads_later : (xs ys : List ℕ) (k : ℕ) → leads_at (xs ++ ys) (length xs + k) ≡ leads_at ys k
@@ -233,7 +233,7 @@ module _ (is_cut : ℕ → ℕ → Bool) where
             ∙ ap₂ (λ x y. x ∷ paragraphs is_cut y) (sym (ap chars front_is ∙ front_chars)) (sym (ap chars back_is ∙ more_chars));
       }
 
-  -- ---- a text after held characters
+  -- ---- a text that follows held characters
 
   -- if there is no boundary between the held characters and the text, the held characters and the first
   -- character of the text are a single paragraph

@@ -78,7 +78,8 @@ module _ (sos : BidiClass) (old current : List BidiClass) (before strong : BidiC
   beyond : drop (at + 1) current ≡ drop (at + 1) old
   beyond = sym (drop-drop 1 at current) ∙ ap (drop 1) so_far.rest ∙ drop-drop 1 at old
 
-  -- the types written so far, and those that the pass gives from the type just read on, are the final types
+  -- the types written so far, followed by those that the pass gives for the type just read and the later
+  -- types, are the final types
   opened : take start current ++ types_after row (at - start) (w3_type strong) (type ∷ later) ≡ whole
   opened =
       let item : drop at old ≡ get_or current at d ∷ drop (at + 1) old =
@@ -147,7 +148,8 @@ module _ (sos : BidiClass) (old current : List BidiClass) (before strong : BidiC
             ∙ opened;
       }
 
-  -- the types that waited, now written, and those that the pass gives after them are the final types
+  -- the types written so far, including those that waited, followed by those that the pass gives for the
+  -- later types, are the final types
   passed : lengthens row type ≡ false
       → take at filled ++ (if waits (row_after row type) then types_after (row_after row type) 1 (w3_type nearest_strong) later
       else value ∷ types_after (row_after row type) 0 (w3_type nearest_strong) later) ≡ whole

@@ -227,7 +227,7 @@ module _ (types : List BidiClass) (walked : IsWalked types) where
   european_terminators-step CS strong = other-more CS CS ON strong refl refl
   european_terminators-step type strong = other-more type type type (strong_after strong type) refl refl
 
-  -- after a separator that becomes ON, W4 to W7 continue as if there were no number before
+  -- after a separator that becomes ON, W4 to W7 continue as if there were no number before it
   lone : (separator type strong : BidiClass) → joint separator ≡ false → is_number separator ≡ false
       → ON ∷ types_after Nothing 0 strong (type ∷ types) ≡ ON ∷ later separator separator strong (type ∷ types)
   lone separator type strong e f = ap (λ xs. ON ∷ xs) (nothing-step type strong ∙ sym (later-other separator separator strong (type ∷ types) e f))

@@ -107,9 +107,9 @@ abbrev pub context : BidiClass → List BidiClass → ℕ → BidiClass
 context sos types a = nearest is_direction sos (reverse (take a types))
 
 -- N0: the direction of a pair, if it gets one. If a strong type inside the pair has the embedding direction,
--- the pair gets that direction. If strong types inside have only the opposite direction, the pair gets the
--- opposite direction if the nearest strong type before the pair has it too, and otherwise the embedding
--- direction. A pair with no strong type inside gets no direction.
+-- the pair gets that direction. Otherwise, if a strong type inside has the opposite direction, the nearest
+-- strong type before the pair decides. If that type has the opposite direction, so has the pair; if not, the
+-- pair gets the embedding direction. A pair with no strong type inside gets no direction.
 abbrev pub pair_direction : Bool → BidiClass → List BidiClass → ℕ → ℕ → Option BidiClass
 pair_direction left sos types a b =
     if stands left types a b then Some (side left)

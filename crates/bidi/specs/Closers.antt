@@ -30,7 +30,7 @@ place_of openers m = slice_index (map (λ (o : Opener). o.place) openers) m
 abbrev pub pair_of : List Opener → ℕ → ℕ
 pair_of openers m = slice_index (map (λ (o : Opener). o.pair) openers) m
 
--- the index in the list of the newest opener that the closing bracket c matches
+-- the list index of the newest opener that the closing bracket c matches
 abbrev pub newest : List Opener → ℕ → Option ℕ
 newest openers c = greatest (λ m. canonical (pair_of openers m) == canonical c) (length openers)
 

@@ -22,8 +22,8 @@ paragraphs is_cut (a ∷ b ∷ text) =
 abbrev pub first_cut : (ℕ → ℕ → Bool) → List ℕ → Option ℕ
 first_cut is_cut text = least (λ k. is_cut (slice_index text (k - 1)) (slice_index text k)) 1 (length text - 1)
 
--- For `Some k`, the first paragraph of a text ends at k, and its other paragraphs are those of the text from
--- k on. For `None`, the text is a single paragraph or empty.
+-- For `Some k`, the first paragraph of a text ends at k, and the other paragraphs are the paragraphs of the
+-- text from k on. For `None`, the text is a single paragraph or empty.
 abbrev pub SplitsAt : (ℕ → ℕ → Bool) → List ℕ → Option ℕ → Type 0
 SplitsAt is_cut text (Some k) =
     (0 < k) × (k < length text) × (paragraphs is_cut text ≡ take k text ∷ paragraphs is_cut (drop k text))

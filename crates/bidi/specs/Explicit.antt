@@ -1,5 +1,5 @@
--- The explicit level and type of each character of a paragraph (UAX #9, X1 to X8). They follow from the
--- openers that are open at the character. An opener is an embedding, an override or an isolate initiator.
+-- The explicit level and type of each character of a paragraph, from the openers that are open at the
+-- character (UAX #9, X1 to X8). An opener is an embedding, an override or an isolate initiator.
 use Rattle.std.specs.Prelude.{ℕ, ◌+◌, ◌-◌, ◌%◌, ◌==◌, nat_lt, Bool, true, false, ◌||◌, not, List, [], ◌∷◌, length, take, drop, fold, map, slice_range, Option, Some, None, unwrap_or, if◌then◌else◌}
 use Rattle.std.specs.List.{list_any, prefix_len, range_with_len}
 use Rattle.ucd.specs.declared.bidi_class.BidiClass.{BidiClass}

@@ -39,7 +39,7 @@ pub record IsReady (p : Paragraph) : Type 0 where
 abbrev pub sequence_in : Paragraph → ℕ → List ℕ
 sequence_in p start = sequence_at p.stayed.now.classes.items p.stayed.now.levels.items start
 
--- the levels `done`, with those of the sequence that begins at `start` written into them
+-- the levels `done`, after the levels of the sequence that begins at `start` have been written into them
 abbrev pub write_by : (ℕ → Option Bracket) → List ℕ → Paragraph → List ℕ → ℕ → List ℕ
 write_by look text p done start =
     put done (sequence_in p start)

@@ -23,8 +23,8 @@ pub record AreLevelsSoFar (level : ℕ) (sos eos : BidiClass) (types : List Bidi
   pub order : start ≤ at
   pub whole : take start levels ++ levels_after level eos (at - start) before (drop at types) ≡ levels_after level eos 0 sos types
 
--- if the levels of all neutrals before a run of the type `class` at `at` have been written, `put` also has
--- the levels of that run, which ends at `next`
+-- Writing the levels of the run of the type `class` from `at` up to `next` gives `put`. The levels of all
+-- neutrals before the run must have been written to `levels`.
 abbrev pub PutsRow : ℕ → List BidiClass → List ℕ → ℕ → BidiClass → List ℕ → ℕ → Type 0
 PutsRow level types levels at class put next =
     (sos eos before : BidiClass) (old : List ℕ) (start : ℕ) → AreLevelsSoFar level sos eos types old before start at → length levels ≡ length old

@@ -64,8 +64,8 @@ module _ (base : ℕ) (levels : List ℕ) where
   sos sequence = direction (max (slice_index levels (first_of sequence)) (level_before (first_of sequence)))
 
 module _ (base : ℕ) (classes : List BidiClass) (levels : List ℕ) where
-  -- the level that follows index k: the level of the next character, or the paragraph level at the end of the
-  -- list or after an initiator without a match
+  -- The level after index k: the level of the next character. At the end of the list, and after an initiator
+  -- without a match, it is the paragraph level.
   abbrev pub level_after : ℕ → ℕ
   level_after k =
       if is_initiator (class_at classes k) && is_none (match_of classes k) then base

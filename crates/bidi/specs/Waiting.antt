@@ -1,5 +1,5 @@
--- The state of the single pass for the weak rules: the types that wait for a later type, and the earlier
--- types that W1 to W3 and W7 look back at.
+-- The state of the single pass for the weak rules. It has the types that wait for a later type, and the
+-- earlier types that W1 to W3 and W7 look back at.
 use Rattle.std.specs.Prelude.{◌≡◌, ℕ, ◌+◌, ◌-◌, ◌≤◌, Bool, true, false, ◌&&◌, not, List, [], ◌∷◌, ◌++◌, length, map, take, drop, replicate, if◌then◌else◌}
 use Rattle.ucd.specs.declared.bidi_class.BidiClass.{BidiClass}
 use Rattle.ucd.specs.declared.bidi_class.BidiClass.TheVariants.{L, EN, ES, ET, AN, CS, NSM, ON}

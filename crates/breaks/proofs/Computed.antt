@@ -1,4 +1,4 @@
--- The entries of the break table are those of the rules, computed for each entry.
+-- Each entry of the break table agrees with the rules, which is checked by computation.
 use Rattle.std.proofs.Common.{◌≡◌, ℕ, ◌+◌, ◌*◌, ◌/◌, ◌%◌, ◌==◌, nat_lt, nat_le, Bool, true, false, not, ◌&&◌, ◌||◌, List, [], ◌∷◌, map, get_or, refl, if◌then◌else◌}
 use Rattle.std.proofs.Math.ListN.{set}
 use Rattle.ucd.specs.declared.line_class.LineClass.TheVariants.{CM, NU, OP, ZWJ}

@@ -14,8 +14,8 @@ use Rattle.breaks.specs.Walk.{ends_in_digits, ends_in_closed_digits, begins_unaf
 abbrev classes_of : List Base → List LineClass
 classes_of bases = map class_of bases
 
--- whether a position is at one of the four places of the expression (after an affix, an opening, digits or
--- closed digits) and `back` matches the rest of the expression
+-- Whether a position is at one of the four places of the expression, and `back` matches the rest of it. The
+-- places are after an affix, an opening, digits or closed digits.
 abbrev at_place : Bool → Bool → Bool → Bool → List LineClass → Bool
 at_place affixed opened digits closed back =
     (affixed && is_unaffixed back) || ((opened && begins_with_digit back) || ((digits && goes_on back) || (closed && is_end back)))

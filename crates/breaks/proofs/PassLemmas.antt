@@ -1,4 +1,4 @@
--- One step of the pass: the new state belongs to the bases so far, and the mark is that of the rules.
+-- One step of the pass: the new state belongs to the bases so far, and the mark agrees with the rules.
 use Rattle.std.proofs.Common.{◌≡◌, ℕ, ◌+◌, ◌*◌, ◌/◌, ◌%◌, ◌<◌, ◌≤◌, ◌==◌, nat_lt, nat_le, Bool, true, false, not, ◌&&◌, ◌||◌, List, [], ◌∷◌, ◌++◌, map, get_or, refl, sym, ap, ◌∙◌, arith, if◌then◌else◌, inl, inr}
 use Rattle.std.proofs.lemmas.Bool.{cases_Bool}
 use Rattle.ucd.specs.declared.line_class.LineClass.{LineClass}
@@ -133,8 +133,8 @@ beginning whole_numbers state symbol outcome next led =
       gives = waits.1;
     }
 
--- after a character that begins a base, the new state belongs to the bases with it, if the bases before it
--- have the same `carried` as the example bases of the old state
+-- After a character that begins a base, the new state belongs to the bases that include it. The bases before
+-- it must have the same `carried` as the example bases of the old state.
 pub begins : (whole_numbers : Bool) (state symbol entry : ℕ) (c : Character) (before : List Base)
     → symbol < SYMBOL_COUNT → shown symbol ≡ told c → Leads whole_numbers state symbol entry → stays state symbol
     ≡ false → carried before ≡ carried (bases_at state)

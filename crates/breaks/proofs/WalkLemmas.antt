@@ -1,4 +1,4 @@
--- The marks of the pass over the characters are those of the bases.
+-- The pass over the characters gives the marks of the bases.
 use Rattle.std.proofs.Common.{◌≡◌, ℕ, Bool, true, false, ◌==◌, nat_lt, not, suc, ◌+◌, ◌-◌, ◌<◌, ◌≤◌, Some, length, get_or, take, drop, arith, List, [], ◌∷◌, ◌++◌, map, if◌then◌else◌, refl, sym, ap, ◌∙◌, append_assoc, append-nil, inl, inr}
 use Rattle.std.proofs.Math.ListN.{set}
 use Rattle.std.specs.List.{slice_get}
@@ -97,8 +97,8 @@ pub begins_walk : (t : Tables) (whole_numbers : Bool) (text rest : List ℕ) (c 
 unfolding marks_of
 begins_walk t whole_numbers text rest c first marks is reads none = rw (none, is, reads) (walk_from_start whole_numbers (character t c) (map (character t) rest))
 
--- the state belongs to the bases so far, and the marks so far, followed by those of the recursion, are all
--- marks
+-- The state belongs to the bases so far. The marks so far, followed by the marks of the recursion, are all
+-- marks.
 abbrev pub Walks : Bool → Walk → List Mark → List Character → List Mark → Type 0
 Walks whole_numbers before marks text whole =
     (last : Base) × (others : List Base) × Stands whole_numbers before last others × (marks ++ walk whole_numbers others last text ≡ whole)

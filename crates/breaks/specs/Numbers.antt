@@ -33,8 +33,8 @@ abbrev pub is_nothing : List LineClass → Bool
 is_nothing [] = true
 is_nothing (class ∷ rest) = false
 
--- The expression from each of its parts on, starting with the last part. No class is in two adjacent parts,
--- so each part can match greedily.
+-- Whether a list of classes matches the expression from one of its parts on, with the last part first. No
+-- class is in two adjacent parts, so each part can match greedily.
 abbrev pub is_end : List LineClass → Bool
 is_end classes = is_nothing (after_one affix classes)
 

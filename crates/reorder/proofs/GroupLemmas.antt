@@ -75,8 +75,8 @@ module _ (classes : List BidiClass) (levels : List ℕ) where
       let parts = bound_is x y is in
       ap (has_base classes levels) parts.0 ∙ ap (λ b. b && (not (is_mark_at classes y) || has_base classes levels y)) parts.1
 
-  -- if each of n positions is bound to the next, and the character at the last one is not a mark, all
-  -- characters before it have a base
+  -- if n positions are each bound to the next, and the last character is not a mark, all characters before it
+  -- have a base
   based : (xs : List ℕ) (n d k : ℕ) → AreBound classes levels xs n → is_mark_at classes (get_or xs n 0) ≡ false → k + suc d ≡ n
       → has_base classes levels (get_or xs k 0) ≡ true
   based xs n zero k are plain e =
@@ -89,8 +89,8 @@ module _ (classes : List BidiClass) (levels : List ℕ) where
       base_of (get_or xs k 0) next (are.bound k (omega (arith, e)))
       ∙ or_right (not (is_mark_at classes next)) (has_base classes levels next) (based xs n d (k + 1) are plain (omega (arith, e)))
 
-  -- if each of n positions is bound to the next, and the last one is a mark without a base, none of them has
-  -- a base
+  -- if n positions are each bound to the next, and the last character is a mark without a base, none of these
+  -- characters has a base
   unbased : (xs : List ℕ) (n d k : ℕ) → AreBound classes levels xs n → is_mark_at classes (get_or xs n 0) ≡ true
       → has_base classes levels (get_or xs n 0) ≡ false → k + d ≡ n → has_base classes levels (get_or xs k 0) ≡ false
   unbased xs n zero k are mark free e =

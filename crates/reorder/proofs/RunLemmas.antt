@@ -409,8 +409,8 @@ runs_few levels [] = omega arith
 runs_few levels (s ∷ starts) =
     omega (arith, length-append (run_shown levels s) (flat_map (run_shown levels) starts), length-run_shown levels s, runs_few levels starts)
 
--- the positions of all runs except the first `left` have been written at the end of the list, and the starts
--- of the first `left` runs are unchanged
+-- The positions of all runs except the first `left` have been written at the end of the list. The starts of
+-- the first `left` runs are unchanged.
 pub record RunsLaid (levels starts old current : List ℕ) (left end : ℕ) : Type 0 where
   pub sizes : length current ≡ length old
   pub below : left ≤ length starts

@@ -147,7 +147,8 @@ module _ {V : Type 0} (form : Form V) where
         false≢true (rw none at some)
     not_refused new (Err other) is adds why fault = absurd adds
 
-    -- adding line k gives each character its earlier value, or else the value from line k
+    -- after line k has been added, each character has its earlier value, or the value from line k if it had
+    -- none
     added : (new : List (Entry V)) (r : Result (Option (Entry V)) Cause) → AddsReading form r es new → (c : ℕ) → IsScalar c → value_at new c ≡ or_else form (value_at es c) (given_by form r c)
     added new (Ok None) adds c is = rw adds (sym (or_else_None (value_at es c)))
     added new (Ok (Some e)) adds c is = elim (cases_Bool (covers e c)) [
@@ -217,8 +218,8 @@ holds_file form lines k es held all = record {
   values = λ c is. held.values c is ∙ ap (λ ls. value_in form ls c) (take_all k lines all);
 }
 
--- after the first line of the remaining text: which lines are left, what the entries hold if the line was
--- added, and what the fault is if it was not
+-- What holds after the first line of the remaining text: which lines are left, what the entries contain if
+-- the line was added, and what the fault is if not.
 module _ {V : Type 0} (form : Form V) (file : List ℕ) (k : ℕ) (es : List (Entry V)) (text front : List ℕ)
     (rest : Option (List ℕ)) (held : HoldsLines form (lines_of file) k es) (left : drop k (lines_of file)
     ≡ lines_of text) (parts : lines_of text ≡ parts_of 10 front rest) where

@@ -71,8 +71,8 @@ module _ {V : Type 0} where
       each = λ c lt. rw (value_push es e c (free c)) (grind (arith, nat_tests, common_steps, each c, are.each c lt));
     }
 
-  -- in the first i + 1 entries, a code point has the value of entry i if that entry covers it, and otherwise
-  -- its value in the first i entries
+  -- In the first i + 1 entries, a code point that entry i covers has the value of entry i. Other code points
+  -- have the same value as in the first i entries.
   pub value_more : (es : List (Entry V)) → AreApart es → (i : ℕ) (e : Entry V) → slice_get es i ≡ Some e → (c : ℕ)
       → value_at (take (i + 1) es) c ≡ (if covers e c then Some e.value else value_at (take i es) c)
   value_more es apart i e is c =
