@@ -313,8 +313,8 @@ module _ (is_cut : ℕ → ℕ → Bool) where
           skip_none_seen is_cut (held ++ c ∷ cs) (length held + 1) (length held) there first
           (subst (λ (t : List ℕ). SplitsAt is_cut t None) (sym (after_held held (c ∷ cs))) ends)
 
--- the held characters and the first n bytes of the text are a prefix of both together, and the other bytes
--- are the rest
+-- the held characters and the first n bytes of the text are a prefix of the held characters and the text, and
+-- the other bytes are the rest
 pub ends_parts : (held text : List ℕ) (n : ℕ) → IsUtf8 (take n text)
     → (held ++ chars (take n text) ≡ take (length (held ++ chars (take n text))) (held ++ chars text))
     × (chars (drop n text) ≡ drop (length (held ++ chars (take n text))) (held ++ chars text))

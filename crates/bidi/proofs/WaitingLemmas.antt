@@ -320,7 +320,7 @@ types-row-next first start class type current at within here e is settled sos ol
     let next = subst (λ t. P class t) (sym is) (subst (λ c. P c (w3_type c)) here (types-settled sos old current class s Nothing at at now L within there)) in
     subst (λ x. AreTypesSoFar sos old (set current at type) class x Nothing (at + 1) (at + 1)) (twice (is_strong class) class strong) next
 
--- at the end of the sequence, the types that still wait stay ON, and all types are those after W7
+-- at the end of the sequence, the types that still wait stay ON, and the list has the types after W7
 pub types-end : (sos : BidiClass) (old current : List BidiClass) (before strong : BidiClass) (row : Row) (start at : ℕ) → AreTypesSoFar sos old current before strong row start at
     → length current ≤ at → current ≡ weak sos old
 types-end sos old current before strong row start at so_far past =

@@ -1,4 +1,4 @@
--- Symbols, each of which represents what the rules read of a character.
+-- Each symbol represents the part of a character that the rules read.
 use Rattle.std.specs.Prelude.{ℕ, true, false, ◌&&◌, List, [], ◌∷◌, get_or}
 use Rattle.ucd.specs.declared.line_class.LineClass.{LineClass}
 use Rattle.ucd.specs.declared.line_class.LineClass.TheVariants as class

@@ -1,6 +1,6 @@
 -- The state of the single pass over the characters: what the rules need to know about the bases before a
 -- position. A state belongs to all bases that the rules cannot distinguish from its example bases
--- (`bases_at`). Only the code depends on states: `marks` ensures that its marks are those of Marks.antt.
+-- (`bases_at`). Only the code depends on states. The contract of `marks` refers to Marks.antt instead.
 use Rattle.std.specs.Prelude.{◌≡◌, ℕ, ◌*◌, ◌<◌, Bool, true, false, ◌||◌, ◌&&◌, ◌==◌, ◌++◌, List, [], ◌∷◌, map, MatchBool, get_or, if◌then◌else◌}
 use Rattle.ucd.specs.declared.line_class.LineClass.{LineClass}
 use Rattle.ucd.specs.declared.line_class.LineClass.TheVariants as class

@@ -161,7 +161,8 @@ module _ {V : Type 0} (form : Form V) where
     ]
     added new (Err why) adds c is = absurd adds
 
-    -- if line k is added, the first k + 1 lines are not faulty, and the entries have their values
+    -- if line k is added, none of the first k + 1 lines is faulty, and the entries have the values of these
+    -- lines
     one_more : (new : List (Entry V)) → AddsLine form es new (line_at form lines k) → HoldsLines form lines (k + 1) new
     one_more new adds = record {
       good = λ j why lt fault. elim (cases_lt j k) [

@@ -19,7 +19,8 @@ lines_of file = slice_split (is_mark 10) file
 abbrev pub trimmed : (ℕ → Bool) → List ℕ → List ℕ
 trimmed p bytes = let rest = drop (prefix_len p bytes) bytes in take (length rest - suffix_len p rest) rest
 
--- White space around fields consists of spaces and tabs. At the ends of a line, it also includes U+000D.
+-- White space around fields consists of spaces and tabs. White space at the ends of a line can also be
+-- U+000D.
 abbrev pub is_one_of : List ℕ → ℕ → Bool
 is_one_of bytes b = list_any (λ byte. byte == b) bytes
 
